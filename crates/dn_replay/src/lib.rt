@@ -16,8 +16,6 @@ pub use dn_history::{HISTORY_LIMIT, read_history, write_history};
 pub use dn_records::{FromReader, FromWriter, Inlet, Outlet};
 pub use dn_shaper::HashKey;
 pub use replays::{
-    FileReplay, replay, replay_by_threads, replay_joined, replay_joined_report,
-    replay_joined_with_key, replay_report, replay_report_by_threads, replay_report_within,
-    replay_with_key, replay_within,
+    FileReplay, Manner, replay, replay_files, replay_files_by_threads, replay_input, replay_joined,
 };
 pub use report::{Outcome, write_report};

@@ -6,15 +6,14 @@ mod by_threads;
 mod chunks;
 mod file_replay;
 mod inlets;
+mod manner;
 mod pass;
 mod stage;
 mod threading;
 mod unkeyed;
 
-pub use by_threads::{replay_by_threads, replay_report_by_threads};
+pub use by_threads::replay_files_by_threads;
 pub use file_replay::FileReplay;
-pub use inlets::{
-    replay_joined_report, replay_joined_with_key, replay_report, replay_report_within,
-    replay_with_key, replay_within,
-};
+pub use inlets::{replay_files, replay_input};
+pub use manner::Manner;
 pub use unkeyed::{replay, replay_joined};

@@ -3,9 +3,8 @@ use crate::thread_count::usual_threads;
 use dn_command::Replay;
 use dn_records::{FromReader, FromWriter};
 use dn_replay::{
-    HashKey, NoGate, Outcome, PACKET_LIMIT, ReplayFault, Source, replay_by_threads,
-    replay_callers_with_key, replay_joined_report, replay_report_by_threads, replay_report_within,
-    replay_within, write_history,
+    HashKey, Manner, NoGate, Outcome, PACKET_LIMIT, ReplayFault, Source, replay_callers_with_key,
+    replay_files_by_threads, write_history,
 };
 use std::rt::Files;
 use std::sync::Wait;
@@ -22,7 +21,13 @@ pub fn replay_input<R: Input + Print + AllocGlobal>(
 ) -> Result<Outcome, ReplayFault> {
     let mut input = FromReader::new(rt.reader());
     let mut out = FromWriter::new(io::writer(rt));
-    replay_joined_report(rt.alloc(), key, &mut input, &mut out)
+    let manner = Manner {
+        key,
+        records: false,
+        limit: PACKET_LIMIT,
+    };
+    let (_, outcome) = dn_replay::replay_input(rt.alloc(), manner, &mut input, &mut out)?;
+    Ok(outcome)
 }
 
 /// From two files to standard output.
@@ -46,47 +51,39 @@ pub fn replay_files<R: Files + Print + AllocGlobal + Threads + Wait + Sync>(
     let mut out = FromWriter::new(io::writer(rt));
     let alloc = rt.alloc();
     let limit = asked.most_packets.unwrap_or(PACKET_LIMIT).min(MOST);
-    let entries = match (asked.callers, threads, asked.history) {
-        (None, 1, None) => {
-            return replay_report_within(alloc, key, limit, &mut config, &mut packets, &mut out);
-        }
-        (None, _, None) => {
-            return replay_report_by_threads(
+    let manner = Manner {
+        key,
+        records: asked.history.is_some(),
+        limit,
+    };
+    let (entries, outcome) = match (asked.callers, threads) {
+        (Some(n), _) => {
+            let entries = replay_callers_with_key(
                 rt,
                 alloc,
-                threads,
                 key,
-                limit,
+                n,
                 &mut config,
                 &mut packets,
                 &mut out,
-            );
+                &NoGate,
+            )?;
+            let outcome = Outcome::of(&entries);
+            (entries, outcome)
         }
-        (Some(n), _, _) => replay_callers_with_key(
-            rt,
-            alloc,
-            key,
-            n,
-            &mut config,
-            &mut packets,
-            &mut out,
-            &NoGate,
-        )?,
-        (None, 1, Some(_)) => {
-            replay_within(alloc, key, limit, &mut config, &mut packets, &mut out)?
+        (None, 1) => {
+            dn_replay::replay_files(alloc, manner, &mut config, &mut packets, &mut out)?
         }
-        (None, _, Some(_)) => replay_by_threads(
+        (None, _) => replay_files_by_threads(
             rt,
             alloc,
             threads,
-            key,
-            limit,
+            manner,
             &mut config,
             &mut packets,
             &mut out,
         )?,
     };
-    let outcome = Outcome::of(&entries);
     let Some(path) = asked.history else {
         return Ok(outcome);
     };

@@ -1,6 +1,8 @@
 use crate::gates::{Count, Meeting, OneFirst};
 use dn_records::{FromReader, FromWriter};
-use dn_replay::{Gate, HashKey, NoGate, ReplayFault, replay_callers, replay_with_key};
+use dn_replay::{
+    Gate, HashKey, Manner, NoGate, PACKET_LIMIT, ReplayFault, replay_callers, replay_files,
+};
 use dn_types::{Call, Entry};
 use std::alloc::Global;
 use std::sync::Wait;
@@ -53,7 +55,12 @@ fn replay_alone(
     let mut config = FromReader::new(config.as_bytes());
     let mut packets = FromReader::new(packets.as_bytes());
     let mut out = FromWriter::new(written);
-    replay_with_key(alloc, HashKey(7), &mut config, &mut packets, &mut out)
+    let manner = Manner {
+        key: HashKey(7),
+        records: true,
+        limit: PACKET_LIMIT,
+    };
+    replay_files(alloc, manner, &mut config, &mut packets, &mut out).map(|(entries, _)| entries)
 }
 
 // Whether a report has a line for each of so many rows that came out.

@@ -1,7 +1,7 @@
 use dn_replay::{
-    FromReader, FromWriter, HashKey, NoGate, Verdict, audit_file_with_key, audit_with_key,
-    read_config, read_packets, replay_callers_with_key, replay_with_key, write_history,
-    write_report,
+    FromReader, FromWriter, HashKey, Manner, NoGate, PACKET_LIMIT, Verdict, audit_file_with_key,
+    audit_with_key, read_config, read_packets, replay_callers_with_key, replay_files,
+    write_history, write_report,
 };
 use dn_types::Rule;
 use std::test::Fail;
@@ -18,9 +18,14 @@ fn the_example_of_the_readme(rt: HostRuntime) -> Result<(), Fail> {
     let mut output = Vec::new(alloc);
     // In the README of dn_replay, 1:
     let mut out = FromWriter::new(&mut output);
-    let history = replay_with_key(
-        alloc,
+    let manner = Manner {
         key,
+        records: true,
+        limit: PACKET_LIMIT,
+    };
+    let (history, outcome) = replay_files(
+        alloc,
+        manner,
         &mut FromReader::new(config),
         &mut FromReader::new(packets),
         &mut out,
@@ -30,6 +35,7 @@ fn the_example_of_the_readme(rt: HostRuntime) -> Result<(), Fail> {
     // In the README of dn_replay, 1, and of dn_history, 1:
     write_history(alloc, &history, &mut FromWriter::new(&mut file))?;
     // Up to here.
+    assert!(rt; !outcome.untargeted);
     // In the README of dn_replay, 1, and of dn_audit, 1:
     let verdict = audit_with_key(alloc, key, Rule::Ordered, &history)?;
     // Up to here.

@@ -2,7 +2,7 @@ use crate::headers::PACKET_HEADER;
 use crate::replays::{replay_files, replay_joined_reader, replay_readers, replay_text};
 use dn_config::LineFault;
 use dn_records::{FromReader, FromWriter, Inlet, Outlet};
-use dn_replay::{HashKey, ReplayFault, Source, read_config, replay_joined_with_key};
+use dn_replay::{HashKey, Manner, PACKET_LIMIT, ReplayFault, Source, read_config, replay_input};
 use std::alloc::{AllocError, Global};
 use std::io;
 use std::io::Read;
@@ -132,12 +132,13 @@ fn a_failed_read_is_told_by_its_name(rt: HostRuntime) {
 fn joined_read_fails(alloc: Global, good: usize) -> bool {
     let mut input = FromReader::new(Parts::failing(FULL_QUEUE.as_bytes(), good));
     let mut written = Vec::new(alloc);
-    let outcome = replay_joined_with_key(
-        alloc,
-        HashKey(7),
-        &mut input,
-        &mut FromWriter::new(&mut written),
-    );
+    let manner = Manner {
+        key: HashKey(7),
+        records: true,
+        limit: PACKET_LIMIT,
+    };
+    let mut out = FromWriter::new(&mut written);
+    let outcome = replay_input(alloc, manner, &mut input, &mut out);
     outcome.err() == Some(ReplayFault::Read(Source::Input)) && input.failed() && written.is_empty()
 }
 
@@ -154,12 +155,13 @@ fn a_report_is_written_byte_by_byte(rt: HostRuntime) {
     let alloc = rt.alloc();
     let mut input = FromReader::new(FULL_QUEUE.as_bytes());
     let mut sink = Sink::new(alloc, REPORT.len(), WhenFull::Fails);
-    let outcome = replay_joined_with_key(
-        alloc,
-        HashKey(7),
-        &mut input,
-        &mut FromWriter::new(&mut sink),
-    );
+    let manner = Manner {
+        key: HashKey(7),
+        records: true,
+        limit: PACKET_LIMIT,
+    };
+    let mut out = FromWriter::new(&mut sink);
+    let outcome = replay_input(alloc, manner, &mut input, &mut out);
     assert!(rt; outcome.is_ok());
     assert!(rt; sink.held.as_slice() == REPORT.as_bytes());
 }
@@ -169,7 +171,12 @@ fn write_fails(alloc: Global, room: usize, when_full: WhenFull) -> bool {
     let mut input = FromReader::new(FULL_QUEUE.as_bytes());
     let mut sink = Sink::new(alloc, room, when_full);
     let mut out = FromWriter::new(&mut sink);
-    let outcome = replay_joined_with_key(alloc, HashKey(7), &mut input, &mut out);
+    let manner = Manner {
+        key: HashKey(7),
+        records: true,
+        limit: PACKET_LIMIT,
+    };
+    let outcome = replay_input(alloc, manner, &mut input, &mut out);
     out.failed()
         && outcome.err() == Some(ReplayFault::Write(Source::Report))
         && Some(sink.held.as_slice()) == REPORT.as_bytes().get(..room)

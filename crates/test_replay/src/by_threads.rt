@@ -1,6 +1,6 @@
 use crate::headers::PACKET_HEADER;
 use dn_records::{FromReader, FromWriter};
-use dn_replay::{HashKey, ReplayFault, replay_by_threads, replay_report_by_threads, replay_within};
+use dn_replay::{HashKey, Manner, ReplayFault, replay_files, replay_files_by_threads};
 use std::alloc::{AllocError, Global};
 use std::test::Fail;
 use std::thread::Threads;
@@ -57,14 +57,12 @@ fn by_one(alloc: Global, packets: &[u8], written: &mut Vec<u8>) -> Result<usize,
     let mut config = FromReader::new(CONFIG.as_bytes());
     let mut packets = FromReader::new(packets);
     let mut out = FromWriter::new(written);
-    let entries = replay_within(
-        alloc,
-        HashKey(7),
-        LIMIT,
-        &mut config,
-        &mut packets,
-        &mut out,
-    )?;
+    let manner = Manner {
+        key: HashKey(7),
+        records: true,
+        limit: LIMIT,
+    };
+    let (entries, _) = replay_files(alloc, manner, &mut config, &mut packets, &mut out)?;
     Ok(entries.len())
 }
 
@@ -80,12 +78,16 @@ fn by_many<R: Threads + Sync>(
     let mut config = FromReader::new(CONFIG.as_bytes());
     let mut packets = FromReader::new(Parts::of(packets, step));
     let mut out = FromWriter::new(written);
-    let entries = replay_by_threads(
+    let manner = Manner {
+        key: HashKey(7),
+        records: true,
+        limit: LIMIT,
+    };
+    let (entries, _) = replay_files_by_threads(
         rt,
         alloc,
         threads,
-        HashKey(7),
-        LIMIT,
+        manner,
         &mut config,
         &mut packets,
         &mut out,
@@ -105,12 +107,16 @@ fn report_by_many<R: Threads + Sync>(
     let mut config = FromReader::new(CONFIG.as_bytes());
     let mut packets = FromReader::new(Parts::of(packets, step));
     let mut out = FromWriter::new(written);
-    let outcome = replay_report_by_threads(
+    let manner = Manner {
+        key: HashKey(7),
+        records: false,
+        limit: LIMIT,
+    };
+    let (_, outcome) = replay_files_by_threads(
         rt,
         alloc,
         threads,
-        HashKey(7),
-        LIMIT,
+        manner,
         &mut config,
         &mut packets,
         &mut out,

@@ -1,7 +1,7 @@
 use crate::broken::{FULL_QUEUE, REPORT};
 use crate::headers::PACKET_HEADER;
 use dn_records::FromWriter;
-use dn_replay::{FileReplay, HashKey, ReplayFault, Source};
+use dn_replay::{FileReplay, HashKey, Manner, PACKET_LIMIT, ReplayFault, Source};
 use dn_text::split_joined;
 use std::alloc::{AllocError, Global};
 
@@ -38,14 +38,19 @@ fn fed(
 // What is answered and written of the worked example of a full queue, as a joined input and as two.
 fn gives_the_report(alloc: Global, step: usize) -> bool {
     let mut written = Vec::new(alloc);
-    let joined = FileReplay::joined(alloc, HashKey(7), true);
+    let manner = Manner {
+        key: HashKey(7),
+        records: true,
+        limit: PACKET_LIMIT,
+    };
+    let joined = FileReplay::joined(alloc, manner);
     let answer = fed(joined, FULL_QUEUE.as_bytes(), step, &mut written);
     if answer != Ok(6) || written.as_slice() != REPORT.as_bytes() {
         return false;
     }
     written.clear();
     let (config, packets) = split_joined(FULL_QUEUE.as_bytes());
-    let Ok(behind) = FileReplay::behind(alloc, HashKey(7), true, config) else {
+    let Ok(behind) = FileReplay::behind(alloc, manner, config) else {
         return false;
     };
     fed(behind, packets, step, &mut written) == Ok(6) && written.as_slice() == REPORT.as_bytes()
@@ -65,7 +70,12 @@ fn a_bad_row_is_told_at_the_end(rt: HostRuntime) -> Result<(), AllocError> {
     let text = format!(in rt.alloc(); "pipe 1 config\n--\n{PACKET_HEADER}{rows}")?;
     for step in STEPS {
         let mut written = Vec::new(rt.alloc());
-        let joined = FileReplay::joined(rt.alloc(), HashKey(7), false);
+        let manner = Manner {
+            key: HashKey(7),
+            records: false,
+            limit: PACKET_LIMIT,
+        };
+        let joined = FileReplay::joined(rt.alloc(), manner);
         let answer = fed(joined, text.as_bytes(), step, &mut written);
         assert_eq!(rt;
             answer,
@@ -80,7 +90,12 @@ fn a_bad_row_is_told_at_the_end(rt: HostRuntime) -> Result<(), AllocError> {
 #[test]
 fn a_refused_configuration_makes_no_replay(rt: HostRuntime) {
     let config = b"queue 1 config pipe 3\n";
-    let refused = FileReplay::behind(rt.alloc(), HashKey(7), false, config).err();
+    let manner = Manner {
+        key: HashKey(7),
+        records: false,
+        limit: PACKET_LIMIT,
+    };
+    let refused = FileReplay::behind(rt.alloc(), manner, config).err();
     assert_eq!(rt; refused, Some(ReplayFault::NoSuchPipe(1)));
 }
 
@@ -89,7 +104,12 @@ fn a_refused_configuration_makes_no_replay(rt: HostRuntime) {
 fn a_text_that_is_too_long_is_refused(rt: HostRuntime) -> Result<(), AllocError> {
     let long = vec![in rt.alloc(); b'\n'; 67_108_865]?;
     let mut written = Vec::new(rt.alloc());
-    let mut replay = FileReplay::joined(rt.alloc(), HashKey(7), false);
+    let manner = Manner {
+        key: HashKey(7),
+        records: false,
+        limit: PACKET_LIMIT,
+    };
+    let mut replay = FileReplay::joined(rt.alloc(), manner);
     assert_eq!(rt;
         replay.feed(long.as_slice()),
         Err(ReplayFault::TooLong(Source::Input))

@@ -1,6 +1,6 @@
 use crate::broken::{FULL_QUEUE, REPORT};
 use dn_records::{FromReader, FromWriter};
-use dn_replay::{FileReplay, HashKey, ReplayFault, Source, replay_report_within, replay_within};
+use dn_replay::{FileReplay, HashKey, Manner, ReplayFault, Source, replay_files};
 use dn_text::split_joined;
 use std::alloc::Global;
 
@@ -16,26 +16,12 @@ fn within(
     let mut config = FromReader::new(config);
     let mut packets = FromReader::new(packets);
     let mut out = FromWriter::new(written);
-    if records {
-        let history = replay_within(
-            alloc,
-            HashKey(7),
-            limit,
-            &mut config,
-            &mut packets,
-            &mut out,
-        );
-        return history.map(|_| ());
-    }
-    replay_report_within(
-        alloc,
-        HashKey(7),
+    let manner = Manner {
+        key: HashKey(7),
+        records,
         limit,
-        &mut config,
-        &mut packets,
-        &mut out,
-    )
-    .map(|_| ())
+    };
+    replay_files(alloc, manner, &mut config, &mut packets, &mut out).map(|_| ())
 }
 
 #[test]
@@ -67,7 +53,12 @@ fn packets_of_one_byte_more_are_too_long(rt: HostRuntime) {
 
 // What a replay of packets of at most so many bytes answers to three.
 fn takes_three(alloc: Global, limit: usize) -> Result<(), ReplayFault> {
-    let mut replay = FileReplay::behind_within(alloc, HashKey(7), false, limit.min(1 << 40), b"")?;
+    let manner = Manner {
+        key: HashKey(7),
+        records: false,
+        limit: limit.min(1 << 40),
+    };
+    let mut replay = FileReplay::behind(alloc, manner, b"")?;
     let answer = replay.feed(b"\n\n\n");
     drop(replay);
     answer

@@ -1,6 +1,6 @@
 use crate::broken::{FULL_QUEUE, REPORT};
 use dn_records::{FromReader, FromWriter};
-use dn_replay::{HashKey, ReplayFault, replay_joined_with_key, replay_with_key};
+use dn_replay::{HashKey, Manner, PACKET_LIMIT, ReplayFault, replay_files, replay_input};
 use dn_text::split_joined;
 use std::alloc::Global;
 use std::process::Abort;
@@ -11,7 +11,12 @@ use test_devices::with_room;
 fn replay_one(alloc: Global, written: &mut Vec<u8>) -> Result<usize, ReplayFault> {
     let mut input = FromReader::new(FULL_QUEUE.as_bytes());
     let mut out = FromWriter::new(written);
-    replay_joined_with_key(alloc, HashKey(7), &mut input, &mut out).map(|entries| entries.len())
+    let manner = Manner {
+        key: HashKey(7),
+        records: true,
+        limit: PACKET_LIMIT,
+    };
+    replay_input(alloc, manner, &mut input, &mut out).map(|(entries, _)| entries.len())
 }
 
 // The same of its two parts.
@@ -20,9 +25,15 @@ fn replay_two(alloc: Global, written: &mut Vec<u8>) -> Result<usize, ReplayFault
     let mut config = FromReader::new(config);
     let mut packets = FromReader::new(packets);
     let mut out = FromWriter::new(written);
-    replay_with_key(alloc, HashKey(7), &mut config, &mut packets, &mut out).map(
-        |entries| entries.len(),
-    )
+    let manner = Manner {
+        key: HashKey(7),
+        records: true,
+        limit: PACKET_LIMIT,
+    };
+    replay_files(alloc, manner, &mut config, &mut packets, &mut out).map(|(
+        entries,
+        _,
+    )| entries.len())
 }
 
 // A replay of one input. A call that is refused memory has written nothing, and is made twice more at most.

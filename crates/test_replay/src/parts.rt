@@ -1,10 +1,7 @@
 use crate::broken::{FULL_QUEUE, REPORT};
 use crate::headers::PACKET_HEADER;
 use dn_records::{FromReader, FromWriter};
-use dn_replay::{
-    HashKey, ReplayFault, Source, replay_joined_report, replay_joined_with_key, replay_report,
-    replay_with_key,
-};
+use dn_replay::{HashKey, Manner, PACKET_LIMIT, ReplayFault, Source, replay_files, replay_input};
 use dn_text::split_joined;
 use std::alloc::{AllocError, Global};
 use std::test::Fail;
@@ -12,6 +9,15 @@ use test_devices::Parts;
 
 // How many bytes a read gives at most.
 const STEPS: [usize; 6] = [1, 2, 3, 7, 64, 65_536];
+
+// How many entries a history has, where one is kept. Where none is, it is empty.
+fn kept(records: bool, count: usize) -> Option<usize> {
+    if records || count > 0 {
+        Some(count)
+    } else {
+        None
+    }
+}
 
 // What a replay of a joined input answers: how many entries its history has, where it keeps one. What it writes is
 // added to `written`.
@@ -23,11 +29,13 @@ fn joined(
 ) -> Result<Option<usize>, ReplayFault> {
     let mut input = FromReader::new(input);
     let mut out = FromWriter::new(written);
-    if records {
-        let history = replay_joined_with_key(alloc, HashKey(7), &mut input, &mut out);
-        return history.map(|entries| Some(entries.len()));
-    }
-    replay_joined_report(alloc, HashKey(7), &mut input, &mut out).map(|_| None)
+    let manner = Manner {
+        key: HashKey(7),
+        records,
+        limit: PACKET_LIMIT,
+    };
+    let (entries, _) = replay_input(alloc, manner, &mut input, &mut out)?;
+    Ok(kept(records, entries.len()))
 }
 
 // The same of a configuration and packets.
@@ -41,11 +49,13 @@ fn both(
     let mut config = FromReader::new(Parts::of(config, step));
     let mut packets = FromReader::new(Parts::of(packets, step));
     let mut out = FromWriter::new(written);
-    if records {
-        let history = replay_with_key(alloc, HashKey(7), &mut config, &mut packets, &mut out);
-        return history.map(|entries| Some(entries.len()));
-    }
-    replay_report(alloc, HashKey(7), &mut config, &mut packets, &mut out).map(|_| None)
+    let manner = Manner {
+        key: HashKey(7),
+        records,
+        limit: PACKET_LIMIT,
+    };
+    let (entries, _) = replay_files(alloc, manner, &mut config, &mut packets, &mut out)?;
+    Ok(kept(records, entries.len()))
 }
 
 // Whether the report of an input is written, and its history has so many entries where it is kept, from one input

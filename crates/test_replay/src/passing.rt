@@ -1,6 +1,6 @@
 use crate::headers::PACKET_HEADER;
 use dn_records::{FromReader, FromWriter};
-use dn_replay::{HashKey, ReplayFault, replay_joined_report, replay_joined_with_key, write_report};
+use dn_replay::{HashKey, Manner, PACKET_LIMIT, ReplayFault, replay_input, write_report};
 use std::alloc::{AllocError, Global};
 use std::test::Fail;
 
@@ -28,7 +28,12 @@ fn with_history(alloc: Global, text: &str) -> Result<(Vec<u8>, Vec<u8>), ReplayF
     let mut written = Vec::new(alloc);
     let mut input = FromReader::new(text.as_bytes());
     let mut out = FromWriter::new(&mut written);
-    let history = replay_joined_with_key(alloc, HashKey(7), &mut input, &mut out)?;
+    let manner = Manner {
+        key: HashKey(7),
+        records: true,
+        limit: PACKET_LIMIT,
+    };
+    let (history, _) = replay_input(alloc, manner, &mut input, &mut out)?;
     let mut of_history = Vec::new(alloc);
     let mut out = FromWriter::new(&mut of_history);
     write_report(alloc, 1, history.as_slice(), &mut out)?;
@@ -43,7 +48,12 @@ fn the_report_of_many_rows_is_that_of_their_history(rt: HostRuntime) -> Result<(
     let mut report = Vec::new(alloc);
     let mut input = FromReader::new(text.as_bytes());
     let mut out = FromWriter::new(&mut report);
-    assert!(rt; replay_joined_report(alloc, HashKey(7), &mut input, &mut out).is_ok());
+    let manner = Manner {
+        key: HashKey(7),
+        records: false,
+        limit: PACKET_LIMIT,
+    };
+    assert!(rt; replay_input(alloc, manner, &mut input, &mut out).is_ok());
     let (written, of_history) = with_history(alloc, text.as_str())?;
     assert!(rt; report.as_slice() == of_history.as_slice());
     assert!(rt; written.as_slice() == of_history.as_slice());

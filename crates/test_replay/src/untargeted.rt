@@ -1,6 +1,6 @@
 use crate::headers::PACKET_HEADER;
 use dn_records::{FromReader, FromWriter};
-use dn_replay::{HashKey, Outcome, ReplayFault, replay_joined_report, replay_joined_with_key};
+use dn_replay::{HashKey, Manner, Outcome, PACKET_LIMIT, ReplayFault, replay_input};
 use std::alloc::{AllocError, Global};
 use std::test::Fail;
 
@@ -16,9 +16,19 @@ fn outcomes(alloc: Global, text: &str) -> Result<(bool, bool), ReplayFault> {
     let mut written = Vec::new(alloc);
     let mut out = FromWriter::new(&mut written);
     let mut input = FromReader::new(text.as_bytes());
-    let outcome = replay_joined_report(alloc, HashKey(7), &mut input, &mut out)?;
+    let manner = Manner {
+        key: HashKey(7),
+        records: false,
+        limit: PACKET_LIMIT,
+    };
+    let (_, outcome) = replay_input(alloc, manner, &mut input, &mut out)?;
     let mut input = FromReader::new(text.as_bytes());
-    let history = replay_joined_with_key(alloc, HashKey(7), &mut input, &mut out)?;
+    let manner = Manner {
+        key: HashKey(7),
+        records: true,
+        limit: PACKET_LIMIT,
+    };
+    let (history, _) = replay_input(alloc, manner, &mut input, &mut out)?;
     Ok((
         outcome.untargeted,
         Outcome::of(history.as_slice()).untargeted,

@@ -7,13 +7,13 @@ ghost use Rattle.dn_replay.specs.InParts.{AskedOf, calls_asked, HasCome, IsLimit
 ghost use Rattle.dn_replay.specs.Replays.{config_calls};
 
 use crate::config::config_part::ConfigPart;
+use crate::replays::manner::Manner;
 use crate::replays::pass::Pass;
 use crate::replays::stage::Stage;
 use crate::replays::threading::{OneThread, Threading};
 use crate::report::{Outcome, Printing};
-use dn_files::{CONFIG_LIMIT, Feed, PACKET_LIMIT, ReplayFault, Source, feed_all};
+use dn_files::{CONFIG_LIMIT, Feed, ReplayFault, Source, feed_all};
 use dn_records::{Inlet, Outlet};
-use dn_shaper::HashKey;
 use dn_types::Entry;
 use std::alloc::Global;
 use std::marker::Model;
@@ -46,18 +46,16 @@ impl Model for FileReplay {
 
 impl FileReplay {
     /// A replay of a joined input, of which nothing has come: a configuration up to the line `--`, and then packets.
-    ///
-    /// If it records, each call is kept with its reply; else what is kept of a packet is what the report's line says. The
-    /// input has at most 67,108,864 bytes. No result depends on the key, the secret of the flow table.
-    pub fn joined(alloc: Global, key: HashKey, records: bool) -> FileReplay
-        ensures come { HasCome records result None [] }
-        ensures limit { result.limit ≡ 67108864 }
+    pub fn joined(alloc: Global, manner: Manner) -> FileReplay
+        requires { IsLimit manner.limit }
+        ensures come { HasCome manner.records result None [] }
+        ensures limit { result.limit ≡ manner.limit }
     {
         FileReplay {
             stage: Stage::Config(ConfigPart::new(alloc)),
-            pass: Pass::new(alloc, key, records),
+            pass: Pass::new(alloc, manner.key, manner.records),
             source: Source::Input,
-            limit: PACKET_LIMIT,
+            limit: manner.limit,
             length: 0,
             alloc,
         }
@@ -65,46 +63,25 @@ impl FileReplay {
 
     /// A replay of packets, of which none has come, behind a configuration whose commands are made.
     ///
-    /// The configuration has at most 1,048,576 bytes, and the packets at most 67,108,864. The faults are the one of the
-    /// first line that is bad or refused, TooLong(Config), and OutOfMemory.
-    pub fn behind(
-        alloc: Global,
-        key: HashKey,
-        records: bool,
-        config: &[u8],
-    ) -> Result<FileReplay, ReplayFault>
-        ensures ok { IfOk result (λ replay. HasCome records replay (Some config.now) []) }
-        ensures limit { IfOk result (λ replay. replay.limit ≡ 67108864) }
-        ensures accepted { OnOk result ((calls : List CallValue) × (config_calls config.now ≡ Ok calls)) }
-        ensures err { IfErr result (λ fault. IsFaultOf (config_calls config.now) fault) }
-    {
-        FileReplay::behind_within(alloc, key, records, PACKET_LIMIT, config)
-    }
-
-    /// The same of packets of at most `limit` bytes, of which there are at most 2^40.
-    pub fn behind_within(
-        alloc: Global,
-        key: HashKey,
-        records: bool,
-        limit: usize,
-        config: &[u8],
-    ) -> Result<FileReplay, ReplayFault>
-        requires { IsLimit limit }
-        ensures ok { IfOk result (λ replay. HasCome records replay (Some config.now) []) }
-        ensures limit { IfOk result (λ replay. replay.limit ≡ limit) }
+    /// The configuration has at most 1,048,576 bytes. The faults are the one of the first line that is bad or refused,
+    /// TooLong(Config), and OutOfMemory.
+    pub fn behind(alloc: Global, manner: Manner, config: &[u8]) -> Result<FileReplay, ReplayFault>
+        requires { IsLimit manner.limit }
+        ensures ok { IfOk result (λ replay. HasCome manner.records replay (Some config.now) []) }
+        ensures limit { IfOk result (λ replay. replay.limit ≡ manner.limit) }
         ensures accepted { OnOk result ((calls : List CallValue) × (config_calls config.now ≡ Ok calls)) }
         ensures err { IfErr result (λ fault. IsFaultOf (config_calls config.now) fault) }
     {
         if config.len() > CONFIG_LIMIT {
             return Err(ReplayFault::TooLong(Source::Config));
         }
-        let mut pass = Pass::new(alloc, key, records);
+        let mut pass = Pass::new(alloc, manner.key, manner.records);
         match pass.run.configure(config) {
             Ok(()) => Ok(FileReplay {
                 stage: Stage::Packets,
                 pass,
                 source: Source::Packets,
-                limit,
+                limit: manner.limit,
                 length: 0,
                 alloc,
             }),

@@ -3,8 +3,9 @@ ghost use Rattle.dn_types.specs.History.{IsLawful};
 ghost use Rattle.dn_types.specs.declared.rule.Rule.TheVariants.{Ordered};
 ghost use Rattle.dn_replay.specs.Replays.{AskFor, AsksFor, EitherFailed, InputFailed, IsReplayed, IsUnanswered, read_of};
 
-use crate::replays::inlets::{replay_joined_with_key, replay_with_key};
-use dn_files::ReplayFault;
+use crate::replays::inlets::{replay_files, replay_input};
+use crate::replays::manner::Manner;
+use dn_files::{PACKET_LIMIT, ReplayFault};
 use dn_records::{Inlet, Outlet};
 use dn_shaper::HashKey;
 use dn_types::Entry;
@@ -38,7 +39,15 @@ pub fn replay<C: Inlet, P: Inlet, O: Outlet>(
     ensures err { IfErr result (λ fault. IsUnanswered (AskFor (C.remaining config.old) (P.remaining packets.old))
         (O.contents out.old) (O.contents out.new) (O.has_failed out.new) fault) }
 {
-    replay_with_key(alloc, HashKey(0), config, packets, out)
+    let manner = Manner {
+        key: HashKey(0),
+        records: true,
+        limit: PACKET_LIMIT,
+    };
+    match replay_files(alloc, manner, config, packets, out) {
+        Ok((entries, _)) => Ok(entries),
+        Err(fault) => Err(fault),
+    }
 }
 
 /// [`replay`] over one joined input of at most 67,108,864 bytes.
@@ -59,5 +68,13 @@ pub fn replay_joined<I: Inlet, O: Outlet>(
     ensures sound { IfOk result (λ _. O.has_failed out.new ≡ false) }
     ensures err { IfErr result (λ fault. IsUnanswered (AsksFor (I.remaining input.old)) (O.contents out.old) (O.contents out.new) (O.has_failed out.new) fault) }
 {
-    replay_joined_with_key(alloc, HashKey(0), input, out)
+    let manner = Manner {
+        key: HashKey(0),
+        records: true,
+        limit: PACKET_LIMIT,
+    };
+    match replay_input(alloc, manner, input, out) {
+        Ok((entries, _)) => Ok(entries),
+        Err(fault) => Err(fault),
+    }
 }

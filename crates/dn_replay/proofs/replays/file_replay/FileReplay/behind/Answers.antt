@@ -4,17 +4,17 @@ use Rattle.dn_files.specs.declared.source.Source.TheVariants.{Config}
 use Rattle.dn_files.proofs.Inputs.{short}
 use Rattle.dn_replay.specs.Replays.{config_calls}
 use Rattle.dn_replay.proofs.PartsCome.{behind_begins}
-use Rattle.dn_replay.proofs.replays.file_replay.FileReplay.behind_within.Goals as goal
+use Rattle.dn_replay.proofs.replays.file_replay.FileReplay.behind.Goals as goal
 
 pub invariant_of-result : goal.invariant_of-result
 invariant_of-result c =
     let (calls, configured, made) = c.in-Ok.ensures.ok in
     let fits : length c.args.config.now ≤ config_limit = omega (arith, c.if-config-gt-CONFIG_LIMIT.false) in
     let is : config_calls c.args.config.now ≡ Ok calls = rw (short Config config_limit c.args.config.now fits) configured in (
-      c.args.records,
+      c.args.manner.records,
       Some c.args.config.now,
       [],
-      behind_begins c.args.records c.new-pass.result c.configure.new.self c.args.limit c.args.config.now calls c.requires
+      behind_begins c.args.manner.records c.new-pass.result c.configure.new.self c.args.manner.limit c.args.config.now calls c.requires
           c.new-pass.ensures.records c.new-pass.ensures.fresh configured is made,
     )
 
@@ -23,4 +23,4 @@ returns-in-Ok-clause-ok c =
     let (calls, configured, made) = c.in-Ok.ensures.ok in
     let fits : length c.args.config.now ≤ config_limit = omega (arith, c.if-config-gt-CONFIG_LIMIT.false) in
     let is : config_calls c.args.config.now ≡ Ok calls = rw (short Config config_limit c.args.config.now fits) configured in
-    behind_begins c.args.records c.new-pass.result c.configure.new.self c.args.limit c.args.config.now calls c.requires c.new-pass.ensures.records c.new-pass.ensures.fresh configured is made
+    behind_begins c.args.manner.records c.new-pass.result c.configure.new.self c.args.manner.limit c.args.config.now calls c.requires c.new-pass.ensures.records c.new-pass.ensures.fresh configured is made
