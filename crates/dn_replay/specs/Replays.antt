@@ -47,10 +47,11 @@ AskForWithin limit config packets asked = (c : List ℕ) × (p : List ℕ) × Is
 abbrev pub AskFor : Option (List ℕ) → Option (List ℕ) → Result (List Call) ReplayFault → Type 0
 AskFor config packets asked = (c : List ℕ) × (p : List ℕ) × IsTextOf config c × IsTextOf packets p × (calls_of_inputs c p ≡ asked)
 
--- What one joined input may have held does, where it has at most so many bytes, or as many as a packet file.
+-- What one joined input may have held asks for these calls, or has this fault, where it has at most so many bytes.
 abbrev pub AsksForWithin : ℕ → Option (List ℕ) → Result (List Call) ReplayFault → Type 0
 AsksForWithin limit input asked = (text : List ℕ) × IsTextOf input text × (calls_of_joined_within limit text ≡ asked)
 
+-- The same with the limit of a packet file.
 abbrev pub AsksFor : Option (List ℕ) → Result (List Call) ReplayFault → Type 0
 AsksFor input asked = (text : List ℕ) × IsTextOf input text × (calls_of_joined text ≡ asked)
 
