@@ -88,7 +88,7 @@ at_end asked text packets calls asks = ap asked (sym (append-nil text)) ∙ asks
 module _ (Asked Inputs : Result (List Call) ReplayFault → Type 0) (old new : Option (List ℕ)) (through : (asked : Result (List Call) ReplayFault) → Asked asked → Inputs asked) where
   pub answered_through : (records : Bool) (entries : List Entry) (untargeted : Bool) → IsAnswered records Asked entries untargeted old new → IsAnswered records Inputs entries untargeted old new
   answered_through true entries untargeted told = ((told.0.0, through (Ok told.0.0) told.0.1, told.0.2), told.1)
-  answered_through false entries untargeted told = (told.0, through (Ok told.0) told.1, told.2, told.3, told.4)
+  answered_through false entries untargeted told = (told.0, (told.1.0, through (Ok told.1.0) told.1.1, told.1.2, told.1.3, told.1.4))
 
   module _ (Failed InputFailed : Option Source → Type 0) (failures : (what : Option Source) → Failed what → InputFailed what) where
     pub unanswered_through : (failed : Bool) (fault : ReplayFault) → IsUnreplayed Failed Asked old new failed fault → IsUnreplayed InputFailed Inputs old new failed fault

@@ -140,12 +140,13 @@ refused_rows calls text fault own = carried (rows_of text) (calls_with calls tex
 
 -- The report was written, and it was not.
 pub told : (records : Bool) (calls : List Call) (text : List ℕ) (rows : List Row) (entries : List Entry) (untargeted : Bool) (old new : Option (List ℕ)) → rows_of text ≡ Ok rows
-    → (records ≡ true → entries ≡ history_of (replayed calls rows))
+    → (records ≡ true → entries ≡ history_of (replayed calls rows)) → (records ≡ false → entries ≡ [])
     → Appends old new (report 1 (history_of (replayed calls rows))) × (untargeted ≡ all_untargeted (history_of (replayed calls rows)))
     → IsAnswered records (λ asked. calls_with calls text ≡ asked) entries untargeted old new
-told true calls text rows entries untargeted old new is history written =
+told true calls text rows entries untargeted old new is history none written =
     ((replayed calls rows, with_rows calls text rows is, (history refl, written.0)), written.1 ∙ ap all_untargeted (sym (history refl)))
-told false calls text rows entries untargeted old new is history written = (replayed calls rows, with_rows calls text rows is, lawful (replayed calls rows), written.0, written.1)
+told false calls text rows entries untargeted old new is history none written =
+    (none refl, (replayed calls rows, with_rows calls text rows is, lawful (replayed calls rows), written.0, written.1))
 
 pub untold : (calls : List Call) (text : List ℕ) (rows : List Row) (old new : Option (List ℕ)) (failed : Bool) (fault : ReplayFault) → rows_of text ≡ Ok rows
     → IsUnwritten Report (report 1 (history_of (replayed calls rows))) old new failed fault → IsUnreplayed NoneFailed (λ asked. calls_with calls text ≡ asked) old new failed fault

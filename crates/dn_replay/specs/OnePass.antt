@@ -34,10 +34,10 @@ abbrev pub IsReportedFor : (Result (List Call) ReplayFault → Type 0) → Bool 
 IsReportedFor Asked untargeted old new =
     (calls : List Call) × Asked (Ok calls) × IsLawful Ordered (history_of calls) × Appends old new (report 1 (history_of calls)) × (untargeted ≡ all_untargeted (history_of calls))
 
--- What is asked for was answered: by its report, and by its history too where that is recorded.
+-- What is asked for was answered: by its report, and by its history too if that is recorded. If not, no entry is returned.
 abbrev pub IsAnswered : Bool → (Result (List Call) ReplayFault → Type 0) → List Entry → Bool → Option (List ℕ) → Option (List ℕ) → Type 0
 IsAnswered true Asked entries untargeted old new = IsReplayed Asked entries old new × (untargeted ≡ all_untargeted entries)
-IsAnswered false Asked entries untargeted old new = IsReportedFor Asked untargeted old new
+IsAnswered false Asked entries untargeted old new = (entries ≡ []) × IsReportedFor Asked untargeted old new
 
 -- No read failed.
 abbrev pub NoneFailed : Option Source → Type 0

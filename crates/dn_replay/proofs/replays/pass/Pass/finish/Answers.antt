@@ -36,6 +36,7 @@ returns-clause-ok g c = λ records calls text fed few.
     let (rows, is, ended) = c.in_ok-submit_rest.ensures.ok records calls text fed few in
     told records calls text rows c.take_history-history.result.items c.in_ok-outcome.outcome.untargeted (g.O.Outlet.contents c.args.out.now) (g.O.Outlet.contents c.write_kept.new.out) is
     (λ on. c.take_history-history.ensures.recorded (ended.records_is ∙ on) ∙ recorded records c.submit_rest.new.self (submitted calls rows) ended on)
+    (λ off. c.take_history-history.ensures.unasked (ended.records_is ∙ off))
     (c.in_ok-outcome.ensures.ok (submitted calls rows) (c.all_given.ensures records (submitted calls rows) ended))
 
 pub returns-clause-unasked : goal.returns-clause-unasked
