@@ -175,7 +175,8 @@ USAGES = [
                     replay("--most-packets"), replay("--most-packets", "0"), replay("--most-packets", str(2**40 + 1)), replay("--most-packets", "x"),
                     replay("--most-packets", "9", "--callers", "2"), replay("--most-history", "9"), ["--most-packets", "9"],
                     replay("--threads"), replay("--threads", "0"), replay("--threads", "65"), replay("--threads", "x"), ["--threads", "2"],
-                    replay("--threads", "2", "--callers", "2"), ["audit", "h", "--threads", "2"],
+                    replay("--threads", "2", "--callers", "2"), ["audit", "h", "--threads", "0"], ["audit", "h", "--threads", "65"],
+                    ["audit", "h", "--callers", "2"],
                     ["audit", "h", "--most-history", "0"], ["audit", "h", "--most-history", str(2**40 + 1)], ["audit", "h", "--most-packets", "9"])],
     *[Case(f"a history over {name}, the {word}", ["replay", *names, "--history", name], 2, "", None)
       for names, name, word in ((["c", "p"], "c", "configuration"), (["c", "p"], "p", "packets"), (["none", "p"], "none", "missing file"),
