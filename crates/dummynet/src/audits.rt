@@ -1,4 +1,3 @@
-use crate::thread_count::usual_threads;
 use dn_command::Audit;
 use dn_records::{FromReader, FromWriter};
 use dn_replay::{
@@ -17,7 +16,8 @@ pub fn audit<R: Files + Print + AllocGlobal + Threads>(
     let Ok(file) = fs::open(rt, asked.history) else {
         return Err(ReplayFault::Read(Source::History));
     };
-    let threads = asked.threads.unwrap_or(usual_threads(rt, &file));
+    // More threads take fewer instructions each, and as long by the clock.
+    let threads = asked.threads.unwrap_or(1);
     let limit = asked.most_history.unwrap_or(HISTORY_LIMIT);
     let mut history = FromReader::new(file);
     let mut out = FromWriter::new(io::writer(rt));
