@@ -1,5 +1,5 @@
-"""The samples of the READMEs, each of which is code of a test or of the program that rt has proved and run, and the counts of definitions
-that docs/TRUST.md and README.md have.
+"""The samples of the READMEs, each of which is code of a test or of the program that rt has proved and run, the counts of definitions
+that docs/TRUST.md and README.md have, and marks that a merge left in a page.
 
     python3 tools/gate/samples.py
 
@@ -23,6 +23,8 @@ REGION = re.compile(r"^ *// In the README (of .*?):\n(.*?)^ *// Up to here\.$", 
 PLACE = re.compile(r"of (\w+), (\d+)")
 SAMPLE = re.compile(r"^```rust\n(.*?)^```$", re.M | re.S)
 USE = re.compile(r"^use (\w+)::(?:\{(.*?)\}|(\w+));\n", re.M | re.S)
+PAGES = ("*.md", "docs/*.md", "crates/*/*.md", "python/**/*.md", "rust/**/*.md", "tools/**/*.md", "hosts/**/*.md")
+MARK = re.compile(r"^(?:<{7}|>{7}) ", re.M)
 # Libraries have a sample each, and so has a crate of tests.
 WITH_SAMPLES = ("dn_", "test_shaper")
 # Samples that are on the page alone. That of dn_laws is the contract of a law.
@@ -70,9 +72,16 @@ def counted(tally: Tally) -> None:
     tally.note("README.md", "" if told in readme and f"and {service} of the service" in readme else f"isn't {told} and {service} of the service")
 
 
+def merged(tally: Tally) -> None:
+    """No page has the marks of a merge that wasn't ended."""
+    for page in sorted(path for pattern in PAGES for path in TOP.glob(pattern)):
+        tally.note(str(page.relative_to(TOP)), "has the marks of a merge" if MARK.search(page.read_text()) else "")
+
+
 def main() -> int:
     tally = Tally()
     counted(tally)
+    merged(tally)
     sources = in_sources()
     for crate in sorted(path.parent.name for path in TOP.glob("crates/*/README.md")):
         samples = SAMPLE.findall((TOP / "crates" / crate / "README.md").read_text())
