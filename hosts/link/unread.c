@@ -64,7 +64,7 @@ void note_wait(uint64_t moment, bool slept, const int *ready, int count) {
     uint64_t lay = slept ? queued_for_processor() : 0;
     for (int i = 0; i < count; i++) {
         struct interface *it = &interfaces[ready[i]];
-        if (it->ready_at != waits) note_had_nothing(it, waited);
+        if (it->ready_at != waits) note_had_nothing(it, waited); /* the wait before this one didn't find it ready */
         if (slept && !it->unemptied && lay < moment) note_had_nothing(it, moment - lay);
         it->ready_at = waits + 1;
     }

@@ -106,6 +106,7 @@ static bool pass_again(struct packet *packet, uint64_t due) {
     return true;
 }
 
+/* A packet is late from its due moment to the end of the write that sent it, and by what its first pass was late. */
 static void note_left(const struct packet *packet, uint64_t due, bool sent, uint64_t moment) {
     struct way *counts = &page->ways[packet->way];
     if (sent) counts->sent++, counts->sent_bytes += packet->len;
