@@ -68,6 +68,7 @@ pub mod Timely
 pub mod ToldCommands
 pub mod ToldCounts
 pub mod ToldDeliveries
+pub mod ToldNumbers
 pub mod WaitBounds
 pub mod Waits
 mod WaitWitnesses

@@ -1,11 +1,11 @@
 -- The laws of merging at examples: the deliveries of two links mingle, and the numbers of a part aren't those of all.
-use Rattle.std.specs.Prelude.{◌≡◌, ◌≤◌, ◌<◌, ℕ, Bool, true, cond, List, [], ◌∷◌, map, nat_eq, nat_le, length}
+use Rattle.std.specs.Prelude.{◌≡◌, ◌≤◌, ◌<◌, ℕ, Bool, true, cond, List, [], ◌∷◌, All, map, nat_eq, nat_le, length}
 use Rattle.dn_types.specs.Clock.{call_limit}
 use Rattle.dn_types.specs.Flows.{keys}
 use Rattle.dn_laws.specs.Divided.{own_of}
 use Rattle.dn_laws.specs.MergeLaws.{told_in_replay, by_target, AreInParts, told_in_part}
 use Rattle.dn_laws.specs.Merges.{Division, links_in, part_of_delivery, told_by, told_in, flow_told, packet_told, count_told, AreCounted}
-use Rattle.dn_laws.specs.Merges.{reply_in_all, delivery_in_all, delivered, AreInTurn, IsMergeOf}
+use Rattle.dn_laws.specs.Merges.{reply_in_all, delivery_in_all, delivered, AreInTurn, IsMergeOf, IsOfTold}
 use Rattle.dn_laws.specs.Replays.{own_calls}
 use Rattle.dn_types.specs.Replies.{reply}
 use Rattle.dn_types.specs.declared.call.Call.{Call}
@@ -19,6 +19,7 @@ use Rattle.dn_types.proofs.ExampleWords.{delivery, pipe, sized, to_pipe}
 use Rattle.dn_laws.proofs.MergedParts.{parts-are-counted, parts-are-merged, parts-give-merged}
 use Rattle.dn_laws.proofs.MergedReplays.{replays-are-counted, replays-are-merged, collects-are-merged}
 use Rattle.dn_laws.proofs.Merges.{gives-in-turn, merges-are-one}
+use Rattle.dn_laws.proofs.ToldNumbers.{given-told}
 use Rattle.std.proofs.Common.{refl, arith}
 use Rattle.std.proofs.lemmas.Bool.Decides.{nat_tests}
 
@@ -60,6 +61,10 @@ few = at-most _ _ refl
 merged : IsMergeOf (part_of_delivery by_pipe (keys mixed))
     (λ part. map (delivery_in_all part (told_by (told_in_replay Ordered by_pipe) mixed)) (delivered (reply Ordered (own_calls (links_in by_pipe part) mixed) (Collect 100000000)))) of_all
 merged = collects-are-merged Ordered by_pipe mixed 100000000 tt few
+
+-- Packets of the second part were told the numbers of its deliveries.
+told_its_numbers : All (IsOfTold (told_by (told_in_replay Ordered by_pipe) mixed) 1) (delivery 0 0 0 11000000 ∷ delivery 1 0 1000000 12000000 ∷ [])
+told_its_numbers = given-told Ordered by_pipe mixed 100000000 tt few 1
 
 in_turn : AreInTurn of_all
 in_turn = gives-in-turn Ordered mixed 100000000

@@ -1,11 +1,11 @@
 -- The laws of merging: what all are told follows from what the parts are told, each alone.
-use Rattle.std.specs.Prelude.{ℕ, ◌≡◌, ◌<◌, ◌≤◌, max, Bool, List, ◌∷◌, map, length, nat_eq}
+use Rattle.std.specs.Prelude.{ℕ, ◌≡◌, ◌<◌, ◌≤◌, max, Bool, List, ◌∷◌, All, map, length, nat_eq}
 use Rattle.dn_types.specs.Clock.{call_limit, effective_moment}
 use Rattle.dn_types.specs.Configuration.{settings}
 use Rattle.dn_laws.specs.Divided.{own_of, AreDivided}
 use Rattle.dn_types.specs.Flows.{treatment, keys}
 use Rattle.dn_laws.specs.Merges.{Division, links_in, part_of_packet, part_of_delivery, Told, told_by, flow_told, packet_told, AreCounted}
-use Rattle.dn_laws.specs.Merges.{reply_in_all, delivery_in_all, delivered, AreInTurn, IsMergeOf}
+use Rattle.dn_laws.specs.Merges.{reply_in_all, delivery_in_all, delivered, AreInTurn, IsMergeOf, IsOfTold}
 use Rattle.dn_laws.specs.Replays.{ArePackets, own_calls}
 use Rattle.dn_types.specs.Replies.{reply}
 use Rattle.dn_types.specs.declared.call.Call.{Call}
@@ -42,6 +42,12 @@ ReplaysAreMerged = (rule : Rule) (division : Division) (calls : List Call) (targ
 abbrev pub ReplaysAreCounted : Type 0
 ReplaysAreCounted = (rule : Rule) (division : Division) (calls : List Call) → ArePackets calls → length calls ≤ call_limit →
     AreCounted flow_told (told_by (told_in_replay rule division) calls) × AreCounted packet_told (told_by (told_in_replay rule division) calls)
+
+-- Each delivery of a part's Collect has numbers that packets of the part were told.
+abbrev pub GivenAreTold : Type 0
+GivenAreTold = (rule : Rule) (division : Division) (calls : List Call) (moment : ℕ) (part : ℕ) → ArePackets calls → length calls < call_limit →
+    All (IsOfTold (told_by (told_in_replay rule division) calls) part)
+    (delivered (reply rule (own_calls (links_in division part) calls) (Collect (max (effective_moment calls) moment))))
 
 -- What the Collect gives of all is the merge of what it gives in the parts, with the numbers among all.
 abbrev pub CollectsAreMerged : Type 0

@@ -1,5 +1,5 @@
 -- Words for merging: parts are told their replies alone, and from these follow the numbers that all give to flows and packets, and the deliveries of all.
-use Rattle.std.specs.Prelude.{ℕ, suc, ◌≡◌, ◌≤◌, ◌<◌, ⊤, Bool, false, cond, not, ◌&&◌, List, [], ◌∷◌, nat_eq, nat_lt, Option, Some, None, slice_get}
+use Rattle.std.specs.Prelude.{ℕ, suc, ◌≡◌, ◌≤◌, ◌<◌, ⊤, Bool, true, false, cond, not, ◌&&◌, List, [], ◌∷◌, nat_eq, nat_lt, Option, Some, None, slice_get}
 use Rattle.std.specs.List.{All, filter, list_any}
 use Rattle.dn_types.specs.Flows.{Treatment, key_of}
 use Rattle.dn_laws.specs.Parts.{Choice}
@@ -101,6 +101,10 @@ number_in_all number part (t ∷ earlier) n = cond (list_any (is_told_as number 
 -- The numbers that a part was told are those below their count. So one that is new is their count.
 abbrev pub AreCounted : (Reply → Option ℕ) → List Told → Type 0
 AreCounted number told = (part n : ℕ) → list_any (is_told_as number part n) told ≡ nat_lt n (count_told number (told_in part told))
+
+-- Packets of the part were told the numbers of the delivery, of its flow and of itself.
+abbrev pub IsOfTold : List Told → ℕ → Delivery → Type 0
+IsOfTold told part d = (list_any (is_told_as flow_told part d.flow) told ≡ true) × (list_any (is_told_as packet_told part d.packet) told ≡ true)
 
 -- A part's reply with the numbers among all.
 abbrev pub reply_in_all : ℕ → List Told → Reply → Reply

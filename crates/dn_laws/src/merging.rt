@@ -1,6 +1,6 @@
 //! Laws of parts that are emulated apart: what all are told is merged from what the parts are told.
 
-ghost use Rattle.dn_laws.specs.MergeLaws.{CollectsAreMerged, GivesInTurn, MergesAreOne};
+ghost use Rattle.dn_laws.specs.MergeLaws.{CollectsAreMerged, GivenAreTold, GivesInTurn, MergesAreOne};
 ghost use Rattle.dn_laws.specs.MergeLaws.{PartsAreCounted, PartsAreMerged, PartsGiveMerged};
 ghost use Rattle.dn_laws.specs.MergeLaws.{ReplaysAreCounted, ReplaysAreMerged};
 
@@ -15,6 +15,7 @@ pub fn laws_of_merging()
     ensures packets { ReplaysAreMerged }
     ensures packet_numbers { ReplaysAreCounted }
     ensures collects { CollectsAreMerged }
+    ensures numbers_told { GivenAreTold }
     ensures divided { PartsAreMerged }
     ensures divided_numbers { PartsAreCounted }
     ensures given { PartsGiveMerged }

@@ -18,13 +18,13 @@ use Rattle.dn_types.specs.declared.rule.Rule.{Rule}
 use Rattle.dn_types.specs.declared.target.Target.{Target}
 use Rattle.dn_types.specs.declared.target.Target.TheVariants.{Pipe as ToPipe, Queue as ToQueue}
 use Rattle.dn_laws.specs.MergeLaws.{told_in_replay}
-use Rattle.dn_laws.specs.Merges.{Division, IsMergeOf, Told, count_told, delivered, delivery_in_all, flow_told, is_told_as, links_in, number_in_all, packet_told, part_of_delivery, part_of_flow, part_of_known, told_by, told_in}
+use Rattle.dn_laws.specs.Merges.{Division, IsMergeOf, IsOfTold, Told, count_told, delivered, delivery_in_all, flow_told, is_told_as, links_in, number_in_all, packet_told, part_of_delivery, part_of_flow, part_of_known, told_by, told_in}
 use Rattle.dn_laws.specs.Replays.{ArePackets, own_calls}
 use Rattle.dn_laws.proofs.MergedReplays.{collects-are-merged}
-use Rattle.dn_merge.specs.Numbers.{AllNumbers, AreNumbersOf, HasNumbered, IsOfTold, Numbers, delivery_by_numbers, list_at}
+use Rattle.dn_laws.proofs.ToldNumbers.{given-told}
+use Rattle.dn_merge.specs.Numbers.{AllNumbers, AreNumbersOf, HasNumbered, Numbers, delivery_by_numbers, list_at}
 use Rattle.dn_merge.specs.Parts.{AreGivenInParts, IsAmong}
 use Rattle.dn_merge.proofs.TwoLists.{none-of}
-use Rattle.dn_merge.proofs.ToldNumbers.{given-told}
 
 -- A number that was told in a part is in its list.
 number-told : (number : Reply → Option ℕ) (told : List Told) (numbers : Numbers) → AreNumbersOf number told numbers → (part n : ℕ) → part < length numbers.of_parts

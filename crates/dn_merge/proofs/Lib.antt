@@ -1,4 +1,3 @@
 pub mod InAll
 pub mod Numbered
-pub mod ToldNumbers
 pub mod TwoLists

@@ -1,7 +1,6 @@
 -- The numbers that all give to the flows and packets of the parts, by the numbers that the parts gave them.
-use Rattle.std.specs.Prelude.{◌≡◌, ℕ, suc, ◌<◌, ◌≤◌, ◌^◌, true, List, [], ◌∷◌, ◌++◌, length, Option, slice_index_or}
-use Rattle.std.specs.List.{list_any}
-use Rattle.dn_laws.specs.Merges.{AreCounted, Told, count_told, flow_told, is_told_as, number_in_all, packet_told, told_in}
+use Rattle.std.specs.Prelude.{◌≡◌, ℕ, suc, ◌<◌, ◌≤◌, ◌^◌, List, [], ◌∷◌, ◌++◌, length, Option, slice_index_or}
+use Rattle.dn_laws.specs.Merges.{AreCounted, Told, count_told, flow_told, number_in_all, packet_told, told_in}
 use Rattle.dn_laws.specs.ReplyParts.{delivery_by}
 use Rattle.dn_types.specs.declared.delivery.Delivery.{Delivery}
 use Rattle.dn_types.specs.declared.reply.Reply.{Reply}
@@ -40,10 +39,6 @@ AreAllCounted told = AreCounted flow_told told × AreCounted packet_told told
 pub record TakesNumber (own : ℕ) (list : List ℕ) (many : ℕ) (n : ℕ) (new : List ℕ) (many_now : ℕ) : Type 0 where
   pub known : own < length list → (n ≡ slice_index_or list own 0) × (new ≡ list) × (many_now ≡ many)
   pub next : length list ≤ own → many < 2 ^ 63 → (n ≡ many) × (new ≡ list ++ many ∷ []) × (many_now ≡ suc many)
-
--- Packets of the part were told the numbers of the delivery.
-abbrev pub IsOfTold : List Told → ℕ → Delivery → Type 0
-IsOfTold told part d = (list_any (is_told_as flow_told part d.flow) told ≡ true) × (list_any (is_told_as packet_told part d.packet) told ≡ true)
 
 -- A delivery with the numbers of the part's lists. A number that a list doesn't have is 0.
 abbrev pub delivery_by_numbers : AllNumbers → ℕ → Delivery → Delivery

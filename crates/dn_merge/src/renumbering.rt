@@ -5,9 +5,9 @@ ghost use Rattle.dn_types.specs.declared.call.Call.{Call};
 ghost use Rattle.dn_types.specs.declared.call.Call.TheVariants.{Collect};
 ghost use Rattle.dn_types.specs.declared.rule.Rule.{Rule};
 ghost use Rattle.dn_laws.specs.MergeLaws.{told_in_replay};
-ghost use Rattle.dn_laws.specs.Merges.{Division, Told, delivered, delivery_in_all, reply_in_all, told_by};
+ghost use Rattle.dn_laws.specs.Merges.{Division, IsOfTold, Told, delivered, delivery_in_all, reply_in_all, told_by};
 ghost use Rattle.dn_laws.specs.Replays.{ArePackets};
-ghost use Rattle.dn_merge.specs.Numbers.{AreAllCounted, HasNumbered, IsOfTold, TakesNumber, delivery_by_numbers, list_at};
+ghost use Rattle.dn_merge.specs.Numbers.{AreAllCounted, HasNumbered, TakesNumber, delivery_by_numbers, list_at};
 ghost use Rattle.dn_merge.specs.Parts.{AreGivenInParts, IsAmong};
 
 use crate::merging::merge;

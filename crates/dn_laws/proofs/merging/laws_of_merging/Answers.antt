@@ -2,6 +2,7 @@
 use Rattle.dn_laws.proofs.MergedParts.{parts-are-counted, parts-are-merged, parts-give-merged}
 use Rattle.dn_laws.proofs.MergedReplays.{collects-are-merged, replays-are-counted, replays-are-merged}
 use Rattle.dn_laws.proofs.Merges.{gives-in-turn, merges-are-one}
+use Rattle.dn_laws.proofs.ToldNumbers.{given-told}
 use Rattle.dn_laws.proofs.merging.laws_of_merging.Goals as goal
 
 pub returns-clause-in_turn : goal.returns-clause-in_turn
@@ -18,6 +19,9 @@ returns-clause-packet_numbers c = replays-are-counted
 
 pub returns-clause-collects : goal.returns-clause-collects
 returns-clause-collects c = collects-are-merged
+
+pub returns-clause-numbers_told : goal.returns-clause-numbers_told
+returns-clause-numbers_told c = λ rule division calls moment part are few. given-told rule division calls moment are few part
 
 pub returns-clause-divided : goal.returns-clause-divided
 returns-clause-divided c = parts-are-merged

@@ -20,7 +20,7 @@ use Rattle.dn_types.proofs.CallCounts.{settled-count}
 use Rattle.dn_types.proofs.Ordered.{trace-proper}
 use Rattle.dn_types.proofs.PacketCounts.{undelivered-below}
 use Rattle.dn_laws.specs.MergeLaws.{told_in_replay}
-use Rattle.dn_laws.specs.Merges.{Division, Told, delivered, flow_told, links_in, packet_told, told_by}
+use Rattle.dn_laws.specs.Merges.{Division, IsOfTold, Told, delivered, flow_told, links_in, packet_told, told_by}
 use Rattle.dn_laws.specs.Parts.{is_some_key_on, place}
 use Rattle.dn_laws.specs.ReplyParts.{delivery_by}
 use Rattle.dn_laws.specs.Replays.{ArePackets, own_calls}
@@ -30,7 +30,6 @@ use Rattle.dn_laws.proofs.MergedReplays.{all-told, given-in-part}
 use Rattle.dn_laws.proofs.MergedReplies.{filter-passes}
 use Rattle.dn_laws.proofs.PartCalls.{all-taken, keyed-all, taken-settled, trace-fit}
 use Rattle.dn_laws.proofs.PartGiven.{IsTaken, all-taken as all-given-taken}
-use Rattle.dn_merge.specs.Numbers.{IsOfTold}
 
 module _ (rule : Rule) (division : Division) (calls : List Call) (moment : ℕ) (are : ArePackets calls) (few : length calls < call_limit) (part : ℕ) where
   abbrev known : List FlowKey
