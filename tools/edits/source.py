@@ -9,6 +9,7 @@ from pathlib import Path
 from typing import Optional
 
 FN = re.compile(r'( *)(?:pub(?:\([a-z]+\))? )?(?:const )?(?:unsafe )?(?:extern "C" )?fn (\w+)')
+CLOSURE = re.compile(r"\+fn-(\w+)-.*")  # the folder that has the proofs of a closure in a function
 IMPL = re.compile(r"impl(?:<.*?>)? (?:(?:\w+::)*(\w+)(?:<.*>)? for )?&?(?:'\w+ )?(?:mut )?(?:\w+::)*(\w+)")
 
 
@@ -28,7 +29,7 @@ class Function:
 
     def owns(self, name: str) -> bool:
         """Whether a name that the prover prints, without its crate's, is of the function or of a closure in it."""
-        parts = tuple(part for part in name.split("::") if part != "fn")
+        parts = tuple(CLOSURE.sub(r"\1", part) for part in name.split("::") if part != "fn")
         places = range(len(parts) - len(self.path) + 1) if self.path[0][:1].isupper() else range(1)
         return any(parts[place:place + len(self.path)] == self.path for place in places)
 
