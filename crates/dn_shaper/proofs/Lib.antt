@@ -39,7 +39,6 @@ pub mod Numbered
 pub mod Opened
 pub mod Ordered
 pub mod Passing
-pub mod PassingShared
 pub mod Preparing
 pub mod Putting
 pub mod QueueCounts

@@ -1,36 +1,43 @@
--- A packet starts at once on its flow's own link, which is idle. The parts between its arrival and its start are told here alone:
--- the flow's queue never holds it. The first lemmas are of any idle link.
-use Rattle.std.proofs.Common.{◌≡◌, ◌∙◌, ◌<◌, ◌+◌, ◌^◌, ℕ, cond, List, [], ◌∷◌, ◌++◌, map, set, get_or, refl, ap, sym, subst, true, length, length-set, arith}
-use Rattle.std.specs.Prelude.{◌≤◌, ◌*◌, Some, slice_get, slice_set}
+-- A packet starts at once on its link, which is idle. The parts between its arrival and its start are told here alone: neither its
+-- flow's queue nor the scheduler of a shared link ever holds it.
+use Rattle.std.proofs.Common.{◌≡◌, ◌∙◌, ◌<◌, ◌≤◌, ◌+◌, ◌^◌, ℕ, cond, List, [], ◌∷◌, ◌++◌, map, set, get_or, refl, ap, sym, subst, true, length, length-set, arith, Box, Global}
+use Rattle.std.specs.Prelude.{◌*◌, Some, slice_get, slice_set}
+use Rattle.std.specs.Box.{with_value}
+use Rattle.std.specs.Vec.{with_item}
 use Rattle.dn_heap.specs.Heap.{Heap}
 use Rattle.dn_types.specs.Configuration.{Settings}
 use Rattle.dn_types.specs.Deliveries.{in_order}
 use Rattle.dn_types.specs.Links.{transmission_time, due_by}
+use Rattle.dn_types.specs.Trace.{Accepted, Link, own, shared, backlog}
 use Rattle.dn_types.specs.declared.delivery.Delivery.{Delivery}
 use Rattle.dn_flows.specs.Table.{FlowState, flow_at, popped, pushed}
 use Rattle.dn_flows.specs.declared.waiting.Waiting.{Waiting}
-use Rattle.dn_flows.proofs.Places.{eq-yes, get-below, get-map, get-read}
+use Rattle.dn_flows.proofs.Places.{eq-yes, get-below, get-map, get-read, get-set}
 use Rattle.dn_flows.proofs.Views.{flow_after_set}
 use Rattle.dn_link.specs.LinkState.{LinkState}
+use Rattle.dn_wf2q.specs.Schedule.{IsIdle, Passes as PassesIn, arrived, room_at}
 use Rattle.dn_shaper.specs.declared.links.home.Home.{Home}
 use Rattle.dn_shaper.specs.declared.links.link_parts.Carries.{Carries}
-use Rattle.dn_shaper.specs.declared.links.link_parts.Carries.TheVariants.{Own}
+use Rattle.dn_shaper.specs.declared.links.link_parts.Carries.TheVariants.{Own, Shared}
 use Rattle.dn_shaper.specs.declared.links.link_parts.LinkParts.{LinkParts}
 use Rattle.dn_shaper.specs.declared.links.next_start.NextStart.{NextStart}
 use Rattle.dn_shaper.specs.declared.links.parts.Parts.{Parts}
-use Rattle.dn_shaper.specs.Refinement.Agreement.{Agrees}
-use Rattle.dn_shaper.specs.Refinement.Arriving.{ArrivesAt, is_idle}
-use Rattle.dn_shaper.specs.Refinement.Passing.{IsIdleAt}
-use Rattle.dn_shaper.specs.Refinement.Starting.{CanStart, Starts, Within}
+use Rattle.dn_shaper.specs.declared.links.shared_link.SharedLink.{SharedLink}
+use Rattle.dn_shaper.specs.Refinement.Agreement.{Agrees, IsHomeOf}
+use Rattle.dn_shaper.specs.Refinement.Arriving.{ArrivesAt, Joins}
+use Rattle.dn_shaper.specs.Refinement.Passing.{CanPass, HasFlowAt, IsIdleAt, PassesLink}
+use Rattle.dn_shaper.specs.Refinement.Starting.{CanStart, StartsOn, Within}
 use Rattle.dn_shaper.specs.Refinement.Submitting.{MayAccept}
-use Rattle.dn_shaper.specs.Refinement.Views.{LinkView, carried_link, queue_lengths, view_of, views_of}
+use Rattle.dn_shaper.specs.Refinement.Views.{IsAlone, LinkView, TakesNext, as_queued, home, queue_lengths, view_of, views_of}
 use Rattle.dn_shaper.proofs.Accepted.{idle-is, mid-agrees, mid-all}
-use Rattle.dn_shaper.proofs.Accepting.{home-at, may-agree}
-use Rattle.dn_shaper.proofs.Alone.{push-longer, set-seen}
-use Rattle.dn_shaper.proofs.Arriving.{set-self, set-set}
-use Rattle.dn_shaper.proofs.HomeRead.{home-alone, in-table}
+use Rattle.dn_shaper.proofs.Accepting.{can-join, home-at, may-agree}
+use Rattle.dn_shaper.proofs.Alone.{one-more-at, push-longer, set-seen}
+use Rattle.std.proofs.lemmas.List.{set-set}
+use Rattle.dn_shaper.proofs.HomeRead.{home-alone, in-table, is-home}
+use Rattle.dn_shaper.proofs.Scheduled.{waits_forgotten}
 use Rattle.dn_shaper.proofs.Starting.{alone-at}
-use Rattle.dn_shaper.proofs.Taking.{pops-fewer}
+use Rattle.dn_shaper.proofs.Taking.{sends-on, sent}
+use Rattle.dn_shaper.proofs.Waiting.{empty-all}
 
 -- What is read at a place is what stands there.
 pub stands : (xs : List LinkParts) (i : ℕ) {x y : LinkParts} → slice_get xs i ≡ Some x → y ≡ get_or xs i y → y ≡ x
@@ -38,36 +45,50 @@ stands xs i {x = x} {y = y} there read =
     let both : Some y ≡ Some x = sym (get-read xs i y (get-below xs i x there) read) ∙ there in
     cc
 
--- What the link that is read at the place carries.
-pub shared-carries : {at place : ℕ} {old : Parts} (is : IsIdleAt at place old) {l : LinkParts} → l ≡ get_or old.links.items place l → {k : Carries} → l.carries ≡ k → is.link.carries ≡ k
-shared-carries {place = place} {old = old} is read-link carries = ap (λ (x : LinkParts). x.carries) (sym (stands old.links.items place is.there read-link)) ∙ carries
+-- ---- A packet passes the link, by what the link carries
 
--- ---- An idle link, by what it carries
+pub own-passes : {l : LinkParts} {f : ℕ} → l.carries ≡ Own f → {slot len weight : ℕ} → PassesLink slot len weight l l
+own-passes {l = l} {f = f} on {slot = slot} {len = len} {weight = weight} =
+    subst
+    (λ (k : Carries). PassesLink slot len weight (record { pipe = l.pipe; times = l.times; carries = k }) (record { pipe = l.pipe; times = l.times; carries = k })) (sym on)
+    (record {
+      mid = record { pipe = l.pipe; times = l.times; carries = Own f };
+      joins = λ before after more. record { link = refl; value = refl; slots = refl; waits = more; arrives = refl };
+      takes = λ flow before after has. record { link = refl; value = refl; slots = refl; sends = has };
+      keeps = λ before after. record { room = λ n. omega arith; arrivals = refl };
+    })
 
-module _ {at place : ℕ} {old : Parts} (is : IsIdleAt at place old) {carries : Carries} (on : is.link.carries ≡ carries) where
-  abbrev pub link : LinkParts
-  link = record { pipe = is.link.pipe; times = is.link.times; carries = carries }
+module _ (l : LinkParts) {s : Box SharedLink Global} (on : l.carries ≡ Shared s) (slot : ℕ) where
+  pub can-shared : (queues : ℕ → ℕ) × CanPass slot (view_of queues l) →
+      IsIdle s.value.sched.flows × ((0 < room_at s.value.sched.room slot) × (s.value.sched.arrivals < 2 ^ 62))
+  can-shared can = subst (λ (k : Carries). CanPass slot (view_of can.0 (record { pipe = l.pipe; times = l.times; carries = k }))) on can.1
 
-  link-is : is.link ≡ link
-  link-is = λ i. record { pipe = is.link.pipe; times = is.link.times; carries = on i }
-
-  pub there : slice_get old.links.items place ≡ Some link
-  there = is.there ∙ ap (λ (x : LinkParts). Some x) link-is
-
-  pub reads : {l : LinkParts} → l ≡ get_or old.links.items place l → l ≡ link
-  reads read-link = stands old.links.items place there read-link
-
-  abbrev pub seen : LinkView
-  seen = view_of (queue_lengths old.flows.flows) link
-
-  pub seen-there : slice_get (views_of old) place ≡ Some seen
-  seen-there = get-map (view_of (queue_lengths old.flows.flows)) old.links.items place link there
-
-  pub idle : is_idle at seen ≡ true
-  idle = subst (λ (x : LinkParts). is_idle at (view_of (queue_lengths old.flows.flows) x) ≡ true) link-is is.idle
-
-  pub free-by : is.link.times.free ≤ at
-  free-by = (idle-is at seen idle).1
+  pub shared-passes : {len weight : ℕ} (b : Box SharedLink Global) → PassesIn slot len weight s.value.sched b.value.sched → b.value.flows ≡ s.value.flows →
+      PassesLink slot len weight l (record { pipe = l.pipe; times = l.times; carries = Shared b })
+  shared-passes {len = len} {weight = weight} b passes flows-are =
+      subst
+      (λ (k : Carries). PassesLink slot len weight (record { pipe = l.pipe; times = l.times; carries = k }) (record { pipe = l.pipe; times = l.times; carries = Shared b })) (sym on)
+      (record {
+        mid = record {
+          pipe = l.pipe;
+          times = l.times;
+          carries = Shared (with_value s (record { sched = arrived slot len weight s.value.sched b.value.sched; flows = s.value.flows }));
+        };
+        joins = λ before after more. record {
+          link = refl;
+          value = refl;
+          slots = refl;
+          waits = passes.one_more;
+          arrives = record { flows = refl; virtual_time = refl; one_more = passes.one_more ∙ ap (λ n. n + 1) (sym (waits_forgotten s.value.sched.flows)); arrivals = refl };
+        };
+        takes = λ flow before after has. record {
+          link = refl;
+          value = refl;
+          slots = ap (λ v. v.items) flows-are;
+          sends = (passes.packet, passes.picked, ap (λ n. slice_get s.value.flows.items n) passes.here ∙ has, passes.picks);
+        };
+        keeps = λ before after. record { room = λ n. omega arith; arrivals = passes.arrivals };
+      })
 
 -- ---- A flow that no packet waits in
 
@@ -76,120 +97,166 @@ few-started {flow = flow} may = let lt = may.few.1 in let c = (may.few.2.flows_a
 
 -- One packet joins it and leaves it.
 module _ (flows : List FlowState) (flow : ℕ) (w : Waiting) where
-  abbrev pub came : FlowState
+  abbrev came : FlowState
   came = pushed w (flow_at flows flow)
 
-  abbrev pub joined : List FlowState
+  abbrev joined : List FlowState
   joined = slice_set flows flow came
 
   module _ (inside : flow < length flows) where
-    pub in-joined : flow < length joined
+    in-joined : flow < length joined
     in-joined = let e = length-set flows flow came in omega arith
 
     now : flow_at joined flow ≡ came
     now = flow_after_set flows flow flow came inside ∙ ap (λ b. cond b came (flow_at flows flow)) (eq-yes flow flow refl)
 
-    pub first-joined : length (flow_at flows flow).backlog ≡ 0 → slice_get (flow_at joined flow).backlog 0 ≡ Some w
+    first-joined : length (flow_at flows flow).backlog ≡ 0 → slice_get (flow_at joined flow).backlog 0 ≡ Some w
     first-joined none = ap (λ (s : FlowState). slice_get s.backlog 0) now ∙ first (flow_at flows flow).backlog none
       where
         first : (ws : List Waiting) → length ws ≡ 0 → slice_get (ws ++ w ∷ []) 0 ≡ Some w
         first [] e = refl
         first (x ∷ ws) e = absurd (omega arith)
 
-    pub left-then : {after : List FlowState} → after ≡ slice_set flows flow (popped came) → after ≡ slice_set joined flow (popped (flow_at joined flow))
+    left-then : {after : List FlowState} → after ≡ slice_set flows flow (popped came) → after ≡ slice_set joined flow (popped (flow_at joined flow))
     left-then is = is ∙ sym (set-set flows flow came (popped came)) ∙ ap (λ (s : FlowState). slice_set joined flow (popped s)) (sym now)
 
--- ---- The flow's own link
+-- ---- The link at the flow's home is idle
 
 module _ {settings : Settings} {at : ℕ} {h : Home} {flow : ℕ} {old : Parts} {heap : Heap NextStart} (may : MayAccept settings at flow old heap)
     (read : h ≡ get_or old.homes.items flow h) (is : IsIdleAt at h.place old) where
   inside : flow < length old.flows.flows
   inside = in-table old (may-agree may) may.within
 
-  -- An own link at the flow's home is the flow's.
-  pub own-carries : {l : LinkParts} → l ≡ get_or old.links.items h.place l → (f : ℕ) × (l.carries ≡ Own f) → is.link.carries ≡ Own flow
-  own-carries {l = l} read-link own =
-      let same : l ≡ is.link = stands old.links.items h.place is.there read-link in
-      let view = view_of (queue_lengths old.flows.flows) in
-      let seen : slice_get (views_of old) h.place ≡ Some (view l) = get-map view old.links.items h.place is.link is.there ∙ ap (λ (x : LinkParts). Some (view x)) (sym same) in
-      let one : own.0 ≡ flow = (home-alone old (may-agree may) may.within read h.place (view l) l.pipe own.0 seen (ap (carried_link l.pipe) own.1)).1 refl in
-      ap (λ (x : LinkParts). x.carries) (sym same) ∙ own.1 ∙ ap (λ n. Own n) one
+  abbrev before : ℕ → ℕ
+  before = queue_lengths old.flows.flows
 
-  module _ (own : is.link.carries ≡ Own flow) where
-    abbrev here : LinkParts
-    here = link is own
+  abbrev seen : LinkView
+  seen = view_of before is.link
 
-    pub none : length (flow_at old.flows.flows flow).backlog ≡ 0
-    none = (idle-is at (seen is own) (idle is own)).0
+  there : slice_get (views_of old) h.place ≡ Some seen
+  there = get-map (view_of before) old.links.items h.place is.link is.there
 
-    module _ (len : ℕ) where
-      abbrev w : Waiting
-      w = record { packet = old.accepted; len = len }
+  -- No packet waits for it, and it is free.
+  pub calm : (seen.waits ≡ 0) × (is.link.times.free ≤ at)
+  calm = idle-is at seen is.idle
 
-      -- The parts once the packet has arrived.
-      abbrev pub mid : Parts
-      mid = record old { flows = record { keys = old.flows.keys; flows = joined old.flows.flows flow w; spare = old.flows.spare }; accepted = old.accepted + 1; waiting = old.waiting + 1 }
+  alone : IsAlone flow h.place (views_of old)
+  alone = home-alone old (may-agree may) may.within read
 
-      pub longer : queue_lengths mid.flows.flows flow ≡ queue_lengths old.flows.flows flow + 1
-      longer = push-longer old.flows.flows flow w inside mid.flows.flows refl
+  -- The flow is at home here, at its slot if the link is shared.
+  at-home : IsHomeOf flow (home old.flows.keys flow) (views_of old) h
+  at-home = is-home old (may-agree may) may.within read
 
-      pub arrives : (weight : ℕ) → ArrivesAt at h flow len weight true old mid
-      arrives weight = record {
-        view = seen is own;
-        view' = view_of (queue_lengths mid.flows.flows) here;
-        there = seen-there is own;
-        idle_is = sym (idle is own);
-        views_are = ap (λ (ls : List LinkParts). map (view_of (queue_lengths mid.flows.flows)) ls) (sym (set-self old.links.items h.place here (there is own)))
-            ∙ set-seen old flow h.place (home-alone old (may-agree may) may.within read) inside mid.flows.flows (came old.flows.flows flow w) refl here;
-        joins = record { link = refl; value = refl; slots = refl; waits = longer; arrives = refl };
-        flows_are = refl;
-        rule = refl;
-        accepted = refl;
-        keys = refl;
-        homes = refl;
-        line = refl;
-        waiting = refl;
-      }
+  home-seen : at-home.view ≡ seen
+  home-seen = let both : Some at-home.view ≡ Some seen = sym at-home.there ∙ there in cc
 
-      pub agrees : Agrees mid
-      agrees = mid-agrees may (home-at may read) (arrives 1)
+  home-is : home old.flows.keys flow ≡ seen.link
+  home-is = sym at-home.link_is ∙ ap (λ (v : LinkView). v.link) home-seen
 
-      pub within : Within (2 ^ 62) mid
-      within = mid-all may (home-at may read) (arrives 1)
+  has : HasFlowAt flow h.slot seen.slots seen.link
+  has = by seen.link refl
+    where
+      by : (l : Link) → seen.link ≡ l → HasFlowAt flow h.slot seen.slots l
+      by (own pipe f) e = sym ((alone h.place seen pipe f there e).1 refl)
+      by (shared pipe) e = ap (λ (v : LinkView). slice_get v.slots h.slot) (sym home-seen) ∙ at-home.slot_is pipe (home-is ∙ e)
 
-      abbrev pub can : CanStart mid h.place at
-      can = record {
-        view = view_of (queue_lengths mid.flows.flows) here;
-        there = get-map (view_of (queue_lengths mid.flows.flows)) old.links.items h.place here (there is own);
-        some = let l = longer in omega arith;
-        soon = free-by is own;
-      }
+  -- So none of the flow's packets waits.
+  pub none : length (flow_at old.flows.flows flow).backlog ≡ 0
+  none =
+      let trace = may.settled.1 in
+      let a = may.settled.2 in
+      let empty = empty-all seen.link trace (sym (a.views_are h.place seen there).waits_are ∙ calm.0) flow in
+      ap (λ (q : List Waiting). length q) (a.flows_are flow).backlog_is
+      ∙ ap (λ (l : Link). length (map as_queued (backlog l flow trace))) home-is
+      ∙ ap (λ (q : List Accepted). length (map as_queued q)) empty
 
-      module _ (flows : List FlowState) (is-now : flows ≡ slice_set old.flows.flows flow (popped (came old.flows.flows flow w))) (t : LinkState) where
-        flows-then : flows ≡ slice_set mid.flows.flows flow (popped (flow_at mid.flows.flows flow))
-        flows-then = left-then old.flows.flows flow w inside is-now
+  pub can-pass : {l : LinkParts} → l ≡ get_or old.links.items h.place l → (queues : ℕ → ℕ) × CanPass h.slot (view_of queues l)
+  can-pass read-link =
+      let same = stands old.links.items h.place is.there read-link in
+      (before, (ap {B = ℕ} (λ (x : LinkParts). (view_of before x).waits) same ∙ calm.0, can-join may read read-link))
 
-        pub views : map (view_of (queue_lengths flows)) (set old.links.items h.place (record { pipe = is.link.pipe; times = t; carries = Own flow }))
-            ≡ set (views_of mid) h.place (view_of (queue_lengths flows) (record { pipe = is.link.pipe; times = t; carries = Own flow }))
-        views = set-seen mid flow h.place (alone-at within agrees can flow can.view refl) (in-joined old.flows.flows flow w inside) flows (popped (flow_at mid.flows.flows flow)) flows-then
-            (record { pipe = is.link.pipe; times = t; carries = Own flow })
+  -- ---- The packet has passed it
 
-        pub starts : {bandwidth delay : ℕ} {pending : List Delivery} → t.free ≡ at + transmission_time bandwidth len →
-            t.last_due ≡ due_by old.rule (at + transmission_time bandwidth len + delay * 1000000) is.link.times.last_due →
-            pending ≡ in_order (record { due = t.last_due; packet = old.accepted; flow = flow; start = at }) old.line.pending →
-            Starts old.rule bandwidth delay at (view_of (queue_lengths mid.flows.flows) here) mid.flows.flows old.line.pending
-            (view_of (queue_lengths flows) (record { pipe = is.link.pipe; times = t; carries = Own flow })) flows pending
-        starts free last pending = record {
-          flow = flow;
-          packet = w;
-          front = first-joined old.flows.flows flow w inside none;
-          link = refl;
-          slots = refl;
-          sends = refl;
-          free = free;
-          last_due = last;
-          waits = ap (λ (fs : List FlowState). queue_lengths fs flow + 1) flows-then
-              ∙ pops-fewer mid.flows.flows flow w (in-joined old.flows.flows flow w inside) (first-joined old.flows.flows flow w inside none);
-          flows_are = flows-then;
-          pending_is = pending;
-        }
+  module _ {len weight : ℕ} {new : LinkParts} (p : PassesLink h.slot len weight is.link new) where
+    abbrev w : Waiting
+    w = record { packet = old.accepted; len = len }
+
+    -- The parts once the packet has arrived.
+    abbrev pub mid : Parts
+    mid = record old {
+      flows = record { keys = old.flows.keys; flows = joined old.flows.flows flow w; spare = old.flows.spare };
+      links = with_item old.links h.place p.mid;
+      accepted = old.accepted + 1;
+      waiting = old.waiting + 1;
+    }
+
+    abbrev between : ℕ → ℕ
+    between = queue_lengths mid.flows.flows
+
+    pub joins : Joins h.slot len weight true seen (view_of between p.mid)
+    joins = p.joins before between
+        (one-more-at flow h.place (views_of old) alone seen there before between (push-longer old.flows.flows flow w inside mid.flows.flows refl) (view_of between is.link).link refl)
+
+    pub arrives : ArrivesAt at h flow len weight true old mid
+    arrives = record {
+      view = seen;
+      view' = view_of between p.mid;
+      there = there;
+      idle_is = sym is.idle;
+      views_are = set-seen old flow h.place alone inside mid.flows.flows (came old.flows.flows flow w) refl p.mid;
+      joins = joins;
+      flows_are = refl;
+      rule = refl;
+      accepted = refl;
+      keys = refl;
+      homes = refl;
+      line = refl;
+      waiting = refl;
+    }
+
+    pub agrees : Agrees mid
+    agrees = mid-agrees may (home-at may read) arrives
+
+    pub within : Within (2 ^ 62) mid
+    within = mid-all may (home-at may read) arrives
+
+    abbrev pub can : CanStart mid h.place at
+    can = record {
+      view = view_of between p.mid;
+      there = get-map (view_of between) (set old.links.items h.place p.mid) h.place p.mid (get-set old.links.items h.place is.link p.mid is.there);
+      some = let more = joins.waits in omega arith;
+      soon = let same = ap {B = ℕ} (λ (t : LinkState). t.free) joins.value in let free = calm.1 in omega arith;
+    }
+
+    takes : (after : ℕ → ℕ) → TakesNext flow (view_of between p.mid) (view_of after new)
+    takes after = p.takes flow between after has
+
+    pub free-by : new.times.free ≤ at
+    free-by =
+        let one = ap {B = ℕ} (λ (t : LinkState). t.free) joins.value in
+        let two = ap {B = ℕ} (λ (t : LinkState). t.free) (takes between).value in
+        let free = calm.1 in
+        omega arith
+
+    module _ (flows : List FlowState) (is-now : flows ≡ slice_set old.flows.flows flow (popped (came old.flows.flows flow w))) (t : LinkState) where
+      abbrev gone : LinkParts
+      gone = record { pipe = new.pipe; times = t; carries = new.carries }
+
+      flows-then : flows ≡ slice_set mid.flows.flows flow (popped (flow_at mid.flows.flows flow))
+      flows-then = left-then old.flows.flows flow w inside is-now
+
+      pub views : map (view_of (queue_lengths flows)) (set old.links.items h.place gone) ≡ set (views_of mid) h.place (view_of (queue_lengths flows) gone)
+      views =
+          let sends = sends-on flow (view_of between p.mid) (view_of (queue_lengths flows) new) (view_of (queue_lengths flows) gone) refl
+          (view_of between p.mid).link (takes (queue_lengths flows)).sends in
+          ap (λ (ls : List LinkParts). map (view_of (queue_lengths flows)) ls) (sym (set-set old.links.items h.place p.mid gone))
+          ∙ set-seen mid flow h.place (alone-at within agrees can flow (view_of (queue_lengths flows) gone) sends) (in-joined old.flows.flows flow w inside) flows
+          (popped (flow_at mid.flows.flows flow)) flows-then gone
+
+      pub starts : {bandwidth delay : ℕ} {pending : List Delivery} → t.free ≡ at + transmission_time bandwidth len →
+          t.last_due ≡ due_by old.rule (at + transmission_time bandwidth len + delay * 1000000) new.times.last_due →
+          pending ≡ in_order (record { due = t.last_due; packet = old.accepted; flow = flow; start = at }) old.line.pending →
+          StartsOn old.rule bandwidth delay at p.mid mid.flows.flows old.line.pending gone flows pending
+      starts free last pending =
+          sent p.mid new mid.flows.flows flows t (takes (queue_lengths flows)) (in-joined old.flows.flows flow w inside)
+          (first-joined old.flows.flows flow w inside none) flows-then free last pending

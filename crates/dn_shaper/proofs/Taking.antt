@@ -1,8 +1,12 @@
 -- A link takes the flow that it sends next.
 use Rattle.std.proofs.Common.{◌≡◌, ◌∙◌, ◌<◌, ◌+◌, ℕ, zero, suc, cond, List, [], ◌∷◌, get_or, slice_set, drop, length, refl, ap, sym, subst, arith, Box, Global}
-use Rattle.std.specs.Prelude.{Option, Some, None, IsSome, slice_get, option_map, IfSome}
+use Rattle.std.specs.Prelude.{◌*◌, Option, Some, None, IsSome, slice_get, option_map, IfSome}
+use Rattle.dn_types.specs.Deliveries.{in_order}
+use Rattle.dn_types.specs.Links.{transmission_time, due_by}
 use Rattle.dn_types.specs.Trace.{Link, own, shared}
 use Rattle.dn_types.specs.Wf2q.{Stamped, pick}
+use Rattle.dn_types.specs.declared.delivery.Delivery.{Delivery}
+use Rattle.dn_types.specs.declared.rule.Rule.{Rule}
 use Rattle.dn_link.specs.LinkState.{LinkState}
 use Rattle.dn_flows.specs.Table.{FlowState, flow_at, popped}
 use Rattle.dn_flows.specs.declared.waiting.Waiting.{Waiting}
@@ -13,6 +17,7 @@ use Rattle.dn_shaper.specs.declared.links.link_parts.Carries.{Carries}
 use Rattle.dn_shaper.specs.declared.links.link_parts.Carries.TheVariants.{Own, Shared}
 use Rattle.dn_shaper.specs.declared.links.link_parts.LinkParts.{LinkParts}
 use Rattle.dn_shaper.specs.declared.links.shared_link.SharedLink.{SharedLink}
+use Rattle.dn_shaper.specs.Refinement.Starting.{StartsOn}
 use Rattle.dn_shaper.specs.Refinement.Views.{LinkView, TakesNext, IsNextToSend, CanSend, carried_link, carried_waits, queue_lengths, view_of}
 
 pub some-is : {X : Type 0} (o : Option X) (x : X) → o ≡ Some x → IsSome o
@@ -96,18 +101,43 @@ waits-fewer before after flow l l' takes fewer = by l.carries l'.carries takes.l
     by (Shared s) (Own g) link sends = absurd cc
     by (Shared s) (Shared t) link sends = sends.3.one_fewer
 
+-- A list without its first has one fewer.
+pub drop-fewer : (ws : List Waiting) (w : Waiting) → slice_get ws 0 ≡ Some w → length (drop 1 ws) + 1 ≡ length ws
+drop-fewer [] w e = absurd cc
+drop-fewer (x ∷ ws) w e = omega arith
+
 -- One packet fewer waits in a queue whose first packet leaves.
 pub pops-fewer : (flows : List FlowState) (flow : ℕ) (w : Waiting) → flow < length flows → slice_get (flow_at flows flow).backlog 0 ≡ Some w →
     queue_lengths (slice_set flows flow (popped (flow_at flows flow))) flow + 1 ≡ queue_lengths flows flow
 pops-fewer flows flow w within first =
     let e = ap (λ (ws : List Waiting). length ws)
     (backlog_after_pop flows flow flow within ∙ ap (λ b. cond b (drop 1 (flow_at flows flow).backlog) (flow_at flows flow).backlog) (eq-yes flow flow refl)) in
-    let r = rest (flow_at flows flow).backlog first in
+    let r = drop-fewer (flow_at flows flow).backlog w first in
     omega arith
-  where
-    rest : (ws : List Waiting) → slice_get ws 0 ≡ Some w → length (drop 1 ws) + 1 ≡ length ws
-    rest [] e = absurd cc
-    rest (x ∷ ws) e = omega arith
+
+-- The packet at the front of the queue of the flow that a link took is sent.
+pub sent : {rule : Rule} {bandwidth delay moment flow : ℕ} {w : Waiting} {ds ds' : List Delivery} (l l' : LinkParts) (fs fs' : List FlowState) (t : LinkState) →
+    TakesNext flow (view_of (queue_lengths fs) l) (view_of (queue_lengths fs') l') → flow < length fs → slice_get (flow_at fs flow).backlog 0 ≡ Some w →
+    fs' ≡ slice_set fs flow (popped (flow_at fs flow)) → t.free ≡ moment + transmission_time bandwidth w.len →
+    t.last_due ≡ due_by rule (moment + transmission_time bandwidth w.len + delay * 1000000) l'.times.last_due →
+    ds' ≡ in_order (record { due = t.last_due; packet = w.packet; flow = flow; start = moment }) ds →
+    StartsOn rule bandwidth delay moment l fs ds (record { pipe = l'.pipe; times = t; carries = l'.carries }) fs' ds'
+sent {rule = rule} {bandwidth = bandwidth} {delay = delay} {moment = moment} {flow = flow} {w = w} l l' fs fs' t takes inside front gone free last given =
+    let fewer = ap (λ (x : List FlowState). queue_lengths x flow + 1) gone ∙ pops-fewer fs flow w inside front in
+    record {
+      flow = flow;
+      packet = w;
+      front = front;
+      link = takes.link;
+      slots = takes.slots;
+      sends = sends-on flow (view_of (queue_lengths fs) l) (view_of (queue_lengths fs') l') (view_of (queue_lengths fs') (record { pipe = l'.pipe; times = t; carries = l'.carries })) refl
+          (view_of (queue_lengths fs) l).link takes.sends;
+      free = free;
+      last_due = last ∙ ap (λ (x : LinkState). due_by rule (moment + transmission_time bandwidth w.len + delay * 1000000) x.last_due) takes.value;
+      waits = waits-fewer (queue_lengths fs) (queue_lengths fs') flow l l' takes fewer;
+      flows_are = gone;
+      pending_is = given;
+    }
 
 pub at-some : {X : Type 0} (P : X → Type 0) (o : Option X) (x : X) → o ≡ Some x → IfSome o P → P x
 at-some P o x e h = subst (λ r. IfSome r P) e h

@@ -1,16 +1,12 @@
 -- What it is for a packet to start at once on an idle link: it arrives, and then its link starts one.
-use Rattle.std.specs.Prelude.{◌≡◌, ℕ, ◌<◌, ◌^◌, true, Some, Box, slice_get}
-use Rattle.std.specs.Global.{Global}
-use Rattle.dn_wf2q.specs.Schedule.{IsIdle, Schedule, room_at, Passes as PassesIn}
+use Rattle.std.specs.Prelude.{◌≡◌, ℕ, true, List, Some, slice_get}
+use Rattle.dn_types.specs.Trace.{Link, own, shared}
 use Rattle.dn_shaper.specs.declared.links.home.Home.{Home}
-use Rattle.dn_shaper.specs.declared.links.link_parts.Carries.{Carries}
-use Rattle.dn_shaper.specs.declared.links.link_parts.Carries.TheVariants.{Shared}
 use Rattle.dn_shaper.specs.declared.links.link_parts.LinkParts.{LinkParts}
 use Rattle.dn_shaper.specs.declared.links.parts.Parts.{Parts}
-use Rattle.dn_shaper.specs.declared.links.shared_link.SharedLink.{SharedLink}
-use Rattle.dn_shaper.specs.Refinement.Arriving.{ArrivesAt, is_idle}
-use Rattle.dn_shaper.specs.Refinement.Starting.{StartsAt}
-use Rattle.dn_shaper.specs.Refinement.Views.{queue_lengths, view_of}
+use Rattle.dn_shaper.specs.Refinement.Arriving.{ArrivesAt, CanJoin, HasOneMore, Joins, is_idle}
+use Rattle.dn_shaper.specs.Refinement.Starting.{KeepsSchedule, StartsAt}
+use Rattle.dn_shaper.specs.Refinement.Views.{LinkView, TakesNext, queue_lengths, view_of}
 
 -- The link at the place is idle at the moment.
 pub record IsIdleAt (at place : ℕ) (p : Parts) : Type 0 where
@@ -18,16 +14,21 @@ pub record IsIdleAt (at place : ℕ) (p : Parts) : Type 0 where
   pub there : slice_get p.links.items place ≡ Some link
   pub idle : is_idle at (view_of (queue_lengths p.flows.flows) link) ≡ true
 
--- A packet can pass an idle scheduler at the slot.
-abbrev pub CanPass : ℕ → Schedule → Type 0
-CanPass slot s = IsIdle s.flows × (0 < room_at s.room slot) × (s.arrivals < 2 ^ 62)
+-- The link is the flow's own, or the flow has the slot there.
+abbrev pub HasFlowAt : ℕ → ℕ → List ℕ → Link → Type 0
+HasFlowAt flow slot slots (own pipe f) = flow ≡ f
+HasFlowAt flow slot slots (shared pipe) = slice_get slots slot ≡ Some flow
 
--- A packet passed the scheduler in the block.
-pub record PassesBlock (slot len weight : ℕ) (old : Box SharedLink Global) (new : Carries) : Type 0 where
-  pub block : Box SharedLink Global
-  pub is : new ≡ Shared block
-  pub flows : block.value.flows ≡ old.value.flows
-  pub passes : PassesIn slot len weight old.value.sched block.value.sched
+-- No packet waits for the link, and its scheduler can take one at the slot.
+abbrev pub CanPass : ℕ → LinkView → Type 0
+CanPass slot v = (v.waits ≡ 0) × CanJoin slot v v.link
+
+-- The link stood as `mid` once a packet had joined those that wait for it, and then it took the packet's flow as its next.
+pub record PassesLink (slot len weight : ℕ) (old new : LinkParts) : Type 0 where
+  pub mid : LinkParts
+  pub joins : (before after : ℕ → ℕ) → HasOneMore before after (view_of after old).link → Joins slot len weight true (view_of before old) (view_of after mid)
+  pub takes : (flow : ℕ) (before after : ℕ → ℕ) → HasFlowAt flow slot (view_of before old).slots (view_of before old).link → TakesNext flow (view_of before mid) (view_of after new)
+  pub keeps : (before after : ℕ → ℕ) → KeepsSchedule (view_of before mid) (view_of after new)
 
 -- The parts stood as `mid` once the packet had arrived, and then its link started.
 pub record Passes (at : ℕ) (h : Home) (flow len weight bandwidth delay : ℕ) (old new : Parts) : Type 0 where

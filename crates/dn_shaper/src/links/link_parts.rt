@@ -1,8 +1,5 @@
-ghost use Rattle.std.specs.Prelude.{◌≡◌, ℕ, Box, nat_lt, true, false};
-ghost use Rattle.std.specs.Global.{Global};
+ghost use Rattle.std.specs.Prelude.{◌≡◌, nat_lt};
 ghost use Rattle.dn_shaper.specs.Refinement.Views.{queue_lengths, view_of};
-ghost use Rattle.dn_shaper.specs.declared.links.link_parts.Carries.TheVariants.{Own, Shared};
-ghost use Rattle.dn_shaper.specs.declared.links.shared_link.SharedLink.{SharedLink as SharedLinkValue};
 
 use crate::links::shared_link::SharedLink;
 use dn_flows::Flows;
@@ -30,17 +27,6 @@ pub struct LinkParts {
 }
 
 impl LinkParts {
-    /// Whether the link carries one flow alone.
-    pub fn is_own(&self) -> bool
-        ensures own { result ≡ true → (flow : ℕ) × (self.now.carries ≡ Own flow) }
-        ensures shared { result ≡ false → (block : Box SharedLinkValue Global) × (self.now.carries ≡ Shared block) }
-    {
-        match &self.carries {
-            Carries::Own(_) => true,
-            Carries::Shared(_) => false,
-        }
-    }
-
     /// Whether a packet waits for the link.
     pub fn has_backlog(&self, flows: &Flows) -> bool
         ensures { result ≡ nat_lt 0 (view_of (queue_lengths flows.now.flows) self.now).waits }
