@@ -1,8 +1,9 @@
 -- A packet was accepted: all parts agree, and the heap and the counts follow.
-use Rattle.std.proofs.Common.{◌≡◌, ◌∙◌, ◌≤◌, ◌<◌, ◌^◌, ℕ, suc, ◌+◌, Bool, true, false, cond, ◌&&◌, List, [], ◌∷◌, set, refl, ap, sym, subst, length, arith, IsPermutation}
+use Rattle.std.proofs.Common.{◌≡◌, ◌∙◌, ◌≤◌, ◌<◌, ◌^◌, ℕ, ◌+◌, Bool, true, false, cond, List, [], ◌∷◌, set, refl, ap, sym, subst, length, arith, IsPermutation}
 use Rattle.std.specs.Prelude.{Option, Some, None, nat_eq, nat_le, slice_get}
 use Rattle.std.proofs.lemmas.Bool.{eqb-true, and_parts}
 use Rattle.std.proofs.lemmas.Bool.Decides.{nat_tests}
+use Rattle.std.proofs.lemmas.List.{length-map}
 use Rattle.std.proofs.lemmas.List.Sorted.{length_permutation}
 use Rattle.dn_heap.specs.Heap.{Heap}
 use Rattle.dn_types.specs.Calls.{accept, join}
@@ -24,8 +25,9 @@ use Rattle.dn_shaper.specs.Refinement.Settling.{AreInStep}
 use Rattle.dn_shaper.specs.Refinement.Starting.{Within, StartsAt}
 use Rattle.dn_shaper.specs.Refinement.Submitting.{MayAccept}
 use Rattle.dn_shaper.specs.Refinement.Views.{LinkView, queue_lengths, view_of, views_of, home, next_starts, next_start_of}
-use Rattle.dn_shaper.proofs.Arriving.{set-self, set-set, link-home, arrives-agree, next-alone, starts-at-once, arrives-nexts, arrives-names, arrives-within}
-use Rattle.dn_shaper.proofs.Events.{length-set}
+use Rattle.std.proofs.lemmas.List.{set-set}
+use Rattle.dn_shaper.proofs.Arriving.{set-self, link-home, arrives-agree, next-alone, starts-at-once, arrives-nexts, arrives-names, arrives-within}
+use Rattle.std.proofs.lemmas.List.{length-set}
 use Rattle.dn_flows.proofs.Places.{get-set, sum-set, get-map, map-set-same, get-below}
 use Rattle.dn_shaper.proofs.Starting.{starts-agree, starts-within, starts-nexts}
 use Rattle.dn_shaper.proofs.Accepting.{within-more, holds_pushed, backlogged-one, next-listed, next-some, next-none, may-agree}
@@ -208,12 +210,8 @@ module _ {settings : Settings} {at : ℕ} {h : Home} {flow len weight : ℕ} {id
       let one = backlogged-one (next_starts (views_of old)) h.place (next-then ∙ ap (λ (o : Option ℕ). Some o) (next-none s.view (omega arith))) in
       let c = may.kept.counted in
       let p = may.kept.places in
-      let m = length-nexts (views_of old) in
+      let m = length-map (views_of old) next_start_of in
       omega arith
-    where
-      length-nexts : (vs : List LinkView) → length (next_starts vs) ≡ length vs
-      length-nexts [] = refl
-      length-nexts (v ∷ vs) = ap suc (length-nexts vs)
 
   pub first-kept : s.view.waits ≡ 0 → (heap' : Heap NextStart) → IsPermutation (record { moment = s.view.value.free; place = h.place } ∷ heap.keys) heap'.keys →
       heap'.room + 1 ≡ heap.room → AreInStep mid heap'

@@ -37,7 +37,7 @@ own-slot queues (l ∷ links) zero v pipe f e is =
 own-slot queues (l ∷ links) (suc k) v pipe f e is = own-slot queues links k v pipe f e is
 
 -- A flow at home on an own link is that link's flow.
-own-home : (keys : List FlowKey) (flow pipe f : ℕ) → home keys flow ≡ own pipe f → f ≡ flow
+pub own-home : (keys : List FlowKey) (flow pipe f : ℕ) → home keys flow ≡ own pipe f → f ≡ flow
 own-home keys flow pipe f e = by (slice_get keys flow) e
   where
     linked : (target : Target) (number : ℕ) → link_of target flow number ≡ own pipe f → f ≡ flow

@@ -1,5 +1,5 @@
 -- All parts agree with the arrival of a packet at its flow's queue.
-use Rattle.std.proofs.Common.{◌≡◌, ◌∙◌, ◌<◌, ◌⊎◌, ℕ, ◌+◌, true, false, cond, ◌&&◌, ◌||◌, List, [], ◌∷◌, ◌++◌, map, set, refl, ap, sym, subst, length, arith, inl, inr}
+use Rattle.std.proofs.Common.{◌≡◌, ◌∙◌, ◌<◌, ◌⊎◌, ℕ, ◌+◌, true, false, cond, ◌&&◌, ◌||◌, List, [], ◌∷◌, ◌++◌, map, set, refl, ap, sym, subst, length, arith, inl, inr, get_or-set_same}
 use Rattle.std.specs.Prelude.{Some, nat_eq, slice_get}
 use Rattle.std.proofs.lemmas.Bool.{cases_eq, and_from}
 use Rattle.dn_types.specs.Wf2q.{Stamped}
@@ -11,20 +11,22 @@ use Rattle.dn_types.specs.declared.flow_key.FlowKey.{FlowKey}
 use Rattle.dn_types.specs.declared.rule.Rule.{Rule}
 use Rattle.dn_flows.specs.Table.{FlowState, flow_at, pushed}
 use Rattle.dn_flows.specs.declared.waiting.Waiting.{Waiting}
-use Rattle.dn_flows.proofs.Views.{flow_after_set}
 use Rattle.dn_shaper.specs.declared.links.home.Home.{Home}
 use Rattle.dn_shaper.specs.Refinement.Views.{LinkView, home, as_queued, stamped_of, slotted}
-use Rattle.dn_shaper.specs.Refinement.Agreement.{AreDistinct, IsAt, IsLinkAt, IsFlowAt, IsScheduleAt, IsSlotAt, is_active, link_names}
-use Rattle.dn_shaper.proofs.Events.{uncounted, counted-once, read-set, append-none, length-set}
-use Rattle.dn_flows.proofs.Places.{eq-no, eq-yes, get-set, get-set-other, map-set-same, get-below}
+use Rattle.dn_shaper.specs.Refinement.Agreement.{AreDistinct, IsAt, IsLinkAt, IsFlowAt, IsScheduleAt, is_active, link_names}
+use Rattle.std.proofs.lemmas.List.{append-nil, length-set}
+use Rattle.dn_shaper.proofs.Events.{uncounted, counted-once}
+use Rattle.dn_flows.proofs.Places.{eq-no, eq-yes, map-set-same}
 use Rattle.dn_types.proofs.Settled.{link_eq-refl}
 use Rattle.dn_shaper.proofs.Unseen.{not_with}
 use Rattle.dn_types.proofs.Settling.{and-no}
 use Rattle.dn_wf2q.specs.Schedule.{Flow, flow_at as slot_at, no_packets, joined_by}
 use Rattle.std.proofs.lemmas.List.{map-append}
 use Rattle.dn_shaper.specs.Refinement.Slots.{Ascends, top}
-use Rattle.dn_shaper.proofs.Homes.{home-after, slots-apart, slots_home-after}
+use Rattle.dn_shaper.proofs.Homes.{home-after, slots_home-after}
 use Rattle.dn_shaper.proofs.Next.{distinct_views}
+use Rattle.dn_shaper.proofs.OnePlace.{each-flow, each-set}
+use Rattle.dn_shaper.proofs.OneSlot.{slot-set}
 use Rattle.dn_shaper.proofs.Waiting.{waiting-arrived, waiting-other}
 
 module _ (rule : Rule) (accepted : ℕ) (keys : List FlowKey) (homes : List Home) (views : List LinkView) (flows : List FlowState) (pending : List Delivery)
@@ -54,47 +56,22 @@ module _ (rule : Rule) (accepted : ℕ) (keys : List FlowKey) (homes : List Home
     schedule_after pipe is =
         let c = (a.views_are k v there).schedule_is pipe is in
         let r = arrival pipe is in
-        record {
-          virtual_time_is = r.4 ∙ c.virtual_time_is;
-          slots_are = λ slot g e. slot_after c r.0 r.1 r.2 r.3 slot g e (cases_eq r.0 slot);
-          beyond = λ slot le.
-              let lt = get-below v.slots r.0 flow r.1 in
-              ap (λ (fs : List Flow). slot_at fs slot) r.3
-              ∙ read-set v.schedule.flows r.0 slot (joined_by (slot_at v.schedule.flows r.0) (slotted r.0 p.stamped)) no_packets r.2
-              ∙ ap (λ b. cond b (joined_by (slot_at v.schedule.flows r.0) (slotted r.0 p.stamped)) (slot_at v.schedule.flows slot)) (eq-no r.0 slot (λ e. absurd (omega arith)))
-              ∙ c.beyond slot le;
-        }
-      where
-        slot_after : IsScheduleAt v.link trace v.schedule v.slots → (i : ℕ) → slice_get v.slots i ≡ Some flow → i < length v.schedule.flows →
-            v'.schedule.flows ≡ set v.schedule.flows i (joined_by (slot_at v.schedule.flows i) (slotted i p.stamped)) → (slot g : ℕ) →
-            slice_get v.slots slot ≡ Some g → (i ≡ slot) ⊎ (i ≡ slot → ⊥) → IsSlotAt v.link g slot (arrived p ∷ trace) (slot_at v'.schedule.flows slot)
-        slot_after c i at_i lt now slot g e (inl same) =
-            let now_at = ap (λ (fs : List Flow). slot_at fs i) now
-            ∙ read-set v.schedule.flows i i (joined_by (slot_at v.schedule.flows i) (slotted i p.stamped)) no_packets lt
-            ∙ ap (λ b. cond b (joined_by (slot_at v.schedule.flows i) (slotted i p.stamped)) (slot_at v.schedule.flows i)) (eq-yes i i refl) in
-            let found : Some flow ≡ Some g = sym at_i ∙ ap (slice_get v.slots) same ∙ e in
-            let g_is : flow ≡ g = cc in
-            let base : IsSlotAt v.link flow i (arrived p ∷ trace) (slot_at v'.schedule.flows i) = record {
-              backlog_is =
-                  ap (λ (f : Flow). f.backlog) now_at
-                  ∙ ap (λ (q : List Stamped). q ++ slotted i p.stamped ∷ []) (c.slots_are i flow at_i).backlog_is
-                  ∙ sym (map-append (slotted i) (stamped_of (backlog v.link flow trace)) (p.stamped ∷ []))
-                  ∙ ap (λ (q : List Stamped). map (slotted i) q) (sym (map-append (λ (x : Accepted). x.stamped) (backlog v.link flow trace) (p ∷ [])))
-                  ∙ ap (λ b. map (slotted i) (stamped_of (cond b (backlog v.link flow trace ++ p ∷ []) (backlog v.link flow trace)))) (sym is_here);
-              last_finish_is = ap (λ (f : Flow). f.last_finish_tag) now_at ∙ sym (ap (λ b. cond b p.stamped.finish_tag (last_finish_tag v.link flow trace)) is_here);
-            } in
-            subst (λ (x : ℕ × ℕ). IsSlotAt v.link x.0 x.1 (arrived p ∷ trace) (slot_at v'.schedule.flows x.1)) (λ j. (g_is j, same j)) base
-        slot_after c i at_i lt now slot g e (inr ne) =
-            let now_at = ap (λ (fs : List Flow). slot_at fs slot) now
-            ∙ read-set v.schedule.flows i slot (joined_by (slot_at v.schedule.flows i) (slotted i p.stamped)) no_packets lt
-            ∙ ap (λ b. cond b (joined_by (slot_at v.schedule.flows i) (slotted i p.stamped)) (slot_at v.schedule.flows slot)) (eq-no i slot ne) in
-            let apart = not_flow v.link g (slots-apart v.slots (a.views_are k v there).ascends i slot flow g at_i e ne) in
-            let s = c.slots_are slot g e in
-            record {
-              backlog_is = ap (λ (f : Flow). f.backlog) now_at ∙ s.backlog_is
-                  ∙ ap (λ b. map (slotted slot) (stamped_of (cond b (backlog v.link g trace ++ p ∷ []) (backlog v.link g trace)))) (sym apart);
-              last_finish_is = ap (λ (f : Flow). f.last_finish_tag) now_at ∙ s.last_finish_is ∙ sym (ap (λ b. cond b p.stamped.finish_tag (last_finish_tag v.link g trace)) apart);
-            }
+        let joined = joined_by (slot_at v.schedule.flows r.0) (slotted r.0 p.stamped) in
+        let now_at = ap (λ (fs : List Flow). slot_at fs r.0) r.3 ∙ get_or-set_same v.schedule.flows r.0 joined no_packets r.2 in
+        slot-set c (a.views_are k v there).ascends r.1 (arrived p ∷ trace) v'.schedule joined r.3 (r.4 ∙ c.virtual_time_is)
+        (record {
+          backlog_is =
+              ap (λ (f : Flow). f.backlog) now_at
+              ∙ ap (λ (q : List Stamped). q ++ slotted r.0 p.stamped ∷ []) (c.slots_are r.0 flow r.1).backlog_is
+              ∙ sym (map-append (slotted r.0) (stamped_of (backlog v.link flow trace)) (p.stamped ∷ []))
+              ∙ ap (λ (q : List Stamped). map (slotted r.0) q) (sym (map-append (λ (x : Accepted). x.stamped) (backlog v.link flow trace) (p ∷ [])))
+              ∙ ap (λ b. map (slotted r.0) (stamped_of (cond b (backlog v.link flow trace ++ p ∷ []) (backlog v.link flow trace)))) (sym is_here);
+          last_finish_is = ap (λ (f : Flow). f.last_finish_tag) now_at ∙ sym (ap (λ b. cond b p.stamped.finish_tag (last_finish_tag v.link flow trace)) is_here);
+        })
+        (λ slot g ne s. let apart = not_flow v.link g ne in record {
+          backlog_is = s.backlog_is ∙ ap (λ b. map (slotted slot) (stamped_of (cond b (backlog v.link g trace ++ p ∷ []) (backlog v.link g trace)))) (sym apart);
+          last_finish_is = s.last_finish_is ∙ sym (ap (λ b. cond b p.stamped.finish_tag (last_finish_tag v.link g trace)) apart);
+        })
 
     made_view : IsLinkAt rule (length keys) (arrived p ∷ trace) v'
     made_view = let b = a.views_are k v there in record {
@@ -127,61 +104,30 @@ module _ (rule : Rule) (accepted : ℕ) (keys : List FlowKey) (homes : List Home
           below = b.below;
         }
 
-    views_after : (j : ℕ) (w : LinkView) → slice_get (set views k v') j ≡ Some w → IsLinkAt rule (length keys) (arrived p ∷ trace) w
-    views_after j w e = by (cases_eq j k)
-      where
-        by : (j ≡ k) ⊎ (j ≡ k → ⊥) → IsLinkAt rule (length keys) (arrived p ∷ trace) w
-        by (inl same) =
-            let e' : Some v' ≡ Some w = sym (get-set views k v v' there) ∙ ap (slice_get (set views k v')) (sym same) ∙ e in
-            let is : v' ≡ w = cc in
-            subst (λ (x : LinkView). IsLinkAt rule (length keys) (arrived p ∷ trace) x) is made_view
-        by (inr ne) = other_view j w (sym (get-set-other views k j v' ne) ∙ e) ne
-
     names_same : link_names (set views k v') ≡ link_names views
     names_same = map-set-same (λ (x : LinkView). x.link) views k v v' there same_link
 
     flow_after : (g : ℕ) → IsFlowAt (home keys g) g (arrived p ∷ trace) (flow_at (set flows flow (pushed (as_queued p) (flow_at flows flow))) g)
-    flow_after g = by (cases_eq flow g)
-      where
-        in_table : flow < length flows
-        in_table = let m = a.as_many in omega arith
-
-        now_at : flow_at (set flows flow (pushed (as_queued p) (flow_at flows flow))) g ≡ cond (nat_eq flow g) (pushed (as_queued p) (flow_at flows flow)) (flow_at flows g)
-        now_at = flow_after_set flows flow g (pushed (as_queued p) (flow_at flows flow)) in_table
-
-        by : (flow ≡ g) ⊎ (flow ≡ g → ⊥) → IsFlowAt (home keys g) g (arrived p ∷ trace) (flow_at (set flows flow (pushed (as_queued p) (flow_at flows flow))) g)
-        by (inl same) =
-            let is : flow_at (set flows flow (pushed (as_queued p) (flow_at flows flow))) g ≡ pushed (as_queued p) (flow_at flows g) = now_at
-            ∙ ap (λ b. cond b (pushed (as_queued p) (flow_at flows flow)) (flow_at flows g)) (eq-yes flow g same)
-            ∙ ap (λ i. pushed (as_queued p) (flow_at flows i)) same in
-            let b = a.flows_are g in
-            record {
-              backlog_is =
-                  ap (λ (x : FlowState). x.backlog) is
-                  ∙ ap (λ (q : List Waiting). q ++ as_queued p ∷ []) b.backlog_is
-                  ∙ sym (map-append as_queued (backlog (home keys g) g trace) (p ∷ []))
-                  ∙ ap (λ t. map as_queued (cond t (backlog (home keys g) g trace ++ p ∷ []) (backlog (home keys g) g trace))) (sym (same_test g ∙ eq-yes flow g same));
-              lost_is = ap (λ (x : FlowState). x.lost) is ∙ b.lost_is ∙ sym (uncounted (is_loss_of g) (arrived p) trace refl);
-              full_is = ap (λ (x : FlowState). x.full) is ∙ b.full_is ∙ sym (uncounted (is_refusal_of g) (arrived p) trace refl);
-              started_is = ap (λ (x : FlowState). x.started) is ∙ b.started_is ∙ sym (uncounted (is_start_of g) (arrived p) trace refl);
-              discarded_is = ap (λ (x : FlowState). x.discarded) is ∙ b.discarded_is;
-              active_is = ap (λ (x : FlowState). x.active) is ∙ sym (ap (λ t. t || is_active g trace) (ap (λ n. nat_eq n g) flow_is ∙ eq-yes flow g same));
-            }
-        by (inr ne) =
-            let is : flow_at (set flows flow (pushed (as_queued p) (flow_at flows flow))) g ≡ flow_at flows g = now_at
-            ∙ ap (λ b. cond b (pushed (as_queued p) (flow_at flows flow)) (flow_at flows g)) (eq-no flow g ne) in
-            let b = a.flows_are g in
-            record {
-              backlog_is =
-                  ap (λ (x : FlowState). x.backlog) is
-                  ∙ b.backlog_is
-                  ∙ ap (λ t. map as_queued (cond t (backlog (home keys g) g trace ++ p ∷ []) (backlog (home keys g) g trace))) (sym (same_test g ∙ eq-no flow g ne));
-              lost_is = ap (λ (x : FlowState). x.lost) is ∙ b.lost_is ∙ sym (uncounted (is_loss_of g) (arrived p) trace refl);
-              full_is = ap (λ (x : FlowState). x.full) is ∙ b.full_is ∙ sym (uncounted (is_refusal_of g) (arrived p) trace refl);
-              started_is = ap (λ (x : FlowState). x.started) is ∙ b.started_is ∙ sym (uncounted (is_start_of g) (arrived p) trace refl);
-              discarded_is = ap (λ (x : FlowState). x.discarded) is ∙ b.discarded_is;
-              active_is = ap (λ (x : FlowState). x.active) is ∙ b.active_is ∙ sym (ap (λ t. t || is_active g trace) (ap (λ n. nat_eq n g) flow_is ∙ eq-no flow g ne));
-            }
+    flow_after = each-flow (λ g x. IsFlowAt (home keys g) g (arrived p ∷ trace) x) flows flow (pushed (as_queued p) (flow_at flows flow)) (let m = a.as_many in omega arith)
+        (let b = a.flows_are flow in record {
+          backlog_is =
+              ap (λ (q : List Waiting). q ++ as_queued p ∷ []) b.backlog_is
+              ∙ sym (map-append as_queued (backlog (home keys flow) flow trace) (p ∷ []))
+              ∙ ap (λ t. map as_queued (cond t (backlog (home keys flow) flow trace ++ p ∷ []) (backlog (home keys flow) flow trace))) (sym (same_test flow ∙ eq-yes flow flow refl));
+          lost_is = b.lost_is ∙ sym (uncounted (is_loss_of flow) (arrived p) trace refl);
+          full_is = b.full_is ∙ sym (uncounted (is_refusal_of flow) (arrived p) trace refl);
+          started_is = b.started_is ∙ sym (uncounted (is_start_of flow) (arrived p) trace refl);
+          discarded_is = b.discarded_is;
+          active_is = sym (ap (λ t. t || is_active flow trace) (ap (λ n. nat_eq n flow) flow_is ∙ eq-yes flow flow refl));
+        })
+        (λ g ne. let b = a.flows_are g in record {
+          backlog_is = b.backlog_is ∙ ap (λ t. map as_queued (cond t (backlog (home keys g) g trace ++ p ∷ []) (backlog (home keys g) g trace))) (sym (same_test g ∙ eq-no flow g ne));
+          lost_is = b.lost_is ∙ sym (uncounted (is_loss_of g) (arrived p) trace refl);
+          full_is = b.full_is ∙ sym (uncounted (is_refusal_of g) (arrived p) trace refl);
+          started_is = b.started_is ∙ sym (uncounted (is_start_of g) (arrived p) trace refl);
+          discarded_is = b.discarded_is;
+          active_is = b.active_is ∙ sym (ap (λ t. t || is_active g trace) (ap (λ n. nat_eq n g) flow_is ∙ eq-no flow g ne));
+        })
 
     elsewhere_after : (g : ℕ) (l : Link) → link_eq (home keys g) l ≡ false → backlog l g (arrived p ∷ trace) ≡ []
     elsewhere_after g l e = ap (λ t. cond t (backlog l g trace ++ p ∷ []) (backlog l g trace)) (apart (cases_eq flow g)) ∙ a.elsewhere g l e
@@ -192,9 +138,9 @@ module _ (rule : Rule) (accepted : ℕ) (keys : List FlowKey) (homes : List Home
 
     pub arrived-agrees : IsAt rule (accepted + 1) keys homes (set views k v') (set flows flow (pushed (as_queued p) (flow_at flows flow))) pending [] (arrived p ∷ trace)
     arrived-agrees = record {
-      links_are = names_same ∙ made ∙ ap (λ (l : Link). with_link l (links trace)) (sym on) ∙ sym (append-none (with_link p.link (links trace)));
+      links_are = names_same ∙ made ∙ ap (λ (l : Link). with_link l (links trace)) (sym on) ∙ sym (append-nil (with_link p.link (links trace)));
       distinct = subst AreDistinct (sym names_same) a.distinct;
-      views_are = views_after;
+      views_are = each-set (λ j w. IsLinkAt rule (length keys) (arrived p ∷ trace) w) views k v there v' made_view other_view;
       untouched = λ l e. let u = a.untouched l (not_with l p.link (links trace) e).0 in record { free_is = u.free_is; last_due_is = u.last_due_is; virtual_time_is = u.virtual_time_is };
       flows_are = flow_after;
       as_many = length-set flows flow (pushed (as_queued p) (flow_at flows flow)) ∙ a.as_many;

@@ -1,7 +1,7 @@
 -- All parts agree with a packet that is accepted.
-use Rattle.std.proofs.Common.{◌≡◌, ◌∙◌, ◌≤◌, ◌<◌, ◌⊎◌, ℕ, zero, suc, ◌+◌, Bool, true, false, cond, ◌&&◌, List, [], ◌∷◌, ◌++◌, map, set, refl, ap, sym, subst, length, arith, ⊎_elim, inl, inr}
+use Rattle.std.proofs.Common.{◌≡◌, ◌∙◌, ◌≤◌, ◌<◌, ◌⊎◌, ℕ, zero, suc, ◌+◌, Bool, true, false, cond, ◌&&◌, List, [], ◌∷◌, ◌++◌, set, refl, ap, sym, subst, length, arith, ⊎_elim, inl, inr}
 use Rattle.std.specs.Prelude.{Some, None, nat_eq, nat_le, slice_get, option_map}
-use Rattle.std.proofs.lemmas.Bool.{cases_eq, cases_lt, and_parts, and_right}
+use Rattle.std.proofs.lemmas.Bool.{cases_lt, and_parts, and_right}
 use Rattle.dn_types.specs.Calls.{accept}
 use Rattle.dn_types.specs.Configuration.{Settings}
 use Rattle.dn_types.specs.Flows.{Treatment}
@@ -10,13 +10,9 @@ use Rattle.dn_types.specs.SharedLinks.{opening, waiting, next_packet}
 use Rattle.dn_types.specs.Starts.{next_start, start_at}
 use Rattle.dn_types.specs.Trace.{Link, own, shared, Accepted, Event, opened, arrived, backlog, links, with_link, is_of}
 use Rattle.dn_types.specs.Wf2q.{Stamped, scaled, start_tag_on_arrival}
-use Rattle.dn_types.specs.declared.delivery.Delivery.{Delivery}
-use Rattle.dn_types.specs.declared.flow_key.FlowKey.{FlowKey}
 use Rattle.dn_types.specs.declared.packet.Packet.{Packet}
-use Rattle.dn_types.specs.declared.rule.Rule.{Rule}
 use Rattle.dn_flows.specs.Table.{FlowState, flow_at, pushed}
 use Rattle.dn_flows.specs.declared.waiting.Waiting.{Waiting}
-use Rattle.dn_flows.proofs.Views.{flow_after_set}
 use Rattle.dn_wf2q.specs.Schedule.{Flow, Schedule, flow_at as slot_at, waiting_of as waiting_in, joined_by, stamped}
 use Rattle.dn_shaper.specs.declared.links.home.Home.{Home}
 use Rattle.dn_shaper.specs.declared.links.parts.Parts.{Parts}
@@ -25,28 +21,21 @@ use Rattle.dn_shaper.specs.Refinement.Arriving.{begun_flows, begun_time, Arrives
 use Rattle.dn_shaper.specs.Refinement.Starting.{AreCountsWithin, Within}
 use Rattle.dn_shaper.specs.Refinement.Views.{LinkView, views_of, home, as_queued, stamped_of, slotted, next_starts, next_start_of}
 use Rattle.dn_shaper.proofs.Arrived.{arrived-agrees}
+use Rattle.dn_shaper.proofs.HomeRead.{home-of}
 use Rattle.dn_shaper.proofs.Next.{home-here, next_exists}
+use Rattle.dn_shaper.proofs.OnePlace.{agrees-as, each-flow, each-set}
 use Rattle.dn_shaper.proofs.Opened.{opened-agrees}
-use Rattle.dn_flows.proofs.Places.{eq-yes, get-set, get-set-other, map-set, map-set-same, sum-set, length-more}
+use Rattle.dn_flows.proofs.Places.{eq-yes, get-set, map-set, map-set-same, sum-set, length-more}
 use Rattle.dn_types.proofs.Settling.{next_packet-first}
 use Rattle.dn_shaper.proofs.Waiting.{empty-all}
 use Rattle.std.proofs.lemmas.Bool.{eqb-true}
-use Rattle.std.proofs.lemmas.List.{set_past}
+use Rattle.std.proofs.lemmas.List.{length-map, set-set, set_past}
 use Rattle.dn_shaper.specs.Refinement.Views.{waits_in_all}
-
-pub set-set : {X : Type 0} (xs : List X) (k : ℕ) (x y : X) → set (set xs k x) k y ≡ set xs k y
-set-set [] k x y = refl
-set-set (z ∷ xs) zero x y = refl
-set-set (z ∷ xs) (suc k) x y = λ i. z ∷ set-set xs k x y i
 
 pub set-self : {X : Type 0} (xs : List X) (k : ℕ) (x : X) → slice_get xs k ≡ Some x → set xs k x ≡ xs
 set-self [] k x e = absurd cc
 set-self (z ∷ xs) zero x e = let same : z ≡ x = cc in λ i. sym same i ∷ xs
 set-self (z ∷ xs) (suc k) x e = λ i. z ∷ set-self xs k x e i
-
-length-mapped : (slot : ℕ) (ps : List Accepted) → length (map (slotted slot) (stamped_of ps)) ≡ length ps
-length-mapped slot [] = refl
-length-mapped slot (p ∷ ps) = ap suc (length-mapped slot ps)
 
 -- The link's view where a busy period has begun, if one has.
 abbrev begun_view : Bool → LinkView → LinkView
@@ -69,11 +58,7 @@ module _ (settings : Settings) (at : ℕ) (h : Home) (flow len weight : ℕ) (id
     (more : List Link) (trace : List Event) (a : AgreesWith old more trace)
     (within : flow < length old.flows.keys) (at_home : slice_get old.homes.items flow ≡ Some h) where
   the_home : IsHomeOf flow (home old.flows.keys flow) (views_of old) h
-  the_home =
-      let g = a.homes_are flow within in
-      let both : Some g.0 ≡ Some h = sym g.1 ∙ at_home in
-      let same : g.0 ≡ h = cc in
-      subst (λ (x : Home). IsHomeOf flow (home old.flows.keys flow) (views_of old) x) same g.2
+  the_home = home-of old a within at_home
 
   same_view : the_home.view ≡ s.view
   same_view = let both : Some the_home.view ≡ Some s.view = sym the_home.there ∙ s.there in cc
@@ -136,7 +121,7 @@ module _ (settings : Settings) (at : ℕ) (h : Home) (flow len weight : ℕ) (id
         let c = (opened_now.views_are h.place (begun_view idle s.view) (get-set (views_of old) h.place s.view (begun_view idle s.view) s.there)).schedule_is pipe is in
         let x = c.slots_are h.slot flow (slot-home pipe is) in
         let count : length (slot_at (begun_flows idle s.view.schedule) h.slot).backlog ≡ length (backlog l flow before) = ap (λ (q : List Stamped). length q) x.backlog_is
-        ∙ length-mapped h.slot (backlog l flow before) in
+        ∙ length-map (stamped_of (backlog l flow before)) (slotted h.slot) ∙ length-map (backlog l flow before) (λ (p : Accepted). p.stamped) in
         λ i. record {
           flow = h.slot;
           len = sym len_is i;
@@ -189,20 +174,8 @@ module _ (settings : Settings) (at : ℕ) (h : Home) (flow len weight : ℕ) (id
     pub arrives-agree : AgreesWith new [] (arrived the_packet ∷ before)
     arrives-agree =
         let w : as_queued the_packet ≡ record { packet = old.accepted; len = len } = λ i. record { packet = sym opened_now.accepted_is i; len = len_is i } in
-        subst (λ (r : Rule). IsAt r new.accepted new.flows.keys new.homes.items (views_of new) new.flows.flows new.line.pending [] (arrived the_packet ∷ before)) (sym s.rule)
-        (subst
-        (λ (x : ℕ × List FlowKey). IsAt old.rule x.0 x.1 new.homes.items (views_of new) new.flows.flows new.line.pending [] (arrived the_packet ∷ before))
-        (λ i. (sym s.accepted i, sym s.keys i))
-        (subst
-        (λ (x : List Home × List LinkView). IsAt old.rule (old.accepted + 1) old.flows.keys x.0 x.1 new.flows.flows new.line.pending [] (arrived the_packet ∷ before))
-        (λ i. ((sym s.homes i).items, sym s.views_are i))
-        (subst
-        (λ (x : List FlowState × List Delivery). IsAt old.rule (old.accepted + 1) old.flows.keys old.homes.items (set (views_of old) h.place s.view') x.0 x.1 [] (arrived the_packet ∷ before))
-        (λ i. ((ap (λ (x : Waiting). set old.flows.flows flow (pushed x (flow_at old.flows.flows flow))) w ∙ sym s.flows_are) i, (sym s.line i).pending))
-        (subst
-        (λ (vs : List LinkView). IsAt old.rule (old.accepted + 1) old.flows.keys old.homes.items vs
-        (set old.flows.flows flow (pushed (as_queued the_packet) (flow_at old.flows.flows flow))) old.line.pending [] (arrived the_packet ∷ before))
-        (set-set (views_of old) h.place (begun_view idle s.view) s.view') base))))
+        agrees-as new s.rule s.accepted s.keys (ap (λ hs. hs.items) s.homes) (s.views_are ∙ sym (set-set (views_of old) h.place (begun_view idle s.view) s.view'))
+        (s.flows_are ∙ ap (λ (x : Waiting). set old.flows.flows flow (pushed x (flow_at old.flows.flows flow))) (sym w)) (ap (λ l. l.pending) s.line) base
 
     -- Where the link was idle, the packet is the next one.
     pub next-alone : idle ≡ true → (p : Accepted) → next_packet l (arrived the_packet ∷ before) ≡ Some p → p ≡ the_packet
@@ -248,6 +221,9 @@ module _ (settings : Settings) (at : ℕ) (h : Home) (flow len weight : ℕ) (id
 -- ---- Counts
 
 module _ (at : ℕ) (h : Home) (flow len weight : ℕ) (idle : Bool) (old new : Parts) (s : ArrivesAt at h flow len weight idle old new) where
+  abbrev packet : Waiting
+  packet = record { packet = old.accepted; len = len }
+
   pub arrives-waiting : waits_in_all (views_of new) ≡ waits_in_all (views_of old) + 1
   arrives-waiting =
       let e = ap (λ (vs : List LinkView). waits_in_all vs) s.views_are in
@@ -267,43 +243,16 @@ module _ (at : ℕ) (h : Home) (flow len weight : ℕ) (idle : Bool) (old new : 
     room = let b = s.waiting in let c = ap {B = ℕ} (λ x. x.room) s.line in omega arith;
     pushed = let b = s.waiting in let c = ap {B = ℕ} (λ x. x.pushed) s.line in let d = w.pushed in omega arith;
     sums = let b = s.waiting in let c = ap {B = ℕ} (λ x. length x.pending) s.line in let d = w.sums in omega arith;
-    flows_are = flows_within;
-    arrivals = arrivals_within;
+    flows_are = λ g. subst (λ (fs : List FlowState). AreCountsWithin (n + 1) (flow_at fs g)) (sym s.flows_are)
+        (each-flow (λ g x. AreCountsWithin (n + 1) x) old.flows.flows flow (pushed packet (flow_at old.flows.flows flow)) lt
+        (let i = w.flows_are flow in let a = i.0 in let b = i.1 in let c = i.2 in let l = length-more (flow_at old.flows.flows flow).backlog packet in (omega arith, omega arith, omega arith))
+        (λ g ne. let i = w.flows_are g in let a = i.0 in let b = i.1 in let c = i.2 in (omega arith, omega arith, omega arith)) g);
+    arrivals = λ j v e. each-set (λ (j : ℕ) (v : LinkView). v.schedule.arrivals ≤ n + 1) (views_of old) h.place s.view s.there s.view'
+        (let m = more_arrivals s.view.link s.joins.arrives in let le = w.arrivals h.place s.view s.there in omega arith)
+        (λ j v e ne. let le = w.arrivals j v e in omega arith) j v (ap (λ (vs : List LinkView). slice_get vs j) (sym s.views_are) ∙ e);
     accepted = let a = s.accepted in let b = w.accepted in omega arith;
   }
     where
-      wider : (x : FlowState) → AreCountsWithin n x → AreCountsWithin (n + 1) x
-      wider x i = let a = i.0 in let b = i.1 in let c = i.2 in (omega arith, omega arith, omega arith)
-
-      pushed_within : (x : FlowState) (p : Waiting) → AreCountsWithin n x → AreCountsWithin (n + 1) (pushed p x)
-      pushed_within x p i = let a = i.0 in let b = i.1 in let c = i.2 in let l = length-more x.backlog p in (omega arith, omega arith, omega arith)
-
-      now_at : (g : ℕ) → flow_at new.flows.flows g ≡ cond (nat_eq flow g) (pushed (record { packet = old.accepted; len = len }) (flow_at old.flows.flows flow)) (flow_at old.flows.flows g)
-      now_at g = ap (λ (fs : List FlowState). flow_at fs g) s.flows_are ∙ flow_after_set old.flows.flows flow g (pushed (record { packet = old.accepted; len = len }) (flow_at old.flows.flows flow)) lt
-
-      flows_within : (g : ℕ) → AreCountsWithin (n + 1) (flow_at new.flows.flows g)
-      flows_within g = subst (λ (x : FlowState). AreCountsWithin (n + 1) x) (sym (now_at g)) (by (nat_eq flow g))
-        where
-          by : (b : Bool) → AreCountsWithin (n + 1) (cond b (pushed (record { packet = old.accepted; len = len }) (flow_at old.flows.flows flow)) (flow_at old.flows.flows g))
-          by true = pushed_within (flow_at old.flows.flows flow) (record { packet = old.accepted; len = len }) (w.flows_are flow)
-          by false = wider (flow_at old.flows.flows g) (w.flows_are g)
-
-      arrivals_within : (j : ℕ) (v : LinkView) → slice_get (views_of new) j ≡ Some v → v.schedule.arrivals ≤ n + 1
-      arrivals_within j v e = by (cases_eq j h.place)
-        where
-          there_now : slice_get (set (views_of old) h.place s.view') j ≡ Some v
-          there_now = ap (λ (vs : List LinkView). slice_get vs j) (sym s.views_are) ∙ e
-
-          more_arrivals : (l : Link) → ArrivesOn h.slot len weight idle s.view s.view' l → s.view'.schedule.arrivals ≤ s.view.schedule.arrivals + 1
-          more_arrivals (own pipe f) r = let e = ap {B = ℕ} (λ (x : Schedule). x.arrivals) r in omega arith
-          more_arrivals (shared pipe) r = let e = r.arrivals in omega arith
-
-          by : (j ≡ h.place) ⊎ (j ≡ h.place → ⊥) → v.schedule.arrivals ≤ n + 1
-          by (inl same) =
-              let both : Some s.view' ≡ Some v = sym (get-set (views_of old) h.place s.view s.view' s.there) ∙ ap (slice_get (set (views_of old) h.place s.view')) (sym same) ∙ there_now in
-              let is : s.view' ≡ v = cc in
-              let e1 = ap {B = ℕ} (λ (x : LinkView). x.schedule.arrivals) is in
-              let m = more_arrivals s.view.link s.joins.arrives in
-              let le = w.arrivals h.place s.view s.there in
-              omega arith
-          by (inr ne) = let le = w.arrivals j v (sym (get-set-other (views_of old) h.place j s.view' ne) ∙ there_now) in omega arith
+      more_arrivals : (l : Link) → ArrivesOn h.slot len weight idle s.view s.view' l → s.view'.schedule.arrivals ≤ s.view.schedule.arrivals + 1
+      more_arrivals (own pipe f) r = let e = ap {B = ℕ} (λ (x : Schedule). x.arrivals) r in omega arith
+      more_arrivals (shared pipe) r = let e = r.arrivals in omega arith

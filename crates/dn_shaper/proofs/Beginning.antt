@@ -4,12 +4,10 @@ use Rattle.std.specs.Prelude.{Option, Some, None, slice_get}
 use Rattle.std.proofs.lemmas.List.Elements.{All-nil}
 use Rattle.dn_types.specs.Trace.{Link}
 use Rattle.dn_types.specs.declared.delivery.Delivery.{Delivery}
-use Rattle.dn_types.specs.declared.flow_key.FlowKey.{FlowKey}
 use Rattle.dn_types.specs.declared.rule.Rule.{Rule}
 use Rattle.dn_types.specs.declared.target.Target.{Target}
 use Rattle.dn_flows.specs.Table.{FlowState, flow_at}
 use Rattle.dn_shaper.specs.declared.links.next_start.NextStart.{NextStart}
-use Rattle.dn_shaper.specs.declared.links.home.Home.{Home}
 use Rattle.dn_shaper.specs.declared.state.State.{State}
 use Rattle.dn_shaper.specs.Refinement.Agreement.{AgreesWith, IsAt, link_names}
 use Rattle.dn_shaper.specs.Refinement.NextStarts.{Holds, next_at, backlogged}
@@ -18,6 +16,7 @@ use Rattle.dn_shaper.specs.Refinement.Sound.{IsIndexed, IsSound}
 use Rattle.dn_shaper.specs.Standing.{StandsAt}
 use Rattle.dn_shaper.specs.Refinement.Starting.{AreCountsWithin, Within}
 use Rattle.dn_shaper.specs.Refinement.Views.{LinkView, queue_lengths, view_of, views_of, next_starts, waits_in_all}
+use Rattle.dn_shaper.proofs.OnePlace.{agrees-as}
 
 nothing-agrees : (rule : Rule) → IsAt rule 0 [] [] [] [] [] [] []
 nothing-agrees rule = record {
@@ -44,10 +43,7 @@ module _ (s : State) (accepted : s.parts.accepted ≡ 0) (keys : s.parts.flows.k
   views = ap (map (view_of (queue_lengths s.parts.flows.flows))) links
 
   agrees : AgreesWith s.parts [] []
-  agrees =
-      subst (λ (x : ℕ × List FlowKey × List FlowState). IsAt s.parts.rule x.0 x.1 s.parts.homes.items (views_of s.parts) x.2 s.parts.line.pending [] [])
-      (λ i. (sym accepted i, sym keys i, sym flows i))
-      (subst (λ (x : List Home × List LinkView × List Delivery). IsAt s.parts.rule 0 [] x.0 x.1 [] x.2 [] []) (λ i. (sym homes i, sym views i, sym pending i)) (nothing-agrees s.parts.rule))
+  agrees = agrees-as s.parts refl accepted keys homes views flows pending (nothing-agrees s.parts.rule)
 
   pub begins : (rule : Rule) → s.parts.rule ≡ rule → StandsAt rule s []
   begins rule is = record { rule_is = is; calls_are = calls; now_is = now; settings_are = λ i t. none t i; keys_are = keys; agrees = agrees }

@@ -1,7 +1,7 @@
 -- All parts agree with the discarding of a flow's packets.
-use Rattle.std.proofs.Common.{◌≡◌, ◌∙◌, ◌<◌, ◌⊎◌, ℕ, zero, suc, ◌+◌, true, false, cond, List, [], ◌∷◌, map, set, refl, ap, sym, subst, length, arith, inl, inr}
+use Rattle.std.proofs.Common.{◌≡◌, ◌∙◌, ◌<◌, ℕ, zero, suc, ◌+◌, true, false, cond, List, [], ◌∷◌, map, set, refl, ap, sym, subst, length, arith}
 use Rattle.std.specs.Prelude.{Some, nat_eq, slice_get}
-use Rattle.std.proofs.lemmas.Bool.{cases_eq}
+use Rattle.std.proofs.lemmas.List.{length-map}
 use Rattle.dn_types.specs.Trace.{Link, shared, link_eq, Accepted, Event, discarded, backlog, is_start_of, is_loss_of, is_refusal_of, is_arrival, discarded_count}
 use Rattle.dn_types.specs.Links.{free, last_due}
 use Rattle.dn_types.specs.SharedLinks.{last_finish_tag, waiting}
@@ -10,23 +10,21 @@ use Rattle.dn_types.specs.declared.flow_key.FlowKey.{FlowKey}
 use Rattle.dn_types.specs.declared.rule.Rule.{Rule}
 use Rattle.dn_flows.specs.Table.{FlowState, flow_at, emptied}
 use Rattle.dn_flows.specs.declared.waiting.Waiting.{Waiting}
-use Rattle.dn_flows.proofs.Views.{flow_after_set}
 use Rattle.dn_shaper.specs.declared.links.home.Home.{Home}
 use Rattle.dn_shaper.specs.Refinement.Views.{LinkView, home, as_queued, stamped_of, slotted}
-use Rattle.dn_shaper.specs.Refinement.Agreement.{AreDistinct, IsAt, IsLinkAt, IsFlowAt, IsScheduleAt, IsSlotAt, is_active, link_names}
-use Rattle.dn_shaper.proofs.Events.{uncounted, length-set}
-use Rattle.dn_flows.proofs.Places.{eq-no, eq-yes, get-set, get-set-other, map-set-same, get-below}
+use Rattle.dn_shaper.specs.Refinement.Agreement.{AreDistinct, IsAt, IsLinkAt, IsFlowAt, IsScheduleAt, is_active, link_names}
+use Rattle.std.proofs.lemmas.List.{length-set}
+use Rattle.dn_shaper.proofs.Events.{uncounted}
+use Rattle.dn_flows.proofs.Places.{eq-no, eq-yes, map-set-same}
 use Rattle.dn_types.proofs.Settled.{link_eq-refl}
 use Rattle.dn_wf2q.specs.Schedule.{Flow, flow_at as slot_at, no_packets, after_discard}
 use Rattle.dn_shaper.specs.Refinement.Slots.{Ascends, top}
-use Rattle.dn_shaper.proofs.Homes.{home-after, slots-apart, slots_home-after}
+use Rattle.dn_shaper.proofs.Homes.{home-after, slots_home-after}
 use Rattle.dn_shaper.proofs.Next.{distinct_views}
+use Rattle.dn_shaper.proofs.OnePlace.{each-flow, each-set}
+use Rattle.dn_shaper.proofs.OneSlot.{slot-set}
 use Rattle.dn_shaper.proofs.Waiting.{waiting-discarded}
 use Rattle.dn_types.proofs.StepFacts.{clear-none}
-
-pub length-waiting : (ps : List Accepted) → length (map as_queued ps) ≡ length ps
-length-waiting [] = refl
-length-waiting (p ∷ ps) = ap suc (length-waiting ps)
 
 module _ (rule : Rule) (accepted : ℕ) (keys : List FlowKey) (homes : List Home) (views : List LinkView) (flows : List FlowState) (pending : List Delivery)
     (more : List Link) (trace : List Event) (a : IsAt rule accepted keys homes views flows pending more trace) where
@@ -37,14 +35,7 @@ module _ (rule : Rule) (accepted : ℕ) (keys : List FlowKey) (homes : List Home
     elsewhere_for : (w : Link) → link_eq v.link w ≡ false → backlog w flow trace ≡ []
     elsewhere_for w apart = a.elsewhere flow w (ap (λ (l : Link). link_eq l w) here ∙ apart)
 
-    -- A slot beyond the list stays without a packet, and so does any other.
-    discard-at : (fs : List Flow) (i j : ℕ) → (i ≡ j → ⊥) → slot_at (after_discard fs i) j ≡ slot_at fs j
-    discard-at [] i j ne = refl
-    discard-at (f ∷ fs) zero zero ne = absurd (ne refl)
-    discard-at (f ∷ fs) zero (suc j) ne = refl
-    discard-at (f ∷ fs) (suc i) zero ne = refl
-    discard-at (f ∷ fs) (suc i) (suc j) ne = discard-at fs i j (λ e. ne (ap suc e))
-
+    -- A slot beyond the list stays without a packet.
     discard-here : (fs : List Flow) (i : ℕ) → slot_at (after_discard fs i) i ≡ no_packets
     discard-here [] i = refl
     discard-here (f ∷ fs) zero = refl
@@ -54,36 +45,19 @@ module _ (rule : Rule) (accepted : ℕ) (keys : List FlowKey) (homes : List Home
     schedule_after pipe is =
         let c = (a.views_are k v there).schedule_is pipe is in
         let r = discards pipe is in
-        record {
-          virtual_time_is = r.3 ∙ c.virtual_time_is;
-          slots_are = λ slot g e. slot_after c r.0 r.1 r.2 slot g e (cases_eq r.0 slot);
-          beyond = λ slot le.
-              let lt = get-below v.slots r.0 flow r.1 in
-              ap (λ (fs : List Flow). slot_at fs slot) r.2 ∙ discard-at v.schedule.flows r.0 slot (λ e. absurd (omega arith)) ∙ c.beyond slot le;
-        }
-      where
-        slot_after : IsScheduleAt v.link trace v.schedule v.slots → (i : ℕ) → slice_get v.slots i ≡ Some flow →
-            v'.schedule.flows ≡ after_discard v.schedule.flows i → (slot g : ℕ) → slice_get v.slots slot ≡ Some g → (i ≡ slot) ⊎ (i ≡ slot → ⊥) →
-            IsSlotAt v.link g slot (discarded flow ∷ trace) (slot_at v'.schedule.flows slot)
-        slot_after c i at_i now slot g e (inl same) =
-            let found : Some flow ≡ Some g = sym at_i ∙ ap (slice_get v.slots) same ∙ e in
-            let g_is : flow ≡ g = cc in
-            let now_at = ap (λ (fs : List Flow). slot_at fs slot) now ∙ ap (λ j. slot_at (after_discard v.schedule.flows i) j) (sym same) ∙ discard-here v.schedule.flows i in
-            record {
-              backlog_is = ap (λ (f : Flow). f.backlog) now_at ∙ sym (ap (λ b. map (slotted slot) (stamped_of (cond b [] (backlog v.link g trace)))) (eq-yes flow g g_is));
-              last_finish_is = ap (λ (f : Flow). f.last_finish_tag) now_at ∙ sym (ap (λ b. cond b 0 (last_finish_tag v.link g trace)) (eq-yes flow g g_is));
-            }
-        slot_after c i at_i now slot g e (inr ne) =
-            let now_at = ap (λ (fs : List Flow). slot_at fs slot) now ∙ discard-at v.schedule.flows i slot ne in
-            let apart = eq-no flow g (slots-apart v.slots (a.views_are k v there).ascends i slot flow g at_i e ne) in
-            let s = c.slots_are slot g e in
-            record {
-              backlog_is = ap (λ (f : Flow). f.backlog) now_at ∙ s.backlog_is ∙ sym (ap (λ b. map (slotted slot) (stamped_of (cond b [] (backlog v.link g trace)))) apart);
-              last_finish_is = ap (λ (f : Flow). f.last_finish_tag) now_at ∙ s.last_finish_is ∙ sym (ap (λ b. cond b 0 (last_finish_tag v.link g trace)) apart);
-            }
+        let now_at = ap (λ (fs : List Flow). slot_at fs r.0) r.2 ∙ discard-here v.schedule.flows r.0 in
+        slot-set c (a.views_are k v there).ascends r.1 (discarded flow ∷ trace) v'.schedule no_packets r.2 (r.3 ∙ c.virtual_time_is)
+        (record {
+          backlog_is = ap (λ (f : Flow). f.backlog) now_at ∙ sym (ap (λ b. map (slotted r.0) (stamped_of (cond b [] (backlog v.link flow trace)))) (eq-yes flow flow refl));
+          last_finish_is = ap (λ (f : Flow). f.last_finish_tag) now_at ∙ sym (ap (λ b. cond b 0 (last_finish_tag v.link flow trace)) (eq-yes flow flow refl));
+        })
+        (λ slot g ne s. record {
+          backlog_is = s.backlog_is ∙ sym (ap (λ b. map (slotted slot) (stamped_of (cond b [] (backlog v.link g trace)))) (eq-no flow g ne));
+          last_finish_is = s.last_finish_is ∙ sym (ap (λ b. cond b 0 (last_finish_tag v.link g trace)) (eq-no flow g ne));
+        })
 
     count_is : length (flow_at flows flow).backlog ≡ length (backlog v.link flow trace)
-    count_is = ap (λ (q : List Waiting). length q) (a.flows_are flow).backlog_is ∙ length-waiting (backlog (home keys flow) flow trace) ∙ ap (λ (l : Link). length (backlog l flow trace)) here
+    count_is = ap (λ (q : List Waiting). length q) (a.flows_are flow).backlog_is ∙ length-map (backlog (home keys flow) flow trace) as_queued ∙ ap (λ (l : Link). length (backlog l flow trace)) here
 
     made_view : IsLinkAt rule (length keys) (discarded flow ∷ trace) v'
     made_view = let b = a.views_are k v there in record {
@@ -131,65 +105,40 @@ module _ (rule : Rule) (accepted : ℕ) (keys : List FlowKey) (homes : List Home
             let t : true ≡ false = sym (link_eq-refl w.link) ∙ ap (λ (l : Link). link_eq l w.link) (sym homed ∙ ap (home keys) (sym same) ∙ here) ∙ apart in
             cc)
 
-    views_after : (j : ℕ) (w : LinkView) → slice_get (set views k v') j ≡ Some w → IsLinkAt rule (length keys) (discarded flow ∷ trace) w
-    views_after j w e = by (cases_eq j k)
-      where
-        by : (j ≡ k) ⊎ (j ≡ k → ⊥) → IsLinkAt rule (length keys) (discarded flow ∷ trace) w
-        by (inl same) =
-            let e' : Some v' ≡ Some w = sym (get-set views k v v' there) ∙ ap (slice_get (set views k v')) (sym same) ∙ e in
-            let is : v' ≡ w = cc in
-            subst (λ (x : LinkView). IsLinkAt rule (length keys) (discarded flow ∷ trace) x) is made_view
-        by (inr ne) = other_view j w (sym (get-set-other views k j v' ne) ∙ e) ne
-
     names_same : link_names (set views k v') ≡ link_names views
     names_same = map-set-same (λ (x : LinkView). x.link) views k v v' there same_link
 
     flow_after : (g : ℕ) → IsFlowAt (home keys g) g (discarded flow ∷ trace) (flow_at (set flows flow (emptied (flow_at flows flow))) g)
-    flow_after g = by (cases_eq flow g)
-      where
-        in_table : flow < length flows
-        in_table = let m = a.as_many in omega arith
-
-        now_at : flow_at (set flows flow (emptied (flow_at flows flow))) g ≡ cond (nat_eq flow g) (emptied (flow_at flows flow)) (flow_at flows g)
-        now_at = flow_after_set flows flow g (emptied (flow_at flows flow)) in_table
-
-        by : (flow ≡ g) ⊎ (flow ≡ g → ⊥) → IsFlowAt (home keys g) g (discarded flow ∷ trace) (flow_at (set flows flow (emptied (flow_at flows flow))) g)
-        by (inl same) =
-            let is : flow_at (set flows flow (emptied (flow_at flows flow))) g ≡ emptied (flow_at flows g) = now_at
-            ∙ ap (λ b. cond b (emptied (flow_at flows flow)) (flow_at flows g)) (eq-yes flow g same) ∙ ap (λ i. emptied (flow_at flows i)) same in
-            let b = a.flows_are g in
-            let count = ap (λ (q : List Waiting). length q) b.backlog_is ∙ length-waiting (backlog (home keys g) g trace) in
-            let d = b.discarded_is in
-            let now = ap {B = ℕ} (λ (x : FlowState). x.discarded) is in
-            let after = ap {B = ℕ} (λ t. cond t (length (backlog (home keys g) g trace)) 0 + discarded_count (home keys g) g trace) (eq-yes flow g same) in
-            record {
-              backlog_is = ap (λ (x : FlowState). x.backlog) is ∙ sym (ap (λ t. map as_queued (cond t [] (backlog (home keys g) g trace))) (eq-yes flow g same));
-              lost_is = ap (λ (x : FlowState). x.lost) is ∙ b.lost_is ∙ sym (uncounted (is_loss_of g) (discarded flow) trace refl);
-              full_is = ap (λ (x : FlowState). x.full) is ∙ b.full_is ∙ sym (uncounted (is_refusal_of g) (discarded flow) trace refl);
-              started_is = ap (λ (x : FlowState). x.started) is ∙ b.started_is ∙ sym (uncounted (is_start_of g) (discarded flow) trace refl);
-              discarded_is = omega arith;
-              active_is = ap (λ (x : FlowState). x.active) is ∙ sym (ap (λ t. cond t false (is_active g trace)) (eq-yes flow g same));
-            }
-        by (inr ne) =
-            let is : flow_at (set flows flow (emptied (flow_at flows flow))) g ≡ flow_at flows g = now_at ∙ ap (λ b. cond b (emptied (flow_at flows flow)) (flow_at flows g)) (eq-no flow g ne) in
-            let b = a.flows_are g in
-            let d = b.discarded_is in
-            let now = ap {B = ℕ} (λ (x : FlowState). x.discarded) is in
-            let after = ap {B = ℕ} (λ t. cond t (length (backlog (home keys g) g trace)) 0 + discarded_count (home keys g) g trace) (eq-no flow g ne) in
-            record {
-              backlog_is = ap (λ (x : FlowState). x.backlog) is ∙ b.backlog_is ∙ sym (ap (λ t. map as_queued (cond t [] (backlog (home keys g) g trace))) (eq-no flow g ne));
-              lost_is = ap (λ (x : FlowState). x.lost) is ∙ b.lost_is ∙ sym (uncounted (is_loss_of g) (discarded flow) trace refl);
-              full_is = ap (λ (x : FlowState). x.full) is ∙ b.full_is ∙ sym (uncounted (is_refusal_of g) (discarded flow) trace refl);
-              started_is = ap (λ (x : FlowState). x.started) is ∙ b.started_is ∙ sym (uncounted (is_start_of g) (discarded flow) trace refl);
-              discarded_is = omega arith;
-              active_is = ap (λ (x : FlowState). x.active) is ∙ b.active_is ∙ sym (ap (λ t. cond t false (is_active g trace)) (eq-no flow g ne));
-            }
+    flow_after = each-flow (λ g x. IsFlowAt (home keys g) g (discarded flow ∷ trace) x) flows flow (emptied (flow_at flows flow)) (let m = a.as_many in omega arith)
+        (let b = a.flows_are flow in
+        let count = ap (λ (q : List Waiting). length q) b.backlog_is ∙ length-map (backlog (home keys flow) flow trace) as_queued in
+        let d = b.discarded_is in
+        let after = ap {B = ℕ} (λ t. cond t (length (backlog (home keys flow) flow trace)) 0 + discarded_count (home keys flow) flow trace) (eq-yes flow flow refl) in
+        record {
+          backlog_is = sym (ap (λ t. map as_queued (cond t [] (backlog (home keys flow) flow trace))) (eq-yes flow flow refl));
+          lost_is = b.lost_is ∙ sym (uncounted (is_loss_of flow) (discarded flow) trace refl);
+          full_is = b.full_is ∙ sym (uncounted (is_refusal_of flow) (discarded flow) trace refl);
+          started_is = b.started_is ∙ sym (uncounted (is_start_of flow) (discarded flow) trace refl);
+          discarded_is = omega arith;
+          active_is = sym (ap (λ t. cond t false (is_active flow trace)) (eq-yes flow flow refl));
+        })
+        (λ g ne. let b = a.flows_are g in
+        let d = b.discarded_is in
+        let after = ap {B = ℕ} (λ t. cond t (length (backlog (home keys g) g trace)) 0 + discarded_count (home keys g) g trace) (eq-no flow g ne) in
+        record {
+          backlog_is = b.backlog_is ∙ sym (ap (λ t. map as_queued (cond t [] (backlog (home keys g) g trace))) (eq-no flow g ne));
+          lost_is = b.lost_is ∙ sym (uncounted (is_loss_of g) (discarded flow) trace refl);
+          full_is = b.full_is ∙ sym (uncounted (is_refusal_of g) (discarded flow) trace refl);
+          started_is = b.started_is ∙ sym (uncounted (is_start_of g) (discarded flow) trace refl);
+          discarded_is = omega arith;
+          active_is = b.active_is ∙ sym (ap (λ t. cond t false (is_active g trace)) (eq-no flow g ne));
+        })
 
     pub discarded-agrees : IsAt rule accepted keys homes (set views k v') (set flows flow (emptied (flow_at flows flow))) pending more (discarded flow ∷ trace)
     discarded-agrees = record {
       links_are = names_same ∙ a.links_are;
       distinct = subst AreDistinct (sym names_same) a.distinct;
-      views_are = views_after;
+      views_are = each-set (λ j w. IsLinkAt rule (length keys) (discarded flow ∷ trace) w) views k v there v' made_view other_view;
       untouched = λ l e. let u = a.untouched l e in record { free_is = u.free_is; last_due_is = u.last_due_is; virtual_time_is = u.virtual_time_is };
       flows_are = flow_after;
       as_many = length-set flows flow (emptied (flow_at flows flow)) ∙ a.as_many;

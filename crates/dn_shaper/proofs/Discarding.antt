@@ -1,52 +1,42 @@
 -- A flow's packets are discarded: all parts agree, and a link only loses its backlog.
-use Rattle.std.proofs.Common.{◌≡◌, ◌∙◌, ◌≤◌, ◌<◌, ◌⊎◌, ◌^◌, ℕ, ◌+◌, Bool, true, false, cond, List, ◌∷◌, set, refl, ap, sym, subst, length, arith, inl, inr}
-use Rattle.std.specs.Prelude.{Option, Some, None, nat_eq, nat_lt, slice_get}
-use Rattle.std.proofs.lemmas.Bool.{cases_eq}
+use Rattle.std.proofs.Common.{◌≡◌, ◌∙◌, ◌≤◌, ◌<◌, ◌⊎◌, ◌^◌, ℕ, ◌+◌, cond, List, set, refl, ap, sym, subst, length, arith, inl, inr}
+use Rattle.std.specs.Prelude.{Some, None, nat_lt, slice_get}
 use Rattle.std.proofs.lemmas.List.{length-map}
-use Rattle.dn_types.specs.Trace.{Link, own, shared, Accepted, discarded, backlog}
+use Rattle.dn_types.specs.Trace.{Link, own, shared, Accepted, backlog}
 use Rattle.dn_types.specs.Wf2q.{Stamped}
-use Rattle.dn_types.specs.declared.delivery.Delivery.{Delivery}
-use Rattle.dn_types.specs.declared.flow_key.FlowKey.{FlowKey}
-use Rattle.dn_types.specs.declared.rule.Rule.{Rule}
 use Rattle.dn_flows.specs.Table.{FlowState, flow_at, emptied}
 use Rattle.dn_flows.specs.declared.waiting.Waiting.{Waiting}
-use Rattle.dn_flows.proofs.Views.{flow_after_set}
 use Rattle.dn_wf2q.specs.Schedule.{Schedule}
 use Rattle.dn_shaper.specs.declared.links.home.Home.{Home}
 use Rattle.dn_shaper.specs.declared.links.parts.Parts.{Parts}
-use Rattle.dn_shaper.specs.Refinement.Agreement.{Agrees, IsAt, IsHomeOf, link_names}
+use Rattle.dn_shaper.specs.Refinement.Agreement.{Agrees, IsHomeOf, link_names}
 use Rattle.dn_shaper.specs.Refinement.Arriving.{KeepsFlows}
 use Rattle.dn_shaper.specs.Refinement.Discarding.{DiscardsOn, DiscardsAt, DiscardsFlow, HoldsCount}
 use Rattle.dn_shaper.specs.Refinement.Starting.{AreCountsWithin, Within}
-use Rattle.dn_shaper.specs.Refinement.Views.{LinkView, IsAlone, views_of, home, slotted, next_starts, next_start_of, stamped_of, waits_in_all}
+use Rattle.dn_shaper.specs.Refinement.Views.{LinkView, IsAlone, views_of, home, as_queued, slotted, next_starts, next_start_of, stamped_of, waits_in_all}
 use Rattle.dn_shaper.proofs.Accepting.{next-some}
 use Rattle.dn_shaper.proofs.Alone.{is-alone}
-use Rattle.dn_shaper.proofs.Discarded.{discarded-agrees, length-waiting}
+use Rattle.dn_shaper.proofs.Discarded.{discarded-agrees}
+use Rattle.dn_shaper.proofs.HomeRead.{home-of, in-table}
 use Rattle.dn_shaper.proofs.Next.{home-here}
-use Rattle.dn_flows.proofs.Places.{get-set, get-set-other, get-map, map-set, map-set-same, sum-set, sum-le}
+use Rattle.dn_shaper.proofs.OnePlace.{agrees-as, each-flow, each-set}
+use Rattle.dn_flows.proofs.Places.{get-map, map-set, map-set-same, sum-set, sum-le}
 use Rattle.dn_shaper.proofs.Waiting.{waiting-discarded}
 
 module _ {p : Parts} (bound : Within (2 ^ 62) p) (agrees : Agrees p) {flow : ℕ} (within : flow < length p.flows.keys) where
-  pub home-of : (h : Home) × (slice_get p.homes.items flow ≡ Some h) × IsHomeOf flow (home p.flows.keys flow) (views_of p) h
-  home-of = agrees.2.homes_are flow within
-
-  pub flow-there : flow < length p.flows.flows
-  flow-there = let m = agrees.2.as_many in omega arith
-
   pub few-there : (flow_at p.flows.flows flow).discarded + length (flow_at p.flows.flows flow).backlog ≤ 2 ^ 62
   few-there = let i = (bound.flows_are flow).2 in omega arith
 
   module _ {h : Home} (at_home : slice_get p.homes.items flow ≡ Some h) where
     pub is-home : IsHomeOf flow (home p.flows.keys flow) (views_of p) h
-    is-home = let both : Some home-of.0 ≡ Some h = sym home-of.1 ∙ at_home in let same : home-of.0 ≡ h = cc in
-        subst (λ (x : Home). IsHomeOf flow (home p.flows.keys flow) (views_of p) x) same home-of.2
+    is-home = home-of p agrees.2 within at_home
 
     -- The flow's packets are among those that wait for its link.
     pub enough : length (flow_at p.flows.flows flow).backlog ≤ is-home.view.waits
     enough =
         let a = agrees.2 in
         let w = waiting-discarded is-home.view.link flow agrees.1 in
-        let c = ap {B = ℕ} (λ (q : List Waiting). length q) (a.flows_are flow).backlog_is ∙ length-waiting _ ∙ ap {B = ℕ} (λ (l : Link). length (backlog l flow agrees.1)) (sym is-home.link_is) in
+        let c = ap {B = ℕ} (λ (q : List Waiting). length q) (a.flows_are flow).backlog_is ∙ length-map _ as_queued ∙ ap {B = ℕ} (λ (l : Link). length (backlog l flow agrees.1)) (sym is-home.link_is) in
         let v = (a.views_are h.place is-home.view is-home.there).waits_are in
         omega arith
 
@@ -65,7 +55,7 @@ module _ {p : Parts} (bound : Within (2 ^ 62) p) (agrees : Agrees p) {flow : ℕ
             ∙ length-map (stamped_of waits) (slotted h.slot)
             ∙ length-map waits (λ (x : Accepted). x.stamped)
             ∙ ap {B = ℕ} (λ (l : Link). length (backlog l flow agrees.1)) is-home.link_is
-            ∙ sym (ap {B = ℕ} (λ (q : List Waiting). length q) (a.flows_are flow).backlog_is ∙ length-waiting _)
+            ∙ sym (ap {B = ℕ} (λ (q : List Waiting). length q) (a.flows_are flow).backlog_is ∙ length-map _ as_queued)
 
     pub alone : IsAlone flow h.place (views_of p)
     alone = is-alone p agrees.0 agrees.1 agrees.2 flow h.place is-home.view is-home.there (sym is-home.link_is)
@@ -77,27 +67,17 @@ module _ {h : Home} {flow : ℕ} {old new : Parts} (bound : Within (2 ^ 62) old)
     (at_home : slice_get old.homes.items flow ≡ Some h) (s : DiscardsAt h flow old new) where
   pub discards-agree : DiscardsFlow flow old new
   discards-agree more trace a =
-      let g = a.homes_are flow within in
-      let both : Some g.0 ≡ Some h = sym g.1 ∙ at_home in
-      let same : g.0 ≡ h = cc in
-      let is = subst (λ (x : Home). IsHomeOf flow (home old.flows.keys flow) (views_of old) x) same g.2 in
+      let is = home-of old a within at_home in
       let view_both : Some is.view ≡ Some s.view = sym is.there ∙ s.there in
       let view_is : is.view ≡ s.view = cc in
       let here : home old.flows.keys flow ≡ s.view.link = sym is.link_is ∙ ap (λ (v : LinkView). v.link) view_is in
-      subst (λ (r : Rule). IsAt r new.accepted new.flows.keys new.homes.items (views_of new) new.flows.flows new.line.pending more (discarded flow ∷ trace)) (sym s.rule)
-      (subst (λ (x : ℕ × List FlowKey). IsAt old.rule x.0 x.1 new.homes.items (views_of new) new.flows.flows new.line.pending more (discarded flow ∷ trace)) (λ i. (sym s.accepted i, sym s.keys i))
-      (subst
-      (λ (x : List Home × List LinkView). IsAt old.rule old.accepted old.flows.keys x.0 x.1 new.flows.flows new.line.pending more (discarded flow ∷ trace))
-      (λ i. ((sym s.homes i).items, sym s.views_are i))
-      (subst
-      (λ (x : List FlowState × List Delivery). IsAt old.rule old.accepted old.flows.keys old.homes.items (set (views_of old) h.place s.view') x.0 x.1 more (discarded flow ∷ trace))
-      (λ i. (sym s.flows_are i, (sym s.line i).pending))
+      agrees-as new s.rule s.accepted s.keys (ap (λ hs. hs.items) s.homes) s.views_are s.flows_are (ap (λ l. l.pending) s.line)
       (discarded-agrees old.rule old.accepted old.flows.keys old.homes.items
       (views_of old) old.flows.flows old.line.pending more trace a h.place s.view s.there flow within here s.view' s.leaves.link s.leaves.value s.leaves.waits s.leaves.slots
       (λ pipe e.
       let r = subst (DiscardsOn h.slot s.view s.view') e s.leaves.discards in
       let here' = home-here old.rule old.accepted old.flows.keys old.homes.items (views_of old) old.flows.flows old.line.pending more trace a h.place s.view s.there flow h is here in
-      (h.slot, here'.1 pipe e, r.0, r.1))))))
+      (h.slot, here'.1 pipe e, r.0, r.1)))
 
   pub discards-waiting : waits_in_all (views_of new) + length (flow_at old.flows.flows flow).backlog ≡ waits_in_all (views_of old)
   discards-waiting =
@@ -121,31 +101,18 @@ module _ {h : Home} {flow : ℕ} {old new : Parts} (bound : Within (2 ^ 62) old)
     room = let b = s.waiting in let c = ap {B = ℕ} (λ x. x.room) s.line in let d = w.room in omega arith;
     pushed = let b = s.waiting in let c = ap {B = ℕ} (λ x. x.pushed) s.line in let d = w.pushed in omega arith;
     sums = let b = s.waiting in let c = ap {B = ℕ} (λ x. length x.pending) s.line in let d = w.sums in omega arith;
-    flows_are = λ g. subst (λ (x : FlowState). AreCountsWithin n x)
-        (sym (ap (λ (fs : List FlowState). flow_at fs g) s.flows_are ∙ flow_after_set old.flows.flows flow g (emptied (flow_at old.flows.flows flow)) (flow-there bound agrees within)))
-        (by g (nat_eq flow g));
-    arrivals = λ j v e. few_arrivals j v e (cases_eq j h.place);
+    flows_are = λ g. subst (λ (fs : List FlowState). AreCountsWithin n (flow_at fs g)) (sym s.flows_are)
+        (each-flow (λ g x. AreCountsWithin n x) old.flows.flows flow (emptied (flow_at old.flows.flows flow)) (in-table old agrees within)
+        (let i = w.flows_are flow in let x = i.0 in let y = i.1 in let z = i.2 in (x, y, omega arith)) (λ g ne. w.flows_are g) g);
+    arrivals = λ j v e. each-set (λ (j : ℕ) (v : LinkView). v.schedule.arrivals ≤ n) (views_of old) h.place s.view s.there s.view'
+        (let same = same_arrivals s.view.link s.leaves.discards in let le = w.arrivals h.place s.view s.there in omega arith)
+        (λ j v e ne. w.arrivals j v e) j v (ap (λ (vs : List LinkView). slice_get vs j) (sym s.views_are) ∙ e);
     accepted = let a = s.accepted in let b = w.accepted in omega arith;
   }
     where
-      by : (g : ℕ) (b : Bool) → AreCountsWithin n (cond b (emptied (flow_at old.flows.flows flow)) (flow_at old.flows.flows g))
-      by g true = let i = w.flows_are flow in let x = i.0 in let y = i.1 in let z = i.2 in (x, y, omega arith)
-      by g false = w.flows_are g
-
       same_arrivals : (l : Link) → DiscardsOn h.slot s.view s.view' l → s.view'.schedule.arrivals ≡ s.view.schedule.arrivals
       same_arrivals (own pipe f) r = ap (λ (x : Schedule). x.arrivals) r
       same_arrivals (shared pipe) r = r.2
-
-      few_arrivals : (j : ℕ) (v : LinkView) → slice_get (views_of new) j ≡ Some v → (j ≡ h.place) ⊎ (j ≡ h.place → ⊥) → v.schedule.arrivals ≤ n
-      few_arrivals j v e (inl same) =
-          let now = ap (λ (vs : List LinkView). slice_get vs j) (sym s.views_are) ∙ e in
-          let both : Some s.view' ≡ Some v = sym (get-set (views_of old) h.place s.view s.view' s.there) ∙ ap (slice_get (set (views_of old) h.place s.view')) (sym same) ∙ now in
-          let is : s.view' ≡ v = cc in
-          let e1 = ap {B = ℕ} (λ (x : LinkView). x.schedule.arrivals) is in
-          let m = same_arrivals s.view.link s.leaves.discards in
-          let le = w.arrivals h.place s.view s.there in
-          omega arith
-      few_arrivals j v e (inr ne) = w.arrivals j v (sym (get-set-other (views_of old) h.place j s.view' ne) ∙ ap (λ (vs : List LinkView). slice_get vs j) (sym s.views_are) ∙ e)
 
   pub discards-nexts : next_starts (views_of new) ≡ set (next_starts (views_of old)) h.place (next_start_of s.view')
   discards-nexts = ap (λ (vs : List LinkView). next_starts vs) s.views_are ∙ map-set next_start_of (views_of old) h.place s.view'

@@ -1,13 +1,23 @@
 -- A flow's home is read, and the link there: both are those that the parts agree on.
-use Rattle.std.proofs.Common.{◌≡◌, ◌∙◌, ◌<◌, ℕ, List, get_or, ap, sym, subst, length, arith}
+use Rattle.std.proofs.Common.{◌≡◌, ◌∙◌, ◌<◌, ℕ, List, get_or, sym, subst, length, arith}
 use Rattle.std.specs.Prelude.{Some, slice_get}
+use Rattle.dn_types.specs.Trace.{Link, Event}
 use Rattle.dn_shaper.specs.declared.links.home.Home.{Home}
 use Rattle.dn_shaper.specs.declared.links.link_parts.LinkParts.{LinkParts}
 use Rattle.dn_shaper.specs.declared.links.parts.Parts.{Parts}
-use Rattle.dn_shaper.specs.Refinement.Agreement.{Agrees, IsHomeOf}
+use Rattle.dn_shaper.specs.Refinement.Agreement.{Agrees, AgreesWith, IsHomeOf}
 use Rattle.dn_shaper.specs.Refinement.Views.{IsAlone, home, queue_lengths, view_of, views_of}
 use Rattle.dn_shaper.proofs.Alone.{is-alone}
 use Rattle.dn_flows.proofs.Places.{get-below, get-below-map, get-map, get-read, viewed}
+
+-- What stands at the flow's place among the homes is its home.
+pub home-of : (p : Parts) {more : List Link} {trace : List Event} → AgreesWith p more trace → {flow : ℕ} → flow < length p.flows.keys → {h : Home} →
+    slice_get p.homes.items flow ≡ Some h → IsHomeOf flow (home p.flows.keys flow) (views_of p) h
+home-of p a {flow = flow} within {h = h} at =
+    let its = a.homes_are flow within in
+    let both : Some its.0 ≡ Some h = sym its.1 ∙ at in
+    let same : its.0 ≡ h = cc in
+    subst (λ (x : Home). IsHomeOf flow (home p.flows.keys flow) (views_of p) x) same its.2
 
 module _ (p : Parts) (agrees : Agrees p) {flow : ℕ} (within : flow < length p.flows.keys) where
   pub home-there : (h : Home) × (slice_get p.homes.items flow ≡ Some h) × IsHomeOf flow (home p.flows.keys flow) (views_of p) h
@@ -24,10 +34,7 @@ module _ (p : Parts) (agrees : Agrees p) {flow : ℕ} (within : flow < length p.
     at-home = get-read p.homes.items flow h home-below read
 
     pub is-home : IsHomeOf flow (home p.flows.keys flow) (views_of p) h
-    is-home =
-        let both : Some home-there.0 ≡ Some h = sym home-there.1 ∙ at-home in
-        let same : home-there.0 ≡ h = cc in
-        subst (λ (x : Home). IsHomeOf flow (home p.flows.keys flow) (views_of p) x) same home-there.2
+    is-home = home-of p agrees.2 within at-home
 
     pub place-below : h.place < length p.links.items
     place-below = get-below-map (view_of (queue_lengths p.flows.flows)) p.links.items h.place is-home.view is-home.there

@@ -4,7 +4,6 @@ use Rattle.std.specs.Prelude.{Some, slice_get}
 use Rattle.dn_types.specs.Trace.{Link, shared, Event}
 use Rattle.dn_types.specs.declared.delivery.Delivery.{Delivery}
 use Rattle.dn_types.specs.declared.flow_key.FlowKey.{FlowKey}
-use Rattle.dn_types.specs.declared.rule.Rule.{Rule}
 use Rattle.dn_flows.specs.Table.{FlowState, Table, new_flow, flow_at, with_place}
 use Rattle.dn_flows.proofs.Views.{flow_after_set}
 use Rattle.dn_wf2q.specs.Schedule.{room_at}
@@ -18,8 +17,9 @@ use Rattle.dn_shaper.specs.Refinement.Making.{SameFlow}
 use Rattle.dn_shaper.specs.Refinement.Sound.{IsIndexed, IsSound}
 use Rattle.dn_shaper.specs.Refinement.Starting.{IsReady, Within}
 use Rattle.dn_shaper.specs.Refinement.Views.{LinkView, views_of, next_starts, waits_in_all}
-use Rattle.dn_shaper.proofs.Events.{length-set}
+use Rattle.std.proofs.lemmas.List.{length-set}
 use Rattle.dn_flows.proofs.Places.{eq-yes, get-last, length-more}
+use Rattle.dn_shaper.proofs.OnePlace.{agrees-as}
 use Rattle.dn_shaper.proofs.Preparing.{IsOneMore, flow-more, with_flows}
 use Rattle.dn_shaper.proofs.Reserving.{place-reserved, same-within}
 
@@ -104,14 +104,4 @@ module _ (old new : State) (t : Table) (key : FlowKey) (one : IsOneMore key old.
         IsAt old.parts.rule old.parts.accepted (old.parts.flows.keys ++ key ∷ []) (old.parts.homes.items ++ h ∷ []) views new.parts.flows.flows old.parts.line.pending more trace →
         AgreesWith new.parts more trace
     agrees-by more trace h views same_home same_views a =
-        subst (λ (x : Rule). IsAt x new.parts.accepted new.parts.flows.keys new.parts.homes.items (views_of new.parts) new.parts.flows.flows new.parts.line.pending more trace) (sym g.keeps.rule)
-        (subst
-        (λ (x : ℕ × List FlowKey). IsAt old.parts.rule x.0 x.1 new.parts.homes.items (views_of new.parts) new.parts.flows.flows new.parts.line.pending more trace)
-        (λ i. (sym g.accepted i, sym keys-are i))
-        (subst
-        (λ (x : List Home × List Delivery). IsAt old.parts.rule old.parts.accepted (old.parts.flows.keys ++ key ∷ []) x.0 (views_of new.parts) new.parts.flows.flows x.1 more trace)
-        (λ i. (sym (g.homes ∙ ap (λ (y : Home). old.parts.homes.items ++ y ∷ []) same_home) i, sym g.pending i))
-        (subst
-        (λ (vs : List LinkView). IsAt old.parts.rule old.parts.accepted (old.parts.flows.keys ++ key ∷ [])
-        (old.parts.homes.items ++ h ∷ []) vs new.parts.flows.flows old.parts.line.pending more trace)
-        (sym same_views) a)))
+        agrees-as new.parts g.keeps.rule g.accepted keys-are (g.homes ∙ ap (λ (y : Home). old.parts.homes.items ++ y ∷ []) same_home) same_views refl g.pending a

@@ -1,6 +1,6 @@
 -- A link that a discard empties leaves its key, and the parts and the heap stay in step.
-use Rattle.std.proofs.Common.{◌≡◌, ◌∙◌, ◌≤◌, ◌<◌, ◌^◌, ℕ, zero, suc, ◌+◌, cond, List, [], ◌∷◌, set, refl, ap, sym, subst, length, arith, Contains, IsPermutation, slice_index_or}
-use Rattle.std.specs.Prelude.{Option, Some, None, is_some, slice_get}
+use Rattle.std.proofs.Common.{◌≡◌, ◌∙◌, ◌≤◌, ◌<◌, ◌^◌, ℕ, ◌+◌, cond, List, ◌∷◌, set, refl, ap, sym, subst, length, arith, Contains, IsPermutation, slice_index_or}
+use Rattle.std.specs.Prelude.{Option, Some, is_some, slice_get}
 use Rattle.std.proofs.lemmas.List.{length-map}
 use Rattle.std.proofs.lemmas.List.Sorted.{length_permutation}
 use Rattle.dn_flows.proofs.Places.{get-set}
@@ -15,9 +15,11 @@ use Rattle.dn_shaper.specs.Refinement.NextStarts.{next_at, keys_at, Holds}
 use Rattle.dn_shaper.specs.Refinement.Settling.{AreInStep}
 use Rattle.dn_shaper.specs.Refinement.Views.{LinkView, views_of, next_start_of, next_starts}
 use Rattle.dn_shaper.proofs.Accepting.{next-listed, next-none, next-some}
+use Rattle.dn_shaper.proofs.Arriving.{set-self}
 use Rattle.dn_shaper.proofs.Discarding.{discards-agree, discards-nexts, discards-within, next-then}
+use Rattle.std.proofs.lemmas.List.{length-set}
 use Rattle.dn_shaper.proofs.HeldCounts.{counted-held}
-use Rattle.dn_shaper.proofs.Events.{length-set}
+use Rattle.dn_shaper.proofs.HeldCounts.{counted-held}
 use Rattle.dn_shaper.proofs.NextStarts.{holds_none, next_listed, some_standing}
 
 -- The link after it lost its packets.
@@ -51,13 +53,8 @@ module _ {h : Home} {flow : ℕ} {old new : Parts} {heap : Heap NextStart} (kept
   pub still-kept : next_start_of s.view' ≡ next_start_of s.view → AreInStep new heap
   still-kept same =
       let as-before : next_starts (views_of new) ≡ next_starts (views_of old) =
-      nexts-then ∙ ap (set (next_starts (views_of old)) h.place) same ∙ set-there (next_starts (views_of old)) h.place (next_start_of s.view) there in
+      nexts-then ∙ ap (set (next_starts (views_of old)) h.place) same ∙ set-self (next_starts (views_of old)) h.place (next_start_of s.view) there in
       in-step heap (subst (λ (d : List (Option ℕ)). Holds d heap.keys) (sym as-before) kept.held) refl
-    where
-      set-there : (d : List (Option ℕ)) (i : ℕ) (o : Option ℕ) → slice_get d i ≡ Some o → set d i o ≡ d
-      set-there [] i o e = refl
-      set-there (x ∷ d) zero o e = let same : x ≡ o = cc in ap (λ (y : Option ℕ). y ∷ d) (sym same)
-      set-there (x ∷ d) (suc i) o e = ap (λ (l : List (Option ℕ)). x ∷ l) (set-there d i o e)
 
   -- ---- The link had a backlog
 

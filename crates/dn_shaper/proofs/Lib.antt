@@ -36,6 +36,8 @@ pub mod NextStarts
 pub mod Noted
 pub mod Noting
 pub mod Numbered
+pub mod OnePlace
+pub mod OneSlot
 pub mod Opened
 pub mod Ordered
 pub mod Passing

@@ -3,7 +3,6 @@ use Rattle.std.proofs.Common.{◌≡◌, ◌∙◌, ◌≤◌, ◌<◌, ◌⊎�
 use Rattle.std.specs.Prelude.{Some, slice_get}
 use Rattle.std.specs.List.{list_any}
 use Rattle.std.proofs.lemmas.Bool.{cases_eq, cases_lt}
-use Rattle.dn_types.specs.Wf2q.{total}
 use Rattle.dn_types.specs.Trace.{Link, shared, link_eq, Accepted, Event, backlog, flow_bound, links, discarded_count}
 use Rattle.dn_types.specs.SharedLinks.{waiting}
 use Rattle.dn_types.specs.declared.delivery.Delivery.{Delivery}
@@ -13,8 +12,8 @@ use Rattle.dn_flows.specs.Table.{FlowState, flow_at}
 use Rattle.dn_shaper.specs.declared.links.home.Home.{Home}
 use Rattle.dn_shaper.specs.Refinement.Views.{LinkView, home, as_queued, stamped_of, slotted}
 use Rattle.dn_shaper.specs.Refinement.Agreement.{AreDistinct, IsAt, IsLinkAt, IsFlowAt, IsHomeOf, IsScheduleAt, IsSlotAt, link_names}
-use Rattle.dn_shaper.proofs.Events.{append-none}
-use Rattle.dn_flows.proofs.Places.{get-set, get-set-other, map-set-same}
+use Rattle.std.proofs.lemmas.List.{append-nil}
+use Rattle.dn_flows.proofs.Places.{get-set, map-set-same}
 use Rattle.std.proofs.lemmas.List.{map-append}
 use Rattle.dn_types.specs.Calls.{link_of}
 use Rattle.dn_wf2q.specs.Schedule.{Flow, Schedule, flow_at as slot_at, no_packets}
@@ -24,21 +23,19 @@ use Rattle.dn_shaper.specs.Refinement.Slots.{Ascends, top}
 use Rattle.dn_shaper.specs.Refinement.Views.{home_by}
 use Rattle.dn_shaper.proofs.Above.{last_finish-above, discarded-above}
 use Rattle.dn_shaper.proofs.Distinct.{distinct-more}
+use Rattle.dn_shaper.proofs.Homes.{home-set}
+use Rattle.dn_shaper.proofs.Next.{total-zero}
+use Rattle.dn_shaper.proofs.OnePlace.{each-set}
 use Rattle.dn_flows.proofs.Places.{get-more, get-kept, get-last, length-more}
 use Rattle.dn_types.proofs.Settled.{backlog-unknown}
 use Rattle.dn_types.proofs.Settling.{backlog-above}
 use Rattle.dn_shaper.proofs.Slots.{ascends-more, top-more, below-top}
-use Rattle.dn_shaper.proofs.Waiting.{total-same}
 
 get-more-other : {X : Type 0} (xs : List X) (y : X) (k : ℕ) → (k ≡ length xs → ⊥) → slice_get (xs ++ y ∷ []) k ≡ slice_get xs k
 get-more-other [] y zero ne = absurd (ne refl)
 get-more-other [] y (suc k) ne = refl
 get-more-other (x ∷ xs) y zero ne = refl
 get-more-other (x ∷ xs) y (suc k) ne = get-more-other xs y k (λ e. ne (ap suc e))
-
-total-nil : (n : ℕ) → total {X = Accepted} n (λ g. []) ≡ 0
-total-nil zero = refl
-total-nil (suc n) = let r = total-nil n in omega arith
 
 module _ (rule : Rule) (accepted : ℕ) (keys : List FlowKey) (homes : List Home) (views : List LinkView) (flows : List FlowState) (pending : List Delivery)
     (trace : List Event) (a : IsAt rule accepted keys homes views flows pending [] trace) where
@@ -187,43 +184,18 @@ module _ (rule : Rule) (accepted : ℕ) (keys : List FlowKey) (homes : List Home
         }
 
         views_joined : (j : ℕ) (w : LinkView) → slice_get (set views k joined) j ≡ Some w → IsLinkAt rule (length keys + 1) trace w
-        views_joined j w e = by (cases_eq j k)
-          where
-            by : (j ≡ k) ⊎ (j ≡ k → ⊥) → IsLinkAt rule (length keys + 1) trace w
-            by (inl same) =
-                let e' : Some joined ≡ Some w = sym (get-set views k v joined there) ∙ ap (slice_get (set views k joined)) (sym same) ∙ e in
-                let is : joined ≡ w = cc in
-                subst (λ (x : LinkView). IsLinkAt rule (length keys + 1) trace x) is joined_at
-            by (inr ne) = wider w (a.views_are j w (sym (get-set-other views k j joined ne) ∙ e))
+        views_joined = each-set (λ j w. IsLinkAt rule (length keys + 1) trace w) views k v there joined joined_at (λ j w e ne. wider w (a.views_are j w e))
 
         homes_joined : (g : ℕ) (x : Home) → IsHomeOf g (home keys g) views x → IsHomeOf g (home keys g) (set views k joined) x
-        homes_joined g x is = by (cases_eq x.place k)
-          where
-            by : (x.place ≡ k) ⊎ (x.place ≡ k → ⊥) → IsHomeOf g (home keys g) (set views k joined) x
-            by (inl same) =
-                let both : Some v ≡ Some is.view = sym there ∙ ap (slice_get views) (sym same) ∙ is.there in
-                let one : v ≡ is.view = cc in
-                record {
-                  view = joined;
-                  there = ap (slice_get (set views k joined)) same ∙ get-set views k v joined there;
-                  link_is = ap (λ (y : LinkView). y.link) one ∙ is.link_is;
-                  slot_is = λ pipe e. get-kept v.slots flow g x.slot (ap (λ (y : LinkView). slice_get y.slots x.slot) one ∙ is.slot_is pipe e);
-                }
-            by (inr ne) = record { view = is.view; there = get-set-other views k x.place joined ne ∙ is.there; link_is = is.link_is; slot_is = is.slot_is }
+        homes_joined g x is = home-set views k v there joined refl is (get-kept v.slots flow g x.slot)
 
         slots_joined : AreSlotsAtHome keys_now (set views k joined)
-        slots_joined j w e slot g at = by (cases_eq j k)
+        slots_joined = each-set (λ (j : ℕ) (w : LinkView). (slot g : ℕ) → slice_get w.slots slot ≡ Some g → home keys_now g ≡ w.link) views k v there joined
+            (λ slot g at. last slot g (get-more v.slots flow g slot at)) (λ j w e ne. home-old j w e)
           where
-            last : (slice_get v.slots slot ≡ Some g) ⊎ ((slot ≡ length v.slots) × (g ≡ flow)) → home keys_now g ≡ v.link
-            last (inl old) = home-old k v there slot g old
-            last (inr new) = ap (home keys_now) new.1 ∙ home-new ∙ sym here
-
-            by : (j ≡ k) ⊎ (j ≡ k → ⊥) → home keys_now g ≡ w.link
-            by (inl same) =
-                let e' : Some joined ≡ Some w = sym (get-set views k v joined there) ∙ ap (slice_get (set views k joined)) (sym same) ∙ e in
-                let is : joined ≡ w = cc in
-                last (get-more v.slots flow g slot (ap (λ (x : LinkView). slice_get x.slots slot) is ∙ at)) ∙ ap (λ (x : LinkView). x.link) is
-            by (inr ne) = home-old j w (sym (get-set-other views k j joined ne) ∙ e) slot g at
+            last : (slot g : ℕ) → (slice_get v.slots slot ≡ Some g) ⊎ ((slot ≡ length v.slots) × (g ≡ flow)) → home keys_now g ≡ v.link
+            last slot g (inl old) = home-old k v there slot g old
+            last slot g (inr new) = ap (home keys_now) new.1 ∙ home-new ∙ sym here
 
         names_joined : link_names (set views k joined) ≡ link_names views
         names_joined = map-set-same (λ (x : LinkView). x.link) views k v joined there refl
@@ -242,14 +214,13 @@ module _ (rule : Rule) (accepted : ℕ) (keys : List FlowKey) (homes : List Home
           (only : (slot g : ℕ) → slice_get v.slots slot ≡ Some g → g ≡ flow) (first : (pipe : ℕ) → link ≡ shared pipe → slice_get v.slots 0 ≡ Some flow)
           (ascends : Ascends 0 v.slots) (below : top 0 v.slots ≤ flow + 1) where
         links_now : link_names views ≡ links trace
-        links_now = a.links_are ∙ append-none (links trace)
+        links_now = a.links_are ∙ append-nil (links trace)
 
         unseen_link : list_any (link_eq v.link) (links trace) ≡ false
         unseen_link = (λ i. list_any (link_eq (here i)) (sym links_now i)) ∙ unknown
 
         none_wait : waiting v.link trace ≡ 0
-        none_wait = total-same (flow_bound trace) (λ g. []) (λ g. backlog v.link g trace) (λ g. ap {B = ℕ} (λ (q : List Accepted). length q) (backlog-unknown v.link g trace unseen_link))
-            ∙ total-nil (flow_bound trace)
+        none_wait = total-zero (flow_bound trace) (λ g. backlog v.link g trace) (λ g. ap {B = ℕ} (λ (q : List Accepted). length q) (backlog-unknown v.link g trace unseen_link))
 
         link_at : IsLinkAt rule (length keys + 1) trace v
         link_at = let u = a.untouched v.link unseen_link in record {

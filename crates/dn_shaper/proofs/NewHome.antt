@@ -19,7 +19,7 @@ use Rattle.dn_shaper.specs.Refinement.Sound.{IsIndexed, IsSound}
 use Rattle.dn_shaper.specs.Refinement.Starting.{IsReady, Within}
 use Rattle.dn_shaper.specs.Refinement.Submitting.{IsMade}
 use Rattle.dn_shaper.specs.Refinement.Views.{LinkView, views_of, home, home_by, next_starts, next_start_of, queue_lengths, waits_in_all}
-use Rattle.dn_shaper.proofs.Events.{append-none}
+use Rattle.std.proofs.lemmas.List.{append-nil}
 use Rattle.dn_shaper.proofs.Indexed.{noted-more, unnoted-unknown}
 use Rattle.dn_shaper.proofs.Made.{linked-agrees}
 use Rattle.dn_flows.proofs.Places.{get-more, get-last, length-more, sum-more}
@@ -76,7 +76,7 @@ module _ (old new : State) (t : Table) (key : FlowKey) (one : IsOneMore key old.
       pub opened-prepares : (more : List Link) × AgreesWith new.parts more trace × IsMade flow new.parts trace
       opened-prepares =
           let b = opened-agrees in
-          let names : link_names (views_of old.parts) ≡ links trace = a.links_are ∙ append-none (links trace) in
+          let names : link_names (views_of old.parts) ≡ links trace = a.links_are ∙ append-nil (links trace) in
           let unseen : list_any (link_eq link) (links trace) ≡ false = ap (λ (ls : List Link). list_any (link_eq link) ls) (sym names) ∙ unknown in
           let home_is : home new.parts.flows.keys flow ≡ link = ap (λ (ks : List FlowKey). home ks flow) (keys-are old new t key one g) ∙ ap (home_by flow) (get-last old.parts.flows.keys key) in (
             link ∷ [],

@@ -2,21 +2,20 @@
 use Rattle.std.proofs.Common.{◌≡◌, ◌∙◌, ◌≤◌, ◌<◌, ◌⊎◌, ℕ, zero, suc, true, false, cond, List, [], ◌∷◌, map, refl, ap, sym, length, arith, ⊎_elim, inl, inr}
 use Rattle.std.specs.Prelude.{Option, Some, None, is_some, slice_get, option_map, option_and_then}
 use Rattle.std.proofs.lemmas.Bool.{cases_lt, cases_eq, lt-ltb, le-ltb}
+use Rattle.std.proofs.lemmas.List.{length-map}
 use Rattle.dn_types.specs.Wf2q.{Stamped, total, heads, pick}
 use Rattle.dn_types.specs.Trace.{Link, own, shared, link_eq, Accepted, Event, backlog, flow_bound}
 use Rattle.dn_types.specs.SharedLinks.{next_packet, virtual_time, link_heads}
-use Rattle.dn_types.specs.Calls.{link_of}
 use Rattle.dn_types.specs.declared.delivery.Delivery.{Delivery}
 use Rattle.dn_types.specs.declared.flow_key.FlowKey.{FlowKey}
 use Rattle.dn_types.specs.declared.rule.Rule.{Rule}
-use Rattle.dn_types.specs.declared.target.Target.{Target}
-use Rattle.dn_types.specs.declared.target.Target.TheVariants.{Pipe as ToPipe, Queue as ToQueue}
 use Rattle.dn_flows.specs.Table.{FlowState, flow_at}
 use Rattle.dn_flows.specs.declared.waiting.Waiting.{Waiting}
 use Rattle.dn_wf2q.specs.Schedule.{heads_of}
 use Rattle.dn_shaper.specs.declared.links.home.Home.{Home}
-use Rattle.dn_shaper.specs.Refinement.Views.{LinkView, home, home_by, as_queued, stamped_of, IsNextToSend, CanSend, next_start_of, next_starts}
+use Rattle.dn_shaper.specs.Refinement.Views.{LinkView, home, as_queued, IsNextToSend, CanSend, next_start_of, next_starts}
 use Rattle.dn_shaper.specs.Refinement.Agreement.{IsAt, IsHomeOf, IsScheduleAt, link_names}
+use Rattle.dn_shaper.proofs.Alone.{own-home}
 use Rattle.dn_shaper.proofs.FirstStart.{moment_of_next}
 use Rattle.dn_shaper.proofs.Heads.{none-agree, flow-picked, packet-picked, pick-flow, backlog-flow}
 use Rattle.dn_types.proofs.Picks.{pick-some, heads-none}
@@ -30,18 +29,6 @@ abbrev pub Takes : ℕ → LinkView → Link → Type 0
 Takes flow v (own pipe f) = flow ≡ f
 Takes flow v (shared pipe) = (h : Stamped) × (pick v.schedule.virtual_time (heads_of v.schedule.flows) ≡ Some h) × (slice_get v.slots h.flow ≡ Some flow)
 
--- A flow with a link of its own has that link by its own number.
-pub own-home : (keys : List FlowKey) (flow pipe f : ℕ) → home keys flow ≡ own pipe f → f ≡ flow
-own-home keys flow pipe f e = by (slice_get keys flow) e
-  where
-    by_target : (t : Target) (n : ℕ) → link_of t flow n ≡ own pipe f → f ≡ flow
-    by_target (ToPipe m) n h = let same : flow ≡ f = cc in sym same
-    by_target (ToQueue m) n h = absurd cc
-
-    by : (o : Option FlowKey) → home_by flow o ≡ own pipe f → f ≡ flow
-    by None h = let same : flow ≡ f = cc in sym same
-    by (Some k) h = by_target k.target k.pipe h
-
 some_first : (q : List Accepted) → 0 < length q → (p : Accepted) × (slice_get q 0 ≡ Some p)
 some_first [] h = absurd (omega arith)
 some_first (p ∷ q) h = (p, refl)
@@ -54,13 +41,9 @@ pub first-map : {X Y : Type 0} (f : X → Y) (xs : List X) (x : X) → slice_get
 first-map f [] x e = absurd cc
 first-map f (y ∷ xs) x e = let same : y ≡ x = cc in ap (λ z. Some (f z)) same
 
-total-zero : (n : ℕ) (q : ℕ → List Accepted) → ((g : ℕ) → length (q g) ≡ 0) → total n q ≡ 0
+pub total-zero : (n : ℕ) (q : ℕ → List Accepted) → ((g : ℕ) → length (q g) ≡ 0) → total n q ≡ 0
 total-zero zero q h = refl
 total-zero (suc n) q h = let rest = total-zero n q h in let here = h n in omega arith
-
-length-stamped : (ps : List Accepted) → length (stamped_of ps) ≡ length ps
-length-stamped [] = refl
-length-stamped (p ∷ ps) = let rest = length-stamped ps in omega arith
 
 -- Next starts that are each a function of the link are that function of the links' names.
 pub nexts-from : (next : Link → Option ℕ) (views : List LinkView) → ((k : ℕ) (v : LinkView) → slice_get views k ≡ Some v → next_start_of v ≡ next v.link) →
@@ -137,7 +120,7 @@ module _ (rule : Rule) (accepted : ℕ) (keys : List FlowKey) (homes : List Home
           | inl h ↦ h
           | inr none ↦
               let w = (a.views_are k v there).waits_are in
-              let same = length-stamped (heads (flow_bound trace) (λ flow. backlog v.link flow trace)) in
+              let same = length-map (heads (flow_bound trace) (λ flow. backlog v.link flow trace)) (λ (p : Accepted). p.stamped) in
               let z = heads-none (flow_bound trace) (λ flow. backlog v.link flow trace) (omega arith) in
               absurd (omega arith)
         ]

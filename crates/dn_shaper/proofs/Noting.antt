@@ -1,8 +1,7 @@
 -- A loss or a full queue is noted in a flow's counts: the links are seen as before, and no count passes its limit.
 use Rattle.std.proofs.Common.{◌≡◌, ◌∙◌, ◌<◌, ◌+◌, ◌^◌, ℕ, List, [], ◌∷◌, set, length, refl, ap, sym, subst, arith}
-use Rattle.dn_types.specs.Trace.{Link, Event, links}
+use Rattle.dn_types.specs.Trace.{Link, Event}
 use Rattle.dn_heap.specs.Heap.{Heap}
-use Rattle.dn_types.specs.declared.flow_key.FlowKey.{FlowKey}
 use Rattle.dn_flows.specs.Table.{FlowState, Table, flow_at}
 use Rattle.dn_shaper.specs.declared.links.next_start.NextStart.{NextStart}
 use Rattle.dn_shaper.specs.declared.links.parts.Parts.{Parts}
@@ -14,6 +13,7 @@ use Rattle.dn_shaper.specs.Refinement.Submitting.{CanSee, IsMade, Sees}
 use Rattle.dn_shaper.specs.Refinement.Views.{LinkView, home, next_starts, queue_lengths, views_of}
 use Rattle.dn_shaper.proofs.Accepting.{within-more}
 use Rattle.dn_shaper.proofs.Alone.{all-seen-same, lengths-same}
+use Rattle.dn_shaper.proofs.OnePlace.{agrees-as}
 use Rattle.dn_shaper.proofs.Preparing.{with_table}
 use Rattle.dn_shaper.proofs.Submitting.{noted-within}
 
@@ -36,11 +36,7 @@ module _ {event : Link → ℕ → Event} {p : Parts} {flow : ℕ} {noted : Flow
   same-views = all-seen-same p.links.items (queue_lengths p.flows.flows) (queue_lengths t.flows) (lengths-same p.flows.flows flow inside noted t.flows is.flows is.same)
 
   pub noted-sees : Sees flow event p (with_table p t)
-  noted-sees more trace a made =
-      subst
-      (λ (x : List FlowKey × List LinkView × List FlowState). IsAt p.rule p.accepted x.0 p.homes.items x.1 x.2 p.line.pending [] (event (home p.flows.keys flow) flow ∷ trace))
-      (λ i. (sym is.keys i, sym same-views i, sym is.flows i))
-      (is.agrees more trace a made)
+  noted-sees more trace a made = agrees-as (with_table p t) refl refl is.keys refl same-views is.flows refl (is.agrees more trace a made)
 
   pub noted-counts : (n : ℕ) → Within n p → Within (n + 1) (with_table p t)
   noted-counts n w = noted-within n flow noted p (with_table p t) inside is.flows (is.few n (w.flows_are flow)) same-views refl refl refl w

@@ -1,7 +1,6 @@
 -- All parts agree with the beginning of a busy period of a link.
-use Rattle.std.proofs.Common.{◌≡◌, ◌∙◌, ◌⊎◌, ℕ, Bool, true, false, cond, List, ◌∷◌, set, refl, ap, sym, subst, length, arith, inl, inr}
+use Rattle.std.proofs.Common.{◌≡◌, ◌∙◌, ℕ, Bool, true, false, cond, List, ◌∷◌, set, refl, ap, sym, subst, length, arith}
 use Rattle.std.specs.Prelude.{Some, slice_get}
-use Rattle.std.proofs.lemmas.Bool.{cases_eq}
 use Rattle.dn_types.specs.Trace.{Link, shared, link_eq, Event, opened, is_start_of, is_loss_of, is_refusal_of, is_arrival}
 use Rattle.dn_types.specs.Links.{free, last_due}
 use Rattle.dn_types.specs.SharedLinks.{virtual_time, last_finish_tag, waiting}
@@ -13,12 +12,13 @@ use Rattle.dn_shaper.specs.declared.links.home.Home.{Home}
 use Rattle.dn_shaper.specs.Refinement.Views.{LinkView}
 use Rattle.dn_shaper.specs.Refinement.Agreement.{AreDistinct, IsAt, IsLinkAt, IsScheduleAt, link_names}
 use Rattle.dn_shaper.proofs.Events.{uncounted}
-use Rattle.dn_flows.proofs.Places.{get-set, get-set-other, map-set-same}
+use Rattle.dn_flows.proofs.Places.{map-set-same}
 use Rattle.dn_types.proofs.Settled.{link_eq-refl}
 use Rattle.dn_wf2q.specs.Schedule.{Flow, flow_at as slot_at, forgotten, without_tag}
 use Rattle.dn_shaper.specs.Refinement.Slots.{Ascends, top}
 use Rattle.dn_shaper.proofs.Homes.{home-after, slots_home-after}
 use Rattle.dn_shaper.proofs.Next.{distinct_views}
+use Rattle.dn_shaper.proofs.OnePlace.{each-set}
 use Rattle.dn_wf2q.proofs.Begun.{forgotten_at}
 
 module _ (rule : Rule) (accepted : ℕ) (keys : List FlowKey) (homes : List Home) (views : List LinkView) (flows : List FlowState) (pending : List Delivery)
@@ -70,16 +70,6 @@ module _ (rule : Rule) (accepted : ℕ) (keys : List FlowKey) (homes : List Home
           below = b.below;
         }
 
-    views_after : (j : ℕ) (w : LinkView) → slice_get (set views k v') j ≡ Some w → IsLinkAt rule (length keys) (opened v.link ∷ trace) w
-    views_after j w e = by (cases_eq j k)
-      where
-        by : (j ≡ k) ⊎ (j ≡ k → ⊥) → IsLinkAt rule (length keys) (opened v.link ∷ trace) w
-        by (inl same) =
-            let e' : Some v' ≡ Some w = sym (get-set views k v v' there) ∙ ap (slice_get (set views k v')) (sym same) ∙ e in
-            let is : v' ≡ w = cc in
-            subst (λ (x : LinkView). IsLinkAt rule (length keys) (opened v.link ∷ trace) x) is made
-        by (inr ne) = other_view j w (sym (get-set-other views k j v' ne) ∙ e) ne
-
     names_same : link_names (set views k v') ≡ link_names views
     names_same = map-set-same (λ (x : LinkView). x.link) views k v v' there same_link
 
@@ -87,7 +77,7 @@ module _ (rule : Rule) (accepted : ℕ) (keys : List FlowKey) (homes : List Home
     opened-agrees = record {
       links_are = names_same ∙ a.links_are;
       distinct = subst AreDistinct (sym names_same) a.distinct;
-      views_are = views_after;
+      views_are = each-set (λ j w. IsLinkAt rule (length keys) (opened v.link ∷ trace) w) views k v there v' made other_view;
       untouched = λ l e. let u = a.untouched l e in record { free_is = u.free_is; last_due_is = u.last_due_is; virtual_time_is = zero_if (link_eq v.link l) u.virtual_time_is };
       flows_are = λ g. let b = a.flows_are g in record {
         backlog_is = b.backlog_is;

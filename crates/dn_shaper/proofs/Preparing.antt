@@ -25,7 +25,7 @@ use Rattle.dn_shaper.specs.Refinement.Submitting.{IsMade}
 use Rattle.dn_shaper.specs.Refinement.Views.{LinkView, views_of, next_starts, home, queue_lengths}
 use Rattle.dn_shaper.specs.Refinement.Settings.{at_number}
 use Rattle.dn_shaper.proofs.Alone.{all-seen-same}
-use Rattle.dn_shaper.proofs.Events.{append-none}
+use Rattle.std.proofs.lemmas.List.{append-nil}
 use Rattle.dn_flows.proofs.Places.{length-more}
 use Rattle.dn_shaper.proofs.Reserved.{reserved-names, reserves-agree, reserves-kept, reserves-within}
 use Rattle.dn_shaper.proofs.Reserving.{same-flow}
@@ -44,7 +44,7 @@ named (w ∷ views) (suc k) v link e is = or_right (link_eq link w.link) (list_a
 pub seen-made : (p : Parts) (trace : List Event) (flow : ℕ) → AgreesWith p [] trace → flow < length p.flows.keys → IsMade flow p trace
 seen-made p trace flow a lt =
     let h = a.homes_are flow lt in
-    let names : link_names (views_of p) ≡ links trace = a.links_are ∙ append-none (links trace) in
+    let names : link_names (views_of p) ≡ links trace = a.links_are ∙ append-nil (links trace) in
     let there : list_any (link_eq (home p.flows.keys flow)) (links trace) ≡ true =
     ap (λ (ls : List Link). list_any (link_eq (home p.flows.keys flow)) ls) (sym names)
     ∙ named (views_of p) h.0.place h.2.view (home p.flows.keys flow) h.2.there h.2.link_is in

@@ -1,8 +1,7 @@
 -- All parts agree with the loss or the refusal of a packet, and with what a Collect gives.
-use Rattle.std.proofs.Common.{◌≡◌, ◌∙◌, ◌<◌, ◌⊎◌, ℕ, ◌+◌, cond, false, List, [], ◌∷◌, ◌++◌, map, set, refl, ap, sym, subst, length, arith, inl, inr}
-use Rattle.std.specs.Prelude.{nat_eq, nat_lt}
+use Rattle.std.proofs.Common.{◌≡◌, ◌∙◌, ◌<◌, ℕ, ◌+◌, false, List, [], ◌∷◌, ◌++◌, map, set, refl, ap, sym, length, arith}
+use Rattle.std.specs.Prelude.{nat_lt}
 use Rattle.std.specs.List.{filter, list_any}
-use Rattle.std.proofs.lemmas.Bool.{cases_eq}
 use Rattle.dn_types.specs.Deliveries.{undelivered}
 use Rattle.dn_types.specs.Links.{free, last_due}
 use Rattle.dn_types.specs.SharedLinks.{last_finish_tag, virtual_time, waiting}
@@ -11,12 +10,13 @@ use Rattle.dn_types.specs.declared.delivery.Delivery.{Delivery}
 use Rattle.dn_types.specs.declared.flow_key.FlowKey.{FlowKey}
 use Rattle.dn_types.specs.declared.rule.Rule.{Rule}
 use Rattle.dn_flows.specs.Table.{FlowState, flow_at, one_lost, one_full}
-use Rattle.dn_flows.proofs.Views.{flow_after_set}
 use Rattle.dn_shaper.specs.declared.links.home.Home.{Home}
 use Rattle.dn_shaper.specs.Refinement.Views.{LinkView, home, slotted, stamped_of}
 use Rattle.dn_shaper.specs.Refinement.Agreement.{IsAt, IsFlowAt, link_names}
-use Rattle.dn_shaper.proofs.Events.{uncounted, counted-once, append-none, length-set}
+use Rattle.std.proofs.lemmas.List.{append-nil, length-set}
+use Rattle.dn_shaper.proofs.Events.{uncounted, counted-once}
 use Rattle.dn_flows.proofs.Places.{eq-no, eq-yes}
+use Rattle.dn_shaper.proofs.OnePlace.{each-flow}
 use Rattle.dn_shaper.proofs.Unseen.{not_with}
 
 -- No packet joins, starts or leaves by the event, and no link sends longer.
@@ -70,35 +70,19 @@ module _ (rule : Rule) (accepted : ℕ) (keys : List FlowKey) (homes : List Home
     accepted_is = a.accepted_is ∙ sym arrivals;
   }
 
-  -- One flow changes by an event that is about it alone.
-  module _ (flow : ℕ) (within : flow < length keys) (e : Event) (change : FlowState → FlowState)
-      (here : (s : FlowState) → IsFlowAt (home keys flow) flow trace s → IsFlowAt (home keys flow) flow (e ∷ trace) (change s))
-      (other : (g : ℕ) → (flow ≡ g → ⊥) → (s : FlowState) → IsFlowAt (home keys g) g trace s → IsFlowAt (home keys g) g (e ∷ trace) s) where
-    noted-flow : (g : ℕ) → IsFlowAt (home keys g) g (e ∷ trace) (flow_at (set flows flow (change (flow_at flows flow))) g)
-    noted-flow g = by (cases_eq flow g)
-      where
-        now_at : flow_at (set flows flow (change (flow_at flows flow))) g ≡ cond (nat_eq flow g) (change (flow_at flows flow)) (flow_at flows g)
-        now_at = flow_after_set flows flow g (change (flow_at flows flow)) (let m = a.as_many in omega arith)
-
-        by : (flow ≡ g) ⊎ (flow ≡ g → ⊥) → IsFlowAt (home keys g) g (e ∷ trace) (flow_at (set flows flow (change (flow_at flows flow))) g)
-        by (inl same) =
-            let is = now_at ∙ ap (λ b. cond b (change (flow_at flows flow)) (flow_at flows g)) (eq-yes flow g same) in
-            subst (λ (s : FlowState). IsFlowAt (home keys g) g (e ∷ trace) s) (sym is)
-            (subst (λ (n : ℕ). IsFlowAt (home keys n) n (e ∷ trace) (change (flow_at flows flow))) same (here (flow_at flows flow) (a.flows_are flow)))
-        by (inr ne) =
-            let is = now_at ∙ ap (λ b. cond b (change (flow_at flows flow)) (flow_at flows g)) (eq-no flow g ne) in
-            subst (λ (s : FlowState). IsFlowAt (home keys g) g (e ∷ trace) s) (sym is) (other g ne (flow_at flows g) (a.flows_are g))
-
   module _ (flow : ℕ) (within : flow < length keys) (made : link_names views ≡ with_link (home keys flow) (links trace)) where
+    inside : flow < length flows
+    inside = let m = a.as_many in omega arith
+
     -- A packet of the flow is lost.
     pub lost-agrees : IsAt rule accepted keys homes views (set flows flow (one_lost (flow_at flows flow))) pending [] (lost (home keys flow) flow ∷ trace)
     lost-agrees =
         let e = lost (home keys flow) flow in
         quiet-agrees {e = e}
         (record { free_is = λ l. refl; last_due_is = λ r l. refl; waits_are = λ l. refl; virtual_time_is = λ l. refl; backlog_is = λ l f. refl; last_finish_is = λ l f. refl; bound = refl })
-        (made ∙ sym (append-none (with_link (home keys flow) (links trace)))) (λ l e. (not_with l (home keys flow) (links trace) e).0)
-        (noted-flow flow within e one_lost
-        (λ s b. record {
+        (made ∙ sym (append-nil (with_link (home keys flow) (links trace)))) (λ l e. (not_with l (home keys flow) (links trace) e).0)
+        (each-flow (λ g s. IsFlowAt (home keys g) g (lost (home keys flow) flow ∷ trace) s) flows flow (one_lost (flow_at flows flow)) inside
+        (let b = a.flows_are flow in record {
           backlog_is = b.backlog_is;
           lost_is = ap (λ n. n + 1) b.lost_is ∙ sym (counted-once (is_loss_of flow) e trace (eq-yes flow flow refl));
           full_is = b.full_is ∙ sym (uncounted (is_refusal_of flow) e trace refl);
@@ -106,7 +90,7 @@ module _ (rule : Rule) (accepted : ℕ) (keys : List FlowKey) (homes : List Home
           discarded_is = b.discarded_is;
           active_is = b.active_is;
         })
-        (λ g ne s b. record {
+        (λ g ne. let b = a.flows_are g in record {
           backlog_is = b.backlog_is;
           lost_is = b.lost_is ∙ sym (uncounted (is_loss_of g) e trace (eq-no flow g ne));
           full_is = b.full_is ∙ sym (uncounted (is_refusal_of g) e trace refl);
@@ -122,9 +106,9 @@ module _ (rule : Rule) (accepted : ℕ) (keys : List FlowKey) (homes : List Home
         let e = refused (home keys flow) flow in
         quiet-agrees {e = e}
         (record { free_is = λ l. refl; last_due_is = λ r l. refl; waits_are = λ l. refl; virtual_time_is = λ l. refl; backlog_is = λ l f. refl; last_finish_is = λ l f. refl; bound = refl })
-        (made ∙ sym (append-none (with_link (home keys flow) (links trace)))) (λ l e. (not_with l (home keys flow) (links trace) e).0)
-        (noted-flow flow within e one_full
-        (λ s b. record {
+        (made ∙ sym (append-nil (with_link (home keys flow) (links trace)))) (λ l e. (not_with l (home keys flow) (links trace) e).0)
+        (each-flow (λ g s. IsFlowAt (home keys g) g (refused (home keys flow) flow ∷ trace) s) flows flow (one_full (flow_at flows flow)) inside
+        (let b = a.flows_are flow in record {
           backlog_is = b.backlog_is;
           lost_is = b.lost_is ∙ sym (uncounted (is_loss_of flow) e trace refl);
           full_is = ap (λ n. n + 1) b.full_is ∙ sym (counted-once (is_refusal_of flow) e trace (eq-yes flow flow refl));
@@ -132,7 +116,7 @@ module _ (rule : Rule) (accepted : ℕ) (keys : List FlowKey) (homes : List Home
           discarded_is = b.discarded_is;
           active_is = b.active_is;
         })
-        (λ g ne s b. record {
+        (λ g ne. let b = a.flows_are g in record {
           backlog_is = b.backlog_is;
           lost_is = b.lost_is ∙ sym (uncounted (is_loss_of g) e trace refl);
           full_is = b.full_is ∙ sym (uncounted (is_refusal_of g) e trace (eq-no flow g ne));

@@ -10,7 +10,6 @@ use Rattle.dn_shaper.specs.Refinement.Agreement.{IsScheduleAt}
 use Rattle.dn_heap.specs.Heap.{Heap}
 use Rattle.dn_types.specs.Trace.{Link, Event}
 use Rattle.dn_types.specs.declared.delivery.Delivery.{Delivery}
-use Rattle.dn_types.specs.declared.flow_key.FlowKey.{FlowKey}
 use Rattle.dn_types.specs.declared.rule.Rule.{Rule}
 use Rattle.dn_wf2q.specs.Schedule.{Flow}
 use Rattle.dn_shaper.specs.declared.links.next_start.NextStart.{NextStart}
@@ -23,6 +22,7 @@ use Rattle.dn_shaper.specs.Refinement.Settling.{AreInStep}
 use Rattle.dn_shaper.specs.Refinement.Slots.{Ascends, top}
 use Rattle.dn_shaper.specs.Refinement.Starting.{Within}
 use Rattle.dn_shaper.specs.Refinement.Views.{LinkView, views_of, home, next_starts, next_start_of, waits_in_all}
+use Rattle.dn_shaper.proofs.OnePlace.{agrees-as}
 use Rattle.dn_shaper.proofs.Reserving.{same-within}
 
 -- ---- Lists of links that are the same but for room
@@ -88,10 +88,7 @@ module _ (old new : Parts) (r : OnlyMakesRoom old new) where
   }
 
   pub reserves-agree : (more : List Link) (trace : List Event) → AgreesWith old more trace → AgreesWith new more trace
-  reserves-agree more trace a =
-      subst (λ (x : Rule). IsAt x new.accepted new.flows.keys new.homes.items (views_of new) new.flows.flows new.line.pending more trace) (sym r.rule)
-      (subst (λ (x : ℕ × List FlowKey). IsAt old.rule x.0 x.1 new.homes.items (views_of new) new.flows.flows new.line.pending more trace) (λ i. (sym r.accepted i, sym r.keys i))
-      (subst (λ (x : List Home × List Delivery). IsAt old.rule old.accepted old.flows.keys x.0 (views_of new) new.flows.flows x.1 more trace) (λ i. (sym r.homes i, sym r.pending i)) base))
+  reserves-agree more trace a = agrees-as new r.rule r.accepted r.keys r.homes refl refl r.pending base
     where
       home_now : (flow : ℕ) (h : Home) → IsHomeOf flow (home old.flows.keys flow) (views_of old) h → IsHomeOf flow (home old.flows.keys flow) (views_of new) h
       home_now flow h is =

@@ -1,6 +1,6 @@
 -- Reserving room leaves all that a trace says.
 use Rattle.std.proofs.Common.{◌≡◌, ◌∙◌, ◌<◌, ◌⊎◌, ℕ, true, cond, List, set, refl, ap, sym, subst, length, arith, inl, inr}
-use Rattle.std.specs.Prelude.{Option, Some, None, Result, Ok, Err, OnOk, nat_eq, slice_get}
+use Rattle.std.specs.Prelude.{Option, Some, None, Result, Ok, Err, OnOk, slice_get}
 use Rattle.std.proofs.lemmas.Bool.{cases_eq}
 use Rattle.dn_flows.specs.declared.waiting.Waiting.{Waiting}
 use Rattle.dn_flows.specs.Table.{FlowState, flow_at, with_place}
@@ -11,8 +11,9 @@ use Rattle.dn_shaper.specs.Refinement.Making.{KeepsLink, SameFlow, KeepsAt, HasS
 use Rattle.dn_shaper.specs.Refinement.Starting.{AreCountsWithin}
 use Rattle.dn_shaper.specs.Refinement.Views.{LinkView, queue_lengths}
 use Rattle.dn_shaper.proofs.Alone.{lengths-same}
-use Rattle.dn_shaper.proofs.Events.{length-set}
-use Rattle.dn_flows.proofs.Places.{eq-no, eq-yes, get-set, get-set-other}
+use Rattle.std.proofs.lemmas.List.{length-set}
+use Rattle.dn_shaper.proofs.OnePlace.{each-flow}
+use Rattle.dn_flows.proofs.Places.{eq-yes, get-set, get-set-other}
 
 pub same-flow : (s : FlowState) → SameFlow s s
 same-flow s = record { backlog = refl; lost = refl; full = refl; started = refl; discarded = refl; active = refl }
@@ -35,19 +36,9 @@ same-at (Some v) = same-link v
 
 -- A place is reserved in one flow's queue.
 pub place-reserved : (flows : List FlowState) (flow g : ℕ) → flow < length flows → SameFlow (flow_at flows g) (flow_at (set flows flow (with_place (flow_at flows flow))) g)
-place-reserved flows flow g lt = by (cases_eq flow g)
-  where
-    now_at : flow_at (set flows flow (with_place (flow_at flows flow))) g ≡ cond (nat_eq flow g) (with_place (flow_at flows flow)) (flow_at flows g)
-    now_at = flow_after_set flows flow g (with_place (flow_at flows flow)) lt
-
-    by : (flow ≡ g) ⊎ (flow ≡ g → ⊥) → SameFlow (flow_at flows g) (flow_at (set flows flow (with_place (flow_at flows flow))) g)
-    by (inl same) =
-        let is : flow_at (set flows flow (with_place (flow_at flows flow))) g ≡ with_place (flow_at flows g) = now_at
-        ∙ ap (λ b. cond b (with_place (flow_at flows flow)) (flow_at flows g)) (eq-yes flow g same) ∙ ap (λ i. with_place (flow_at flows i)) same in
-        subst (λ (s : FlowState). SameFlow (flow_at flows g) s) (sym is) (record { backlog = refl; lost = refl; full = refl; started = refl; discarded = refl; active = refl })
-    by (inr ne) =
-        let is : flow_at (set flows flow (with_place (flow_at flows flow))) g ≡ flow_at flows g = now_at ∙ ap (λ b. cond b (with_place (flow_at flows flow)) (flow_at flows g)) (eq-no flow g ne) in
-        subst (λ (s : FlowState). SameFlow (flow_at flows g) s) (sym is) (same-flow (flow_at flows g))
+place-reserved flows flow g lt =
+    each-flow (λ g s. SameFlow (flow_at flows g) s) flows flow (with_place (flow_at flows flow)) lt
+    (record { backlog = refl; lost = refl; full = refl; started = refl; discarded = refl; active = refl }) (λ g ne. same-flow (flow_at flows g)) g
 
 -- One link has more room.
 pub link-reserved : (views : List LinkView) (k : ℕ) (v w : LinkView) → slice_get views k ≡ Some v → KeepsLink v w → (place : ℕ) → KeepsAt (slice_get views place) (slice_get (set views k w) place)

@@ -1,5 +1,5 @@
 -- One step of the settling loop: the popped link's next packet is the first start of all links.
-use Rattle.std.proofs.Common.{◌≡◌, ◌∙◌, ◌≤◌, ◌<◌, ◌⊎◌, ◌^◌, ℕ, zero, suc, ◌+◌, false, cond, ◌||◌, List, [], ◌∷◌, ◌++◌, map, set, get_or, refl, ap}
+use Rattle.std.proofs.Common.{◌≡◌, ◌∙◌, ◌≤◌, ◌<◌, ◌⊎◌, ◌^◌, ℕ, zero, suc, ◌+◌, false, cond, List, [], ◌∷◌, ◌++◌, map, set, get_or, refl, ap}
 use Rattle.std.proofs.Common.{sym, subst, length, arith, inl, inr, All, IsPermutation}
 use Rattle.std.specs.Prelude.{Contains, Option, Some, None, IfSome, slice_get, option_map}
 use Rattle.std.specs.List.{list_any}
@@ -27,7 +27,7 @@ use Rattle.dn_shaper.specs.Refinement.Settling.{AreInStep, OnlyStarts, StartsFir
 use Rattle.dn_shaper.proofs.Taking.{at-some}
 use Rattle.dn_shaper.proofs.NextStarts.{not_before, popped_next, holds_none, holds_some}
 use Rattle.dn_shaper.proofs.FirstStart.{moment_of_next, first_popped, none_next, first_start-more, settle-none, settle-some}
-use Rattle.dn_shaper.proofs.Events.{length-set}
+use Rattle.std.proofs.lemmas.List.{length-set}
 use Rattle.dn_shaper.proofs.Next.{nexts-agree}
 use Rattle.dn_flows.proofs.Places.{get-set, viewed, map-set-same, get-map, sum-set}
 use Rattle.dn_types.proofs.Settled.{none-unknown, waiting_all-first}

@@ -1,8 +1,7 @@
 -- The home of a new flow is the next slot of a link that is there.
-use Rattle.std.proofs.Common.{◌≡◌, ◌∙◌, ◌≤◌, ◌<◌, ◌⊎◌, ℕ, cond, List, [], ◌∷◌, ◌++◌, set, ap, sym, subst, length, arith, inl, inr}
+use Rattle.std.proofs.Common.{◌≡◌, ◌∙◌, ◌≤◌, ◌<◌, ℕ, cond, List, [], ◌∷◌, ◌++◌, set, ap, sym, subst, length, arith}
 use Rattle.std.specs.Prelude.{Option, Some, None, nat_lt, slice_get}
 use Rattle.std.specs.List.{list_any}
-use Rattle.std.proofs.lemmas.Bool.{cases_eq}
 use Rattle.dn_types.specs.Calls.{link_of}
 use Rattle.dn_types.specs.Trace.{Link, shared, link_eq, Event}
 use Rattle.dn_types.specs.declared.flow_key.FlowKey.{FlowKey}
@@ -17,10 +16,11 @@ use Rattle.dn_shaper.specs.Refinement.Starting.{IsReady, Within}
 use Rattle.dn_shaper.specs.Refinement.Submitting.{IsMade}
 use Rattle.dn_shaper.specs.Refinement.Views.{LinkView, views_of, next_starts, next_start_of, waits_in_all}
 use Rattle.dn_shaper.specs.Refinement.Settings.{at_number}
-use Rattle.dn_shaper.proofs.Events.{length-set}
+use Rattle.std.proofs.lemmas.List.{length-set}
 use Rattle.dn_shaper.proofs.Indexed.{noted-found}
 use Rattle.dn_shaper.proofs.Made.{joined-agrees}
-use Rattle.dn_flows.proofs.Places.{get-set, get-set-other, length-more, map-set-same, sum-set}
+use Rattle.dn_shaper.proofs.OnePlace.{each-set}
+use Rattle.dn_flows.proofs.Places.{get-set, length-more, map-set-same, sum-set}
 use Rattle.dn_shaper.proofs.Preparing.{IsOneMore, seen-made, with_flows}
 use Rattle.dn_shaper.proofs.Sharing.{named-at}
 use Rattle.dn_shaper.proofs.Housed.{keys-are, same-flows, many-flows, ready-by, within-by, sound-by, agrees-by}
@@ -81,15 +81,10 @@ module _ (old new : State) (t : Table) (key : FlowKey) (one : IsOneMore key old.
         ap waits_in_all s.views_are ∙ (omega arith)
 
     arrivals-below : (n : ℕ) → Within n old.parts → (k : ℕ) (v : LinkView) → slice_get (views_of new.parts) k ≡ Some v → v.schedule.arrivals ≤ n
-    arrivals-below n w k v e = by (cases_eq k place)
-      where
-        by : (k ≡ place) ⊎ (k ≡ place → ⊥) → v.schedule.arrivals ≤ n
-        by (inl same) =
-            let is = ap {B = ℕ} (λ (x : LinkView). x.schedule.arrivals) (view-now v (ap (slice_get (views_of new.parts)) (sym same) ∙ e)) in
-            let a = s.takes.schedule.arrivals in
-            let le = w.arrivals place s.view s.there in
-            omega arith
-        by (inr ne) = w.arrivals k v (sym (get-set-other (views_of old.parts) place k s.view' ne) ∙ ap (λ (vs : List LinkView). slice_get vs k) (sym s.views_are) ∙ e)
+    arrivals-below n w k v e =
+        each-set (λ (k : ℕ) (v : LinkView). v.schedule.arrivals ≤ n) (views_of old.parts) place s.view s.there s.view'
+        (let same = s.takes.schedule.arrivals in let le = w.arrivals place s.view s.there in omega arith)
+        (λ k v e ne. w.arrivals k v e) k v (ap (λ (vs : List LinkView). slice_get vs k) (sym s.views_are) ∙ e)
 
     nexts-same : next_starts (views_of new.parts) ≡ next_starts (views_of old.parts)
     nexts-same = ap next_starts s.views_are ∙ map-set-same next_start_of (views_of old.parts) place s.view s.view' s.there (λ i. cond (nat_lt 0 (s.takes.waits i)) (Some (s.takes.value i).free) None)

@@ -3,7 +3,7 @@
 use Rattle.std.proofs.Common.{◌≡◌, ◌∙◌, ◌≤◌, ◌<◌, ℕ, zero, suc, ◌+◌, ◌-◌, max, min, Bool, true, false, cond, ◌&&◌, ◌||◌, List, [], ◌∷◌, ◌++◌, map, refl, ap, sym, take, arith, ⊎_elim}
 use Rattle.std.specs.Prelude.{Option, Some, None, nat_lt, nat_eq, slice_get, option_map}
 use Rattle.std.specs.List.{filter}
-use Rattle.std.proofs.lemmas.List.{take-map, map-append}
+use Rattle.std.proofs.lemmas.List.{append-nil, take-map, map-append}
 use Rattle.std.proofs.lemmas.Bool.{cases_lt, cases_eq, lt-ltb, le-ltb}
 use Rattle.dn_types.specs.Wf2q.{Stamped, heads, least_start_tag, raised, goes_before, earlier, first_to_go, is_eligible, pick, weight_sum, grown, scaled}
 use Rattle.dn_shaper.specs.Refinement.Slots.{Ascends, top}
@@ -48,12 +48,8 @@ heads-gap {X = X} (suc k) low q h =
     let e : suc k + low ≡ suc (k + low) = omega arith in
     ap (λ m. heads m q) e
     ∙ ap (λ xs. heads (k + low) q ++ take 1 xs) (h (k + low) (omega arith) (omega arith))
-    ∙ append-none (heads (k + low) q)
+    ∙ append-nil (heads (k + low) q)
     ∙ heads-gap k low q (λ f le lt. h f le (omega arith))
-  where
-    append-none : (xs : List X) → xs ++ [] ≡ xs
-    append-none [] = refl
-    append-none (x ∷ xs) = ap (λ (r : List X). x ∷ r) (append-none xs)
 
 pub heads-between : {X : Type 0} (low high : ℕ) (q : ℕ → List X) → low ≤ high → ((f : ℕ) → low ≤ f → f < high → q f ≡ []) → heads high q ≡ heads low q
 heads-between low high q le h =

@@ -1,5 +1,5 @@
 -- All parts agree with a start of the next packet of a link.
-use Rattle.std.proofs.Common.{◌≡◌, ◌∙◌, ◌<◌, ◌⊎◌, ℕ, zero, suc, ◌+◌, Bool, true, false, cond, ◌&&◌, List, [], ◌∷◌, map, set, refl, ap, sym, subst, length, drop, arith, ⊎_elim, inl, inr}
+use Rattle.std.proofs.Common.{◌≡◌, ◌∙◌, ◌<◌, ◌⊎◌, ℕ, zero, suc, ◌+◌, Bool, true, false, cond, List, [], ◌∷◌, map, set, refl, ap, sym, subst, length, drop, arith, ⊎_elim, inl, inr, get_or-set_same}
 use Rattle.std.specs.Prelude.{Some, None, nat_eq, slice_get}
 use Rattle.std.specs.List.{list_any}
 use Rattle.std.proofs.lemmas.Bool.{cases_eq, and_parts}
@@ -14,17 +14,20 @@ use Rattle.dn_types.specs.declared.flow_key.FlowKey.{FlowKey}
 use Rattle.dn_types.specs.declared.rule.Rule.{Rule}
 use Rattle.dn_flows.specs.Table.{FlowState, flow_at, popped, popped_from}
 use Rattle.dn_flows.specs.declared.waiting.Waiting.{Waiting}
-use Rattle.dn_flows.proofs.Views.{flow_after_set, popped_backlog}
-use Rattle.dn_wf2q.specs.Schedule.{Flow, flow_at as slot_at, heads_of, no_packets, without_head, after_pick}
+use Rattle.dn_flows.proofs.Views.{popped_backlog}
+use Rattle.dn_wf2q.specs.Schedule.{Flow, flow_at as slot_at, heads_of, no_packets, without_head}
 use Rattle.dn_shaper.specs.declared.links.home.Home.{Home}
 use Rattle.dn_shaper.specs.Refinement.Slots.{Ascends, top}
 use Rattle.dn_shaper.specs.Refinement.Views.{LinkView, home, as_queued, stamped_of, slotted, IsNextToSend}
-use Rattle.dn_shaper.specs.Refinement.Agreement.{AreDistinct, IsAt, IsLinkAt, IsFlowAt, IsScheduleAt, IsSlotAt, HasSentNothing, link_names}
-use Rattle.dn_shaper.proofs.Events.{uncounted, counted-once, read-set, length-set}
-use Rattle.dn_shaper.proofs.Homes.{home-after, slots-apart, slots_home-after}
+use Rattle.dn_shaper.specs.Refinement.Agreement.{AreDistinct, IsAt, IsLinkAt, IsFlowAt, IsScheduleAt, HasSentNothing, link_names}
+use Rattle.std.proofs.lemmas.List.{length-set}
+use Rattle.dn_shaper.proofs.Events.{uncounted, counted-once}
+use Rattle.dn_shaper.proofs.Homes.{home-after, slots_home-after}
 use Rattle.dn_shaper.proofs.Heads.{first-picked, packet-picked, grown-agree}
 use Rattle.dn_shaper.proofs.Next.{front, listed, schedule-at, distinct_views}
-use Rattle.dn_flows.proofs.Places.{eq-no, eq-yes, get-set, get-set-other, map-set-same, get-below}
+use Rattle.dn_shaper.proofs.OnePlace.{each-flow, each-set}
+use Rattle.dn_shaper.proofs.OneSlot.{slot-set}
+use Rattle.dn_flows.proofs.Places.{eq-no, eq-yes, map-set-same}
 use Rattle.dn_types.proofs.Settled.{link_eq-true, link_eq-refl, true_or_false, backlog-elsewhere, free-elsewhere, virtual_time-elsewhere, last_due-elsewhere, backlog-unknown}
 use Rattle.dn_types.proofs.Settling.{and-no, waiting-start, is_of-start}
 
@@ -78,70 +81,35 @@ module _ (rule : Rule) (accepted : ℕ) (keys : List FlowKey) (homes : List Home
       let packet : p.0 ≡ s.packet = cc in
       let stamps : slotted h.0.flow s.packet.stamped ≡ h.0 = ap (λ (x : Accepted). slotted h.0.flow x.stamped) (sym packet) ∙ p.2 in
       let within = in_range (v.schedule.flows) h.0.flow h.0 (first-picked v.link trace v.schedule v.slots c up l h.0 h.1) in
-      record {
-        virtual_time_is =
-            h.3.virtual_time
-            ∙ ap (λ (x : Stamped). grown v.schedule.virtual_time (heads_of v.schedule.flows) x.len) (sym stamps)
-            ∙ grown-agree v.link trace v.schedule v.slots c up l s.packet.stamped.len
-            ∙ sym
-            (ap (λ b. cond b (grown (virtual_time v.link trace) (link_heads v.link trace) s.packet.stamped.len) (virtual_time v.link trace))
-            (ap (λ (m : Link). link_eq m v.link) on_link ∙ link_eq-refl v.link));
-        slots_are = λ slot g e. slot_after c up h.0.flow within h.2 h.3.flows slot g e;
-        beyond = λ slot le.
-            let lt = get-below v.slots h.0.flow flow h.2 in
-            ap (λ (fs : List Flow). slot_at fs slot) h.3.flows
-            ∙ read-set v.schedule.flows h.0.flow slot (without_head (slot_at v.schedule.flows h.0.flow)) no_packets within
-            ∙ ap (λ b. cond b (without_head (slot_at v.schedule.flows h.0.flow)) (slot_at v.schedule.flows slot)) (eq-no h.0.flow slot (λ e. absurd (omega arith)))
-            ∙ c.beyond slot le;
-      }
+      let left = without_head (slot_at v.schedule.flows h.0.flow) in
+      let now_at = ap (λ (fs : List Flow). slot_at fs h.0.flow) h.3.flows ∙ get_or-set_same v.schedule.flows h.0.flow left no_packets within in
+      slot-set c up h.2 (started s ∷ trace) v'.schedule left h.3.flows
+      (h.3.virtual_time
+      ∙ ap (λ (x : Stamped). grown v.schedule.virtual_time (heads_of v.schedule.flows) x.len) (sym stamps)
+      ∙ grown-agree v.link trace v.schedule v.slots c up l s.packet.stamped.len
+      ∙ sym
+      (ap (λ b. cond b (grown (virtual_time v.link trace) (link_heads v.link trace) s.packet.stamped.len) (virtual_time v.link trace))
+      (ap (λ (m : Link). link_eq m v.link) on_link ∙ link_eq-refl v.link)))
+      (record {
+        backlog_is =
+            ap (λ (f : Flow). f.backlog) now_at
+            ∙ ap (λ (q : List Stamped). drop 1 q) (c.slots_are h.0.flow flow h.2).backlog_is
+            ∙ drop-map (slotted h.0.flow) 1 (stamped_of (backlog v.link flow trace))
+            ∙ ap (λ (q : List Stamped). map (slotted h.0.flow) q) (drop-map (λ (p : Accepted). p.stamped) 1 (backlog v.link flow trace))
+            ∙ ap (λ b. map (slotted h.0.flow) (stamped_of (cond b (drop 1 (backlog v.link flow trace)) (backlog v.link flow trace)))) (sym is_here);
+        last_finish_is = ap (λ (f : Flow). f.last_finish_tag) now_at ∙ (c.slots_are h.0.flow flow h.2).last_finish_is;
+      })
+      (λ slot g ne x. record {
+        backlog_is = x.backlog_is
+            ∙ ap (λ b. map (slotted slot) (stamped_of (cond b (drop 1 (backlog v.link g trace)) (backlog v.link g trace))))
+            (sym (and-no (link_eq s.packet.link v.link) (nat_eq s.packet.stamped.flow g) (ap (λ n. nat_eq n g) fr.3 ∙ eq-no flow g ne)));
+        last_finish_is = x.last_finish_is;
+      })
     where
       in_range : (fs : List Flow) (slot : ℕ) (x : Stamped) → slice_get (slot_at fs slot).backlog 0 ≡ Some x → slot < length fs
       in_range [] slot x e = absurd cc
       in_range (f ∷ fs) zero x e = omega arith
       in_range (f ∷ fs) (suc slot) x e = let r = in_range fs slot x e in omega arith
-
-      slot_after : IsScheduleAt v.link trace v.schedule v.slots → Ascends 0 v.slots → (i : ℕ) → i < length v.schedule.flows → slice_get v.slots i ≡ Some flow →
-          v'.schedule.flows ≡ after_pick v.schedule.flows i → (slot g : ℕ) → slice_get v.slots slot ≡ Some g →
-          IsSlotAt v.link g slot (started s ∷ trace) (slot_at v'.schedule.flows slot)
-      slot_after c up i lt at_i now slot g e = by (cases_eq i slot)
-        where
-          now_at : (j : ℕ) → slot_at v'.schedule.flows j ≡ cond (nat_eq i j) (without_head (slot_at v.schedule.flows i)) (slot_at v.schedule.flows j)
-          now_at j = ap (λ (fs : List Flow). slot_at fs j) now ∙ read-set v.schedule.flows i j (without_head (slot_at v.schedule.flows i)) no_packets lt
-
-          now_here : slot_at v'.schedule.flows i ≡ without_head (slot_at v.schedule.flows i)
-          now_here = now_at i ∙ ap (λ b. cond b (without_head (slot_at v.schedule.flows i)) (slot_at v.schedule.flows i)) (eq-yes i i refl)
-
-          here : IsSlotAt v.link flow i (started s ∷ trace) (slot_at v'.schedule.flows i)
-          here = record {
-            backlog_is =
-                ap (λ (f : Flow). f.backlog) now_here
-                ∙ ap (λ (q : List Stamped). drop 1 q) (c.slots_are i flow at_i).backlog_is
-                ∙ drop-map (slotted i) 1 (stamped_of (backlog v.link flow trace))
-                ∙ ap (λ (q : List Stamped). map (slotted i) q) (drop-map (λ (p : Accepted). p.stamped) 1 (backlog v.link flow trace))
-                ∙ ap (λ b. map (slotted i) (stamped_of (cond b (drop 1 (backlog v.link flow trace)) (backlog v.link flow trace)))) (sym is_here);
-            last_finish_is = ap (λ (f : Flow). f.last_finish_tag) now_here ∙ (c.slots_are i flow at_i).last_finish_is;
-          }
-
-          there_too : (i ≡ slot → ⊥) → IsSlotAt v.link g slot (started s ∷ trace) (slot_at v'.schedule.flows slot)
-          there_too ne =
-              let is : slot_at v'.schedule.flows slot ≡ slot_at v.schedule.flows slot = now_at slot
-              ∙ ap (λ b. cond b (without_head (slot_at v.schedule.flows i)) (slot_at v.schedule.flows slot)) (eq-no i slot ne) in
-              let apart : nat_eq s.packet.stamped.flow g ≡ false = ap (λ x. nat_eq x g) fr.3 ∙ eq-no flow g (slots-apart v.slots up i slot flow g at_i e ne) in
-              record {
-                backlog_is =
-                    ap (λ (f : Flow). f.backlog) is
-                    ∙ (c.slots_are slot g e).backlog_is
-                    ∙ ap (λ b. map (slotted slot) (stamped_of (cond b (drop 1 (backlog v.link g trace)) (backlog v.link g trace))))
-                    (sym (and-no (link_eq s.packet.link v.link) (nat_eq s.packet.stamped.flow g) apart));
-                last_finish_is = ap (λ (f : Flow). f.last_finish_tag) is ∙ (c.slots_are slot g e).last_finish_is;
-              }
-
-          by : (i ≡ slot) ⊎ (i ≡ slot → ⊥) → IsSlotAt v.link g slot (started s ∷ trace) (slot_at v'.schedule.flows slot)
-          by (inl same) =
-              let both : Some flow ≡ Some g = sym at_i ∙ ap (slice_get v.slots) same ∙ e in
-              let flow_is : flow ≡ g = cc in
-              subst (λ (x : ℕ × ℕ). IsSlotAt v.link x.0 x.1 (started s ∷ trace) (slot_at v'.schedule.flows x.1)) (λ j. (flow_is j, same j)) here
-          by (inr ne) = there_too ne
 
   on_new : link_eq s.packet.link v'.link ≡ true
   on_new = ap (link_eq s.packet.link) same_link ∙ ap (λ (m : Link). link_eq m v.link) on_link ∙ link_eq-refl v.link
@@ -189,16 +157,6 @@ module _ (rule : Rule) (accepted : ℕ) (keys : List FlowKey) (homes : List Home
         below = b.below;
       }
 
-  views_after : (j : ℕ) (w : LinkView) → slice_get (set views k v') j ≡ Some w → IsLinkAt rule (length keys) (started s ∷ trace) w
-  views_after j w e = by (cases_eq j k)
-    where
-      by : (j ≡ k) ⊎ (j ≡ k → ⊥) → IsLinkAt rule (length keys) (started s ∷ trace) w
-      by (inl same) =
-          let e' : Some v' ≡ Some w = sym (get-set views k v v' there) ∙ ap (slice_get (set views k v')) (sym same) ∙ e in
-          let is : v' ≡ w = cc in
-          subst (λ (x : LinkView). IsLinkAt rule (length keys) (started s ∷ trace) x) is made
-      by (inr ne) = other_view j w (sym (get-set-other views k j v' ne) ∙ e) ne
-
   names_same : link_names (set views k v') ≡ link_names views
   names_same = map-set-same (λ (x : LinkView). x.link) views k v v' there same_link
 
@@ -223,56 +181,38 @@ module _ (rule : Rule) (accepted : ℕ) (keys : List FlowKey) (homes : List Home
   flows' = set flows flow (popped (flow_at flows flow))
 
   flow_after : (g : ℕ) → IsFlowAt (home keys g) g (started s ∷ trace) (flow_at flows' g)
-  flow_after g = by (cases_eq flow g)
-    where
-      now_at : flow_at flows' g ≡ cond (nat_eq flow g) (popped (flow_at flows flow)) (flow_at flows g)
-      now_at = flow_after_set flows flow g (popped (flow_at flows flow)) fr.1
-
-      by : (flow ≡ g) ⊎ (flow ≡ g → ⊥) → IsFlowAt (home keys g) g (started s ∷ trace) (flow_at flows' g)
-      by (inl same) =
-          let is : flow_at flows' g ≡ popped (flow_at flows g) = now_at ∙ ap (λ b. cond b (popped (flow_at flows flow)) (flow_at flows g)) (eq-yes flow g same)
-          ∙ ap (λ i. popped (flow_at flows i)) same in
-          let b = a.flows_are g in
-          let rest = popped_rest (flow_at flows g) in
-          let front_g : slice_get (flow_at flows g).backlog 0 ≡ Some (as_queued s.packet) = ap (λ i. slice_get (flow_at flows i).backlog 0) (sym same) ∙ fr.0 in
-          record {
-            backlog_is =
-                ap (λ (x : FlowState). x.backlog) is
-                ∙ popped_backlog (flow_at flows g)
-                ∙ ap (λ (q : List Waiting). drop 1 q) b.backlog_is
-                ∙ drop-map as_queued 1 (backlog (home keys g) g trace)
-                ∙ ap (λ t. map as_queued (cond t (drop 1 (backlog (home keys g) g trace)) (backlog (home keys g) g trace))) (sym (same_test g ∙ eq-yes flow g same));
-            lost_is = ap (λ (x : FlowState). x.lost) is ∙ rest.0 ∙ b.lost_is ∙ sym (uncounted (is_loss_of g) (started s) trace refl);
-            full_is = ap (λ (x : FlowState). x.full) is ∙ rest.1 ∙ b.full_is ∙ sym (uncounted (is_refusal_of g) (started s) trace refl);
-            started_is =
-                ap (λ (x : FlowState). x.started) is
-                ∙ popped_started (flow_at flows g) (as_queued s.packet) front_g
-                ∙ ap (λ n. n + 1) b.started_is
-                ∙ sym (counted-once (is_start_of g) (started s) trace (ap (λ x. nat_eq x g) fr.3 ∙ eq-yes flow g same));
-            discarded_is = ap (λ (x : FlowState). x.discarded) is ∙ rest.2 ∙ b.discarded_is;
-            active_is = ap (λ (x : FlowState). x.active) is ∙ rest.3 ∙ b.active_is;
-          }
-      by (inr ne) =
-          let is : flow_at flows' g ≡ flow_at flows g = now_at ∙ ap (λ b. cond b (popped (flow_at flows flow)) (flow_at flows g)) (eq-no flow g ne) in
-          let b = a.flows_are g in
-          record {
-            backlog_is =
-                ap (λ (x : FlowState). x.backlog) is
-                ∙ b.backlog_is
-                ∙ ap (λ t. map as_queued (cond t (drop 1 (backlog (home keys g) g trace)) (backlog (home keys g) g trace))) (sym (same_test g ∙ eq-no flow g ne));
-            lost_is = ap (λ (x : FlowState). x.lost) is ∙ b.lost_is ∙ sym (uncounted (is_loss_of g) (started s) trace refl);
-            full_is = ap (λ (x : FlowState). x.full) is ∙ b.full_is ∙ sym (uncounted (is_refusal_of g) (started s) trace refl);
-            started_is = ap (λ (x : FlowState). x.started) is ∙ b.started_is ∙ sym (uncounted (is_start_of g) (started s) trace (ap (λ x. nat_eq x g) fr.3 ∙ eq-no flow g ne));
-            discarded_is = ap (λ (x : FlowState). x.discarded) is ∙ b.discarded_is;
-            active_is = ap (λ (x : FlowState). x.active) is ∙ b.active_is;
-          }
+  flow_after = each-flow (λ g x. IsFlowAt (home keys g) g (started s ∷ trace) x) flows flow (popped (flow_at flows flow)) fr.1
+      (let b = a.flows_are flow in let rest = popped_rest (flow_at flows flow) in record {
+        backlog_is =
+            popped_backlog (flow_at flows flow)
+            ∙ ap (λ (q : List Waiting). drop 1 q) b.backlog_is
+            ∙ drop-map as_queued 1 (backlog (home keys flow) flow trace)
+            ∙ ap (λ t. map as_queued (cond t (drop 1 (backlog (home keys flow) flow trace)) (backlog (home keys flow) flow trace))) (sym (same_test flow ∙ eq-yes flow flow refl));
+        lost_is = rest.0 ∙ b.lost_is ∙ sym (uncounted (is_loss_of flow) (started s) trace refl);
+        full_is = rest.1 ∙ b.full_is ∙ sym (uncounted (is_refusal_of flow) (started s) trace refl);
+        started_is =
+            popped_started (flow_at flows flow) (as_queued s.packet) fr.0
+            ∙ ap (λ n. n + 1) b.started_is
+            ∙ sym (counted-once (is_start_of flow) (started s) trace (ap (λ x. nat_eq x flow) fr.3 ∙ eq-yes flow flow refl));
+        discarded_is = rest.2 ∙ b.discarded_is;
+        active_is = rest.3 ∙ b.active_is;
+      })
+      (λ g ne. let b = a.flows_are g in record {
+        backlog_is =
+            b.backlog_is ∙ ap (λ t. map as_queued (cond t (drop 1 (backlog (home keys g) g trace)) (backlog (home keys g) g trace))) (sym (same_test g ∙ eq-no flow g ne));
+        lost_is = b.lost_is ∙ sym (uncounted (is_loss_of g) (started s) trace refl);
+        full_is = b.full_is ∙ sym (uncounted (is_refusal_of g) (started s) trace refl);
+        started_is = b.started_is ∙ sym (uncounted (is_start_of g) (started s) trace (ap (λ x. nat_eq x g) fr.3 ∙ eq-no flow g ne));
+        discarded_is = b.discarded_is;
+        active_is = b.active_is;
+      })
 
   pub start-agrees : IsAt rule accepted keys homes (set views k v') flows'
       (in_order (record { due = v'.value.last_due; packet = s.packet.packet; flow = flow; start = s.moment }) pending) more (started s ∷ trace)
   start-agrees = record {
     links_are = names_same ∙ a.links_are;
     distinct = subst AreDistinct (sym names_same) a.distinct;
-    views_are = views_after;
+    views_are = each-set (λ j w. IsLinkAt rule (length keys) (started s ∷ trace) w) views k v there v' made other_view;
     untouched = still_untouched;
     flows_are = flow_after;
     as_many = length-set flows flow (popped (flow_at flows flow)) ∙ a.as_many;

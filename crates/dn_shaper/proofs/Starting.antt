@@ -1,7 +1,6 @@
 -- A link for which a packet waits can start one, and all parts agree with the start.
-use Rattle.std.proofs.Common.{◌≡◌, ◌∙◌, ◌≤◌, ◌<◌, ◌⊎◌, ◌^◌, ℕ, zero, suc, ◌+◌, Bool, true, false, cond, List, [], ◌∷◌, set, get_or, refl, ap, sym, subst, length, drop, arith, inl, inr}
-use Rattle.std.specs.Prelude.{Some, nat_eq, slice_get}
-use Rattle.std.proofs.lemmas.Bool.{cases_eq}
+use Rattle.std.proofs.Common.{◌≡◌, ◌∙◌, ◌≤◌, ◌<◌, ◌^◌, ℕ, zero, suc, ◌+◌, Bool, true, false, cond, List, [], ◌∷◌, set, get_or, refl, ap, sym, subst, length, arith}
+use Rattle.std.specs.Prelude.{Some, slice_get}
 use Rattle.dn_types.specs.Configuration.{Settings}
 use Rattle.dn_types.specs.Deliveries.{in_order, is_given_before}
 use Rattle.dn_types.specs.Links.{transmission_time, due_by}
@@ -9,13 +8,10 @@ use Rattle.dn_types.specs.SharedLinks.{next_packet}
 use Rattle.dn_types.specs.Starts.{start_at}
 use Rattle.dn_types.specs.Trace.{Link, own, shared, Accepted, Event, started, pipe_of, backlog}
 use Rattle.dn_types.specs.declared.delivery.Delivery.{Delivery}
-use Rattle.dn_types.specs.declared.flow_key.FlowKey.{FlowKey}
-use Rattle.dn_types.specs.declared.rule.Rule.{Rule}
 use Rattle.dn_flows.specs.Table.{FlowState, flow_at, popped, popped_from}
 use Rattle.dn_flows.specs.declared.waiting.Waiting.{Waiting}
-use Rattle.dn_flows.proofs.Views.{flow_after_set, popped_backlog}
+use Rattle.dn_flows.proofs.Views.{popped_backlog}
 use Rattle.dn_wf2q.specs.Schedule.{room_at}
-use Rattle.dn_shaper.specs.declared.links.home.Home.{Home}
 use Rattle.dn_shaper.specs.declared.links.link_parts.LinkParts.{LinkParts}
 use Rattle.dn_shaper.specs.declared.links.parts.Parts.{Parts}
 use Rattle.dn_shaper.specs.Refinement.Views.{LinkView, CanSend, IsAlone, IsNextToSend, home, next_start_of, next_starts, queue_lengths, view_of, views_of, as_queued, waits_in_all}
@@ -23,8 +19,10 @@ use Rattle.dn_shaper.specs.Refinement.Agreement.{GivesRates, AgreesWith, Agrees,
 use Rattle.dn_shaper.specs.Refinement.Starting.{HasFront, AreCountsWithin, Within, IsReady, CanStart, StartsAt}
 use Rattle.dn_shaper.proofs.Alone.{is-alone, own-slot}
 use Rattle.dn_shaper.proofs.Next.{can_send, taken, front}
-use Rattle.dn_flows.proofs.Places.{viewed, eq-no, eq-yes, get-set, get-set-other, sum-set, sum-le, get-below, map-set}
+use Rattle.dn_shaper.proofs.OnePlace.{agrees-as, each-flow, each-set}
+use Rattle.dn_flows.proofs.Places.{viewed, sum-set, sum-le, get-below, map-set}
 use Rattle.dn_shaper.proofs.Started.{start-agrees, popped_started, popped_rest}
+use Rattle.dn_shaper.proofs.Taking.{drop-fewer}
 
 -- A flow that has a packet is there.
 pub popped-below : (fs : List FlowState) (i : ℕ) (w : Waiting) → slice_get (flow_at fs i).backlog 0 ≡ Some w → i < length fs
@@ -98,20 +96,7 @@ module _ (place moment bandwidth delay : ℕ) (old new : Parts) (s : StartsAt pl
     where
       after : (p : Accepted) → slice_get (backlog s.view.link s.starts.flow trace) 0 ≡ Some p → s.starts.packet ≡ as_queued p →
           AgreesWith new more (started (start_at settings s.view.link p moment) ∷ trace)
-      after p first packet =
-          subst
-          (λ (r : Rule). IsAt r new.accepted new.flows.keys new.homes.items (views_of new) new.flows.flows new.line.pending more (started (start_at settings s.view.link p moment) ∷ trace))
-          (sym s.rule)
-          (subst
-          (λ (x : ℕ × List FlowKey). IsAt old.rule x.0 x.1 new.homes.items (views_of new) new.flows.flows new.line.pending more (started (start_at settings s.view.link p moment) ∷ trace))
-          (λ i. (sym s.accepted i, sym s.keys i))
-          (subst
-          (λ (x : List Home × List LinkView). IsAt old.rule old.accepted old.flows.keys x.0 x.1 new.flows.flows new.line.pending more (started (start_at settings s.view.link p moment) ∷ trace))
-          (λ i. ((sym s.homes i).items, sym s.views_are i))
-          (subst
-          (λ (x : List FlowState × List Delivery). IsAt old.rule old.accepted old.flows.keys old.homes.items (set (views_of old) place s.view') x.0 x.1 more
-          (started (start_at settings s.view.link p moment) ∷ trace))
-          (λ i. (sym s.starts.flows_are i, sym pending_is i)) base)))
+      after p first packet = agrees-as new s.rule s.accepted s.keys (ap (λ hs. hs.items) s.homes) s.views_are s.starts.flows_are pending_is base
         where
           transmission_is : transmission_time bandwidth s.starts.packet.len ≡ (start_at settings s.view.link p moment).transmission
           transmission_is = ap (λ (w : Waiting). transmission_time bandwidth w.len) packet ∙ ap (λ b. transmission_time b p.stamped.len) (sym rates.bandwidth_is)
@@ -140,9 +125,6 @@ module _ (place moment bandwidth delay : ℕ) (old new : Parts) (s : StartsAt pl
   flow-there : s.starts.flow < length old.flows.flows
   flow-there = popped-below old.flows.flows s.starts.flow s.starts.packet s.starts.front
 
-  flow-now : (g : ℕ) → flow_at new.flows.flows g ≡ cond (nat_eq s.starts.flow g) (popped (flow_at old.flows.flows s.starts.flow)) (flow_at old.flows.flows g)
-  flow-now g = ap (λ (fs : List FlowState). flow_at fs g) s.starts.flows_are ∙ flow_after_set old.flows.flows s.starts.flow g (popped (flow_at old.flows.flows s.starts.flow)) flow-there
-
   pub starts-within : (n : ℕ) → Within n old → Within n new
   starts-within n w = record {
     waiting_is = let a = starts-waiting in let b = s.waiting in let c = w.waiting_is in omega arith;
@@ -154,8 +136,12 @@ module _ (place moment bandwidth delay : ℕ) (old new : Parts) (s : StartsAt pl
         let d = length-in_order (record { due = s.view'.value.last_due; packet = s.starts.packet.packet; flow = s.starts.flow; start = moment }) old.line.pending in
         let c = w.sums in
         omega arith;
-    flows_are = flows_within;
-    arrivals = arrivals_within;
+    flows_are = λ g. subst (λ (fs : List FlowState). AreCountsWithin n (flow_at fs g)) (sym s.starts.flows_are)
+        (each-flow (λ g x. AreCountsWithin n x) old.flows.flows s.starts.flow (popped (flow_at old.flows.flows s.starts.flow)) flow-there
+        (popped_within (flow_at old.flows.flows s.starts.flow) s.starts.front (w.flows_are s.starts.flow)) (λ g ne. w.flows_are g) g);
+    arrivals = λ j v e. each-set (λ (j : ℕ) (v : LinkView). v.schedule.arrivals ≤ n) (views_of old) place s.view s.there s.view'
+        (let same = s.keeps.arrivals in let le = w.arrivals place s.view s.there in omega arith)
+        (λ j v e ne. w.arrivals j v e) j v (ap (λ (vs : List LinkView). slice_get vs j) (sym s.views_are) ∙ e);
     accepted = let a = s.accepted in let b = w.accepted in omega arith;
   }
     where
@@ -167,47 +153,26 @@ module _ (place moment bandwidth delay : ℕ) (old new : Parts) (s : StartsAt pl
           let r2 = r.2 in
           let one = popped_started x s.starts.packet e in
           let b = ap (λ (ws : List Waiting). length ws) (popped_backlog x) in
-          let l = rest x.backlog e in
+          let l = drop-fewer x.backlog s.starts.packet e in
           let h0 = h.0 in
           let h1 = h.1 in
           let h2 = h.2 in
           (omega arith, omega arith, omega arith)
-        where
-          rest : (ws : List Waiting) → slice_get ws 0 ≡ Some s.starts.packet → length (drop 1 ws) + 1 ≡ length ws
-          rest [] e = absurd cc
-          rest (y ∷ ws) e = omega arith
-
-      flows_within : (g : ℕ) → AreCountsWithin n (flow_at new.flows.flows g)
-      flows_within g = by (cases_eq s.starts.flow g)
-        where
-          by : (s.starts.flow ≡ g) ⊎ (s.starts.flow ≡ g → ⊥) → AreCountsWithin n (flow_at new.flows.flows g)
-          by (inl same) =
-              let is = flow-now g ∙ ap (λ b. cond b (popped (flow_at old.flows.flows s.starts.flow)) (flow_at old.flows.flows g)) (eq-yes s.starts.flow g same) in
-              subst (λ (x : FlowState). AreCountsWithin n x) (sym is) (popped_within (flow_at old.flows.flows s.starts.flow) s.starts.front (w.flows_are s.starts.flow))
-          by (inr ne) =
-              let is = flow-now g ∙ ap (λ b. cond b (popped (flow_at old.flows.flows s.starts.flow)) (flow_at old.flows.flows g)) (eq-no s.starts.flow g ne) in
-              subst (λ (x : FlowState). AreCountsWithin n x) (sym is) (w.flows_are g)
-
-      arrivals_within : (j : ℕ) (v : LinkView) → slice_get (views_of new) j ≡ Some v → v.schedule.arrivals ≤ n
-      arrivals_within j v e = by (cases_eq j place)
-        where
-          now_at : slice_get (set (views_of old) place s.view') j ≡ Some v
-          now_at = ap (λ (vs : List LinkView). slice_get vs j) (sym s.views_are) ∙ e
-
-          by : (j ≡ place) ⊎ (j ≡ place → ⊥) → v.schedule.arrivals ≤ n
-          by (inl same) =
-              let both : Some s.view' ≡ Some v = sym (get-set (views_of old) place s.view s.view' s.there) ∙ ap (slice_get (set (views_of old) place s.view')) (sym same) ∙ now_at in
-              let is : s.view' ≡ v = cc in
-              let e1 = ap (λ (x : LinkView). x.schedule.arrivals) is in
-              let e2 = s.keeps.arrivals in
-              let le = w.arrivals place s.view s.there in
-              omega arith
-          by (inr ne) = w.arrivals j v (sym (get-set-other (views_of old) place j s.view' ne) ∙ now_at)
 
   pub starts-ready : (flow : ℕ) → IsReady flow old → IsReady flow new
   starts-ready flow r = record {
-    place = place_kept (cases_eq s.starts.flow flow);
-    slot = slot_kept;
+    place = subst (λ (fs : List FlowState). (flow_at fs flow).reserved ≡ true) (sym s.starts.flows_are)
+        (each-flow (λ (g : ℕ) (x : FlowState). (flow_at old.flows.flows g).reserved ≡ true → x.reserved ≡ true) old.flows.flows s.starts.flow
+        (popped (flow_at old.flows.flows s.starts.flow)) flow-there (λ kept. popped_reserved (flow_at old.flows.flows s.starts.flow) ∙ kept) (λ g ne kept. kept) flow r.place);
+    slot = λ h v pipe at e is.
+        let home_before : slice_get old.homes.items flow ≡ Some h = (λ i. slice_get (sym s.homes i).items flow) ∙ at in
+        each-set (λ (j : ℕ) (v : LinkView). j ≡ h.place → v.link ≡ shared pipe → 0 < room_at v.schedule.room h.slot) (views_of old) place s.view s.there s.view'
+        (λ here is.
+        let before = r.slot h s.view pipe home_before (ap (slice_get (views_of old)) (sym here) ∙ s.there) (sym s.starts.link ∙ is) in
+        let keeps = s.keeps.room h.slot in
+        omega arith)
+        (λ j v e ne here is. r.slot h v pipe home_before (ap (slice_get (views_of old)) (sym here) ∙ e) is) h.place v
+        (ap (λ (vs : List LinkView). slice_get vs h.place) (sym s.views_are) ∙ e) refl is;
     line = let a = s.waiting in let b = s.room in let c = r.line in omega arith;
   }
     where
@@ -217,35 +182,6 @@ module _ (place moment bandwidth delay : ℕ) (old new : Parts) (s : StartsAt pl
           by : (ws : List Waiting) → (popped_from ws x).reserved ≡ x.reserved
           by [] = refl
           by (y ∷ ws) = refl
-
-      place_kept : (s.starts.flow ≡ flow) ⊎ (s.starts.flow ≡ flow → ⊥) → (flow_at new.flows.flows flow).reserved ≡ true
-      place_kept (inl same) =
-          ap (λ (x : FlowState). x.reserved) (flow-now flow ∙ ap (λ b. cond b (popped (flow_at old.flows.flows s.starts.flow)) (flow_at old.flows.flows flow)) (eq-yes s.starts.flow flow same))
-          ∙ popped_reserved (flow_at old.flows.flows s.starts.flow)
-          ∙ ap (λ g. (flow_at old.flows.flows g).reserved) same
-          ∙ r.place
-      place_kept (inr ne) =
-          ap (λ (x : FlowState). x.reserved) (flow-now flow ∙ ap (λ b. cond b (popped (flow_at old.flows.flows s.starts.flow)) (flow_at old.flows.flows flow)) (eq-no s.starts.flow flow ne))
-          ∙ r.place
-
-      slot_kept : (h : Home) (v : LinkView) (pipe : ℕ) → slice_get new.homes.items flow ≡ Some h → slice_get (views_of new) h.place ≡ Some v → v.link ≡ shared pipe → 0 < room_at v.schedule.room h.slot
-      slot_kept h v pipe at_home e is = by (cases_eq h.place place)
-        where
-          home_before : slice_get old.homes.items flow ≡ Some h
-          home_before = (λ i. slice_get (sym s.homes i).items flow) ∙ at_home
-
-          now_at : slice_get (set (views_of old) place s.view') h.place ≡ Some v
-          now_at = ap (λ (vs : List LinkView). slice_get vs h.place) (sym s.views_are) ∙ e
-
-          by : (h.place ≡ place) ⊎ (h.place ≡ place → ⊥) → 0 < room_at v.schedule.room h.slot
-          by (inl same) =
-              let both : Some s.view' ≡ Some v = sym (get-set (views_of old) place s.view s.view' s.there) ∙ ap (slice_get (set (views_of old) place s.view')) (sym same) ∙ now_at in
-              let one : s.view' ≡ v = cc in
-              let before = r.slot h s.view pipe home_before (ap (slice_get (views_of old)) same ∙ s.there) (sym s.starts.link ∙ ap (λ (x : LinkView). x.link) one ∙ is) in
-              let keeps = s.keeps.room h.slot in
-              let e1 = ap (λ (x : LinkView). room_at x.schedule.room h.slot) one in
-              omega arith
-          by (inr ne) = r.slot h v pipe home_before (sym (get-set-other (views_of old) place h.place s.view' ne) ∙ now_at) is
 
   pub starts-nexts : next_starts (views_of new) ≡ set (next_starts (views_of old)) place (next_start_of s.view')
   starts-nexts = ap (λ (vs : List LinkView). next_starts vs) s.views_are ∙ map-set next_start_of (views_of old) place s.view'

@@ -1,6 +1,6 @@
 -- A packet of a known flow is lost, refused or accepted after a settling.
 use Rattle.std.proofs.Common.{◌≡◌, ◌∙◌, ◌<◌, ◌^◌, ℕ, zero, suc, ◌+◌, Bool, true, false, cond, List, [], ◌∷◌, map, set, refl, ap, sym, subst, length, arith}
-use Rattle.std.specs.Prelude.{Option, Some, None, nat_eq, slice_get}
+use Rattle.std.specs.Prelude.{Option, Some, None, slice_get}
 use Rattle.dn_heap.specs.Heap.{Heap}
 use Rattle.dn_types.specs.Calls.{Verdict, loses, refuses, takes, after_verdict, accept, join}
 use Rattle.dn_types.specs.Configuration.{Settings}
@@ -15,7 +15,7 @@ use Rattle.dn_types.specs.declared.packet.Packet.{Packet}
 use Rattle.dn_types.specs.declared.reply.Reply.TheVariants.{Queued, Lost as ReplyLost, Full as ReplyFull}
 use Rattle.dn_flows.specs.Table.{FlowState, flow_at, lengths, verdict_of}
 use Rattle.dn_flows.specs.declared.verdict.Verdict.TheVariants.{Take, Lost, Full}
-use Rattle.dn_flows.proofs.Views.{flow_after_set}
+use Rattle.dn_shaper.proofs.OnePlace.{each-flow}
 use Rattle.dn_shaper.specs.declared.links.next_start.NextStart.{NextStart}
 use Rattle.dn_shaper.specs.declared.links.parts.Parts.{Parts}
 use Rattle.dn_shaper.specs.Refinement.Agreement.{AgreesWith}
@@ -141,11 +141,9 @@ noted-within n flow x old new lt flows inside views waiting line accepted w = re
   room = let a = w.room in let b = ap {B = ℕ} (λ l. l.room) line in omega arith;
   pushed = let a = w.pushed in let b = ap {B = ℕ} (λ l. l.pushed) line in omega arith;
   sums = let a = w.sums in let b = ap {B = ℕ} (λ l. length l.pending) line in omega arith;
-  flows_are = λ g. subst (λ (s : FlowState). AreCountsWithin (n + 1) s) (sym (ap (λ (fs : List FlowState). flow_at fs g) flows ∙ flow_after_set old.flows.flows flow g x lt)) (by g (nat_eq flow g));
+  flows_are = λ g. subst (λ (fs : List FlowState). AreCountsWithin (n + 1) (flow_at fs g)) (sym flows)
+      (each-flow (λ g s. AreCountsWithin (n + 1) s) old.flows.flows flow x lt inside
+      (λ g ne. let i = w.flows_are g in let a = i.0 in let b = i.1 in let c = i.2 in (omega arith, omega arith, omega arith)) g);
   arrivals = λ k v e. let a = w.arrivals k v (ap (λ (vs : List LinkView). slice_get vs k) (sym views) ∙ e) in omega arith;
   accepted = let a = w.accepted in omega arith;
 }
-  where
-    by : (g : ℕ) (b : Bool) → AreCountsWithin (n + 1) (cond b x (flow_at old.flows.flows g))
-    by g true = inside
-    by g false = let i = w.flows_are g in let a = i.0 in let b = i.1 in let c = i.2 in (omega arith, omega arith, omega arith)

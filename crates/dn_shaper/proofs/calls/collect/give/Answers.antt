@@ -3,7 +3,7 @@ use Rattle.std.proofs.Common.{◌∙◌, ◌++◌, List, ap, sym, refl, subst, a
 use Rattle.dn_types.specs.declared.delivery.Delivery.{Delivery}
 use Rattle.dn_link.specs.Line.{Line}
 use Rattle.dn_link.proofs.Collected.{IsInOrder, IsInOrder-undelivered, due-none, not_due-none}
-use Rattle.dn_shaper.proofs.Events.{append-none}
+use Rattle.std.proofs.lemmas.List.{append-nil}
 use Rattle.dn_shaper.proofs.calls.collect.give.Goals as goal
 
 pub loop-delivery-init : goal.loop-delivery-init
@@ -19,7 +19,7 @@ loop-delivery-init c = record {
 pub returns-clause-given : goal.returns-clause-given
 returns-clause-given c =
     let none = due-none c.args.at c.loop-delivery.line.pending c.loop-delivery.invariant.ordered (sym c.in_default.ensures.value) in
-    sym (ap (λ (ds : List Delivery). c.loop-delivery.list.items ++ ds) none ∙ append-none c.loop-delivery.list.items) ∙ c.loop-delivery.invariant.given
+    sym (ap (λ (ds : List Delivery). c.loop-delivery.list.items ++ ds) none ∙ append-nil c.loop-delivery.list.items) ∙ c.loop-delivery.invariant.given
 
 pub returns-clause-rest : goal.returns-clause-rest
 returns-clause-rest c =

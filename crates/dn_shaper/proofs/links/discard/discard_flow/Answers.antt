@@ -1,8 +1,6 @@
 -- The flow's packets leave its link.
-use Rattle.std.proofs.Common.{◌≡◌, ◌∙◌, ◌<◌, ℕ, List, inl, inr, ap, arith, subst, sym, Contains, IsPermutation, ◌∷◌}
+use Rattle.std.proofs.Common.{◌≡◌, ◌∙◌, ◌<◌, ℕ, inl, inr, ap, arith, subst, sym, Contains, IsPermutation, ◌∷◌}
 use Rattle.std.specs.Prelude.{Some, slice_get}
-use Rattle.std.specs.List.{count_by}
-use Rattle.dn_flows.specs.Table.{FlowState}
 use Rattle.dn_flows.proofs.Places.{get-below-map, viewed}
 use Rattle.std.proofs.lemmas.Grind.{common_steps}
 use Rattle.dn_link.specs.LinkState.{LinkState}
@@ -10,10 +8,9 @@ use Rattle.dn_types.specs.declared.flow_status.FlowStatus.{FlowStatus}
 use Rattle.dn_shaper.specs.Refinement.Discarding.{HoldsCount}
 use Rattle.dn_shaper.specs.Refinement.Views.{LinkView, queue_lengths, view_of}
 use Rattle.dn_shaper.proofs.Accepting.{none-waits, some-waits}
-use Rattle.dn_shaper.proofs.Discarding.{few-there, flow-there, is-home, holds, alone, enough-all, discards-agree, discards-within, discards-keeps, still-next}
+use Rattle.dn_shaper.proofs.Discarding.{few-there, is-home, holds, alone, enough-all, discards-agree, discards-within, discards-keeps, still-next}
 use Rattle.dn_shaper.proofs.HomeRead.{at-home, home-below}
 use Rattle.dn_shaper.proofs.Leaving.{emptied-kept, key-held, key-once, key-within, link-after, still-kept}
-use Rattle.dn_shaper.proofs.Reached.{fewer-active}
 use Rattle.dn_shaper.proofs.links.discard.discard_flow.Goals.{After-index-home, After-index-link}
 use Rattle.dn_shaper.proofs.links.discard.discard_flow.Goals as goal
 

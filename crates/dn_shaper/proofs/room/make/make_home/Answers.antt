@@ -7,7 +7,7 @@ use Rattle.dn_shaper.specs.Refinement.Homing.{Houses, place_for}
 use Rattle.dn_shaper.specs.Refinement.Making.{KeepsAt, SameFlow}
 use Rattle.dn_shaper.specs.Refinement.Views.{LinkView, queue_lengths, view_of, views_of}
 use Rattle.dn_shaper.proofs.Alone.{all-seen-same, lengths-same}
-use Rattle.dn_shaper.proofs.Events.{length-set}
+use Rattle.std.proofs.lemmas.List.{length-set}
 use Rattle.dn_shaper.proofs.Reserving.{place-reserved}
 use Rattle.dn_shaper.proofs.Sharing.{on-err}
 use Rattle.dn_shaper.proofs.room.make.make_home.Goals.{After-find_home}
