@@ -20,7 +20,7 @@ use Rattle.dn_shaper.specs.declared.links.link_parts.LinkParts.{LinkParts}
 use Rattle.dn_shaper.specs.declared.links.parts.Parts.{Parts}
 use Rattle.dn_shaper.specs.Refinement.Agreement.{AgreesWith, Agrees, GivesRates, link_names}
 use Rattle.dn_shaper.specs.Refinement.Arriving.{ArrivesAt, Accepts, KeepsFlows, is_idle}
-use Rattle.dn_shaper.specs.Refinement.NextStarts.{Holds, one_backlogged, backlogged}
+use Rattle.dn_shaper.specs.Refinement.NextStarts.{Holds}
 use Rattle.dn_shaper.specs.Refinement.Settling.{AreInStep}
 use Rattle.dn_shaper.specs.Refinement.Starting.{Within, StartsAt}
 use Rattle.dn_shaper.specs.Refinement.Submitting.{MayAccept}
@@ -28,9 +28,10 @@ use Rattle.dn_shaper.specs.Refinement.Views.{LinkView, queue_lengths, view_of, v
 use Rattle.std.proofs.lemmas.List.{set-set}
 use Rattle.dn_shaper.proofs.Arriving.{set-self, link-home, arrives-agree, next-alone, starts-at-once, arrives-nexts, arrives-names, arrives-within}
 use Rattle.std.proofs.lemmas.List.{length-set}
-use Rattle.dn_flows.proofs.Places.{get-set, sum-set, get-map, map-set-same, get-below}
+use Rattle.dn_flows.proofs.Places.{get-set, get-map, map-set-same, get-below}
 use Rattle.dn_shaper.proofs.Starting.{starts-agree, starts-within, starts-nexts}
 use Rattle.dn_shaper.proofs.Accepting.{within-more, holds_pushed, backlogged-one, next-listed, next-some, next-none, may-agree}
+use Rattle.dn_shaper.proofs.HeldCounts.{counted-held}
 use Rattle.dn_shaper.proofs.HomeRead.{in-table}
 use Rattle.dn_shaper.proofs.Settles.{pipe-carried}
 
@@ -142,7 +143,6 @@ module _ {settings : Settings} {at : ℕ} {h : Home} {flow len weight : ℕ} {id
             (m.0, started (start_at settings t.view.link r.0 at) ∷ m.1, r.2);
         within = starts-within h.place at bandwidth delay mid new t (2 ^ 62) mid-all;
         held = subst (λ (d : List (Option ℕ)). Holds d heap.keys) (sym nexts-same) may.kept.held;
-        counted = may.kept.counted ∙ ap backlogged (sym nexts-same);
         places = let a = ap (λ (vs : List LinkView). length vs) t.views_are ∙ length-set (views_of mid) h.place t.view' in let b = length-mid in let c = may.kept.places in omega arith;
       }
 
@@ -208,7 +208,7 @@ module _ {settings : Settings} {at : ℕ} {h : Home} {flow len weight : ℕ} {id
   pub room-first : s.view.waits ≡ 0 → 0 < heap.room
   room-first zero_waits =
       let one = backlogged-one (next_starts (views_of old)) h.place (next-then ∙ ap (λ (o : Option ℕ). Some o) (next-none s.view (omega arith))) in
-      let c = may.kept.counted in
+      let c = counted-held heap.keys (next_starts (views_of old)) may.kept.held in
       let p = may.kept.places in
       let m = length-map (views_of old) next_start_of in
       omega arith
@@ -228,13 +228,6 @@ module _ {settings : Settings} {at : ℕ} {h : Home} {flow len weight : ℕ} {id
             (holds_pushed (next_starts (views_of old)) heap.keys may.kept.held h.place s.view.value.free
             (get-below (next_starts (views_of old)) h.place (next_start_of s.view) next-then)
             (next-listed (next_starts (views_of old)) h.place None (next-then ∙ ap (λ (o : Option ℕ). Some o) none)) heap'.keys perm);
-        counted =
-            let a = length_permutation (record { moment = s.view.value.free; place = h.place } ∷ heap.keys) heap'.keys perm in
-            let b = sum-set one_backlogged (next_starts (views_of old)) h.place (next_start_of s.view) (Some s.view.value.free) next-then in
-            let c = may.kept.counted in
-            let z = ap {B = ℕ} (λ (o : Option ℕ). one_backlogged o) none in
-            let n = ap {B = ℕ} (λ (d : List (Option ℕ)). backlogged d) now in
-            omega arith;
         places =
             let a = length_permutation (record { moment = s.view.value.free; place = h.place } ∷ heap.keys) heap'.keys perm in
             let b = length-mid in
@@ -254,6 +247,5 @@ module _ {settings : Settings} {at : ℕ} {h : Home} {flow len weight : ℕ} {id
         agrees = mid-agrees;
         within = mid-all;
         held = subst (λ (d : List (Option ℕ)). Holds d heap.keys) (sym now) may.kept.held;
-        counted = may.kept.counted ∙ ap backlogged (sym now);
         places = let b = length-mid in let c = may.kept.places in omega arith;
       }

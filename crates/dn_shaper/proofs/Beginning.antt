@@ -10,7 +10,7 @@ use Rattle.dn_flows.specs.Table.{FlowState, flow_at}
 use Rattle.dn_shaper.specs.declared.links.next_start.NextStart.{NextStart}
 use Rattle.dn_shaper.specs.declared.state.State.{State}
 use Rattle.dn_shaper.specs.Refinement.Agreement.{AgreesWith, IsAt, link_names}
-use Rattle.dn_shaper.specs.Refinement.NextStarts.{Holds, next_at, backlogged}
+use Rattle.dn_shaper.specs.Refinement.NextStarts.{Holds, next_at}
 use Rattle.dn_shaper.specs.Refinement.Settings.{at_number, settings_of}
 use Rattle.dn_shaper.specs.Refinement.Sound.{IsIndexed, IsSound}
 use Rattle.dn_shaper.specs.Standing.{StandsAt}
@@ -82,7 +82,6 @@ module _ (s : State) (accepted : s.parts.accepted ≡ 0) (keys : s.parts.flows.k
       agrees = ([], [], agrees);
       within = within-none (2 ^ 62);
       held = held;
-      counted = ap (λ (ks : List NextStart). length ks) empty ∙ sym (ap (λ (vs : List LinkView). backlogged (next_starts vs)) views);
       places = let e = ap (λ (vs : List LinkView). length vs) views in omega arith;
     };
     within = within-none s.calls;

@@ -11,7 +11,7 @@ use Rattle.dn_shaper.specs.declared.links.next_start.NextStart.{NextStart}
 use Rattle.dn_shaper.specs.declared.links.home.Home.{Home}
 use Rattle.dn_shaper.specs.declared.state.State.{State}
 use Rattle.dn_shaper.specs.Refinement.Agreement.{AgreesWith, IsAt, link_names}
-use Rattle.dn_shaper.specs.Refinement.NextStarts.{Holds, backlogged}
+use Rattle.dn_shaper.specs.Refinement.NextStarts.{Holds}
 use Rattle.dn_shaper.specs.Refinement.Homing.{GivesHome}
 use Rattle.dn_shaper.specs.Refinement.Making.{SameFlow}
 use Rattle.dn_shaper.specs.Refinement.Sound.{IsIndexed, IsSound}
@@ -83,14 +83,12 @@ module _ (old new : State) (t : Table) (key : FlowKey) (one : IsOneMore key old.
 
     pub sound-by : (agrees : (more : List Link) × (trace : List Event) × AgreesWith new.parts more trace) →
         ((n : ℕ) → Within n old.parts → Within n new.parts) → Holds (next_starts (views_of new.parts)) old.heap.keys →
-        backlogged (next_starts (views_of new.parts)) ≡ backlogged (next_starts (views_of old.parts)) →
         length (views_of new.parts) ≤ length old.heap.keys + new.heap.room → IsIndexed new (link_names (views_of new.parts)) → IsSound old → IsSound new
-    sound-by agrees within held same_count places indexed s = record {
+    sound-by agrees within held places indexed s = record {
       kept = record {
         agrees = agrees;
         within = within (2 ^ 62) s.kept.within;
         held = subst (λ (ks : List NextStart). Holds (next_starts (views_of new.parts)) ks) (sym g.heap.keys) held;
-        counted = ap (λ (ks : List NextStart). length ks) g.heap.keys ∙ s.kept.counted ∙ sym same_count;
         places = let e = ap {B = ℕ} (λ (ks : List NextStart). length ks) g.heap.keys in omega arith;
       };
       within = subst (λ n. Within n new.parts) (sym g.keeps.calls) (within old.calls s.within);

@@ -18,8 +18,6 @@ use Rattle.dn_shaper.proofs.Accepting.{next-listed, next-none, next-some}
 use Rattle.dn_shaper.proofs.Arriving.{set-self}
 use Rattle.dn_shaper.proofs.Discarding.{discards-agree, discards-nexts, discards-within, next-then}
 use Rattle.std.proofs.lemmas.List.{length-set}
-use Rattle.dn_shaper.proofs.HeldCounts.{counted-held}
-use Rattle.dn_shaper.proofs.HeldCounts.{counted-held}
 use Rattle.dn_shaper.proofs.NextStarts.{holds_none, next_listed, some_standing}
 
 -- The link after it lost its packets.
@@ -45,7 +43,6 @@ module _ {h : Home} {flow : ℕ} {old new : Parts} {heap : Heap NextStart} (kept
     agrees = agrees-now;
     within = discards-within kept.within kept.agrees within at_home s (2 ^ 62) kept.within;
     held = held;
-    counted = counted-held heap'.keys (next_starts (views_of new)) held;
     places = let a = as-many in let p = kept.places in omega (arith, a, p, room);
   }
 

@@ -11,7 +11,7 @@ use Rattle.dn_wf2q.specs.Schedule.{room_at}
 use Rattle.dn_shaper.specs.declared.links.next_start.NextStart.{NextStart}
 use Rattle.dn_shaper.specs.declared.state.State.{State}
 use Rattle.dn_shaper.specs.Refinement.Agreement.{AgreesWith, link_names}
-use Rattle.dn_shaper.specs.Refinement.NextStarts.{Holds, next_at, backlogged, one_backlogged}
+use Rattle.dn_shaper.specs.Refinement.NextStarts.{Holds, next_at}
 use Rattle.dn_shaper.specs.Refinement.Homing.{GivesHome, Opens, NotesFor, place_for}
 use Rattle.dn_shaper.specs.Refinement.Making.{HasSlotRoom}
 use Rattle.dn_shaper.specs.Refinement.Slots.{Ascends, top}
@@ -116,16 +116,13 @@ module _ (old new : State) (t : Table) (key : FlowKey) (one : IsOneMore key old.
     nexts-more = ap next_starts s.views_are ∙ map-append next_start_of (views_of old.parts) (s.view ∷ [])
         ∙ ap (λ (o : Option ℕ). next_starts (views_of old.parts) ++ o ∷ []) (no-next s.view s.is_new.waits)
 
-    count-same : backlogged (next_starts (views_of new.parts)) ≡ backlogged (next_starts (views_of old.parts))
-    count-same = let m = sum-more one_backlogged (next_starts (views_of old.parts)) None in ap backlogged nexts-more ∙ (omega arith)
-
     names-more : link_names (views_of new.parts) ≡ link_names (views_of old.parts) ++ link ∷ []
     names-more = ap link_names s.views_are ∙ map-append (λ (x : LinkView). x.link) (views_of old.parts) (s.view ∷ []) ∙ ap (λ (l : Link). link_names (views_of old.parts) ++ l ∷ []) s.is_new.link_is
 
     pub opened-sound : (trace : List Event) → AgreesWith old.parts [] trace → IsSound old → IsSound new
     opened-sound trace a sound =
         sound-by old new t key one g as_many (link ∷ [], trace, opened-agrees trace a) (within-by old new t key one g as_many waits-more arrivals-more)
-        (subst (λ (ds : List (Option ℕ)). Holds ds old.heap.keys) (sym nexts-more) (holds-more (next_starts (views_of old.parts)) old.heap.keys sound.kept.held)) count-same
+        (subst (λ (ds : List (Option ℕ)). Holds ds old.heap.keys) (sym nexts-more) (holds-more (next_starts (views_of old.parts)) old.heap.keys sound.kept.held))
         (let l = ap {B = ℕ} (λ (vs : List LinkView). length vs) s.views_are ∙ length-more (views_of old.parts) s.view in let r = s.room in omega arith)
         (subst (λ (ls : List Link). IsIndexed new ls) (sym names-more)
         (noted-more old new (link_names (views_of old.parts)) index key.target flow key.pipe g.home.place (s.place_is ∙ sym (length-map (views_of old.parts) (λ v. v.link))) noted notes)) sound

@@ -1,12 +1,12 @@
 -- A loss or a full queue is noted in a flow's counts: the links are seen as before, and no count passes its limit.
-use Rattle.std.proofs.Common.{◌≡◌, ◌∙◌, ◌<◌, ◌+◌, ◌^◌, ℕ, List, [], ◌∷◌, set, length, refl, ap, sym, subst, arith}
+use Rattle.std.proofs.Common.{◌≡◌, ◌<◌, ◌+◌, ◌^◌, ℕ, List, [], ◌∷◌, set, length, refl, ap, sym, subst, arith}
 use Rattle.dn_types.specs.Trace.{Link, Event}
 use Rattle.dn_heap.specs.Heap.{Heap}
 use Rattle.dn_flows.specs.Table.{FlowState, Table, flow_at}
 use Rattle.dn_shaper.specs.declared.links.next_start.NextStart.{NextStart}
 use Rattle.dn_shaper.specs.declared.links.parts.Parts.{Parts}
 use Rattle.dn_shaper.specs.Refinement.Agreement.{AgreesWith, IsAt}
-use Rattle.dn_shaper.specs.Refinement.NextStarts.{Holds, backlogged}
+use Rattle.dn_shaper.specs.Refinement.NextStarts.{Holds}
 use Rattle.dn_shaper.specs.Refinement.Settling.{AreInStep}
 use Rattle.dn_shaper.specs.Refinement.Starting.{AreCountsWithin, Within}
 use Rattle.dn_shaper.specs.Refinement.Submitting.{CanSee, IsMade, Sees}
@@ -46,6 +46,5 @@ module _ {event : Link → ℕ → Event} {p : Parts} {flow : ℕ} {noted : Flow
     agrees = ([], event (home p.flows.keys flow) flow ∷ is.seen.1, noted-sees is.seen.0 is.seen.1 is.seen.2 is.seen.3);
     within = within-more (limit.0 + 1) (2 ^ 62) (with_table p t) (let a = limit.1 in omega arith) (noted-counts limit.0 limit.2);
     held = subst (λ (vs : List LinkView). Holds (next_starts vs) heap.keys) (sym same-views) kept.held;
-    counted = kept.counted ∙ ap (λ (vs : List LinkView). backlogged (next_starts vs)) (sym same-views);
     places = let l = ap {B = ℕ} (λ (vs : List LinkView). length vs) same-views in let k = kept.places in omega arith;
   }

@@ -63,7 +63,6 @@ heap-kept p heap heap' d k = record {
   agrees = k.agrees;
   within = k.within;
   held = subst (λ (ks : List NextStart). Holds (next_starts (views_of p)) ks) (sym d.keys) k.held;
-  counted = ap (λ (ks : List NextStart). length ks) d.keys ∙ k.counted;
   places = let a = k.places in let b = ap {B = ℕ} (λ (ks : List NextStart). length ks) d.keys in let c = d.room in omega arith;
 }
 

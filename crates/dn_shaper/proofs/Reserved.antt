@@ -16,7 +16,7 @@ use Rattle.dn_shaper.specs.declared.links.next_start.NextStart.{NextStart}
 use Rattle.dn_shaper.specs.declared.links.home.Home.{Home}
 use Rattle.dn_shaper.specs.declared.links.parts.Parts.{Parts}
 use Rattle.dn_shaper.specs.Refinement.Agreement.{AgreesWith, AreDistinct, IsAt, IsHomeOf, IsLinkAt, link_names}
-use Rattle.dn_shaper.specs.Refinement.NextStarts.{Holds, backlogged}
+use Rattle.dn_shaper.specs.Refinement.NextStarts.{Holds}
 use Rattle.dn_shaper.specs.Refinement.Making.{KeepsLink, KeepsAt, OnlyMakesRoom}
 use Rattle.dn_shaper.specs.Refinement.Settling.{AreInStep}
 use Rattle.dn_shaper.specs.Refinement.Slots.{Ascends, top}
@@ -138,7 +138,6 @@ module _ (old new : Parts) (r : OnlyMakesRoom old new) where
     agrees = let a = k.agrees in (a.0, a.1, reserves-agree a.0 a.1 a.2);
     within = reserves-within (2 ^ 62) k.within;
     held = subst (λ (d : List (Option ℕ)). Holds d heap.keys) (sym reserved-nexts) k.held;
-    counted = k.counted ∙ ap backlogged (sym reserved-nexts);
     places = let a = k.places in let b = lengths in omega arith;
   }
     where

@@ -21,15 +21,16 @@ use Rattle.dn_shaper.specs.declared.links.link_parts.Carries.TheVariants.{Own, S
 use Rattle.dn_shaper.specs.declared.links.parts.Parts.{Parts}
 use Rattle.dn_shaper.specs.Refinement.Views.{LinkView, queue_lengths, view_of, views_of, next_starts, next_start_of, carried_link}
 use Rattle.dn_shaper.specs.Refinement.Agreement.{GivesRates, AgreesWith, Agrees, AreDistinct, link_names}
-use Rattle.dn_shaper.specs.Refinement.NextStarts.{next_start_cmp, next_at, Holds, one_backlogged, backlogged}
+use Rattle.dn_shaper.specs.Refinement.NextStarts.{next_start_cmp, next_at, Holds}
 use Rattle.dn_shaper.specs.Refinement.Starting.{CanStart, StartsAt}
 use Rattle.dn_shaper.specs.Refinement.Settling.{AreInStep, OnlyStarts, StartsFirst, HasNoStart, SettlesAll}
+use Rattle.dn_shaper.proofs.Accepting.{next-none, next-some}
 use Rattle.dn_shaper.proofs.Taking.{at-some}
 use Rattle.dn_shaper.proofs.NextStarts.{not_before, popped_next, holds_none, holds_some}
 use Rattle.dn_shaper.proofs.FirstStart.{moment_of_next, first_popped, none_next, first_start-more, settle-none, settle-some}
 use Rattle.std.proofs.lemmas.List.{length-set}
 use Rattle.dn_shaper.proofs.Next.{nexts-agree}
-use Rattle.dn_flows.proofs.Places.{get-set, viewed, map-set-same, get-map, sum-set}
+use Rattle.dn_flows.proofs.Places.{get-set, viewed, map-set-same, get-map}
 use Rattle.dn_types.proofs.Settled.{none-unknown, waiting_all-first}
 use Rattle.dn_shaper.proofs.Starting.{starts-agree, starts-within, starts-ready, starts-nexts, length-in_order}
 
@@ -157,68 +158,31 @@ module _ {settings : Settings} {old : Parts} {heap : Heap NextStart} (kept : Are
   same_length : length (views_of new) ≡ length (views_of old)
   same_length = ap (λ (vs : List LinkView). length vs) s.views_are ∙ length-set (views_of old) k.place s.view'
 
-  -- The count of links with a backlog, by whether the link still has one.
-  one-next : (o : Option ℕ) → next_start_of s.view' ≡ o → backlogged (next_starts (views_of new)) + 1 ≡ backlogged (next_starts (views_of old)) + one_backlogged o
-  one-next o e =
-      let was : slice_get (next_starts (views_of old)) k.place ≡ Some (Some k.moment) = listed_next (next_starts (views_of old)) k.place
-      (popped_next (next_starts (views_of old)) heap.keys rest k kept.held perm) in
-      let sum = sum-set one_backlogged (next_starts (views_of old)) k.place (Some k.moment) o was in
-      let now = ap (λ (d : List (Option ℕ)). backlogged d) (starts-nexts k.place k.moment bandwidth delay old new s ∙ ap (λ (x : Option ℕ). set (next_starts (views_of old)) k.place x) e) in
-      omega arith
-    where
-      listed_next : (d : List (Option ℕ)) (i : ℕ) → next_at d i ≡ Some k.moment → slice_get d i ≡ Some (Some k.moment)
-      listed_next [] i h = absurd cc
-      listed_next (x ∷ d) zero h = ap (λ y. Some y) h
-      listed_next (x ∷ d) (suc i) h = listed_next d i h
-
-  pub kept-some : 0 < s.view'.waits → (heap' : Heap NextStart) → IsPermutation (record { moment = s.view'.value.free; place = k.place } ∷ rest) heap'.keys →
-      heap'.room ≡ heap.room → AreInStep new heap'
-  kept-some some heap' pushed room = record {
+  -- The link has this next start after it.
+  in-step : (heap' : Heap NextStart) (next : Option ℕ) → next_start_of s.view' ≡ next → Holds (set (next_starts (views_of old)) k.place next) heap'.keys →
+      length heap'.keys + heap'.room ≡ length heap.keys + heap.room → AreInStep new heap'
+  in-step heap' next is held room = record {
     agrees = agrees-new;
     within = starts-within k.place k.moment bandwidth delay old new s (2 ^ 62) kept.within;
     held = subst (λ (d : List (Option ℕ)). Holds d heap'.keys)
-        (sym (starts-nexts k.place k.moment bandwidth delay old new s ∙ ap (λ (o : Option ℕ). set (next_starts (views_of old)) k.place o) next_some))
-        (holds_some (next_starts (views_of old)) heap.keys rest k kept.held perm s.view'.value.free heap'.keys pushed);
-    counted =
-        let a = length_permutation heap.keys (k ∷ rest) perm in
-        let b = length_permutation (record { moment = s.view'.value.free; place = k.place } ∷ rest) heap'.keys pushed in
-        let c = kept.counted in
-        let d = one-next (Some s.view'.value.free) next_some in
-        omega arith;
-    places =
-        let a = length_permutation heap.keys (k ∷ rest) perm in
-        let b = length_permutation (record { moment = s.view'.value.free; place = k.place } ∷ rest) heap'.keys pushed in
-        let c = kept.places in
-        let d = same_length in
-        omega arith;
+        (sym (starts-nexts k.place k.moment bandwidth delay old new s ∙ ap (λ (o : Option ℕ). set (next_starts (views_of old)) k.place o) is)) held;
+    places = let a = same_length in let p = kept.places in omega arith;
   }
-    where
-      next_some : next_start_of s.view' ≡ Some s.view'.value.free
-      next_some = ap {B = Option ℕ} (λ b. cond b (Some s.view'.value.free) None) (lt-ltb 0 s.view'.waits some)
+
+  pub kept-some : 0 < s.view'.waits → (heap' : Heap NextStart) → IsPermutation (record { moment = s.view'.value.free; place = k.place } ∷ rest) heap'.keys →
+      heap'.room ≡ heap.room → AreInStep new heap'
+  kept-some some heap' pushed room =
+      let a = length_permutation heap.keys (k ∷ rest) perm in
+      let b = length_permutation (record { moment = s.view'.value.free; place = k.place } ∷ rest) heap'.keys pushed in
+      in-step heap' (Some s.view'.value.free) (next-some s.view' some)
+      (holds_some (next_starts (views_of old)) heap.keys rest k kept.held perm s.view'.value.free heap'.keys pushed) (omega arith)
 
   pub kept-none : s.view'.waits ≤ 0 → (heap' : Heap NextStart) → heap'.keys ≡ rest → heap'.room ≡ heap.room + 1 → AreInStep new heap'
-  kept-none none heap' keys room = record {
-    agrees = agrees-new;
-    within = starts-within k.place k.moment bandwidth delay old new s (2 ^ 62) kept.within;
-    held = subst (λ (x : List (Option ℕ) × List NextStart). Holds x.0 x.1)
-        (λ i. (sym (starts-nexts k.place k.moment bandwidth delay old new s ∙ ap (λ (o : Option ℕ). set (next_starts (views_of old)) k.place o) next_none) i, sym keys i))
-        (holds_none (next_starts (views_of old)) heap.keys rest k kept.held perm);
-    counted =
-        let a = length_permutation heap.keys (k ∷ rest) perm in
-        let b = ap (λ (ks : List NextStart). length ks) keys in
-        let c = kept.counted in
-        let d = one-next None next_none in
-        omega arith;
-    places =
-        let a = length_permutation heap.keys (k ∷ rest) perm in
-        let b = ap (λ (ks : List NextStart). length ks) keys in
-        let c = kept.places in
-        let d = same_length in
-        omega arith;
-  }
-    where
-      next_none : next_start_of s.view' ≡ None
-      next_none = ap {B = Option ℕ} (λ b. cond b (Some s.view'.value.free) None) (le-ltb 0 s.view'.waits none)
+  kept-none none heap' keys room =
+      let a = length_permutation heap.keys (k ∷ rest) perm in
+      let b = ap (λ (ks : List NextStart). length ks) keys in
+      in-step heap' None (next-none s.view' none)
+      (subst (λ (ks : List NextStart). Holds (set (next_starts (views_of old)) k.place None) ks) (sym keys) (holds_none (next_starts (views_of old)) heap.keys rest k kept.held perm)) (omega arith)
 
   pub only-starts : (heap' : Heap NextStart) → heap'.moves + new.waiting ≤ heap.moves + old.waiting → length heap'.keys + heap'.room ≡ length heap.keys + heap.room → OnlyStarts old heap new heap'
   only-starts heap' moves places = record {

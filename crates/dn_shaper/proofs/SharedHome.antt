@@ -9,7 +9,7 @@ use Rattle.dn_flows.specs.Table.{Table}
 use Rattle.dn_wf2q.specs.Schedule.{room_at}
 use Rattle.dn_shaper.specs.declared.state.State.{State}
 use Rattle.dn_shaper.specs.Refinement.Agreement.{AgreesWith, link_names}
-use Rattle.dn_shaper.specs.Refinement.NextStarts.{Holds, backlogged}
+use Rattle.dn_shaper.specs.Refinement.NextStarts.{Holds}
 use Rattle.dn_shaper.specs.Refinement.Homing.{GivesHome, Shares, place_for}
 use Rattle.dn_shaper.specs.Refinement.Sound.{IsIndexed, IsSound}
 use Rattle.dn_shaper.specs.Refinement.Starting.{IsReady, Within}
@@ -92,7 +92,7 @@ module _ (old new : State) (t : Table) (key : FlowKey) (one : IsOneMore key old.
     pub shared-sound : (trace : List Event) → AgreesWith old.parts [] trace → IsSound old → IsSound new
     shared-sound trace a sound =
         sound-by old new t key one g as_many ([], trace, shared-agrees trace a) (within-by old new t key one g as_many waits-same arrivals-below)
-        (subst (λ (ds : List (Option ℕ)). Holds ds old.heap.keys) (sym nexts-same) sound.kept.held) (ap backlogged nexts-same)
+        (subst (λ (ds : List (Option ℕ)). Holds ds old.heap.keys) (sym nexts-same) sound.kept.held)
         (let l = ap {B = ℕ} (λ (vs : List LinkView). length vs) s.views_are ∙ length-set (views_of old.parts) place s.view' in let p = sound.kept.places in let r = g.heap.room in omega arith)
         (record {
           found = λ pipe k e. ap (λ (ls : List Link). slice_get ls k) names-same ∙ index.found pipe k (ap (λ (es : List (Option ℕ)). at_number es pipe) (sym unnoted) ∙ e);

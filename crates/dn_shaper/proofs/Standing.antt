@@ -127,7 +127,6 @@ module _ (old : State) (parts : Parts) (heap : Heap NextStart) (at moment : ℕ)
         agrees = let a = kept.agrees in (a.0, collected at ∷ a.1, after-agrees a.0 a.1 a.2);
         within = after-within (2 ^ 62) kept.within;
         held = kept.held;
-        counted = kept.counted;
         places = kept.places;
       };
       within = after-within (old.calls + 1) (within-more old.calls (old.calls + 1) parts (omega arith) (only.within old.calls sound.within));

@@ -8,7 +8,7 @@ use Rattle.dn_shaper.specs.declared.links.next_start.NextStart.{NextStart}
 use Rattle.dn_shaper.specs.declared.links.parts.Parts.{Parts}
 use Rattle.dn_shaper.specs.Refinement.Views.{views_of, next_starts}
 use Rattle.dn_shaper.specs.Refinement.Agreement.{AgreesWith, Agrees, link_names}
-use Rattle.dn_shaper.specs.Refinement.NextStarts.{Holds, backlogged}
+use Rattle.dn_shaper.specs.Refinement.NextStarts.{Holds}
 use Rattle.dn_shaper.specs.Refinement.Starting.{Within, IsReady}
 
 -- The parts with the heap of the links that have a backlog: each of them stands in it once, with the moment from which it is
@@ -17,7 +17,6 @@ pub record AreInStep (p : Parts) (heap : Heap NextStart) : Type 0 where
   pub agrees : Agrees p
   pub within : Within (2 ^ 62) p
   pub held : Holds (next_starts (views_of p)) heap.keys
-  pub counted : length heap.keys ≡ backlogged (next_starts (views_of p))
   pub places : length (views_of p) ≤ length heap.keys + heap.room
 
 -- What starts leave as it is. Each takes one packet from those that wait, and one more is under way.
