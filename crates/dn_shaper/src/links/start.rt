@@ -53,6 +53,7 @@ pub fn send(
     let transmission = tx_time(packet.len, rates.bandwidth);
     link.begin(moment, transmission);
     let due = link.deliver(moment, transmission, rates.delay, rule);
+    // There is room for each packet that waits (`Within`), and reserve.rt made it for the one that arrives (`IsReady`).
     line.push_reserved(Delivery {
         due,
         packet: packet.packet,
