@@ -1,3 +1,6 @@
+pub mod Ahead
 pub mod PartSteps
 pub mod RowStep
+pub mod Rows
 pub mod Steps
+pub mod TakenReplies

@@ -26,7 +26,7 @@ use Rattle.dn_laws.proofs.MergedReplays.{replays-are-counted, replays-are-merged
 use Rattle.dn_laws.proofs.PartReplays.{counts}
 use Rattle.dn_merge.specs.Numbers.{AreAllCounted}
 
-not-equal : (m n : ℕ) → (m ≡ n → ⊥) → nat_eq m n ≡ false
+pub not-equal : (m n : ℕ) → (m ≡ n → ⊥) → nat_eq m n ≡ false
 not-equal m n ne = grind (arith, nat_tests)
 
 -- The links of a part carry the packets of its flows.

@@ -1,1 +1,4 @@
 pub mod Divided
+pub mod Emulated
+pub mod Rows
+pub mod Runs

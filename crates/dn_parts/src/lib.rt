@@ -1,9 +1,9 @@
-//! A replay whose links are emulated in parts.
+//! A replay whose links are emulated in parts, each by a thread of its own.
 #![tactic(auto)]
 
 mod divided_shaper;
 mod division;
 mod part_run;
+mod part_runs;
 
 pub use divided_shaper::DividedShaper;
-pub use part_run::PartRun;

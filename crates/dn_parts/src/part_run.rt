@@ -1,31 +1,51 @@
-ghost use Rattle.std.specs.Prelude.{◌≡◌, ◌<◌, ℕ, List, ◌∷◌, Some, None, cond, length, nat_eq, IfOk};
-ghost use Rattle.dn_types.specs.Clock.{call_limit};
+ghost use Rattle.std.specs.Prelude.{◌≡◌, ◌<◌, ◌≤◌, ◌∷◌, ◌++◌, [], List, Some, None, cond, drop, length, nat_eq, slice_index_or, IfOk, OnOk};
+ghost use Rattle.dn_types.specs.Replies.{reply};
 ghost use Rattle.dn_types.specs.declared.call.Call.{Call as CallValue};
-ghost use Rattle.dn_types.specs.declared.call.Call.TheVariants.{Submit as SubmitValue};
-ghost use Rattle.dn_types.specs.declared.reply.Reply.TheVariants.{NoTarget as NoTargetValue};
+ghost use Rattle.dn_types.specs.declared.call.Call.TheVariants.{Collect as CollectValue};
+ghost use Rattle.dn_types.specs.declared.reply.Reply.TheVariants.{Exhausted as ExhaustedValue, NoTarget as NoTargetValue};
 ghost use Rattle.dn_types.specs.declared.rule.Rule.TheVariants.{Ordered};
-ghost use Rattle.dn_laws.specs.MergeLaws.{told_in_replay};
+ghost use Rattle.dn_types.specs.Clock.{call_limit};
+ghost use Rattle.dn_types.specs.Configuration.{settings};
+ghost use Rattle.dn_types.specs.Flows.{treatment};
+ghost use Rattle.dn_laws.specs.Merges.{delivered, part_of_packet};
 ghost use Rattle.dn_laws.specs.Replays.{AreCommands};
-ghost use Rattle.dn_parts.specs.Divided.{HasRun, division_among, told_here};
+ghost use Rattle.dn_parts.specs.Divided.{division_among};
+ghost use Rattle.dn_parts.specs.Runs.{HasLeft, HasRun, RunsRow, RunsRows, given_in_part};
 ghost use Rattle.dn_shaper.specs.Shaper.{StandsAfter};
 
 use crate::division::{first_moment, later, part_of, submit_at};
+use dn_files::Row;
 use dn_shaper::Shaper;
-use dn_types::{Moment, Packet, Reply, Target};
-use std::alloc::AllocError;
+use dn_types::{Call, Delivery, Moment, Reply};
+use std::alloc::{AllocError, Global};
+use std::collections::VecDeque;
+use std::marker::Model;
 
 /// The run of one part of a replay: a shaper with the whole configuration, which is sent the packets on the part's links alone.
+///
+/// It keeps its replies until they are taken.
 #[derive(Drop)]
-pub struct PartRun {
+pub(crate) struct PartRun {
     shaper: Shaper,
     part: usize,
     parts: usize,
     /// The greatest moment of all packets so far, those of other parts too.
     clock: Moment,
-    ghost some_part: { 0 < parts },
+    told: VecDeque<Reply>,
 }
 
-/// What a packet without a target is told, which part 0 tells.
+impl Model for PartRun {
+    ghost use Rattle.std.specs.Prelude.{◌<◌};
+    ghost use Rattle.dn_parts.specs.Runs.{Run};
+
+    ghost Value = { Run };
+
+    ghost view = { λ r. record { parts = r.parts; part = r.part; shaper = r.shaper; clock = r.clock; left = r.told.items } };
+
+    ghost invariant = { λ r. 0 < r.parts };
+}
+
+/// The reply to a packet without a target, which part 0 gives.
 fn no_target(part: usize, at: Moment) -> Option<Reply>
     ensures { result ≡ cond (nat_eq 0 part) (Some (NoTargetValue at)) None }
 {
@@ -36,46 +56,113 @@ fn no_target(part: usize, at: Moment) -> Option<Reply>
     }
 }
 
+/// The deliveries of a Collect.
+fn given_by(alloc: Global, shaper: &mut Shaper, at: Moment) -> Result<Vec<Delivery>, AllocError>
+    ensures { IfOk result (λ given. (calls : List CallValue) → StandsAfter Ordered shaper.old calls →
+        given.items ≡ delivered (reply Ordered calls (CollectValue at))) }
+{
+    match shaper.apply(&Call::Collect(at))? {
+        Reply::Delivered { at: _, list } => Ok(list.into_vec()),
+        _ => Ok(Vec::new(alloc)),
+    }
+}
+
 impl PartRun {
     /// Of a shaper that was asked the commands of the replay alone.
-    pub fn new(shaper: Shaper, part: usize, parts: usize) -> PartRun
+    pub(crate) fn new(alloc: Global, shaper: Shaper, part: usize, parts: usize) -> PartRun
         requires { 0 < parts }
-        ensures { (calls : List CallValue) → AreCommands calls → StandsAfter Ordered shaper calls → HasRun parts part result.shaper result.clock calls }
+        ensures { (calls : List CallValue) → AreCommands calls → StandsAfter Ordered shaper calls → HasLeft parts part result calls [] }
     {
         let clock = first_moment();
+        let told = VecDeque::new(alloc);
         PartRun {
             shaper,
             part,
             parts,
             clock,
+            told,
         }
     }
 
-    /// What the next packet of the replay is told in this part, or None if it is another part's.
-    ///
-    /// After an error the replay has to be given up.
-    pub fn submit(
-        &mut self,
-        target: &Target,
-        packet: &Packet,
-        moment: Moment,
-    ) -> Result<Option<Reply>, AllocError>
-        ensures told { IfOk result (λ told. (calls : List CallValue) → HasRun self.old.parts self.old.part self.old.shaper self.old.clock calls → length calls < call_limit →
-            (told ≡ told_here self.old.part (told_in_replay Ordered (division_among self.old.parts) calls target.now packet.now moment))
-            × HasRun self.old.parts self.old.part self.new.shaper self.new.clock (SubmitValue target.now packet.now moment ∷ calls)) }
+    /// The part of a row's packet, of so many, which is part 0 if the packet has no target.
+    pub(crate) fn part_of_row(&self, row: &Row, parts: usize) -> usize
+        requires { 0 < parts }
+        ensures part { (calls : List CallValue) → HasRun self.now calls → length calls ≤ call_limit →
+            result ≡ part_of_packet (division_among parts) row.now.target row.now.packet.tuple (treatment (settings calls row.now.target)) }
+        ensures below { result < parts }
+    {
+        match self.shaper.flow_key(row.target, &row.packet) {
+            Some(key) => part_of(&key, parts),
+            None => 0,
+        }
+    }
+
+    /// The reply of this part to the next row of the replay, or None if the row is another part's.
+    fn submit(&mut self, row: &Row) -> Result<Option<Reply>, AllocError>
+        ensures told { IfOk result (λ told. RunsRow row.now self.old self.new told) }
         ensures part { self.new.part ≡ self.old.part }
         ensures parts { self.new.parts ≡ self.old.parts }
+        ensures left { self.new.left ≡ self.old.left }
     {
-        let at = later(self.clock, moment);
+        let at = later(self.clock, row.moment);
         self.clock = at;
-        let Some(key) = self.shaper.flow_key(*target, packet) else {
+        let Some(key) = self.shaper.flow_key(row.target, &row.packet) else {
             return Ok(no_target(self.part, at));
         };
         if part_of(&key, self.parts) != self.part {
             return Ok(None);
         }
-        let call = submit_at(target, packet, at);
+        let call = submit_at(&row.target, &row.packet, at);
         let reply = self.shaper.apply(&call)?;
         Ok(Some(reply))
+    }
+
+    /// Keeps a reply behind those that are left.
+    fn keep(&mut self, reply: Reply) -> Result<(), AllocError>
+        ensures { OnOk result (self.new ≡ record self.old { left = self.old.left ++ reply ∷ [] }) }
+    {
+        self.told.push_back(reply)?;
+        Ok(())
+    }
+
+    /// Submits the packet of a row, and keeps the reply of this part.
+    fn submit_row(&mut self, row: &Row) -> Result<(), AllocError>
+        ensures { OnOk result (RunsRows (row.now ∷ []) self.old self.new) }
+    {
+        let told = self.submit(row)?;
+        match told {
+            Some(reply) => self.keep(reply),
+            None => Ok(()),
+        }
+    }
+
+    /// Submits the packet of each row, and keeps the replies of this part.
+    pub(crate) fn submit_all(&mut self, rows: &[Row]) -> Result<(), AllocError>
+        ensures { OnOk result (RunsRows rows.now self.old self.new) }
+    {
+        for row in rows {
+            self.submit_row(row)?;
+        }
+        Ok(())
+    }
+
+    /// Takes the first reply that is left, or gives Exhausted if none is.
+    pub(crate) fn next_told(&mut self) -> Reply
+        ensures first { result ≡ slice_index_or self.old.left 0 ExhaustedValue }
+        ensures rest { self.new ≡ record self.old { left = drop 1 self.old.left } }
+    {
+        self.told.pop_front().unwrap_or(Reply::Exhausted)
+    }
+
+    /// The deliveries of the replay's last Collect in this part.
+    pub(crate) fn collect(
+        &mut self,
+        alloc: Global,
+        moment: Moment,
+    ) -> Result<Vec<Delivery>, AllocError>
+        ensures { IfOk result (λ given. (calls : List CallValue) → HasRun self.old calls → given.items ≡ given_in_part self.old calls moment) }
+    {
+        let at = later(self.clock, moment);
+        given_by(alloc, &mut self.shaper, at)
     }
 }

@@ -6,6 +6,8 @@ mod divided;
 #[cfg(test)]
 mod examples;
 #[cfg(test)]
+mod many_rows;
+#[cfg(test)]
 mod readme;
 #[cfg(test)]
 mod readme_parts;

@@ -1,27 +1,28 @@
 ghost use Rattle.std.specs.Prelude.{◌<◌, length};
 
+use dn_files::Row;
 use dn_parts::DividedShaper;
 use dn_shaper::Shaper;
 use dn_types::{Delivery, FiveTuple, Len, Moment, Number, Packet, Reply, Target};
 use std::alloc::Global;
 use std::test::Fail;
+use std::thread::Threads;
 
-fn sample(
+fn sample<R: Threads>(
+    rt: &R,
     alloc: Global,
     shapers: Vec<Shaper>,
-    target: Target,
-    packet: Packet,
-    moment: Moment,
+    rows: &[Row],
     last: Moment,
-) -> Result<(Reply, Vec<Delivery>), Fail>
+) -> Result<(Vec<Reply>, Vec<Delivery>), Fail>
     requires { 0 < length shapers.items }
 {
     // In the README of dn_parts, 1:
     let mut divided = DividedShaper::new(alloc, shapers)?; // each was asked the same commands
-    let reply = divided.submit(&target, &packet, moment)?;
+    let replies = divided.submit_rows(rt, alloc, rows)?; // each part by a thread of its own
     let given = divided.collect(alloc, last)?;
     // Up to here.
-    Ok((reply, given))
+    Ok((replies, given))
 }
 
 fn packet() -> Result<Packet, Fail> {
@@ -44,9 +45,13 @@ fn the_sample(rt: HostRuntime) -> Result<(), Fail> {
     let mut shapers = Vec::with_capacity(rt.alloc(), 1)?;
     shapers.push(Shaper::new(rt.alloc()))?;
     let at = Moment::new(5).ok_or("a moment")?;
-    let target = Target::Pipe(Number::new(1).ok_or("a number")?);
-    let (reply, given) = sample(rt.alloc(), shapers, target, packet()?, at, at)?;
-    assert!(rt; reply == Reply::NoTarget { at: 5 });
+    let row = Row {
+        moment: at,
+        target: Target::Pipe(Number::new(1).ok_or("a number")?),
+        packet: packet()?,
+    };
+    let (replies, given) = sample(&rt, rt.alloc(), shapers, &[row], at)?;
+    assert!(rt; replies.as_slice() == [Reply::NoTarget { at: 5 }].as_slice());
     assert!(rt; given.is_empty());
     Ok(())
 }

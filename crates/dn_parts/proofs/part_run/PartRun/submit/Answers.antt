@@ -1,41 +1,50 @@
-use Rattle.std.proofs.Common.{◌∙◌, ◌∷◌, ap, refl, subst, sym}
+use Rattle.std.proofs.Common.{◌≤◌, ◌∙◌, ◌∷◌, ap, length, subst, sym, arith}
+use Rattle.dn_types.specs.Clock.{call_limit}
 use Rattle.dn_types.specs.Replies.{reply}
 use Rattle.dn_types.specs.declared.call.Call.{Call}
 use Rattle.dn_types.specs.declared.rule.Rule.TheVariants.{Ordered}
 use Rattle.dn_laws.specs.Merges.{links_in}
 use Rattle.dn_laws.specs.Replays.{own_calls}
 use Rattle.dn_parts.specs.Divided.{division_among}
+use Rattle.dn_parts.specs.contracts.part_run.PartRun.{the_view}
 use Rattle.dn_parts.proofs.PartSteps.{run-none, run-other, run-own}
 use Rattle.dn_parts.proofs.Steps.{configured, is-none, not-configured, part-same}
 use Rattle.dn_parts.proofs.part_run.PartRun.submit.Goals as goal
 use Rattle.dn_shaper.specs.Shaper.{StandsAfter}
 
 pub returns-in_default-clause-told : goal.returns-in_default-clause-told
-returns-in_default-clause-told c = λ calls h few.
-    let run = c.args.self.now in
+returns-in_default-clause-told c = rw (← c.self.view_is)
+    (λ calls h few.
+    let run = the_view c.self.inside in
+    let row = c.args.row.now in
     let chosen = links_in (division_among run.parts) run.part in
-    let none = not-configured chosen calls c.args.target.now c.args.packet.now h.are few c.flow_key.result (c.flow_key.ensures Ordered (own_calls chosen calls) h.stands)
+    let le : length calls ≤ call_limit = omega (arith, few) in
+    let none = not-configured chosen calls row.target row.packet h.are le c.flow_key.result (c.flow_key.ensures Ordered (own_calls chosen calls) h.stands)
     (is-none c.flow_key.result c.in_default.not-Some) in
-    let step = run-none run.parts run.part run.shaper run.clock calls c.args.target.now c.args.packet.now c.args.moment h few c.later-at.result c.later-at.ensures none in
-    (c.no_target.ensures ∙ step.0, step.1)
+    let step = run-none run calls row h few c.later-at.result c.later-at.ensures none in
+    (c.no_target.ensures ∙ step.0, step.1))
 
 pub returns-then-part_of-self-clause-told : goal.returns-then-part_of-self-clause-told
-returns-then-part_of-self-clause-told c = λ calls h few.
-    let run = c.args.self.now in
+returns-then-part_of-self-clause-told c = rw (← c.self.view_is)
+    (λ calls h few.
+    let run = the_view c.self.inside in
+    let row = c.args.row.now in
     let chosen = links_in (division_among run.parts) run.part in
-    let key = configured chosen calls c.args.target.now c.args.packet.now h.are few c.flow_key.result (c.flow_key.ensures Ordered (own_calls chosen calls) h.stands) c.in-Some.key c.in-Some.is in
-    let part-is = sym (c.part_of.ensures.part ∙ part-same c.args.target.now c.args.packet.now.tuple key.0 c.in-Some.key run.parts run.parts key.2 refl) in
-    run-other run.parts run.part run.shaper run.clock calls c.args.target.now c.args.packet.now c.args.moment h few c.later-at.result c.later-at.ensures key.0 key.1 c.part_of.result part-is
-    c.if-part_of-self.true
+    let le : length calls ≤ call_limit = omega (arith, few) in
+    let key = configured chosen calls row.target row.packet h.are le c.flow_key.result (c.flow_key.ensures Ordered (own_calls chosen calls) h.stands) c.in-Some.key c.in-Some.is in
+    let part-is = sym (c.part_of.ensures.part ∙ part-same row.target row.packet.tuple key.0 c.in-Some.key run.parts key.2) in
+    run-other run calls row h few c.later-at.result c.later-at.ensures key.0 key.1 c.part_of.result part-is c.if-part_of-self.true)
 
 pub returns-clause-told : goal.returns-clause-told
-returns-clause-told c = λ calls h few.
-    let run = c.args.self.now in
+returns-clause-told c = rw (← c.self.view_is)
+    (λ calls h few.
+    let run = the_view c.self.inside in
+    let row = c.args.row.now in
     let chosen = links_in (division_among run.parts) run.part in
     let own = own_calls chosen calls in
-    let key = configured chosen calls c.args.target.now c.args.packet.now h.are few c.flow_key.result (c.flow_key.ensures Ordered own h.stands) c.in-Some.key c.in-Some.is in
-    let part-is = sym (c.part_of.ensures.part ∙ part-same c.args.target.now c.args.packet.now.tuple key.0 c.in-Some.key run.parts run.parts key.2 refl) in
+    let le : length calls ≤ call_limit = omega (arith, few) in
+    let key = configured chosen calls row.target row.packet h.are le c.flow_key.result (c.flow_key.ensures Ordered own h.stands) c.in-Some.key c.in-Some.is in
+    let part-is = sym (c.part_of.ensures.part ∙ part-same row.target row.packet.tuple key.0 c.in-Some.key run.parts key.2) in
     let step = c.in_ok-reply.ensures.ok Ordered own h.stands in
-    run-own run.parts run.part run.shaper run.clock calls c.args.target.now c.args.packet.now c.args.moment h few c.later-at.result c.later-at.ensures key.0 key.1 c.part_of.result part-is
-    c.in_ok-reply.reply c.apply.new.self c.if-part_of-self.false (step.0 ∙ ap (reply Ordered own) c.submit_at-call.ensures)
-    (subst (λ (q : Call). StandsAfter Ordered c.apply.new.self (q ∷ own)) c.submit_at-call.ensures step.1)
+    run-own run calls row h few c.later-at.result c.later-at.ensures key.0 key.1 c.part_of.result part-is c.in_ok-reply.reply c.apply.new.self c.if-part_of-self.false
+    (step.0 ∙ ap (reply Ordered own) c.submit_at-call.ensures) (subst (λ (q : Call). StandsAfter Ordered c.apply.new.self (q ∷ own)) c.submit_at-call.ensures step.1))
