@@ -18,6 +18,7 @@ use Rattle.dn_replay.specs.Configuring.{configured_by}
 use Rattle.dn_replay.specs.declared.replays.pass.Pass.{Pass}
 use Rattle.dn_replay.specs.declared.replays.stage.Stage.{Stage}
 use Rattle.dn_replay.specs.declared.replays.stage.Stage.TheVariants as at
+use Rattle.dn_replay.specs.Held.{has_entries}
 use Rattle.dn_replay.specs.OnePass.{calls_with, HasTaken, IsAnswered, IsCutAt}
 use Rattle.dn_replay.specs.InParts.{calls_asked, source_of}
 use Rattle.dn_replay.specs.Replays.{AskForWithin, calls_of_joined_within, calls_of_parts, calls_within, config_calls, EitherFailed, failed_read, IsAccepted, IsUnreplayed, read_of, TextFailed}
@@ -127,7 +128,7 @@ either_failed config config_failed failed sound accepted (Some what) h = rw h.0 
 
 -- A replay that has taken some text records its calls, or doesn't.
 pub records-taken : (stage : Stage) (records : Bool) (pass : Pass) (asked : List ℕ → Result (List Call) ReplayFault) (text : List ℕ) → HasTaken stage records pass asked text
-    → pass.records ≡ records
+    → has_entries pass.held ≡ records
 records-taken (at.Config part) records pass asked text taken = taken.0
 records-taken at.Packets records pass asked text taken = taken.2.records_is
 records-taken (at.Refused fault) records pass asked text taken = taken.0

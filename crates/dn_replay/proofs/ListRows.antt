@@ -2,11 +2,12 @@
 use Rattle.std.proofs.Common.{◌≡◌, ◌∙◌, sym, ap, subst, ℕ, ◌+◌, ◌<◌, Bool, List, [], ◌++◌, take, length, get_or, flat_map, append_assoc, append-nil}
 use Rattle.std.proofs.lemmas.List.{flat_map_more, take_more}
 use Rattle.dn_types.specs.declared.call.Call.{Call}
-use Rattle.dn_types.specs.declared.delivery.Delivery.{Delivery}
 use Rattle.dn_files.specs.declared.row.Row.{Row}
-use Rattle.dn_replay.specs.OnePass.{HasAnswered, HasFed, HasReady}
+use Rattle.dn_replay.specs.Held.{HasAnswered}
+use Rattle.dn_replay.specs.OnePass.{HasFed, HasReady}
 use Rattle.dn_replay.specs.Runs.{submitted}
 use Rattle.dn_replay.specs.declared.config.run.Run.{Run}
+use Rattle.dn_replay.specs.declared.replays.held.Held.{Held}
 use Rattle.dn_replay.specs.declared.replays.pass.Pass.{Pass}
 use Rattle.dn_replay.specs.declared.report.kept.Kept.{Kept}
 use Rattle.dn_replay.proofs.PassSteps.{last_rows}
@@ -18,11 +19,11 @@ module _ {T : Type 0} (rows : T → List Row) (lists : List T) (i : ℕ) (list :
       ap (λ (l : T). flat_map rows (take i lists) ++ rows l) is
       ∙ (flat_map_more rows [] (take i lists) (get_or lists i list) ∙ sym (ap (flat_map rows) (take_more lists i list here)))
 
-  pub answered_more : (records : Bool) (run : Run) (kept : Kept) (given : List Delivery) (calls : List Call)
-      → HasAnswered records run kept given (submitted (submitted calls (flat_map rows (take i lists))) (rows list))
-      → HasAnswered records run kept given (submitted calls (flat_map rows (take (i + 1) lists)))
-  answered_more records run kept given calls h =
-      subst (λ (rs : List Row). HasAnswered records run kept given (submitted calls rs)) list_more (last_rows records run kept given calls (flat_map rows (take i lists)) (rows list) h)
+  pub answered_more : (held : Held) (run : Run) (kept : Kept) (calls : List Call)
+      → HasAnswered held run kept (submitted (submitted calls (flat_map rows (take i lists))) (rows list))
+      → HasAnswered held run kept (submitted calls (flat_map rows (take (i + 1) lists)))
+  answered_more held run kept calls h =
+      subst (λ (rs : List Row). HasAnswered held run kept (submitted calls rs)) list_more (last_rows held run kept calls (flat_map rows (take i lists)) (rows list) h)
 
 -- Three parts of a text, one after the other.
 three_parts : (text first chunk last : List ℕ) → ((text ++ first) ++ chunk) ++ last ≡ text ++ (first ++ (chunk ++ last))

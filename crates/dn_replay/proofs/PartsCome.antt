@@ -3,9 +3,9 @@ use Rattle.std.proofs.Common.{◌≡◌, refl, subst, sym, ℕ, ◌+◌, ◌-◌
 use Rattle.dn_types.specs.declared.call.Call.{Call}
 use Rattle.dn_text.specs.Joined.{joined_parts}
 use Rattle.dn_files.specs.declared.replay_fault.ReplayFault.{ReplayFault}
-use Rattle.dn_files.specs.declared.replay_fault.ReplayFault.TheVariants.{OutOfMemory}
 use Rattle.dn_files.specs.declared.source.Source.TheVariants.{Input, Packets}
 use Rattle.dn_replay.specs.Configuring.{configured_by}
+use Rattle.dn_replay.specs.Held.{has_entries}
 use Rattle.dn_replay.specs.InParts.{CanGoOn, Coming, HasCome, IsLimit}
 use Rattle.dn_replay.specs.OnePass.{AreFew, calls_with, HasTaken, IsConfigSoFar, IsFresh}
 use Rattle.dn_replay.specs.Replays.{calls_of_parts, config_calls}
@@ -19,7 +19,7 @@ use Rattle.dn_replay.proofs.FewCalls.{few-asked}
 use Rattle.dn_replay.proofs.InputSteps.{asked_within, joined_asks, packets_ask, records-taken}
 use Rattle.dn_replay.proofs.PassSteps.{fed-first}
 
-pub joined_begins : (records : Bool) (part : ConfigPart) (pass : Pass) (limit : ℕ) → IsLimit limit → pass.records ≡ records → IsConfigSoFar part [] → IsFresh pass
+pub joined_begins : (records : Bool) (part : ConfigPart) (pass : Pass) (limit : ℕ) → IsLimit limit → has_entries pass.held ≡ records → IsConfigSoFar part [] → IsFresh pass
     → HasCome records (record { stage = at.Config part; pass = pass; source = Input; limit = limit; length = 0 }) None []
 joined_begins records part pass limit small is so_far fresh = record {
   records_is = is;
@@ -32,7 +32,7 @@ joined_begins records part pass limit small is so_far fresh = record {
   taken = (is, fresh, so_far, λ whole. refl);
 }
 
-pub behind_begins : (records : Bool) (pass : Pass) (run : Run) (limit : ℕ) (config : List ℕ) (calls : List Call) → IsLimit limit → pass.records ≡ records → IsFresh pass
+pub behind_begins : (records : Bool) (pass : Pass) (run : Run) (limit : ℕ) (config : List ℕ) (calls : List Call) → IsLimit limit → has_entries pass.held ≡ records → IsFresh pass
     → configured_by config ≡ Ok calls → config_calls config ≡ Ok calls → HasMade run calls
     → HasCome records (record { stage = at.Packets; pass = record pass { run = run }; source = Packets; limit = limit; length = 0 }) (Some config) []
 behind_begins records pass run limit config calls small is fresh configured accepted made = record {
@@ -76,25 +76,6 @@ goes_on old stage pass part is fits more (records, config, text, come) = (
   config,
   text ++ part,
   comes records old stage pass config text part fits (λ asked taken. more records asked text (subst (λ s. HasTaken s records old.pass asked text) (sym is) taken)) come,
-)
-
--- A part was refused memory, so that the whole is.
-pub spoiled : (old : Coming) (stage : Stage) (pass : Pass) → stage ≡ at.Refused OutOfMemory → CanGoOn old
-    → CanGoOn (record { stage = stage; pass = pass; source = old.source; limit = old.limit; length = old.length })
-spoiled old stage pass is (records, config, text, come) = (
-  pass.records,
-  config,
-  text,
-  record {
-    records_is = refl;
-    source_is = come.source_is;
-    size = come.size;
-    short = come.short;
-    few = come.few;
-    asked = come.asked;
-    asks = come.asks;
-    taken = rw is (refl, λ more. tt);
-  },
 )
 
 -- What has come asks for few calls.

@@ -1,6 +1,7 @@
 -- One part more of a packets' text, and its end.
 use Rattle.std.proofs.Common.{◌≡◌, ◌∙◌, ◌^◌, ◌<◌, ℕ, suc, arith, length, Bool, true, false, List, [], ◌∷◌, ◌++◌, Option, Result, Ok, Err, refl, sym, ap, subst}
 use Rattle.std.specs.Io.KnownBytes.{Appends}
+use Rattle.std.proofs.lemmas.Bool.{false≢true}
 use Rattle.dn_types.specs.Clock.{call_limit}
 use Rattle.dn_types.specs.Replies.{reply}
 use Rattle.dn_types.specs.declared.call.Call.{Call}
@@ -20,11 +21,14 @@ use Rattle.dn_files.specs.declared.source.Source.TheVariants.{Report}
 use Rattle.dn_files.proofs.Inputs.{carried}
 use Rattle.dn_replay.specs.Kept.{all_untargeted, CanReport, HasKept}
 use Rattle.dn_replay.specs.Configuring.{configured_by}
-use Rattle.dn_replay.specs.OnePass.{AreFew, calls_with, HasAnswered, HasEnded, HasFed, HasNoted, IsAnswered, IsFresh, NoneFailed}
+use Rattle.dn_replay.specs.Held.{CanPass, Collects, given_of, has_entries, HasAnswered, HasMadeLast, HasNoted, IsUnheld, PassesBy}
+use Rattle.dn_replay.specs.OnePass.{AreFew, calls_with, HasFed, IsAnswered, IsFresh, NoneFailed}
 use Rattle.dn_replay.specs.Replays.{IsUnreplayed}
 use Rattle.dn_replay.specs.Report.{delivered, report}
 use Rattle.dn_replay.specs.Runs.{entry_after, HasMade, history_of, replayed, submit, submitted}
 use Rattle.dn_replay.specs.declared.config.run.Run.{Run}
+use Rattle.dn_replay.specs.declared.replays.held.Held.{Held}
+use Rattle.dn_replay.specs.declared.replays.held.Held.TheVariants.{Entries, Given}
 use Rattle.dn_replay.specs.declared.replays.pass.Pass.{Pass}
 use Rattle.dn_replay.specs.declared.report.kept.Kept.{Kept}
 use Rattle.dn_replay.proofs.KeptCalls.{kept-configuration}
@@ -38,63 +42,70 @@ unfolding submitted
 submitted-both calls [] rows = refl
 submitted-both calls (row ∷ front) rows = submitted-both (submit row ∷ calls) front rows
 
-module _ (records : Bool) (run : Run) (kept : Kept) (given : List Delivery) (calls : List Call) where
-  pub one_row : (rows : List Row) (row : Row) → HasAnswered records run kept given (submit row ∷ submitted calls rows) → HasAnswered records run kept given (submitted calls (rows ++ row ∷ []))
-  one_row rows row h = subst (λ (all : List Call). HasAnswered records run kept given all) (sym (submitted-append calls rows row)) h
+module _ (held : Held) (run : Run) (kept : Kept) (calls : List Call) where
+  pub one_row : (rows : List Row) (row : Row) → HasAnswered held run kept (submit row ∷ submitted calls rows) → HasAnswered held run kept (submitted calls (rows ++ row ∷ []))
+  one_row rows row h = subst (HasAnswered held run kept) (sym (submitted-append calls rows row)) h
 
-  pub last_rows : (front rows : List Row) → HasAnswered records run kept given (submitted (submitted calls front) rows) → HasAnswered records run kept given (submitted calls (front ++ rows))
-  last_rows front rows h = subst (λ (all : List Call). HasAnswered records run kept given all) (submitted-both calls front rows) h
+  pub last_rows : (front rows : List Row) → HasAnswered held run kept (submitted (submitted calls front) rows) → HasAnswered held run kept (submitted calls (front ++ rows))
+  last_rows front rows h = subst (HasAnswered held run kept) (submitted-both calls front rows) h
 
 -- Before the first row no Collect was made.
-answered-first : (records : Bool) (run : Run) (kept : Kept) (given : List Delivery) (calls : List Call) → HasMade run calls → HasKept kept calls → given ≡ []
-    → HasAnswered records run kept given (submitted calls [])
+answered-first : (held : Held) (run : Run) (kept : Kept) (calls : List Call) → HasMade run calls → HasKept kept calls → given_of held ≡ [] → HasAnswered held run kept (submitted calls [])
 unfolding submitted
-answered-first true run kept given calls made has none = (made, has)
-answered-first false run kept given calls made has none = record {
+answered-first Entries run kept calls made has none = (made, has)
+answered-first (Given given) run kept calls made has none = record {
   made = calls;
   stands = made.0;
   few = omega arith;
-  passed = λ few. rw none (passed-none calls);
+  passed = λ few. let nothing : given.items ≡ [] = none in rw nothing (passed-none calls);
   kept_is = λ few. has;
 }
 
 -- A pass has made the commands of a configuration, and was given no packets.
-pub fed-first : (records : Bool) (pass : Pass) (run : Run) (config : List ℕ) (calls : List Call) → pass.records ≡ records → IsFresh pass → configured_by config ≡ Ok calls → HasMade run calls
+pub fed-first : (records : Bool) (pass : Pass) (run : Run) (config : List ℕ) (calls : List Call) → has_entries pass.held ≡ records → IsFresh pass → configured_by config ≡ Ok calls → HasMade run calls
     → HasFed records (record pass { run = run }) calls []
 fed-first records pass run config calls is fresh accepted made = record {
   records_is = is;
   rows = [];
   read = fresh.read;
-  answered = answered-first records run pass.kept pass.given.items calls made (kept-configuration pass.kept config calls accepted fresh.kept) fresh.given;
+  answered = answered-first pass.held run pass.kept calls made (kept-configuration pass.kept config calls accepted fresh.kept) fresh.given;
 }
 
--- A Submit more, and what is kept of its answer.
-module _ (shaper : State) (kept : Kept) (given : List Delivery) (calls : List Call) (row : Row) (old : HasNoted shaper kept given calls) (r : Reply) (said : r ≡ reply Ordered old.made (submit row))
+-- A Submit more, to which the shaper gave this answer, and whose row is kept.
+module _ (run : Run) (kept : Kept) (calls : List Call) (row : Row) (now : State) (r : Reply)
+    (answers : (made : List Call) → StandsAfter Ordered run.shaper made → (r ≡ reply Ordered made (submit row)) × StandsAfter Ordered now (submit row ∷ made))
     (after : Kept) (note : HasKept kept calls → r ≡ reply Ordered calls (submit row) → HasKept after (submit row ∷ calls)) where
-  pub noted-submit : (now : State) → StandsAfter Ordered now (submit row ∷ old.made) → HasNoted now after given (submit row ∷ calls)
-  noted-submit now stands = record {
-    made = submit row ∷ old.made;
-    stands = stands;
-    few = let so_far = old.few in omega (arith, so_far);
-    passed = λ few. passed-submit old.made calls given (old.passed (omega (arith, few))) row.target row.packet row.moment;
-    kept_is = λ few. note (old.kept_is (omega (arith, few)))
-        (said ∙ same-submit old.made calls given (old.passed (omega (arith, few))) row.target row.packet row.moment (omega (arith, few)));
-  }
+  noted-submit : (given : List Delivery) → HasNoted run.shaper kept given calls → CanPass now after given (submit row ∷ calls)
+  noted-submit given old =
+      let (said, stands) = answers old.made old.stands in
+      let so_far = old.few in (
+        record {
+          made = submit row ∷ old.made;
+          stands = stands;
+          few = omega (arith, so_far);
+          passed = λ few. passed-submit old.made calls given (old.passed (omega (arith, few))) row.target row.packet row.moment;
+          kept_is = λ few. note (old.kept_is (omega (arith, few)))
+              (said ∙ same-submit old.made calls given (old.passed (omega (arith, few))) row.target row.packet row.moment (omega (arith, few)));
+        },
+        omega (arith, so_far),
+      )
 
-  -- The same, and a Collect in passing after it.
-  pub noted-passing : (now : State) (all : List Delivery) → StandsAfter Ordered now (Collect 0 ∷ submit row ∷ old.made) → all ≡ given ++ delivered (reply Ordered (submit row ∷ old.made) (Collect 0))
-      → HasNoted now after all (submit row ∷ calls)
-  noted-passing now all stands gives = record {
-    made = Collect 0 ∷ submit row ∷ old.made;
-    stands = stands;
-    few = let so_far = old.few in omega (arith, so_far);
-    passed = λ few.
-        let so_far = passed-submit old.made calls given (old.passed (omega (arith, few))) row.target row.packet row.moment in
-        rw (gives ∙ ap (λ (ds : List Delivery). given ++ ds) (same-collect (submit row ∷ old.made) (omega (arith, few))))
-        (passed-collect (submit row ∷ old.made) (submit row ∷ calls) given so_far);
-    kept_is = λ few. note (old.kept_is (omega (arith, few)))
-        (said ∙ same-submit old.made calls given (old.passed (omega (arith, few))) row.target row.packet row.moment (omega (arith, few)));
-  }
+  pub unheld : (held : Held) → HasAnswered held run kept calls → IsUnheld held (record run { shaper = now }) after (submit row) r calls
+  unheld Entries (made, has) = let (said, stands) = answers calls made.0 in (stands, made.1, said, note has said)
+  unheld (Given given) noted = noted-submit given.items noted
+
+-- A Collect in passing more.
+pub passes : (old new : State) (before after : List Delivery) → Collects 0 old before new after → PassesBy old before new after
+passes old new before after collects kept calls (noted, room) =
+    let (stands, gives) = collects noted.made noted.stands in
+    record {
+      made = Collect 0 ∷ noted.made;
+      stands = stands;
+      few = omega (arith, room);
+      passed = λ few.
+          rw (gives ∙ ap (λ (ds : List Delivery). before ++ ds) (same-collect noted.made (omega (arith, few)))) (passed-collect noted.made calls before (noted.passed (omega (arith, few))));
+      kept_is = λ few. noted.kept_is (omega (arith, few));
+    }
 
 -- What is kept, and what all Collects gave, are what a report needs, where the calls are few.
 pub can_report : (shaper : State) (kept : Kept) (given all : List Delivery) (calls : List Call) (noted : HasNoted shaper kept given calls)
@@ -113,10 +124,10 @@ pub can_report_recorded : (kept : Kept) (given : List Delivery) (calls : List Ca
 unfolding history_of
 can_report_recorded kept given calls entries has is gives = record { kept_is = has; given_is = gives (history_of calls) (entry_after calls (Collect (2 ^ 62))) is }
 
--- Where the calls are recorded, the history is theirs.
-pub recorded : (records : Bool) (pass : Pass) (calls : List Call) → HasEnded records pass calls → records ≡ true → pass.run.history.items ≡ history_of (Collect (2 ^ 62) ∷ calls)
-recorded true pass calls ended e = ended.made.0.1
-recorded false pass calls ended e = absurd cc
+-- If the calls are recorded, the history is theirs.
+pub recorded : (held : Held) (run : Run) (kept : Kept) (calls : List Call) → HasMadeLast held run kept calls → has_entries held ≡ true → run.history.items ≡ history_of (Collect (2 ^ 62) ∷ calls)
+recorded Entries run kept calls made on = made.0.1
+recorded (Given given) run kept calls made on = absurd (false≢true on)
 
 -- The rows of a packets' text are few, where the calls are that are asked for.
 pub few_rows : (calls : List Call) (text : List ℕ) (rows : List Row) → rows_of text ≡ Ok rows → AreFew (calls_with calls text) → length (submitted calls rows) < 2 ^ 61

@@ -1,39 +1,27 @@
 -- The steps of a replay in one pass: what holds behind each, of whatever text had come before it.
-use Rattle.std.specs.Prelude.{◌≡◌, ◌<◌, ◌^◌, ℕ, Bool, List, ◌∷◌, ◌++◌, length, Option, Result}
-use Rattle.dn_types.specs.Replies.{reply}
+use Rattle.std.specs.Prelude.{◌≡◌, ℕ, Bool, List, ◌++◌, Option, Result}
 use Rattle.dn_types.specs.declared.call.Call.{Call}
-use Rattle.dn_types.specs.declared.call.Call.TheVariants.{Collect}
-use Rattle.dn_types.specs.declared.delivery.Delivery.{Delivery}
 use Rattle.dn_types.specs.declared.entry.Entry.{Entry}
-use Rattle.dn_types.specs.declared.rule.Rule.TheVariants.{Ordered}
-use Rattle.dn_shaper.specs.Shaper.{StandsAfter}
-use Rattle.dn_shaper.specs.declared.state.State.{State}
 use Rattle.dn_text.specs.Joined.{joined_parts}
 use Rattle.dn_files.specs.InChunks.{HasRows}
 use Rattle.dn_files.specs.PacketParts.{HasRead}
 use Rattle.dn_files.specs.Unread.{Unread}
 use Rattle.dn_files.specs.declared.replay_fault.ReplayFault.{ReplayFault}
 use Rattle.dn_files.specs.declared.row.Row.{Row}
-use Rattle.dn_replay.specs.OnePass.{AreFew, calls_with, HasAnswered, HasEnded, HasFed, HasReady, HasTaken, IsAnswered, IsConfigSoFar, IsCutAt, NoneFailed}
+use Rattle.dn_replay.specs.Held.{GoesOn, has_entries}
+use Rattle.dn_replay.specs.OnePass.{AreFew, calls_with, HasFed, HasReady, HasTaken, IsAnswered, IsConfigSoFar, IsCutAt, NoneFailed}
 use Rattle.dn_replay.specs.Replays.{IsUnreplayed}
-use Rattle.dn_replay.specs.Report.{delivered}
 use Rattle.dn_replay.specs.Runs.{submitted}
 use Rattle.dn_replay.specs.declared.config.config_part.ConfigPart.{ConfigPart}
 use Rattle.dn_replay.specs.declared.config.run.Run.{Run}
+use Rattle.dn_replay.specs.declared.replays.held.Held.{Held}
 use Rattle.dn_replay.specs.declared.replays.pass.Pass.{Pass}
 use Rattle.dn_replay.specs.declared.replays.stage.Stage.{Stage}
 use Rattle.dn_replay.specs.declared.report.kept.Kept.{Kept}
 
--- A Collect was made behind whatever calls a shaper was asked, and what it gave was added to what was given before.
-abbrev pub Collects : ℕ → State → List Delivery → State → List Delivery → Type 0
-Collects moment old before new after = (calls : List Call) → StandsAfter Ordered old calls →
-    StandsAfter Ordered new (Collect moment ∷ calls)
-    × (after ≡ before ++ delivered (reply Ordered calls (Collect moment)))
-
 -- The packets of these rows were submitted behind whatever calls were made.
-abbrev pub Submits : List Row → Bool → Run → Kept → List Delivery → Run → Kept → List Delivery → Type 0
-Submits rows records run kept given run_after kept_after given_after = (calls : List Call) → HasAnswered records run kept given calls
-    → HasAnswered records run_after kept_after given_after (submitted calls rows)
+abbrev pub Submits : List Row → Held → Run → Kept → Held → Run → Kept → Type 0
+Submits rows = GoesOn (λ calls. submitted calls rows)
 
 -- A reader has taken a chunk more, whatever it is that has these rows.
 abbrev pub PassesOver : List Row → Unread → Unread → Type 0
@@ -71,10 +59,6 @@ abbrev pub TakesStep : List ℕ → Pass → List Row → Pass → List Row → 
 TakesStep part old ready new next = (records : Bool) (calls : List Call) (text : List ℕ)
     → HasReady records old calls text ready → HasReady records new calls (text ++ part) next
 
--- The last Collect was made behind whatever calls a pass has made, if they are few.
-abbrev pub Ends : Pass → Pass → Type 0
-Ends old new = (calls : List Call) → HasAnswered old.records old.run old.kept old.given.items calls → length calls < 2 ^ 61 → HasEnded old.records new calls
-
 -- What a pass was fed, and is the whole text, was answered. If it wasn't, why not.
 abbrev pub AnswersFed : Pass → List Entry → Bool → Option (List ℕ) → Option (List ℕ) → Type 0
 AnswersFed pass entries untargeted old new = Fed pass (λ records calls text. AreFew (calls_with calls text)
@@ -96,7 +80,7 @@ TakesPart part stage old next new = Taken stage old (λ records asked text. HasT
 -- Whatever text is cut into this configuration and these first bytes of packets has come.
 abbrev pub TakesConfig : List ℕ → List ℕ → Pass → Stage → Pass → Type 0
 TakesConfig config packets old stage new = (asked : List ℕ → Result (List Call) ReplayFault) (text : List ℕ)
-    → IsCutAt asked text config packets → HasTaken stage old.records new asked text
+    → IsCutAt asked text config packets → HasTaken stage (has_entries old.held) new asked text
 
 -- What has come, and is the whole text, was answered. If it wasn't, why not.
 abbrev pub AnswersTaken : Stage → Pass → List Entry → Bool → Option (List ℕ) → Option (List ℕ) → Type 0

@@ -7,6 +7,7 @@ use Rattle.dn_files.specs.declared.replay_fault.ReplayFault.{ReplayFault}
 use Rattle.dn_files.specs.declared.replay_fault.ReplayFault.TheVariants.{OutOfMemory, TooLong}
 use Rattle.dn_files.specs.declared.source.Source.{Source}
 use Rattle.dn_files.specs.declared.source.Source.TheVariants.{Input, Packets}
+use Rattle.dn_replay.specs.Held.{has_entries}
 use Rattle.dn_replay.specs.OnePass.{HasTaken, IsAnswered, NoneFailed}
 use Rattle.dn_replay.specs.Replays.{AskForWithin, calls_of_joined_within, calls_within, IsUnreplayed, TextFailed}
 use Rattle.dn_replay.specs.declared.replays.manner.Manner.{Manner}
@@ -45,7 +46,7 @@ pub record Coming : Type 0 where
 
 -- This text has come of the packets behind a configuration, or of a joined input, and each call is kept with its reply, or isn't.
 pub record HasCome (records : Bool) (replay : Coming) (config : Option (List ℕ)) (text : List ℕ) : Type 0 where
-  pub records_is : replay.pass.records ≡ records
+  pub records_is : has_entries replay.pass.held ≡ records
   pub source_is : replay.source ≡ source_of config
   pub size : replay.length ≡ length text
   pub short : length text ≤ replay.limit

@@ -2,6 +2,7 @@ pub mod CallerReplays
 pub mod Callers
 pub mod Configuring
 pub mod Feeding
+pub mod Held
 pub mod InParts
 pub mod Kept
 pub mod KeptReports

@@ -1,15 +1,10 @@
 -- A replay in one pass: what has been made and kept of an input whose parts have come so far.
-use Rattle.std.specs.Prelude.{◌≡◌, ◌==◌, ◌||◌, ◌++◌, ◌∷◌, ◌<◌, ◌≤◌, ◌*◌, ◌^◌, bytes_eq, codes, length, ℕ, Bool, true, false, List, [], Option, None, Result, Ok, IfOk, All}
+use Rattle.std.specs.Prelude.{◌≡◌, ◌==◌, ◌||◌, ◌++◌, ◌<◌, ◌^◌, bytes_eq, codes, length, ℕ, Bool, true, false, List, [], Option, None, Result, Ok, IfOk, All}
 use Rattle.std.specs.Io.KnownBytes.{Appends}
-use Rattle.dn_types.specs.Clock.{call_limit}
 use Rattle.dn_types.specs.History.{IsLawful}
 use Rattle.dn_types.specs.declared.call.Call.{Call}
-use Rattle.dn_types.specs.declared.call.Call.TheVariants.{Collect}
-use Rattle.dn_types.specs.declared.delivery.Delivery.{Delivery}
 use Rattle.dn_types.specs.declared.entry.Entry.{Entry}
 use Rattle.dn_types.specs.declared.rule.Rule.TheVariants.{Ordered}
-use Rattle.dn_shaper.specs.Shaper.{StandsAfter}
-use Rattle.dn_shaper.specs.declared.state.State.{State}
 use Rattle.dn_text.specs.Joined.{joined_parts, parts_from}
 use Rattle.dn_files.specs.PacketFile.{rows_of}
 use Rattle.dn_files.specs.PacketParts.{HasRead}
@@ -17,16 +12,14 @@ use Rattle.dn_files.specs.Reading.{◌>>=◌, IsFaultOf}
 use Rattle.dn_files.specs.declared.replay_fault.ReplayFault.{ReplayFault}
 use Rattle.dn_files.specs.declared.row.Row.{Row}
 use Rattle.dn_files.specs.declared.source.Source.{Source}
-use Rattle.dn_replay.specs.Kept.{all_untargeted, CanReport, HasKept}
-use Rattle.dn_replay.specs.Passing.{HasPassed}
+use Rattle.dn_replay.specs.Held.{given_of, has_entries, HasAnswered, HasMadeLast}
+use Rattle.dn_replay.specs.Kept.{all_untargeted, HasKept}
 use Rattle.dn_replay.specs.Replays.{calls_of_parts, IsReplayed}
 use Rattle.dn_replay.specs.Report.{report}
 use Rattle.dn_replay.specs.Runs.{HasMade, history_of, replayed, submitted}
-use Rattle.dn_replay.specs.declared.config.run.Run.{Run}
 use Rattle.dn_replay.specs.declared.config.config_part.ConfigPart.{ConfigPart}
 use Rattle.dn_replay.specs.declared.replays.pass.Pass.{Pass}
 use Rattle.dn_replay.specs.declared.replays.stage.Stage.{Stage}
-use Rattle.dn_replay.specs.declared.report.kept.Kept.{Kept}
 use Rattle.dn_replay.specs.declared.replays.stage.Stage.TheVariants.{Config, Packets, Refused}
 
 -- There are calls that are asked for, and the report of their history, which is lawful, was written. It is told whether no row has a target.
@@ -51,53 +44,32 @@ calls_with calls text = rows_of text >>= λ rows. Ok (replayed calls rows)
 abbrev pub AreFew : Result (List Call) ReplayFault → Type 0
 AreFew asked = IfOk asked (λ calls. length calls < 2 ^ 61)
 
--- A shaper was asked these calls and Collects in passing, which are no more than the calls. As long as all count, what a report needs
--- of its answers to the calls is kept, and so is what the Collects gave.
-pub record HasNoted (shaper : State) (kept : Kept) (given : List Delivery) (calls : List Call) : Type 0 where
-  pub made : List Call
-  pub stands : StandsAfter Ordered shaper made
-  pub few : length made ≤ 2 * length calls
-  pub passed : length made ≤ call_limit → HasPassed made calls given
-  pub kept_is : length made ≤ call_limit → HasKept kept calls
-
--- A run has made these calls, and what a report needs of their answers is kept. Where they are recorded, its history is theirs;
--- elsewhere packets were collected in passing.
-abbrev pub HasAnswered : Bool → Run → Kept → List Delivery → List Call → Type 0
-HasAnswered true run kept given calls = HasMade run calls × HasKept kept calls
-HasAnswered false run kept given calls = HasNoted run.shaper kept given calls
-
 -- A pass has made no call and read nothing.
 pub record IsFresh (pass : Pass) : Type 0 where
   pub made : HasMade pass.run []
   pub kept : HasKept pass.kept []
-  pub given : pass.given.items ≡ []
+  pub given : given_of pass.held ≡ []
   pub read : HasRead pass.reader [] []
 
 -- A pass that records its calls, or doesn't, has made these and, of the packets' text that has come so far, the Submits of the rows that
 -- it took.
 pub record HasFed (records : Bool) (pass : Pass) (calls : List Call) (text : List ℕ) : Type 0 where
-  pub records_is : pass.records ≡ records
+  pub records_is : has_entries pass.held ≡ records
   pub rows : List Row
   pub read : HasRead pass.reader text rows
-  pub answered : HasAnswered records pass.run pass.kept pass.given.items (submitted calls rows)
+  pub answered : HasAnswered pass.held pass.run pass.kept (submitted calls rows)
 
 -- The same, but the last rows of that text were read and aren't submitted yet.
 pub record HasReady (records : Bool) (pass : Pass) (calls : List Call) (text : List ℕ) (ready : List Row) : Type 0 where
-  pub records_is : pass.records ≡ records
+  pub records_is : has_entries pass.held ≡ records
   pub rows : List Row
   pub read : HasRead pass.reader text (rows ++ ready)
-  pub answered : HasAnswered records pass.run pass.kept pass.given.items (submitted calls rows)
+  pub answered : HasAnswered pass.held pass.run pass.kept (submitted calls rows)
 
--- A pass has made these calls and then the Collect at the last moment, so that their report can be written. Where they are recorded, its
--- history is that of all.
-abbrev pub HasMadeLast : Bool → Pass → List Call → Type 0
-HasMadeLast true pass calls = HasMade pass.run (Collect (2 ^ 62) ∷ calls) × HasKept pass.kept calls
-HasMadeLast false pass calls = CanReport pass.kept pass.given.items calls
-
--- The same of a pass that records its calls, or doesn't.
+-- A pass that records its calls, or doesn't, has made these and then the Collect at the last moment.
 pub record HasEnded (records : Bool) (pass : Pass) (calls : List Call) : Type 0 where
-  pub records_is : pass.records ≡ records
-  pub made : HasMadeLast records pass calls
+  pub records_is : has_entries pass.held ≡ records
+  pub made : HasMadeLast pass.held pass.run pass.kept calls
 
 -- It has done so behind these calls and the Submits of all rows of a packets' text.
 abbrev pub HasEndedWith : Bool → Pass → List Call → List ℕ → Type 0
@@ -128,10 +100,10 @@ IsCutAt asked text config packets = (more : List ℕ) → asked (text ++ more) �
 -- configuration's lines have come; or its calls were made, and packets' text has come; or it has this fault, whatever comes.
 abbrev pub HasTaken : Stage → Bool → Pass → (List ℕ → Result (List Call) ReplayFault) → List ℕ → Type 0
 HasTaken (Config part) records pass asked text =
-    (pass.records ≡ records) × IsFresh pass × IsConfigSoFar part text × ((whole : List ℕ) → asked whole ≡ calls_of_parts (joined_parts whole))
+    (has_entries pass.held ≡ records) × IsFresh pass × IsConfigSoFar part text × ((whole : List ℕ) → asked whole ≡ calls_of_parts (joined_parts whole))
 HasTaken Packets records pass asked text =
     (calls : List Call) × (packets : List ℕ) × HasFed records pass calls packets × ((more : List ℕ) → asked (text ++ more) ≡ calls_with calls (packets ++ more))
-HasTaken (Refused fault) records pass asked text = (pass.records ≡ records) × ((more : List ℕ) → IsFaultOf (asked (text ++ more)) fault)
+HasTaken (Refused fault) records pass asked text = (has_entries pass.held ≡ records) × ((more : List ℕ) → IsFaultOf (asked (text ++ more)) fault)
 
 -- Some text has come.
 abbrev pub CanTake : Stage → Pass → Type 0

@@ -5,6 +5,7 @@
 mod by_threads;
 mod chunks;
 mod file_replay;
+mod held;
 mod inlets;
 mod manner;
 mod pass;

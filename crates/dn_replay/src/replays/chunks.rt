@@ -5,10 +5,10 @@ ghost use Rattle.dn_files.specs.InChunks.{HasRows};
 ghost use Rattle.dn_replay.specs.Feeding.{FeedsPart, PassesOver, ReadiesPart, Submits, SubmitsReady, TakesStep};
 
 use crate::config::run::Run;
+use crate::replays::held::Held;
 use crate::replays::pass::{Pass, submit_rows};
 use crate::report::Kept;
 use dn_files::{PacketReader, Row, rows_of_chunk_by_threads};
-use dn_types::Delivery;
 use std::alloc::{AllocError, Global};
 use std::thread::{Threads, join_mut};
 
@@ -53,14 +53,13 @@ fn rows_in(lists: &[Vec<Row>]) -> Option<usize>
 fn submit_lists(
     run: &mut Run,
     kept: &mut Kept,
-    given: &mut Vec<Delivery>,
-    records: bool,
+    held: &mut Held,
     lists: &[Vec<Row>],
 ) -> Result<(), AllocError>
-    ensures { OnOk result (Submits (flat_map (λ l. l.items) lists.now) records run.old kept.old given.old.items run.new kept.new given.new.items) }
+    ensures { OnOk result (Submits (flat_map (λ l. l.items) lists.now) held.old run.old kept.old held.new run.new kept.new) }
 {
     for list in lists {
-        submit_rows(run, kept, given, records, list.as_slice())?;
+        submit_rows(run, kept, held, list.as_slice())?;
     }
     Ok(())
 }
@@ -118,13 +117,7 @@ impl Pass {
     fn submit_ready(&mut self, ready: &[Vec<Row>]) -> Result<(), AllocError>
         ensures { OnOk result (SubmitsReady self.old (flat_map (λ l. l.items) ready.now) self.new) }
     {
-        submit_lists(
-            &mut self.run,
-            &mut self.kept,
-            &mut self.given,
-            self.records,
-            ready,
-        )
+        submit_lists(&mut self.run, &mut self.kept, &mut self.held, ready)
     }
 
     /// Takes a chunk by one thread, so that no row is ready.
@@ -218,8 +211,7 @@ impl Pass {
         submit_lists(
             &mut self.run,
             &mut self.kept,
-            &mut self.given,
-            self.records,
+            &mut self.held,
             lists.as_slice(),
         )
     }

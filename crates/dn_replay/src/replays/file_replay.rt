@@ -3,6 +3,7 @@ ghost use Rattle.dn_types.specs.declared.call.Call.{Call as CallValue};
 ghost use Rattle.dn_files.specs.Reading.{IsFaultOf, IsRefusal};
 ghost use Rattle.dn_files.specs.Writing.{NothingWritten};
 ghost use Rattle.dn_files.specs.declared.replay_fault.ReplayFault.TheVariants.{OutOfMemory};
+ghost use Rattle.dn_replay.specs.Held.{has_entries};
 ghost use Rattle.dn_replay.specs.InParts.{AskedOf, calls_asked, HasCome, IsLimit, IsUnfed, LacksMemory, source_of, AnswersCome, CanGoOn, ComesMore, ComesWhole, Coming, First, IsFaultBehind, LeavesCome};
 ghost use Rattle.dn_replay.specs.Replays.{config_calls};
 
@@ -152,7 +153,7 @@ impl FileReplay {
     pub fn finish<O: Outlet>(self, out: &mut O) -> Result<(Vec<Entry>, Outcome), ReplayFault>
         requires sound { O.has_failed out.old ≡ false }
         ensures ok { IfOk result (λ both. AnswersCome self both.0.items both.1.untargeted (O.contents out.old) (O.contents out.new)) }
-        ensures unasked { IfOk result (λ both. self.pass.records ≡ false → both.0.items ≡ []) }
+        ensures unasked { IfOk result (λ both. has_entries self.pass.held ≡ false → both.0.items ≡ []) }
         ensures sound { IfOk result (λ _. O.has_failed out.new ≡ false) }
         ensures err { IfErr result (λ fault. LeavesCome self (O.contents out.old) (O.contents out.new) (O.has_failed out.new) fault) }
         ensures lacks { LacksMemory self
@@ -169,7 +170,7 @@ impl FileReplay {
     ) -> Result<(Vec<Entry>, Outcome), ReplayFault>
         requires sound { O.has_failed out.old ≡ false }
         ensures ok { IfOk result (λ both. AnswersCome self both.0.items both.1.untargeted (O.contents out.old) (O.contents out.new)) }
-        ensures unasked { IfOk result (λ both. self.pass.records ≡ false → both.0.items ≡ []) }
+        ensures unasked { IfOk result (λ both. has_entries self.pass.held ≡ false → both.0.items ≡ []) }
         ensures sound { IfOk result (λ _. O.has_failed out.new ≡ false) }
         ensures err { IfErr result (λ fault. LeavesCome self (O.contents out.old) (O.contents out.new) (O.has_failed out.new) fault) }
         ensures lacks { LacksMemory self

@@ -8,6 +8,7 @@ pub struct Manner {
     /// Whether each call is kept with its reply, and the history is returned.
     ///
     /// If not, what is kept of a packet is what its line says.
+    // A pass makes its `Held` of it, and asks that from then on.
     pub records: bool,
     /// How many bytes the packets, or a joined input, have at most: up to 2^40. The usual limit is `PACKET_LIMIT`.
     pub limit: usize,

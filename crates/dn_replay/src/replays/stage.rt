@@ -3,6 +3,7 @@ ghost use Rattle.dn_types.specs.declared.call.Call.{Call as CallValue};
 ghost use Rattle.dn_files.specs.Reading.{IsFaultOf};
 ghost use Rattle.dn_files.specs.Writing.{NothingWritten};
 ghost use Rattle.dn_files.specs.declared.replay_fault.ReplayFault.{ReplayFault as FaultValue};
+ghost use Rattle.dn_replay.specs.Held.{has_entries};
 ghost use Rattle.dn_replay.specs.OnePass.{AreFew, CanTake, HasTaken, HasTakenAll, IsFresh};
 ghost use Rattle.dn_replay.specs.declared.replays.stage.Stage.TheVariants.{Refused as RefusedValue};
 ghost use Rattle.dn_replay.specs.Feeding.{AnswersTaken, LeavesTaken, Taken, TakesConfig, TakesPart};
@@ -108,7 +109,7 @@ impl Stage {
             × HasTaken self records pass.old asked text × AreFew (asked text) }
         requires sound { O.has_failed out.old ≡ false }
         ensures ok { IfOk result (λ both. AnswersTaken self pass.old both.0.items both.1.untargeted (O.contents out.old) (O.contents out.new)) }
-        ensures unasked { IfOk result (λ both. pass.old.records ≡ false → both.0.items ≡ []) }
+        ensures unasked { IfOk result (λ both. has_entries pass.old.held ≡ false → both.0.items ≡ []) }
         ensures sound { IfOk result (λ _. O.has_failed out.new ≡ false) }
         ensures err { IfErr result (λ fault. LeavesTaken self pass.old (O.contents out.old) (O.contents out.new) (O.has_failed out.new) fault) }
         ensures refused { (fault : FaultValue) → self ≡ RefusedValue fault

@@ -1,5 +1,6 @@
 use Rattle.std.proofs.Common.{◌≡◌, ◌∙◌, ap, sym}
 use Rattle.std.proofs.lemmas.Result.{IfErr-weaker, IfOk-weaker}
+use Rattle.dn_replay.specs.Held.{has_entries}
 use Rattle.dn_replay.specs.InParts.{calls_asked, Coming}
 use Rattle.dn_replay.specs.OnePass.{NoneFailed}
 use Rattle.dn_replay.proofs.InputSteps.{answered_through, asked_within, unanswered_through}
@@ -20,7 +21,7 @@ returns-clause-ok g c =
 
 pub returns-clause-unasked : goal.returns-clause-unasked
 returns-clause-unasked g c =
-    let same = ap (λ (replay : Coming). replay.pass.records) c.self.view_is in
+    let same = ap (λ (replay : Coming). has_entries replay.pass.held) c.self.view_is in
     IfOk-weaker c.finish-answer.result _ _ (λ both none unasked. none (same ∙ unasked)) c.finish-answer.ensures.unasked
 
 pub returns-clause-err : goal.returns-clause-err

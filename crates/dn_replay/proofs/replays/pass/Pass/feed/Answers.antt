@@ -1,4 +1,4 @@
-use Rattle.std.proofs.Common.{[], ◌∷◌, ◌++◌}
+use Rattle.std.proofs.Common.{◌∙◌, [], ◌∷◌, ◌++◌}
 use Rattle.dn_replay.specs.Runs.{submitted}
 use Rattle.dn_replay.proofs.PassSteps.{one_row}
 use Rattle.dn_replay.proofs.replays.pass.Pass.feed.Goals as goal
@@ -9,12 +9,12 @@ loop-init c = λ records calls text fed. record { records_is = fed.records_is; r
 pub loop-preserved : goal.loop-preserved
 loop-preserved c = λ records calls text fed.
     let so_far = c.loop.invariant records calls text fed in
-    let one = rw so_far.records_is at c.in_ok-submit_row-in-Some.ensures in
+    let (same, more) = c.in_ok-submit_row-in-Some.ensures (submitted calls so_far.rows) so_far.answered in
     record {
-      records_is = so_far.records_is;
+      records_is = same ∙ so_far.records_is;
       rows = so_far.rows ++ c.in-Some.row ∷ [];
       read = c.in-Some.ensures.rows (text ++ c.args.part.now) so_far.rows so_far.read;
-      answered = one_row records c.submit_row.new.run c.submit_row.new.kept c.submit_row.new.given.items calls so_far.rows c.in-Some.row (one (submitted calls so_far.rows) so_far.answered);
+      answered = one_row c.submit_row.new.held c.submit_row.new.run c.submit_row.new.kept calls so_far.rows c.in-Some.row more;
     }
 
 pub returns-in-None : goal.returns-in-None

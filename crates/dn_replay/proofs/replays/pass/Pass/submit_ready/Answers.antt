@@ -1,4 +1,4 @@
-use Rattle.std.proofs.Common.{◌++◌, flat_map}
+use Rattle.std.proofs.Common.{◌∙◌, ◌++◌, flat_map}
 use Rattle.std.proofs.lemmas.Result.{on_ok_weaker}
 use Rattle.dn_replay.specs.Runs.{submitted}
 use Rattle.dn_replay.proofs.PassSteps.{last_rows}
@@ -8,10 +8,10 @@ pub returns : goal.returns
 returns c =
     let rows = flat_map (λ l. l.items) c.args.ready.now in
     on_ok_weaker c.submit_lists.result (λ added records calls text ready.
-    let answered = rw ready.records_is at added in
+    let (same, more) = added (submitted calls ready.rows) ready.answered in
     record {
-      records_is = ready.records_is;
+      records_is = same ∙ ready.records_is;
       rows = ready.rows ++ rows;
       read = ready.read;
-      answered = last_rows records c.submit_lists.new.run c.submit_lists.new.kept c.submit_lists.new.given.items calls ready.rows rows (answered (submitted calls ready.rows) ready.answered);
+      answered = last_rows c.submit_lists.new.held c.submit_lists.new.run c.submit_lists.new.kept calls ready.rows rows more;
     }) c.submit_lists.ensures

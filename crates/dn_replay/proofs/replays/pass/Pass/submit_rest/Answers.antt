@@ -1,4 +1,4 @@
-use Rattle.std.proofs.Common.{◌++◌}
+use Rattle.std.proofs.Common.{◌∙◌, ◌++◌}
 use Rattle.std.proofs.lemmas.Result.{err_from_is_err_and}
 use Rattle.dn_replay.specs.Runs.{submitted}
 use Rattle.dn_replay.proofs.PassSteps.{few_rows, last_rows, refused_rows}
@@ -13,8 +13,8 @@ pub returns-clause-ok : goal.returns-clause-ok
 returns-clause-ok c = λ records calls text fed few.
     let rows = fed.rows ++ c.in_ok-rows.rows.items in
     let is = c.in_ok-rows.ensures.ok text fed.rows fed.read in
-    let submitted_all = rw (fed.records_is, c.as_slice.ensures.value) at c.in-Ok.ensures in
-    let answered = last_rows records c.submit_rows.new.run c.submit_rows.new.kept c.submit_rows.new.given.items calls fed.rows c.in_ok-rows.rows.items
-    (submitted_all (submitted calls fed.rows) fed.answered) in
-    let ended = rw fed.records_is at c.in-Ok-collect_rest.ensures in
-    (rows, is, ended (submitted calls rows) answered (few_rows calls text rows is few))
+    let submitted_all = rw c.as_slice.ensures.value at c.in-Ok.ensures in
+    let (same, more) = submitted_all (submitted calls fed.rows) fed.answered in
+    let answered = last_rows c.submit_rows.new.held c.submit_rows.new.run c.submit_rows.new.kept calls fed.rows c.in_ok-rows.rows.items more in
+    let (still, made) = c.in-Ok-collect_rest.ensures c.submit_rows.new.kept (submitted calls rows) answered (few_rows calls text rows is few) in
+    (rows, is, record { records_is = still ∙ (same ∙ fed.records_is); made = made })

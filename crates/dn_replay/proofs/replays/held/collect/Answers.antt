@@ -2,7 +2,7 @@ use Rattle.std.proofs.Common.{◌∙◌, ◌++◌, List, ap}
 use Rattle.dn_types.specs.declared.delivery.Delivery.{Delivery}
 use Rattle.dn_types.specs.declared.rule.Rule.TheVariants.{Ordered}
 use Rattle.dn_replay.specs.Report.{delivered}
-use Rattle.dn_replay.proofs.replays.pass.collect.Goals as goal
+use Rattle.dn_replay.proofs.replays.held.collect.Goals as goal
 
 pub returns : goal.returns
 returns c = λ calls stands.
