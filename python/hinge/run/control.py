@@ -107,14 +107,17 @@ class Control:
         except Wrong as wrong:
             told = {"refused": str(wrong)}
         text = json.dumps(told).encode() + b"\n"
-        if room:
-            socket.send_fds(client, [text], room.doors)
-        else:
-            client.sendall(text)
+        try:
+            if room:
+                socket.send_fds(client, [text], room.doors)
+            else:
+                client.sendall(text)
+        finally:
+            if "end" in asked and "enter" not in asked:
+                os.kill(os.getpid(), signal.SIGTERM)  # after the reply, which the process may not outlive
 
     def answer(self, asked: Record) -> Record:
         if "end" in asked:
-            os.kill(os.getpid(), signal.SIGTERM)
             return {"ended": True}
         return {"told": self.change(str(asked["change"]))} if "change" in asked else {"status": self.status()}
 
