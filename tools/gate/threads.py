@@ -31,6 +31,15 @@ SOME_THREADS = (2, 5)
 USAGE = 2
 HEADER = "moment,target,number,src,dst,proto,sport,dport,len,word\n"
 CONFIG = "".join(f"pipe {n} config bw {n}Mbit/s delay {n}ms queue {2 * n} plr 0.05\n" for n in range(1, 6))
+LINKS = """\
+pipe 1 config bw 1Mbit/s delay 3ms queue 20 mask dst-port 0x3 src-ip 0xff
+pipe 2 config bw 3Mbit/s delay 1ms queue 10 plr 0.05
+pipe 3 config bw 2Mbit/s queue 12
+pipe 4 config bw 8Mbit/s delay 9ms
+queue 5 config pipe 4 weight 3 queue 9 mask src-port 0xf
+queue 1 config pipe 4 weight 1 queue 15Kbytes plr 0.01
+queue 2 config pipe 3
+"""
 ROWS = 75_000  # 5 MB: some steps for two threads, and some threads without the option
 
 
@@ -49,8 +58,9 @@ class History(NamedTuple):
 
 
 def rows(random: Random) -> list[str]:
-    """Plain rows, some of a pipe that isn't configured."""
-    return [f"{20_000 * i},pipe,{random.randint(1, 6)},10.0.0.{random.randint(1, 9)},10.0.1.1,17,"
+    """Plain rows, some of a pipe or a queue that isn't configured, and some earlier than the row before."""
+    return [f"{max(0, 20_000 * i - random.choice((0, 0, 0, 90_000)))},{random.choice(('pipe', 'pipe', 'queue'))},"
+            f"{random.randint(1, 6)},10.0.0.{random.randint(1, 9)},10.0.1.1,17,"
             f"{random.randrange(65_536)},9,{random.randint(40, 1500)},{random.getrandbits(32)}" for i in range(ROWS)]
 
 
@@ -90,11 +100,11 @@ def outcome(program: str, place: Path, words: list[str]) -> tuple[int, bytes, by
     return done.returncode, done.stdout, done.stderr, history.read_bytes()
 
 
-def try_long(tally: Tally, program: str, seed: str) -> None:
+def try_long(tally: Tally, program: str, seed: str, name: str, config: str) -> None:
     for packets in long_files(Random(seed)):
         with TemporaryDirectory() as folder:
             place = Path(folder)
-            (place / "config").write_text(CONFIG)
+            (place / "config").write_text(config)
             (place / "packets").write_bytes(packets.text.encode())
             for words, counts in (([], THREADS), (["--history", "history"], SOME_THREADS)):
                 one = outcome(program, place, [*words, "--threads", "1"])
@@ -102,7 +112,7 @@ def try_long(tally: Tally, program: str, seed: str) -> None:
                     many = outcome(program, place, [*words, *option])
                     wrong = [first_difference(a, b) for a, b in zip(one[1:], many[1:]) if a != b]
                     wrong += [] if one[0] == many[0] else [f"status: want {one[0]}, got {many[0]}"]
-                    tally.note(" ".join([packets.name, *words, *option]), *wrong)
+                    tally.note(" ".join([name, packets.name, *words, *option]), *wrong)
 
 
 def replayed(program: str, random: Random) -> str:
@@ -210,7 +220,8 @@ def main(program: str, seed: str, count: str) -> int:
     print(f"seed {seed}", flush=True)
     tally = Tally()
     try_cases(tally, os.path.abspath(program), seed, count)
-    try_long(tally, os.path.abspath(program), seed)
+    for name, config in (("five pipes", CONFIG), ("flows and queues", LINKS)):
+        try_long(tally, os.path.abspath(program), seed, name, config)
     try_audits(tally, os.path.abspath(program), seed)
     return tally.end()
 

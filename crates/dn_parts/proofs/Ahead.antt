@@ -20,6 +20,7 @@ use Rattle.dn_files.specs.declared.row.Row.{Row}
 use Rattle.dn_merge.specs.Numbers.{AllNumbers, HasNumbered}
 use Rattle.dn_parts.specs.Divided.{division_among, told_here}
 use Rattle.dn_parts.specs.Emulated.{Emulated, IsAhead}
+use Rattle.dn_parts.specs.Passing.{passing_limit}
 use Rattle.dn_parts.specs.Rows.{part_tells, row_told, submit, submitted}
 use Rattle.dn_parts.specs.Runs.{AreRun, HasLeft, HasRun, Run, RunsRows}
 use Rattle.dn_parts.proofs.PartSteps.{other-left}
@@ -72,7 +73,7 @@ begun-ahead parts emulated calls run none are = record {
 
 -- ---- Rows that each part has run
 
-left-behind : (parts part : ℕ) (old new : Run) (calls : List Call) (rows : List Row) → HasLeft parts part old calls [] → RunsRows rows old new → length calls + length rows ≤ call_limit
+left-behind : (parts part : ℕ) (old new : Run) (calls : List Call) (rows : List Row) → HasLeft parts part old calls [] → RunsRows rows old new → length calls + length rows ≤ passing_limit
     → HasLeft parts part new calls rows
 left-behind parts part old new calls rows h runs few =
     let step = runs.runs calls (subst (λ (l : List Call). HasRun old l) (no-row calls) h.has_run) few in
@@ -84,7 +85,7 @@ left-behind parts part old new calls rows h runs few =
       left_is = step.1 ∙ (λ i. none i ++ part_tells (h.parts_is i) (h.part_is i) calls rows);
     }
 
-pub all-behind : (parts : ℕ) (old new : List Run) (calls : List Call) (rows : List Row) → AreRun parts old calls [] → AllZip (RunsRows rows) old new → length calls + length rows ≤ call_limit
+pub all-behind : (parts : ℕ) (old new : List Run) (calls : List Call) (rows : List Row) → AreRun parts old calls [] → AllZip (RunsRows rows) old new → length calls + length rows ≤ passing_limit
     → AreRun parts new calls rows
 all-behind parts old new calls rows h runs few =
     let same = length_all_zip (RunsRows rows) old new runs in
@@ -146,7 +147,7 @@ module _ (parts part : ℕ) (run : Run) (calls : List Call) (row : Row) (rest : 
       }
 
 module _ (parts : ℕ) (runs : List Run) (numbers : AllNumbers) (calls : List Call) (row : Row) (rest : List Row) (h : IsAhead parts (record { runs = runs; numbers = numbers }) calls (row ∷ rest))
-    (few : length calls + length (row ∷ rest) ≤ call_limit) (part : ℕ) (in-runs : part < length runs) (is : (row_told parts calls row).part ≡ part) where
+    (few : length calls + length (row ∷ rest) ≤ passing_limit) (part : ℕ) (in-runs : part < length runs) (is : (row_told parts calls row).part ≡ part) where
   -- The run's first reply was taken, and has its numbers among all.
   pub took-next : (run after : Run) (r all : Reply) (new : AllNumbers) → run ≡ get_or runs part run → r ≡ get_or run.left 0 Exhausted → after ≡ record run { left = drop 1 run.left }
       → Takes part r all numbers new

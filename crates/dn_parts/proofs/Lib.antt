@@ -1,5 +1,9 @@
+pub mod Accepting
 pub mod Ahead
 pub mod PartSteps
+pub mod PassingCalls
+pub mod PassingTraffic
+pub mod Past
 pub mod RowStep
 pub mod Rows
 pub mod Steps

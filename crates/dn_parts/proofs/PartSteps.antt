@@ -8,6 +8,7 @@ use Rattle.dn_types.specs.Flows.{Treatment, key_of, treatment}
 use Rattle.dn_types.specs.Replies.{reply}
 use Rattle.dn_types.specs.declared.call.Call.{Call}
 use Rattle.dn_types.specs.declared.call.Call.TheVariants.{Submit}
+use Rattle.dn_types.specs.declared.delivery.Delivery.{Delivery}
 use Rattle.dn_types.specs.declared.reply.Reply.{Reply}
 use Rattle.dn_types.specs.declared.reply.Reply.TheVariants.{NoTarget}
 use Rattle.dn_types.specs.declared.rule.Rule.TheVariants.{Ordered}
@@ -15,22 +16,24 @@ use Rattle.dn_laws.specs.Merges.{Division, Told, links_in, part_of_flow}
 use Rattle.dn_laws.specs.Replays.{AreCommands, own_calls}
 use Rattle.dn_files.specs.declared.row.Row.{Row}
 use Rattle.dn_parts.specs.Divided.{division_among, told_here}
+use Rattle.dn_parts.specs.Passing.{StandsPast, passing_limit}
 use Rattle.dn_parts.specs.Rows.{part_tells, row_told, submit, submitted}
 use Rattle.dn_parts.specs.Runs.{HasLeft, HasRun, Run, RunsRow, RunsRows}
+use Rattle.dn_parts.proofs.Past.{past-first}
 use Rattle.dn_parts.proofs.RowStep.{commands-clock, commands-own, commands-packets, none-part, none-told, not-equal, own-here, own-none, own-there, some-part}
 use Rattle.dn_parts.proofs.Rows.{no-row, one-row, submitted-both, submitted-length, tells-both, tells-none, tells-one}
 use Rattle.dn_shaper.specs.Shaper.{StandsAfter}
 use Rattle.dn_shaper.specs.declared.state.State.{State}
 
 -- After the commands alone nothing is left.
-pub run-begun : (parts part : ℕ) (shaper : State) (clock : ℕ) (left : List Reply) (calls : List Call) → clock ≡ 0 → left ≡ [] → AreCommands calls → StandsAfter Ordered shaper calls
-    → HasLeft parts part (record { parts = parts; part = part; shaper = shaper; clock = clock; left = left }) calls []
-run-begun parts part shaper clock left calls zero none are stands =
-    let run : Run = record { parts = parts; part = part; shaper = shaper; clock = clock; left = left } in
+pub run-begun : (parts part : ℕ) (shaper : State) (clock : ℕ) (left : List Reply) (given : List Delivery) (calls : List Call) → clock ≡ 0 → left ≡ [] → given ≡ [] → AreCommands calls
+    → StandsAfter Ordered shaper calls → HasLeft parts part (record { parts = parts; part = part; shaper = shaper; clock = clock; left = left; given = given }) calls []
+run-begun parts part shaper clock left given calls zero none nothing are stands =
+    let run : Run = record { parts = parts; part = part; shaper = shaper; clock = clock; left = left; given = given } in
     let has : HasRun run calls = record {
       are = commands-packets calls are;
       clock_is = zero ∙ sym (commands-clock calls are);
-      stands = subst (λ (l : List Call). StandsAfter Ordered shaper l) (sym (commands-own (links_in (division_among parts) part) calls are)) stands;
+      stands = subst (λ (l : List Call). StandsPast shaper l given) (sym (commands-own (links_in (division_among parts) part) calls are)) (past-first shaper calls given nothing stands);
     } in
     record {
       parts_is = refl;
@@ -61,7 +64,7 @@ module _ (run : Run) (calls : List Call) (row : Row) (h : HasRun run calls) (few
         record {
           are = h.are;
           clock_is = at-same;
-          stands = subst (λ (l : List Call). StandsAfter Ordered run.shaper l) (sym (own-none Ordered division calls row.target row.packet row.moment h.are few none run.part)) h.stands;
+          stands = subst (λ (l : List Call). StandsPast run.shaper l run.given) (sym (own-none Ordered division calls row.target row.packet row.moment h.are few none run.part)) h.stands;
         },
       )
 
@@ -76,16 +79,16 @@ module _ (run : Run) (calls : List Call) (row : Row) (h : HasRun run calls) (few
       record {
         are = h.are;
         clock_is = at-same;
-        stands = subst (λ (l : List Call). StandsAfter Ordered run.shaper l)
+        stands = subst (λ (l : List Call). StandsPast run.shaper l run.given)
             (sym (own-there Ordered division calls row.target row.packet row.moment h.are few how some run.part (λ e. ne (sym to-is ∙ e)))) h.stands;
       },
     )
 
     -- A packet of the part.
-    pub run-own : (r : Reply) (new : State) → to ≡ run.part → r ≡ reply Ordered (own_calls (links_in division run.part) calls) (Submit row.target row.packet at)
-        → StandsAfter Ordered new (Submit row.target row.packet at ∷ own_calls (links_in division run.part) calls)
-        → (Some r ≡ told_here run.part own) × HasRun (record run { clock = at; shaper = new }) (submit row ∷ calls)
-    run-own r new e r-is stands =
+    pub run-own : (r : Reply) (new : State) (given : List Delivery) → to ≡ run.part → r ≡ reply Ordered (own_calls (links_in division run.part) calls) (Submit row.target row.packet at)
+        → StandsPast new (Submit row.target row.packet at ∷ own_calls (links_in division run.part) calls) given
+        → (Some r ≡ told_here run.part own) × HasRun (record run { clock = at; shaper = new; given = given }) (submit row ∷ calls)
+    run-own r new given e r-is stands =
         let here : part_of_flow division row.target (key_of row.target row.packet.tuple how) ≡ run.part = to-is ∙ e in
         let of-part : own.part ≡ run.part = own-part ∙ e in
         let told : r ≡ own.reply = r-is ∙ (λ i. reply Ordered (own_calls (links_in division (sym of-part i)) calls) (Submit row.target row.packet (at-same i))) in
@@ -96,8 +99,8 @@ module _ (run : Run) (calls : List Call) (row : Row) (h : HasRun run calls) (few
           record {
             are = h.are;
             clock_is = at-same;
-            stands = subst (λ (l : List Call). StandsAfter Ordered new l) (sym grown)
-                (subst (λ (m : ℕ). StandsAfter Ordered new (Submit row.target row.packet m ∷ own_calls (links_in division run.part) calls)) at-same stands);
+            stands = subst (λ (l : List Call). StandsPast new l given) (sym grown)
+                (subst (λ (m : ℕ). StandsPast new (Submit row.target row.packet m ∷ own_calls (links_in division run.part) calls) given) at-same stands);
           },
         )
 
@@ -124,7 +127,7 @@ rows-one row old mid told left part parts same runs is = record {
   part = part;
   parts = parts;
   runs = λ calls h few.
-      let lt : length calls < call_limit = omega (arith, few) in
+      let lt : length calls < passing_limit = omega (arith, few) in
       let step = runs calls h lt in (
         subst (λ (l : List Call). HasRun (record mid { left = left }) l) (sym (one-row calls row)) (other-left mid left (submit row ∷ calls) step.1),
         is ∙ (λ i. same i ++ option_to_list (step.0 i)) ∙ ap (λ (l : List Reply). old.left ++ l) (sym (tells-one old.parts old.part calls row)),

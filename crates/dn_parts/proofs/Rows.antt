@@ -1,7 +1,6 @@
 -- Rows that follow calls, one behind the other.
 use Rattle.std.proofs.Common.{◌≡◌, ◌∙◌, ◌+◌, ◌<◌, ◌≤◌, ℕ, suc, List, [], ◌∷◌, ◌++◌, append-nil, append_assoc, ap, get_or, length, option_to_list, refl, sym, take, arith}
 use Rattle.std.proofs.lemmas.List.{take_more}
-use Rattle.dn_types.specs.Clock.{call_limit}
 use Rattle.dn_types.specs.Configuration.{settings}
 use Rattle.dn_types.specs.Replies.{reply}
 use Rattle.dn_types.specs.declared.call.Call.{Call}
@@ -10,6 +9,7 @@ use Rattle.dn_types.specs.declared.target.Target.{Target}
 use Rattle.dn_laws.specs.Replays.{ArePackets}
 use Rattle.dn_files.specs.declared.row.Row.{Row}
 use Rattle.dn_parts.specs.Divided.{told_here}
+use Rattle.dn_parts.specs.Passing.{passing_limit}
 use Rattle.dn_parts.specs.Rows.{part_tells, row_told, submit, submitted, told_to}
 
 -- No row, and one.
@@ -65,7 +65,7 @@ submitted-length calls (row ∷ rows) =
     let turned : suc (length calls) + length rows ≡ length calls + suc (length rows) = omega arith in
     submitted-length (submit row ∷ calls) rows ∙ turned
 
-pub submitted-few : (calls : List Call) (rows : List Row) → length calls + length rows ≤ call_limit → length (submitted calls rows) ≤ call_limit
+pub submitted-few : (calls : List Call) (rows : List Row) → length calls + length rows ≤ passing_limit → length (submitted calls rows) ≤ passing_limit
 submitted-few calls rows few = let made = submitted-length calls rows in omega (arith, made, few)
 
 pub submitted-settings : (calls : List Call) (rows : List Row) (target : Target) → settings (submitted calls rows) target ≡ settings calls target

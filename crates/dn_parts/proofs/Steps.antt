@@ -26,10 +26,13 @@ use Rattle.dn_files.specs.declared.row.Row.{Row}
 use Rattle.dn_merge.specs.Numbers.{AllNumbers, AreAllCounted, HasNumbered, list_at}
 use Rattle.dn_merge.specs.Parts.{AreGivenInParts, IsAmong}
 use Rattle.dn_parts.specs.Divided.{division_among}
+use Rattle.dn_parts.specs.Passing.{StandsPast, passing_limit}
 use Rattle.dn_parts.specs.Rows.{row_told, submit}
 use Rattle.dn_parts.specs.Runs.{AreRun, GivesInParts, HasRun, Run}
+use Rattle.dn_parts.proofs.Past.{past-counts, past-settings}
 use Rattle.dn_parts.proofs.RowStep.{counted-then, own-length, own-settings, told-in-all}
 use Rattle.dn_parts.proofs.Rows.{no-row}
+use Rattle.dn_shaper.specs.declared.state.State.{State}
 use Rattle.dn_shaper.proofs.Counting.{all-count}
 
 -- No more is told than calls are made.
@@ -84,12 +87,13 @@ some-mapped : {A B : Type 0} (f : A → B) (o : Option A) (y : B) → Some y ≡
 some-mapped f None y e = absurd cc
 some-mapped f (Some x) y e = let same : f x ≡ y = cc in (x, refl, same)
 
-module _ (chosen : Choice) (calls : List Call) (target : Target) (packet : Packet) (are : ArePackets calls) (few : length calls ≤ call_limit) (found : Option FlowKey)
-    (is : found ≡ option_map (key_of target packet.tuple) (treatment (settings (counted (own_calls chosen calls)) target))) where
+module _ (chosen : Choice) (calls : List Call) (target : Target) (packet : Packet) (are : ArePackets calls) {shaper : State} {given : List Delivery} (past : StandsPast shaper (own_calls chosen calls) given)
+    (few : length calls ≤ passing_limit) (found : Option FlowKey) (is : found ≡ option_map (key_of target packet.tuple) (treatment (settings (counted past.made) target))) where
   key-found : found ≡ option_map (key_of target packet.tuple) (treatment (settings calls target))
   key-found =
       let le = own-length chosen calls in
-      is ∙ ap (λ l. option_map (key_of target packet.tuple) (treatment (settings l target))) (all-count (own_calls chosen calls) (omega (arith, le, few)))
+      is ∙ ap (λ l. option_map (key_of target packet.tuple) (treatment (settings l target))) (all-count past.made (past-counts shaper (own_calls chosen calls) given past (omega (arith, le, few))))
+      ∙ ap (λ o. option_map (key_of target packet.tuple) (treatment o)) (past-settings shaper (own_calls chosen calls) given past target)
       ∙ ap (λ o. option_map (key_of target packet.tuple) (treatment o)) (own-settings chosen calls target are)
 
   pub not-configured : found ≡ None → treatment (settings calls target) ≡ None
@@ -113,13 +117,13 @@ any-of (x ∷ xs) h = x
 
 -- What the Collects of the parts give, by the calls of all.
 pub given-parts : (parts : ℕ) (runs : List Run) (moment : ℕ) (calls : List Call) (lists : List (List Delivery)) → AreRun parts runs calls [] → 0 < length runs
-    → GivesInParts moment runs lists → AreGivenInParts Ordered (division_among parts) calls moment lists
-given-parts parts runs moment calls lists h some gives = λ part lt.
+    → length calls < passing_limit → GivesInParts moment runs lists → AreGivenInParts Ordered (division_among parts) calls moment lists
+given-parts parts runs moment calls lists h some few gives = λ part lt.
     let many = gives.many in
     let in-runs : part < length runs = omega (arith, many, lt) in
     let d = any-of runs some in
     let run = h.each part d in-runs in
-    gives.each part d calls in-runs (subst (λ (l : List Call). HasRun (get_or runs part d) l) (no-row calls) run.has_run)
+    gives.each part d calls in-runs (subst (λ (l : List Call). HasRun (get_or runs part d) l) (no-row calls) run.has_run) few
     ∙ (λ i. delivered (reply Ordered (own_calls (links_in (division_among (run.parts_is i)) (run.part_is i)) calls) (Collect (max (effective_moment calls) moment))))
 
 -- One list more, by one part more.

@@ -1,6 +1,5 @@
 -- A replay that is emulated in parts: how far the parts have run, and which of their replies were taken.
 use Rattle.std.specs.Prelude.{◌≡◌, ℕ, ◌+◌, ◌≤◌, List, [], ◌++◌, length}
-use Rattle.dn_types.specs.Clock.{call_limit}
 use Rattle.dn_types.specs.declared.call.Call.{Call}
 use Rattle.dn_types.specs.declared.reply.Reply.{Reply}
 use Rattle.dn_types.specs.declared.rule.Rule.TheVariants.{Ordered}
@@ -9,6 +8,7 @@ use Rattle.dn_laws.specs.Merges.{told_by}
 use Rattle.dn_files.specs.declared.row.Row.{Row}
 use Rattle.dn_merge.specs.Numbers.{AllNumbers, HasNumbered}
 use Rattle.dn_parts.specs.Divided.{division_among}
+use Rattle.dn_parts.specs.Passing.{passing_limit}
 use Rattle.dn_parts.specs.Rows.{submitted, told_to}
 use Rattle.dn_parts.specs.Runs.{AreRun, Run}
 
@@ -29,5 +29,5 @@ HasEmulated parts emulated calls = IsAhead parts emulated calls []
 
 -- The replies to the first rows that are left were taken, with the numbers among all. One dummynet gives the same.
 abbrev pub TakesReplies : List Row → Emulated → Emulated → List Reply → Type 0
-TakesReplies rows old new replies = (parts : ℕ) (calls : List Call) (rest : List Row) → IsAhead parts old calls (rows ++ rest) → length calls + length (rows ++ rest) ≤ call_limit →
+TakesReplies rows old new replies = (parts : ℕ) (calls : List Call) (rest : List Row) → IsAhead parts old calls (rows ++ rest) → length calls + length (rows ++ rest) ≤ passing_limit →
     (replies ≡ told_to calls rows) × IsAhead parts new (submitted calls rows) rest

@@ -1,4 +1,5 @@
 pub mod Divided
 pub mod Emulated
+pub mod Passing
 pub mod Rows
 pub mod Runs

@@ -1,5 +1,4 @@
 ghost use Rattle.std.specs.Prelude.{◌≡◌, ◌<◌, ◌≤◌, ◌+◌, [], ◌∷◌, ℕ, List, length, All, IfOk, OnOk};
-ghost use Rattle.dn_types.specs.Clock.{call_limit};
 ghost use Rattle.dn_types.specs.Replies.{reply};
 ghost use Rattle.dn_types.specs.declared.call.Call.{Call as CallValue};
 ghost use Rattle.dn_types.specs.declared.call.Call.TheVariants.{Collect as CollectValue};
@@ -7,11 +6,12 @@ ghost use Rattle.dn_types.specs.declared.rule.Rule.TheVariants.{Ordered};
 ghost use Rattle.dn_laws.specs.Merges.{delivered};
 ghost use Rattle.dn_laws.specs.Replays.{AreCommands};
 ghost use Rattle.dn_parts.specs.Emulated.{HasEmulated, TakesReplies};
-ghost use Rattle.dn_parts.specs.Rows.{submitted, told_to};
+ghost use Rattle.dn_parts.specs.Passing.{passing_limit};
+ghost use Rattle.dn_parts.specs.Rows.{submit, submitted, told_to};
 ghost use Rattle.dn_shaper.specs.Shaper.{StandsAfter};
 
 use crate::part_run::PartRun;
-use crate::part_runs::{given_in_parts, runs_of, submit_each};
+use crate::part_runs::{given_in_parts, runs_of, submit_each, submit_in_turn};
 use dn_files::Row;
 use dn_merge::Renumbering;
 use dn_shaper::Shaper;
@@ -77,6 +77,19 @@ impl DividedShaper {
         Ok(replies)
     }
 
+    /// Submits the packet of a row, and gives the reply of one shaper of all links.
+    ///
+    /// The parts run on the caller's thread, in turn. After an error, which is out of memory, the replay has to be given up.
+    pub fn submit_row(&mut self, row: &Row) -> Result<Reply, AllocError>
+        ensures reply { IfOk result (λ answer. (parts : ℕ) (calls : List CallValue) → HasEmulated parts self.old calls →
+            length calls < passing_limit → answer ≡ reply Ordered calls (submit row.now)) }
+        ensures emulated { OnOk result ((parts : ℕ) (calls : List CallValue) → HasEmulated parts self.old calls →
+            length calls < passing_limit → HasEmulated parts self.new (submit row.now ∷ calls)) }
+    {
+        submit_in_turn(row, self.runs.as_mut_slice())?;
+        self.next_reply(row)
+    }
+
     /// Submits the packets of rows, and gives the replies of one shaper of all links, in the order of the rows.
     ///
     /// Each part runs on a thread of its own, and the last one on the caller's. After an error, which is out of memory, the replay has to be
@@ -88,9 +101,9 @@ impl DividedShaper {
         rows: &[Row],
     ) -> Result<Vec<Reply>, AllocError>
         ensures replies { IfOk result (λ replies. (parts : ℕ) (calls : List CallValue) → HasEmulated parts self.old calls →
-            length calls + length rows.now ≤ call_limit → replies.items ≡ told_to calls rows.now) }
+            length calls + length rows.now ≤ passing_limit → replies.items ≡ told_to calls rows.now) }
         ensures emulated { OnOk result ((parts : ℕ) (calls : List CallValue) → HasEmulated parts self.old calls →
-            length calls + length rows.now ≤ call_limit → HasEmulated parts self.new (submitted calls rows.now)) }
+            length calls + length rows.now ≤ passing_limit → HasEmulated parts self.new (submitted calls rows.now)) }
     {
         submit_each(rt, rows, self.runs.as_mut_slice())?;
         self.take_replies(alloc, rows)
@@ -100,7 +113,7 @@ impl DividedShaper {
     ///
     /// The replay ends with it.
     pub fn collect(&mut self, alloc: Global, moment: Moment) -> Result<Vec<Delivery>, AllocError>
-        ensures { IfOk result (λ given. (parts : ℕ) (calls : List CallValue) → HasEmulated parts self.old calls → length calls < call_limit →
+        ensures { IfOk result (λ given. (parts : ℕ) (calls : List CallValue) → HasEmulated parts self.old calls → length calls < passing_limit →
             given.items ≡ delivered (reply Ordered calls (CollectValue moment))) }
     {
         let lists = given_in_parts(alloc, self.runs.as_mut_slice(), moment)?;

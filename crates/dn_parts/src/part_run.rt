@@ -1,25 +1,25 @@
 ghost use Rattle.std.specs.Prelude.{◌≡◌, ◌<◌, ◌≤◌, ◌∷◌, ◌++◌, [], List, Some, None, cond, drop, length, nat_eq, slice_index_or, IfOk, OnOk};
-ghost use Rattle.dn_types.specs.Replies.{reply};
 ghost use Rattle.dn_types.specs.declared.call.Call.{Call as CallValue};
-ghost use Rattle.dn_types.specs.declared.call.Call.TheVariants.{Collect as CollectValue};
 ghost use Rattle.dn_types.specs.declared.reply.Reply.TheVariants.{Exhausted as ExhaustedValue, NoTarget as NoTargetValue};
 ghost use Rattle.dn_types.specs.declared.rule.Rule.TheVariants.{Ordered};
-ghost use Rattle.dn_types.specs.Clock.{call_limit};
 ghost use Rattle.dn_types.specs.Configuration.{settings};
 ghost use Rattle.dn_types.specs.Flows.{treatment};
-ghost use Rattle.dn_laws.specs.Merges.{delivered, part_of_packet};
+ghost use Rattle.dn_laws.specs.Merges.{part_of_packet};
 ghost use Rattle.dn_laws.specs.Replays.{AreCommands};
 ghost use Rattle.dn_parts.specs.Divided.{division_among};
-ghost use Rattle.dn_parts.specs.Runs.{HasLeft, HasRun, RunsRow, RunsRows, given_in_part};
+ghost use Rattle.dn_parts.specs.Passing.{passing_limit};
+ghost use Rattle.dn_parts.specs.Runs.{HasLeft, HasRun, RunsOwn, RunsRow, RunsRows, given_in_part};
 ghost use Rattle.dn_shaper.specs.Shaper.{StandsAfter};
 
 use crate::division::{first_moment, later, part_of, submit_at};
+use crate::passing::{collect, collect_in_passing};
 use dn_files::Row;
 use dn_shaper::Shaper;
-use dn_types::{Call, Delivery, Moment, Reply};
+use dn_types::{Delivery, Moment, Reply};
 use std::alloc::{AllocError, Global};
 use std::collections::VecDeque;
 use std::marker::Model;
+use std::mem;
 
 /// The run of one part of a replay: a shaper with the whole configuration, which is sent the packets on the part's links alone.
 ///
@@ -32,6 +32,10 @@ pub(crate) struct PartRun {
     /// The greatest moment of all packets so far, those of other parts too.
     clock: Moment,
     told: VecDeque<Reply>,
+    /// The packets that the Collects in passing gave, in their order.
+    given: Vec<Delivery>,
+    /// How many packets of the part's own came.
+    own: usize,
 }
 
 impl Model for PartRun {
@@ -40,7 +44,7 @@ impl Model for PartRun {
 
     ghost Value = { Run };
 
-    ghost view = { λ r. record { parts = r.parts; part = r.part; shaper = r.shaper; clock = r.clock; left = r.told.items } };
+    ghost view = { λ r. record { parts = r.parts; part = r.part; shaper = r.shaper; clock = r.clock; left = r.told.items; given = r.given.items } };
 
     ghost invariant = { λ r. 0 < r.parts };
 }
@@ -56,17 +60,6 @@ fn no_target(part: usize, at: Moment) -> Option<Reply>
     }
 }
 
-/// The deliveries of a Collect.
-fn given_by(alloc: Global, shaper: &mut Shaper, at: Moment) -> Result<Vec<Delivery>, AllocError>
-    ensures { IfOk result (λ given. (calls : List CallValue) → StandsAfter Ordered shaper.old calls →
-        given.items ≡ delivered (reply Ordered calls (CollectValue at))) }
-{
-    match shaper.apply(&Call::Collect(at))? {
-        Reply::Delivered { at: _, list } => Ok(list.into_vec()),
-        _ => Ok(Vec::new(alloc)),
-    }
-}
-
 impl PartRun {
     /// Of a shaper that was asked the commands of the replay alone.
     pub(crate) fn new(alloc: Global, shaper: Shaper, part: usize, parts: usize) -> PartRun
@@ -75,19 +68,22 @@ impl PartRun {
     {
         let clock = first_moment();
         let told = VecDeque::new(alloc);
+        let given = Vec::new(alloc);
         PartRun {
             shaper,
             part,
             parts,
             clock,
             told,
+            given,
+            own: 0,
         }
     }
 
     /// The part of a row's packet, of so many, which is part 0 if the packet has no target.
     pub(crate) fn part_of_row(&self, row: &Row, parts: usize) -> usize
         requires { 0 < parts }
-        ensures part { (calls : List CallValue) → HasRun self.now calls → length calls ≤ call_limit →
+        ensures part { (calls : List CallValue) → HasRun self.now calls → length calls ≤ passing_limit →
             result ≡ part_of_packet (division_among parts) row.now.target row.now.packet.tuple (treatment (settings calls row.now.target)) }
         ensures below { result < parts }
     {
@@ -95,6 +91,18 @@ impl PartRun {
             Some(key) => part_of(&key, parts),
             None => 0,
         }
+    }
+
+    /// Submits the packet of a row of the part's own, and may then collect packets in passing.
+    fn submit_own(&mut self, row: &Row, at: Moment) -> Result<Reply, AllocError>
+        ensures told { IfOk result (λ reply. RunsOwn row.now at self.old self.new reply) }
+        ensures same { self.new ≡ record self.old { shaper = self.new.shaper; given = self.new.given } }
+    {
+        let call = submit_at(&row.target, &row.packet, at);
+        let reply = self.shaper.apply(&call)?;
+        self.own = self.own.wrapping_add(1);
+        collect_in_passing(&mut self.shaper, &mut self.given, self.own)?;
+        Ok(reply)
     }
 
     /// The reply of this part to the next row of the replay, or None if the row is another part's.
@@ -112,8 +120,7 @@ impl PartRun {
         if part_of(&key, self.parts) != self.part {
             return Ok(None);
         }
-        let call = submit_at(&row.target, &row.packet, at);
-        let reply = self.shaper.apply(&call)?;
+        let reply = self.submit_own(row, at)?;
         Ok(Some(reply))
     }
 
@@ -126,7 +133,7 @@ impl PartRun {
     }
 
     /// Submits the packet of a row, and keeps the reply of this part.
-    fn submit_row(&mut self, row: &Row) -> Result<(), AllocError>
+    pub(crate) fn submit_row(&mut self, row: &Row) -> Result<(), AllocError>
         ensures { OnOk result (RunsRows (row.now ∷ []) self.old self.new) }
     {
         let told = self.submit(row)?;
@@ -154,15 +161,19 @@ impl PartRun {
         self.told.pop_front().unwrap_or(Reply::Exhausted)
     }
 
-    /// The deliveries of the replay's last Collect in this part.
+    /// The deliveries of all Collects in this part, of which the replay's last one is made now. Its shaper gives its memory back.
     pub(crate) fn collect(
         &mut self,
         alloc: Global,
         moment: Moment,
     ) -> Result<Vec<Delivery>, AllocError>
-        ensures { IfOk result (λ given. (calls : List CallValue) → HasRun self.old calls → given.items ≡ given_in_part self.old calls moment) }
+        ensures { IfOk result (λ given. (calls : List CallValue) → HasRun self.old calls → length calls < passing_limit → given.items ≡ given_in_part self.old calls moment) }
     {
         let at = later(self.clock, moment);
-        given_by(alloc, &mut self.shaper, at)
+        let mut shaper = mem::replace(&mut self.shaper, Shaper::new(alloc));
+        let mut given = mem::replace(&mut self.given, Vec::new(alloc));
+        collect(&mut shaper, &mut given, at)?;
+        drop(shaper);
+        Ok(given)
     }
 }

@@ -1,6 +1,6 @@
 //! The runs of all parts of a replay, one after the other.
 
-ghost use Rattle.std.specs.Prelude.{◌≡◌, ◌<◌, [], List, length, map, vec_items, All, IfOk, OnOk};
+ghost use Rattle.std.specs.Prelude.{◌≡◌, ◌<◌, [], ◌∷◌, List, length, map, vec_items, All, IfOk, OnOk};
 ghost use Rattle.std.specs.List.{AllZip};
 ghost use Rattle.dn_types.specs.declared.call.Call.{Call as CallValue};
 ghost use Rattle.dn_types.specs.declared.rule.Rule.TheVariants.{Ordered};
@@ -29,6 +29,17 @@ pub(crate) fn runs_of(alloc: Global, shapers: Vec<Shaper>) -> Result<Vec<PartRun
         runs.push(PartRun::new(alloc, shaper, part, parts))?;
     }
     Ok(runs)
+}
+
+/// Submits the packet of a row to each run, in turn.
+pub(crate) fn submit_in_turn(row: &Row, runs: &mut [PartRun]) -> Result<(), AllocError>
+    ensures { OnOk result (AllZip (RunsRows (row.now ∷ [])) runs.old runs.new) }
+{
+    let Some((first, rest)) = runs.split_first_mut() else {
+        return Ok(());
+    };
+    first.submit_row(row)?;
+    submit_in_turn(row, rest)
 }
 
 /// Submits the packets of rows to each run, by a thread of its own for each but the last one.

@@ -9,6 +9,7 @@ pub mod InputSteps
 pub mod KeptCalls
 pub mod KeptOrder
 pub mod KeptReport
+pub mod KeptRows
 pub mod KeptSteps
 pub mod LineBytes
 pub mod LineSteps
@@ -22,7 +23,5 @@ pub mod PacketNumbers
 pub mod PartSteps
 pub mod PartsCome
 pub mod PassSteps
-pub mod PassingCalls
-pub mod PassingTraffic
 pub mod ReplaySteps
 pub mod Runs

@@ -3,9 +3,9 @@ use Rattle.std.proofs.Common.{◌≡◌, ◌∙◌, sym, ap, subst, ℕ, ◌+◌
 use Rattle.std.proofs.lemmas.List.{flat_map_more, take_more}
 use Rattle.dn_types.specs.declared.call.Call.{Call}
 use Rattle.dn_files.specs.declared.row.Row.{Row}
+use Rattle.dn_parts.specs.Rows.{submitted}
 use Rattle.dn_replay.specs.Held.{HasAnswered}
 use Rattle.dn_replay.specs.OnePass.{HasFed, HasReady}
-use Rattle.dn_replay.specs.Runs.{submitted}
 use Rattle.dn_replay.specs.declared.config.run.Run.{Run}
 use Rattle.dn_replay.specs.declared.replays.held.Held.{Held}
 use Rattle.dn_replay.specs.declared.replays.pass.Pass.{Pass}

@@ -2,15 +2,15 @@
 use Rattle.std.proofs.Common.{◌≡◌, ◌∙◌, ◌<◌, ℕ, ◌+◌, max, Bool, true, false, cond, ◌&&◌, List, [], ◌∷◌, refl, ap, length, arith}
 use Rattle.std.specs.Prelude.{nat_le, nat_eq}
 use Rattle.std.proofs.lemmas.Bool.Decides.{nat_tests}
-use Rattle.dn_types.specs.Calls.{Verdict, no_target, loses, refuses, takes, verdict, accept, join, after_verdict, reaches, discard_reached, after_command, trace_of}
+use Rattle.dn_types.specs.Calls.{Verdict, no_target, loses, refuses, takes, verdict, accept, after_verdict, reaches, discard_reached, after_command, trace_of}
 use Rattle.dn_types.specs.Clock.{call_limit, effective_moment}
 use Rattle.dn_types.specs.Configuration.{Settings, settings, reply_to_command}
 use Rattle.dn_types.specs.Flows.{keys}
 use Rattle.dn_types.specs.Links.{free}
 use Rattle.dn_types.specs.Replies.{counted_reply, reply, reply_to_verdict}
 use Rattle.dn_types.specs.SharedLinks.{waiting, opening}
-use Rattle.dn_types.specs.Starts.{start_at, settled}
-use Rattle.dn_types.specs.Trace.{Accepted, Event, arrived, started, lost, refused, discarded, accepted_count, is_arrival}
+use Rattle.dn_types.specs.Starts.{settled}
+use Rattle.dn_types.specs.Trace.{Event, lost, refused, discarded, accepted_count}
 use Rattle.dn_types.specs.declared.call.Call.{Call}
 use Rattle.dn_types.specs.declared.call.Call.TheVariants.{Configure, Submit}
 use Rattle.dn_types.specs.declared.command.Command.{Command}
@@ -20,27 +20,9 @@ use Rattle.dn_types.specs.declared.reply.Reply.{Reply}
 use Rattle.dn_types.specs.declared.reply.Reply.TheVariants.{Queued, Deleted, Exhausted}
 use Rattle.dn_types.specs.declared.rule.Rule.TheVariants.{Ordered}
 use Rattle.dn_types.specs.declared.target.Target.{Target}
-use Rattle.dn_types.proofs.CallCounts.{settled-count}
-use Rattle.dn_types.proofs.Giving.{count-event}
 use Rattle.dn_types.proofs.StepFacts.{opened-count}
+use Rattle.dn_parts.proofs.Accepting.{counts, joined, other-event, settled-accepts}
 use Rattle.dn_replay.specs.Kept.{fate_of, is_accepted}
-
--- An event that is no arrival.
-other-event : (e : Event) (trace : List Event) → is_arrival e ≡ false → accepted_count (e ∷ trace) ≡ accepted_count trace
-other-event e trace is = let one = count-event is_arrival e trace in let none : cond {A = ℕ} (is_arrival e) 1 0 ≡ 0 = ap {B = ℕ} (λ b. cond b 1 0) is in omega (arith, one, none)
-
-one-arrival : (p : Accepted) (trace : List Event) → accepted_count (arrived p ∷ trace) ≡ accepted_count trace + 1
-one-arrival p trace = let one = count-event is_arrival (arrived p) trace in omega (arith, one)
-
-pub settled-accepts : (set : Settings) (at : ℕ) (trace : List Event) → accepted_count (settled set at trace) ≡ accepted_count trace
-settled-accepts set at trace = settled-count is_arrival (λ l. refl) (λ s. refl) (λ f. refl) (λ m. refl) set at trace
-
-joined : (set : Settings) (at : ℕ) (q : Accepted) (trace : List Event) → accepted_count (join set at q trace) ≡ accepted_count trace + 1
-joined set at q trace = by (nat_le (free q.link trace) at)
-  where
-    by : (b : Bool) → accepted_count (cond b (started (start_at set q.link q at) ∷ arrived q ∷ trace) (arrived q ∷ trace)) ≡ accepted_count trace + 1
-    by true = other-event (started (start_at set q.link q at)) (arrived q ∷ trace) refl ∙ one-arrival q trace
-    by false = one-arrival q trace
 
 discards : (command : Command) (flow : ℕ) (known : List FlowKey) (trace : List Event) → accepted_count (discard_reached command flow known trace) ≡ accepted_count trace
 discards command flow [] trace = refl
@@ -69,9 +51,6 @@ verdict-accepts set at packet (takes link flow how) trace =
     let same = opened-count (nat_eq (waiting link trace) 0 && nat_le (free link trace) at) link trace in
     let one = joined set at (accept link packet flow how before) before in
     omega (arith, same, one)
-
-pub counts : (calls : List Call) (c : Call) → length calls < call_limit → reply Ordered calls c ≡ counted_reply Ordered calls c
-counts calls c few = let here : nat_le call_limit (length calls) ≡ false = grind (arith, nat_tests) in rw here refl
 
 pub submitted-accepts : (calls : List Call) (target : Target) (packet : Packet) (moment : ℕ) → length calls < call_limit
     → accepted_count (trace_of (Submit target packet moment ∷ calls)) ≡ accepted_count (trace_of calls) + cond (is_accepted (fate_of (reply Ordered calls (Submit target packet moment)))) 1 0

@@ -4,20 +4,16 @@ use Rattle.dn_types.specs.declared.call.Call.{Call}
 use Rattle.dn_text.specs.Joined.{joined_parts}
 use Rattle.dn_files.specs.declared.replay_fault.ReplayFault.{ReplayFault}
 use Rattle.dn_files.specs.declared.source.Source.TheVariants.{Input, Packets}
-use Rattle.dn_replay.specs.Configuring.{configured_by}
 use Rattle.dn_replay.specs.Held.{has_entries}
 use Rattle.dn_replay.specs.InParts.{CanGoOn, Coming, HasCome, IsLimit}
-use Rattle.dn_replay.specs.OnePass.{AreFew, calls_with, HasTaken, IsConfigSoFar, IsFresh}
+use Rattle.dn_replay.specs.OnePass.{AreFew, calls_with, HasFed, HasTaken, IsConfigSoFar, IsFresh}
 use Rattle.dn_replay.specs.Replays.{calls_of_parts, config_calls}
-use Rattle.dn_replay.specs.Runs.{HasMade}
 use Rattle.dn_replay.specs.declared.config.config_part.ConfigPart.{ConfigPart}
-use Rattle.dn_replay.specs.declared.config.run.Run.{Run}
 use Rattle.dn_replay.specs.declared.replays.pass.Pass.{Pass}
 use Rattle.dn_replay.specs.declared.replays.stage.Stage.{Stage}
 use Rattle.dn_replay.specs.declared.replays.stage.Stage.TheVariants as at
 use Rattle.dn_replay.proofs.FewCalls.{few-asked}
 use Rattle.dn_replay.proofs.InputSteps.{asked_within, joined_asks, packets_ask, records-taken}
-use Rattle.dn_replay.proofs.PassSteps.{fed-first}
 
 pub joined_begins : (records : Bool) (part : ConfigPart) (pass : Pass) (limit : ℕ) → IsLimit limit → has_entries pass.held ≡ records → IsConfigSoFar part [] → IsFresh pass
     → HasCome records (record { stage = at.Config part; pass = pass; source = Input; limit = limit; length = 0 }) None []
@@ -32,18 +28,17 @@ joined_begins records part pass limit small is so_far fresh = record {
   taken = (is, fresh, so_far, λ whole. refl);
 }
 
-pub behind_begins : (records : Bool) (pass : Pass) (run : Run) (limit : ℕ) (config : List ℕ) (calls : List Call) → IsLimit limit → has_entries pass.held ≡ records → IsFresh pass
-    → configured_by config ≡ Ok calls → config_calls config ≡ Ok calls → HasMade run calls
-    → HasCome records (record { stage = at.Packets; pass = record pass { run = run }; source = Packets; limit = limit; length = 0 }) (Some config) []
-behind_begins records pass run limit config calls small is fresh configured accepted made = record {
-  records_is = is;
+pub behind_begins : (records : Bool) (pass : Pass) (limit : ℕ) (config : List ℕ) (calls : List Call) → IsLimit limit → config_calls config ≡ Ok calls → HasFed records pass calls []
+    → HasCome records (record { stage = at.Packets; pass = pass; source = Packets; limit = limit; length = 0 }) (Some config) []
+behind_begins records pass limit config calls small accepted fed = record {
+  records_is = fed.records_is;
   source_is = refl;
   size = refl;
   short = omega arith;
   few = small;
   asked = calls_with calls;
   asks = packets_ask limit config calls accepted;
-  taken = (calls, [], fed-first records pass run config calls is fresh configured made, λ more. refl);
+  taken = (calls, [], fed, λ more. refl);
 }
 
 -- A part more was taken.

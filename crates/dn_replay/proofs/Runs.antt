@@ -9,9 +9,10 @@ use Rattle.dn_types.specs.declared.rule.Rule.TheVariants.{Ordered}
 use Rattle.dn_types.specs.declared.call.Call.TheVariants.{Configure}
 use Rattle.dn_types.specs.declared.command.Command.{Command}
 use Rattle.dn_files.specs.ConfigFile.{command_at}
+use Rattle.dn_parts.specs.Rows.{submit, submitted}
 use Rattle.dn_replay.specs.Configuring.{applied, configured_from, refusal}
 use Rattle.dn_files.specs.Reading.{IsFaultOf}
-use Rattle.dn_replay.specs.Runs.{entry_after, history_of, submit, submitted}
+use Rattle.dn_replay.specs.Runs.{entry_after, history_of}
 use Rattle.dn_files.specs.declared.replay_fault.ReplayFault.{ReplayFault}
 use Rattle.dn_files.proofs.Inputs.{carried}
 use Rattle.dn_files.specs.declared.row.Row.{Row}

@@ -1,5 +1,5 @@
 -- The steps of a replay in one pass: what holds behind each, of whatever text had come before it.
-use Rattle.std.specs.Prelude.{◌≡◌, ℕ, Bool, List, ◌++◌, Option, Result}
+use Rattle.std.specs.Prelude.{◌≡◌, ℕ, Bool, List, [], ◌++◌, Option, Result, Ok}
 use Rattle.dn_types.specs.declared.call.Call.{Call}
 use Rattle.dn_types.specs.declared.entry.Entry.{Entry}
 use Rattle.dn_text.specs.Joined.{joined_parts}
@@ -8,10 +8,11 @@ use Rattle.dn_files.specs.PacketParts.{HasRead}
 use Rattle.dn_files.specs.Unread.{Unread}
 use Rattle.dn_files.specs.declared.replay_fault.ReplayFault.{ReplayFault}
 use Rattle.dn_files.specs.declared.row.Row.{Row}
+use Rattle.dn_parts.specs.Rows.{submitted}
+use Rattle.dn_replay.specs.Configuring.{configured_by}
 use Rattle.dn_replay.specs.Held.{GoesOn, has_entries}
 use Rattle.dn_replay.specs.OnePass.{AreFew, calls_with, HasFed, HasReady, HasTaken, IsAnswered, IsConfigSoFar, IsCutAt, NoneFailed}
 use Rattle.dn_replay.specs.Replays.{IsUnreplayed}
-use Rattle.dn_replay.specs.Runs.{submitted}
 use Rattle.dn_replay.specs.declared.config.config_part.ConfigPart.{ConfigPart}
 use Rattle.dn_replay.specs.declared.config.run.Run.{Run}
 use Rattle.dn_replay.specs.declared.replays.held.Held.{Held}
@@ -40,6 +41,10 @@ IsCutIn part old lines rest = (text : List ℕ) → IsConfigSoFar old text
 -- Of whatever a pass was fed, this is so.
 abbrev pub Fed : Pass → (Bool → List Call → List ℕ → Type 0) → Type 0
 Fed pass is = (records : Bool) (calls : List Call) (text : List ℕ) → HasFed records pass calls text → is records calls text
+
+-- A pass has made the commands of a configuration's text, and was given no packets yet.
+abbrev pub Configures : List ℕ → Pass → Pass → Type 0
+Configures config old new = (calls : List Call) × (configured_by config ≡ Ok calls) × HasFed (has_entries old.held) new calls []
 
 -- A pass was fed a part more.
 abbrev pub FeedsPart : List ℕ → Pass → Pass → Type 0

@@ -12,11 +12,12 @@ use Rattle.dn_files.specs.Reading.{◌>>=◌, IsFaultOf}
 use Rattle.dn_files.specs.declared.replay_fault.ReplayFault.{ReplayFault}
 use Rattle.dn_files.specs.declared.row.Row.{Row}
 use Rattle.dn_files.specs.declared.source.Source.{Source}
-use Rattle.dn_replay.specs.Held.{given_of, has_entries, HasAnswered, HasMadeLast}
+use Rattle.dn_parts.specs.Rows.{submitted}
+use Rattle.dn_replay.specs.Held.{has_entries, HasAnswered, HasMadeLast, HoldsNothing}
 use Rattle.dn_replay.specs.Kept.{all_untargeted, HasKept}
 use Rattle.dn_replay.specs.Replays.{calls_of_parts, IsReplayed}
 use Rattle.dn_replay.specs.Report.{report}
-use Rattle.dn_replay.specs.Runs.{HasMade, history_of, replayed, submitted}
+use Rattle.dn_replay.specs.Runs.{HasMade, history_of, replayed}
 use Rattle.dn_replay.specs.declared.config.config_part.ConfigPart.{ConfigPart}
 use Rattle.dn_replay.specs.declared.replays.pass.Pass.{Pass}
 use Rattle.dn_replay.specs.declared.replays.stage.Stage.{Stage}
@@ -48,7 +49,7 @@ AreFew asked = IfOk asked (λ calls. length calls < 2 ^ 61)
 pub record IsFresh (pass : Pass) : Type 0 where
   pub made : HasMade pass.run []
   pub kept : HasKept pass.kept []
-  pub given : given_of pass.held ≡ []
+  pub holds : HoldsNothing pass.held
   pub read : HasRead pass.reader [] []
 
 -- A pass that records its calls, or doesn't, has made these and, of the packets' text that has come so far, the Submits of the rows that

@@ -2,12 +2,13 @@
 use Rattle.std.specs.Prelude.{◌≡◌, ◌^◌, List, [], ◌∷◌, ◌++◌}
 use Rattle.dn_types.specs.Replies.{reply}
 use Rattle.dn_types.specs.declared.call.Call.{Call}
-use Rattle.dn_types.specs.declared.call.Call.TheVariants.{Submit, Collect}
+use Rattle.dn_types.specs.declared.call.Call.TheVariants.{Collect}
 use Rattle.dn_types.specs.declared.entry.Entry.{Entry}
 use Rattle.dn_types.specs.declared.reply.Reply.{Reply}
 use Rattle.dn_types.specs.declared.rule.Rule.TheVariants.{Ordered}
 use Rattle.dn_shaper.specs.Shaper.{StandsAfter}
 use Rattle.dn_files.specs.declared.row.Row.{Row}
+use Rattle.dn_parts.specs.Rows.{submitted}
 use Rattle.dn_replay.specs.declared.config.run.Run.{Run}
 
 -- The entry of a call by caller 0, after the calls before it.
@@ -27,15 +28,6 @@ HasMade run calls = StandsAfter Ordered run.shaper calls × (run.history.items �
 abbrev pub AddsEntry : Call → Reply → Run → Run → Type 0
 AddsEntry call answer old new = (calls : List Call) → StandsAfter Ordered old.shaper (call ∷ calls) →
     old.history.items ≡ history_of calls → answer ≡ reply Ordered calls call → HasMade new (call ∷ calls)
-
--- The Submit of a row.
-abbrev pub submit : Row → Call
-submit row = Submit row.target row.packet row.moment
-
--- The calls, followed by a Submit of each row.
-unfoldable pub submitted : List Call → List Row → List Call
-submitted calls [] = calls
-submitted calls (row ∷ rows) = submitted (submit row ∷ calls) rows
 
 -- The calls of a replay: those of the configuration, a Submit of each row, and a Collect at the last moment.
 abbrev pub replayed : List Call → List Row → List Call

@@ -2,3 +2,4 @@
 
 pub(crate) mod config_part;
 pub(crate) mod run;
+pub(crate) mod shapers;

@@ -2,7 +2,7 @@
 
 use crate::divided::{configured, divided_among, moment};
 use dn_files::Row;
-use dn_parts::DividedShaper;
+use dn_parts::{DividedShaper, collect, collect_in_passing};
 use dn_shaper::Shaper;
 use dn_types::{Call, FiveTuple, Len, Number, Packet, Reply, Target};
 use std::alloc::{AllocError, Global};
@@ -10,7 +10,8 @@ use std::process::Abort;
 use std::test::Fail;
 use std::thread::Threads;
 
-const ROWS: u32 = 60;
+// So many that each of three parts collects in passing.
+const ROWS: u32 = 1_200;
 
 // Whether a row is sent to a queue or a pipe, and of which number, in turn. Pipe 9 isn't configured.
 static TARGETS: [(bool, u32); 6] = [
@@ -98,6 +99,21 @@ fn submit_to_both<R: Abort + Threads>(
     check_told(rt, shaper, rows, replies.as_slice())
 }
 
+// The same of rows that are sent one by one.
+fn submit_each_to_both<R: Abort>(
+    rt: &R,
+    divided: &mut DividedShaper,
+    shaper: &mut Shaper,
+    rows: &[Row],
+) -> Result<(), AllocError> {
+    for row in rows {
+        let reply = divided.submit_row(row)?;
+        let told = shaper.apply(&submit(row))?;
+        assert!(rt; told == reply);
+    }
+    Ok(())
+}
+
 // The parts give at the last moment what the shaper gives.
 fn collect_of_both<R: Abort>(
     rt: &R,
@@ -114,7 +130,7 @@ fn collect_of_both<R: Abort>(
     Ok(())
 }
 
-// The rows come in two calls, and a third one has none.
+// The rows come in two calls, a third one has none, and the last five come one by one.
 fn submit_all<R: Abort + Threads>(
     rt: &R,
     alloc: Global,
@@ -123,9 +139,11 @@ fn submit_all<R: Abort + Threads>(
 ) -> Result<(), Fail> {
     let rows = rows(alloc)?;
     let (first, rest) = rows.as_slice().split_at(rows.len() / 3);
+    let (second, last) = rest.split_at(rest.len().saturating_sub(5));
     submit_to_both(rt, alloc, divided, shaper, first)?;
-    submit_to_both(rt, alloc, divided, shaper, rest)?;
+    submit_to_both(rt, alloc, divided, shaper, second)?;
     submit_to_both(rt, alloc, divided, shaper, &[])?;
+    submit_each_to_both(rt, divided, shaper, last)?;
     collect_of_both(rt, alloc, divided, shaper)
 }
 
@@ -152,6 +170,43 @@ fn run_by_both<R: Abort + Threads>(rt: &R, alloc: Global, parts: usize) -> Resul
 fn parts_on_threads_tell_what_one_shaper_tells(rt: HostRuntime) -> Result<(), Fail> {
     for parts in [1usize, 2, 3, 5] {
         run_by_both(&rt, rt.alloc(), parts)?;
+    }
+    Ok(())
+}
+
+#[test]
+fn a_collect_adds_what_is_due(rt: HostRuntime) -> Result<(), Fail> {
+    let mut shaper = configured(rt.alloc())?;
+    let mut twin = configured(rt.alloc())?;
+    let told = collect_beside(&rt, rt.alloc(), &mut shaper, &mut twin);
+    drop(shaper);
+    drop(twin);
+    told
+}
+
+// Two Collects behind a few rows, of which the second adds to what the first gave, give what one gives of a twin.
+fn collect_beside<R: Abort>(
+    rt: &R,
+    alloc: Global,
+    shaper: &mut Shaper,
+    twin: &mut Shaper,
+) -> Result<(), Fail> {
+    let rows = rows(alloc)?;
+    let (first, _) = rows.as_slice().split_at(rows.len().min(20));
+    let mut given = Vec::new(alloc);
+    for row in first {
+        shaper.apply(&submit(row))?;
+        twin.apply(&submit(row))?;
+    }
+    collect_in_passing(shaper, &mut given, 256)?;
+    let some = given.len();
+    collect_in_passing(shaper, &mut given, 257)?;
+    assert!(rt; given.len() == some && some > 0);
+    let last = moment(1 << 62)?;
+    collect(shaper, &mut given, last)?;
+    match twin.apply(&Call::Collect(last))? {
+        Reply::Delivered { at: _, list } => assert!(rt; list.as_slice() == given.as_slice()),
+        _ => assert!(rt; false),
     }
     Ok(())
 }

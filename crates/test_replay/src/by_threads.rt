@@ -7,7 +7,13 @@ use std::thread::Threads;
 use test_devices::Parts;
 
 // A pipe that loses packets, delays them and refuses some. Another one is never configured.
-const CONFIG: &str = "pipe 1 config bw 100Mbit/s delay 2ms queue 20 plr 0.1\n";
+const ONE_LINK: &str = "pipe 1 config bw 100Mbit/s delay 2ms queue 20 plr 0.1\n";
+
+// A link for each of eight flows, one that all packets of another pipe share, and a pipe that none of them takes.
+const LINKS: &str =
+    "pipe 1 config bw 15Mbit/s delay 2ms queue 20 plr 0.1 mask src-port 0x7\npipe 2 config bw 90Mbit/s delay 1ms queue 10\npipe 3 config bw 1Mbit/s\nqueue 1 config pipe 3 weight 2\n";
+
+static CONFIGS: [&str; 2] = [ONE_LINK, LINKS];
 
 // No text of a test is longer.
 const LIMIT: usize = 10_000_000;
@@ -53,8 +59,13 @@ fn packets(alloc: Global, lines: &str) -> Result<Vec<u8>, AllocError> {
 }
 
 // How many entries the history has that one thread makes, and its report.
-fn by_one(alloc: Global, packets: &[u8], written: &mut Vec<u8>) -> Result<usize, ReplayFault> {
-    let mut config = FromReader::new(CONFIG.as_bytes());
+fn by_one(
+    alloc: Global,
+    config: &str,
+    packets: &[u8],
+    written: &mut Vec<u8>,
+) -> Result<usize, ReplayFault> {
+    let mut config = FromReader::new(config.as_bytes());
     let mut packets = FromReader::new(packets);
     let mut out = FromWriter::new(written);
     let manner = Manner {
@@ -71,11 +82,12 @@ fn by_many<R: Threads + Sync>(
     rt: &R,
     alloc: Global,
     threads: usize,
+    config: &str,
     packets: &[u8],
     step: usize,
     written: &mut Vec<u8>,
 ) -> Result<usize, ReplayFault> {
-    let mut config = FromReader::new(CONFIG.as_bytes());
+    let mut config = FromReader::new(config.as_bytes());
     let mut packets = FromReader::new(Parts::of(packets, step));
     let mut out = FromWriter::new(written);
     let manner = Manner {
@@ -100,11 +112,12 @@ fn report_by_many<R: Threads + Sync>(
     rt: &R,
     alloc: Global,
     threads: usize,
+    config: &str,
     packets: &[u8],
     step: usize,
     written: &mut Vec<u8>,
 ) -> Result<bool, ReplayFault> {
-    let mut config = FromReader::new(CONFIG.as_bytes());
+    let mut config = FromReader::new(config.as_bytes());
     let mut packets = FromReader::new(Parts::of(packets, step));
     let mut out = FromWriter::new(written);
     let manner = Manner {
@@ -129,17 +142,20 @@ fn agree<R: Threads + Sync>(
     rt: &R,
     alloc: Global,
     threads: usize,
+    config: &str,
     packets: &[u8],
     step: usize,
 ) -> bool {
     let mut expected = Vec::new(alloc);
-    let one = by_one(alloc, packets, &mut expected);
+    let one = by_one(alloc, config, packets, &mut expected);
     let mut written = Vec::new(alloc);
-    if by_many(rt, alloc, threads, packets, step, &mut written) != one {
+    if by_many(rt, alloc, threads, config, packets, step, &mut written) != one {
         return false;
     }
     let mut reported = Vec::new(alloc);
-    if report_by_many(rt, alloc, threads, packets, step, &mut reported) != one.map(|_| false) {
+    if report_by_many(rt, alloc, threads, config, packets, step, &mut reported)
+        != one.map(|_| false)
+    {
         return false;
     }
     written.as_slice() == expected.as_slice() && reported.as_slice() == expected.as_slice()
@@ -149,15 +165,15 @@ fn agree<R: Threads + Sync>(
 fn no_number_of_threads_changes_a_replay(rt: HostRuntime) -> Result<(), Fail> {
     let alloc = rt.alloc();
     let text = packets(alloc, "")?;
-    for threads in 0..9usize {
-        assert!(rt;
-            agree(&rt, alloc, threads, text.as_slice(), usize::MAX),
-            "{threads} threads"
-        );
-        assert!(rt;
-            agree(&rt, alloc, threads, text.as_slice(), 150_001),
-            "{threads} threads"
-        );
+    for config in CONFIGS.iter() {
+        for threads in 0..9usize {
+            for step in [usize::MAX, 150_001] {
+                assert!(rt;
+                    agree(&rt, alloc, threads, config, text.as_slice(), step),
+                    "{threads} threads"
+                );
+            }
+        }
     }
     Ok(())
 }
@@ -168,20 +184,27 @@ fn other_lines_among_the_rows_change_nothing(rt: HostRuntime) -> Result<(), Fail
     for lines in LINES.iter() {
         let text = packets(alloc, lines)?;
         let cut = text.len().saturating_sub(1);
-        assert!(rt;
-            agree(&rt, alloc, 4, text.as_slice(), usize::MAX),
-            "{lines}"
-        );
-        assert!(rt; agree(&rt, alloc, 3, text.as_slice(), 140_000), "{lines}");
-        assert!(rt;
-            agree(&rt, alloc, 4, &text.as_slice()[..cut], usize::MAX),
-            "{lines} and no last line feed"
-        );
+        for config in CONFIGS.iter() {
+            assert!(rt;
+                agree(&rt, alloc, 4, config, text.as_slice(), usize::MAX),
+                "{lines}"
+            );
+            assert!(rt;
+                agree(&rt, alloc, 3, config, text.as_slice(), 140_000),
+                "{lines}"
+            );
+            assert!(rt;
+                agree(&rt, alloc, 4, config, &text.as_slice()[..cut], usize::MAX),
+                "{lines} and no last line feed"
+            );
+        }
     }
     Ok(())
 }
 
 #[test]
 fn an_empty_file_has_no_rows(rt: HostRuntime) {
-    assert!(rt; agree(&rt, rt.alloc(), 4, b"", usize::MAX));
+    for config in CONFIGS.iter() {
+        assert!(rt; agree(&rt, rt.alloc(), 4, config, b"", usize::MAX));
+    }
 }

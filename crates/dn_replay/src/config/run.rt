@@ -1,9 +1,10 @@
 ghost use Rattle.std.specs.Prelude.{◌≡◌, List, [], ◌∷◌, Some, Ok, OnOk, IfErr};
 ghost use Rattle.dn_types.specs.declared.call.Call.{Call as CallValue};
 ghost use Rattle.dn_types.specs.declared.call.Call.TheVariants.{Configure};
+ghost use Rattle.dn_parts.specs.Rows.{submit};
 ghost use Rattle.dn_replay.specs.Configuring.{applied, configured_by, refusal};
 ghost use Rattle.dn_files.specs.Reading.{IsFaultOf};
-ghost use Rattle.dn_replay.specs.Runs.{HasMade, submit, AddsEntry};
+ghost use Rattle.dn_replay.specs.Runs.{HasMade, AddsEntry};
 
 use dn_files::{ReplayFault, Row, command_at};
 use dn_shaper::{HashKey, Shaper};
@@ -15,6 +16,7 @@ use std::mem;
 /// The calls of one caller to a shaper of its own, and their history.
 #[derive(Drop)]
 pub(crate) struct Run {
+    pub(crate) key: HashKey,
     pub(crate) shaper: Shaper,
     pub(crate) history: Vec<Entry>,
 }
@@ -58,6 +60,7 @@ impl Run {
         ensures { HasMade result [] }
     {
         Run {
+            key,
             shaper: Shaper::with_key(alloc, Rule::Ordered, key),
             history: Vec::new(alloc),
         }

@@ -6,7 +6,8 @@ ghost use Rattle.dn_replay.specs.Feeding.{FeedsPart, PassesOver, ReadiesPart, Su
 
 use crate::config::run::Run;
 use crate::replays::held::Held;
-use crate::replays::pass::{Pass, submit_rows};
+use crate::replays::pass::Pass;
+use crate::replays::threading::{Emulating, ManyThreads, OneThread};
 use crate::report::Kept;
 use dn_files::{PacketReader, Row, rows_of_chunk_by_threads};
 use std::alloc::{AllocError, Global};
@@ -50,7 +51,8 @@ fn rows_in(lists: &[Vec<Row>]) -> Option<usize>
 }
 
 /// Submits the packet of each row of lists, one list after the other.
-fn submit_lists(
+fn submit_lists<T: Emulating>(
+    by: &T,
     run: &mut Run,
     kept: &mut Kept,
     held: &mut Held,
@@ -59,7 +61,7 @@ fn submit_lists(
     ensures { OnOk result (Submits (flat_map (λ l. l.items) lists.now) held.old run.old kept.old held.new run.new kept.new) }
 {
     for list in lists {
-        submit_rows(run, kept, held, list.as_slice())?;
+        by.submit(run, kept, held, list.as_slice())?;
     }
     Ok(())
 }
@@ -117,7 +119,13 @@ impl Pass {
     fn submit_ready(&mut self, ready: &[Vec<Row>]) -> Result<(), AllocError>
         ensures { OnOk result (SubmitsReady self.old (flat_map (λ l. l.items) ready.now) self.new) }
     {
-        submit_lists(&mut self.run, &mut self.kept, &mut self.held, ready)
+        submit_lists(
+            &OneThread,
+            &mut self.run,
+            &mut self.kept,
+            &mut self.held,
+            ready,
+        )
     }
 
     /// Takes a chunk by one thread, so that no row is ready.
@@ -188,8 +196,7 @@ impl Pass {
     /// So many threads read its rows, if each is written plainly or in quotes, and no row before it is left.
     fn feed_chunk<R: Threads>(
         &mut self,
-        rt: &R,
-        alloc: Global,
+        by: &ManyThreads<R>,
         threads: usize,
         chunk: &[u8],
     ) -> Result<(), AllocError>
@@ -199,16 +206,17 @@ impl Pass {
             return self.feed(chunk);
         }
         let most = threads.min(chunk.len() / LEAST);
-        if most > 1 {
-            return self.feed_steps(rt, alloc, most - 1, chunk);
+        if most > 1 && !self.held.is_divided() {
+            return self.feed_steps(by.rt, by.alloc, most - 1, chunk);
         }
-        let Some(lists) = rows_of_chunk_by_threads(rt, alloc, chunk, most)? else {
+        let Some(lists) = rows_of_chunk_by_threads(by.rt, by.alloc, chunk, most)? else {
             return self.feed(chunk);
         };
         if !pass_over(&mut self.reader, lists.as_slice()) {
             return self.feed(chunk);
         }
         submit_lists(
+            by,
             &mut self.run,
             &mut self.kept,
             &mut self.held,
@@ -219,8 +227,7 @@ impl Pass {
     /// Takes a part of the packets' text, whose rows are read by so many threads, and submits the rows that are whole.
     pub(crate) fn feed_by_threads<R: Threads>(
         &mut self,
-        rt: &R,
-        alloc: Global,
+        by: &ManyThreads<R>,
         threads: usize,
         part: &[u8],
     ) -> Result<(), AllocError>
@@ -229,7 +236,7 @@ impl Pass {
         let (first, rest) = part.split_at(behind_first_line(part));
         let (chunk, last) = rest.split_at(behind_last_line(rest));
         self.feed(first)?;
-        self.feed_chunk(rt, alloc, threads, chunk)?;
+        self.feed_chunk(by, threads, chunk)?;
         self.feed(last)
     }
 }

@@ -73,11 +73,27 @@ impl FileReplay {
         ensures accepted { OnOk result ((calls : List CallValue) × (config_calls config.now ≡ Ok calls)) }
         ensures err { IfErr result (λ fault. IsFaultOf (config_calls config.now) fault) }
     {
+        FileReplay::behind_by(alloc, &OneThread, manner, config)
+    }
+
+    /// The same. These threads may emulate its links.
+    pub(crate) fn behind_by<T: Threading>(
+        alloc: Global,
+        by: &T,
+        manner: Manner,
+        config: &[u8],
+    ) -> Result<FileReplay, ReplayFault>
+        requires { IsLimit manner.limit }
+        ensures ok { IfOk result (λ replay. HasCome manner.records replay (Some config.now) []) }
+        ensures limit { IfOk result (λ replay. replay.limit ≡ manner.limit) }
+        ensures accepted { OnOk result ((calls : List CallValue) × (config_calls config.now ≡ Ok calls)) }
+        ensures err { IfErr result (λ fault. IsFaultOf (config_calls config.now) fault) }
+    {
         if config.len() > CONFIG_LIMIT {
             return Err(ReplayFault::TooLong(Source::Config));
         }
         let mut pass = Pass::new(alloc, manner.key, manner.records);
-        match pass.run.configure(config) {
+        match by.configure(&mut pass, config) {
             Ok(()) => Ok(FileReplay {
                 stage: Stage::Packets,
                 pass,

@@ -1,17 +1,19 @@
-ghost use Rattle.std.specs.Prelude.{◌≡◌, [], List, OnOk, false, true};
+ghost use Rattle.std.specs.Prelude.{◌≡◌, ◌<◌, [], List, OnOk, IfErr, false, true};
 ghost use Rattle.dn_types.specs.declared.call.Call.{Call as CallValue};
+ghost use Rattle.dn_files.specs.Reading.{IsFaultOf};
+ghost use Rattle.dn_replay.specs.Configuring.{configured_by};
 ghost use Rattle.dn_replay.specs.Kept.{CanReport};
-ghost use Rattle.dn_replay.specs.Held.{Collects, Ends, HasMadeLast, HoldsAnswer, PassesBy, given_of, has_entries};
+ghost use Rattle.dn_replay.specs.Held.{Divides, Ends, HasMadeLast, HoldsAnswer, HoldsNothing, has_entries};
 ghost use Rattle.dn_replay.specs.declared.report.kept.Kept.{Kept as KeptValue};
 
 use crate::config::run::Run;
-use crate::report::{Kept, delivered_by, last_delivered};
-use dn_shaper::Shaper;
+use crate::config::shapers::shapers_of;
+use crate::report::{Kept, last_delivered};
+use dn_files::ReplayFault;
+use dn_parts::{DividedShaper, collect, collect_in_passing};
+use dn_shaper::HashKey;
 use dn_types::{Call, Delivery, Entry, Moment, Reply};
 use std::alloc::{AllocError, Global};
-
-// After so many Submits packets are collected in passing.
-const STRETCH: usize = 256;
 
 /// What a pass holds of the answers to its calls, beside the rows of the report.
 #[derive(Drop)]
@@ -20,38 +22,14 @@ pub(crate) enum Held {
     Entries,
     /// No Submit is recorded, and these are the packets that the Collects so far gave, in their order.
     Given(Vec<Delivery>),
-}
-
-/// Takes the packets that are due by a moment or by the clock, behind those that were given before.
-fn collect(shaper: &mut Shaper, given: &mut Vec<Delivery>, moment: Moment) -> Result<(), AllocError>
-    ensures { OnOk result (Collects moment shaper.old given.old.items shaper.new given.new.items) }
-{
-    let reply = shaper.apply(&Call::Collect(moment))?;
-    given.extend_from_slice(delivered_by(&reply))?;
-    Ok(())
-}
-
-/// Takes the packets that are due by the clock, after every 256th row.
-///
-/// So the shaper needn't hold all packets until the last Collect. With a history it has to, since the entry of that Collect
-/// lists them.
-fn collect_in_passing(
-    shaper: &mut Shaper,
-    given: &mut Vec<Delivery>,
-    rows: usize,
-) -> Result<(), AllocError>
-    ensures { OnOk result (PassesBy shaper.old given.old.items shaper.new given.new.items) }
-{
-    if rows % STRETCH == 0 {
-        return collect(shaper, given, Moment::new(0).unwrap());
-    }
-    Ok(())
+    /// No Submit is recorded, and in place of the run's shaper each of these answers the packets on its part of the links.
+    Parts(DividedShaper),
 }
 
 impl Held {
     /// What is held before the first call.
     pub(crate) fn new(alloc: Global, records: bool) -> Held
-        ensures none { given_of result ≡ [] }
+        ensures nothing { HoldsNothing result }
         ensures records { has_entries result ≡ records }
     {
         if records {
@@ -60,9 +38,42 @@ impl Held {
         Held::Given(Vec::new(alloc))
     }
 
-    /// Holds the answer to a Submit, of which the report's row is kept already.
+    /// Whether the links are divided. No result depends on it.
+    pub(crate) fn is_divided(&self) -> bool {
+        matches!(self, Held::Parts(_))
+    }
+
+    /// Divides the links of a configuration among so many shapers, if no call is recorded.
     ///
-    /// That is its entry, or else what a Collect in passing gives behind it.
+    /// Each makes all commands, as the run has done.
+    pub(crate) fn divide(
+        &mut self,
+        alloc: Global,
+        key: HashKey,
+        config: &[u8],
+        parts: usize,
+    ) -> Result<(), ReplayFault>
+        requires { 0 < parts }
+        ensures ok { OnOk result (Divides config.now self.old self.new) }
+        ensures records { has_entries self.new ≡ has_entries self.old }
+        ensures err { IfErr result (λ fault. IsFaultOf (configured_by config.now) fault) }
+    {
+        match self {
+            Held::Entries => return Ok(()),
+            Held::Given(_) | Held::Parts(_) => {}
+        }
+        let shapers = shapers_of(alloc, key, config, parts)?;
+        let Ok(divided) = DividedShaper::new(alloc, shapers) else {
+            return Err(ReplayFault::OutOfMemory);
+        };
+        *self = Held::Parts(divided);
+        Ok(())
+    }
+
+    /// Holds the answer of the run to a Submit, of which the report's row is kept already.
+    ///
+    /// That is its entry, or else what a Collect in passing gives behind it. With a history none is made, since the entry of the
+    /// last Collect lists all packets.
     pub(crate) fn hold(
         &mut self,
         run: &mut Run,
@@ -75,17 +86,23 @@ impl Held {
         match self {
             Held::Entries => run.add_entry(call, reply),
             Held::Given(given) => collect_in_passing(&mut run.shaper, given, kept.rows()),
+            Held::Parts(_) => Ok(()),
         }
     }
 
-    /// Takes all packets that are due by the last moment.
-    pub(crate) fn collect_rest(&mut self, run: &mut Run) -> Result<(), AllocError>
+    /// Takes all packets that are due by the last moment. Then no parts are left.
+    pub(crate) fn collect_rest(&mut self, alloc: Global, run: &mut Run) -> Result<(), AllocError>
         ensures { OnOk result (Ends self.old run.old self.new run.new) }
     {
         let last = Moment::new(1 << 62).unwrap();
         match self {
             Held::Entries => run.make(Call::Collect(last)),
             Held::Given(given) => collect(&mut run.shaper, given, last),
+            Held::Parts(divided) => {
+                let given = divided.collect(alloc, last)?;
+                *self = Held::Given(given);
+                Ok(())
+            }
         }
     }
 
@@ -97,6 +114,7 @@ impl Held {
         match self {
             Held::Entries => last_delivered(run.history.as_slice()),
             Held::Given(given) => given.as_slice(),
+            Held::Parts(_) => &[],
         }
     }
 
@@ -107,7 +125,7 @@ impl Held {
     {
         match self {
             Held::Entries => run.take_history(alloc),
-            Held::Given(_) => Vec::new(alloc),
+            Held::Given(_) | Held::Parts(_) => Vec::new(alloc),
         }
     }
 }

@@ -69,7 +69,7 @@ pub(crate) fn replay_inputs<T: Threading, C: Inlet, P: Inlet, O: Outlet>(
         (O.contents out.old) (O.contents out.new) (O.has_failed out.new) fault) }
 {
     let text = read_input(alloc, config, CONFIG_LIMIT, Source::Config)?;
-    let replay = FileReplay::behind(alloc, manner, text.as_slice())?;
+    let replay = FileReplay::behind_by(alloc, by, manner, text.as_slice())?;
     answer(alloc, by, replay, packets, out)
 }
 

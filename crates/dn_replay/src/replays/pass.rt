@@ -1,15 +1,18 @@
-ghost use Rattle.std.specs.Prelude.{◌≡◌, [], ◌∷◌, ℕ, Bool, List, OnOk, IfOk, IfErr, false};
+ghost use Rattle.std.specs.Prelude.{◌≡◌, ◌<◌, [], ◌∷◌, ℕ, Bool, List, OnOk, IfOk, IfErr, false};
 ghost use Rattle.dn_types.specs.declared.call.Call.{Call as CallValue};
 ghost use Rattle.dn_files.specs.Reading.{IsFaultOf};
-ghost use Rattle.dn_replay.specs.Held.{GoesOn, has_entries};
+ghost use Rattle.dn_parts.specs.Rows.{submit as submit_of};
+ghost use Rattle.dn_replay.specs.Held.{GoesOn, HasDivided, IsWhole, has_entries};
 ghost use Rattle.dn_replay.specs.OnePass.{AreFew, HasEndedWith, HasFed, IsFresh, calls_with};
-ghost use Rattle.dn_replay.specs.Runs.{submit as submit_of};
-ghost use Rattle.dn_replay.specs.Feeding.{AnswersFed, Fed, FeedsPart, LeavesFed, Submits};
+ghost use Rattle.dn_replay.specs.Configuring.{configured_by};
+ghost use Rattle.dn_replay.specs.Feeding.{AnswersFed, Configures, Fed, FeedsPart, LeavesFed, Submits};
 
 use crate::config::run::{Run, submit};
+use crate::config::shapers::has_links;
 use crate::replays::held::Held;
 use crate::report::{Kept, Outcome, Printing, write_kept};
 use dn_files::{PacketReader, ReplayFault, Row};
+use dn_parts::DividedShaper;
 use dn_records::Outlet;
 use dn_shaper::HashKey;
 use dn_types::Entry;
@@ -18,7 +21,7 @@ use std::alloc::{AllocError, Global};
 /// A run that submits the packets of a text as its parts come.
 ///
 /// Of a packet it keeps what the report needs. The run's history has the configuration's calls, and the packets' calls too
-/// if entries are held.
+/// if entries are held. If its links are divided, the run has made the configuration's calls alone.
 #[derive(Drop)]
 pub(crate) struct Pass {
     pub(crate) run: Run,
@@ -27,14 +30,44 @@ pub(crate) struct Pass {
     pub(crate) reader: PacketReader,
 }
 
-/// Submits the packet of a row, and keeps what the report needs of the reply.
-fn submit_row(run: &mut Run, kept: &mut Kept, held: &mut Held, row: &Row) -> Result<(), AllocError>
+/// Submits the packet of a row to the run's shaper, and keeps what the report needs of the reply.
+#[inline(always)]
+fn submit_to_run(
+    run: &mut Run,
+    kept: &mut Kept,
+    held: &mut Held,
+    row: &Row,
+) -> Result<(), AllocError>
+    requires { IsWhole held.old }
     ensures { OnOk result (GoesOn (λ calls. submit_of row.now ∷ calls) held.old run.old kept.old held.new run.new kept.new) }
 {
     let call = submit(row);
     let reply = run.shaper.apply(&call)?;
     kept.note(&reply)?;
     held.hold(run, kept, call, reply)
+}
+
+/// Submits the packet of a row to the parts.
+#[inline(never)]
+fn submit_to_parts(
+    divided: &mut DividedShaper,
+    kept: &mut Kept,
+    row: &Row,
+) -> Result<(), AllocError>
+    ensures { OnOk result ((calls : List CallValue) → HasDivided divided.old kept.old calls → HasDivided divided.new kept.new (submit_of row.now ∷ calls)) }
+{
+    let reply = divided.submit_row(row)?;
+    kept.note(&reply)
+}
+
+/// Submits the packet of a row, and keeps what the report needs of the reply.
+fn submit_row(run: &mut Run, kept: &mut Kept, held: &mut Held, row: &Row) -> Result<(), AllocError>
+    ensures { OnOk result (GoesOn (λ calls. submit_of row.now ∷ calls) held.old run.old kept.old held.new run.new kept.new) }
+{
+    match held {
+        Held::Entries | Held::Given(_) => submit_to_run(run, kept, held, row),
+        Held::Parts(divided) => submit_to_parts(divided, kept, row),
+    }
 }
 
 /// Submits the packet of each row.
@@ -66,6 +99,36 @@ impl Pass {
         }
     }
 
+    /// Makes the commands of a configuration's text before the first packet.
+    pub(crate) fn configure(&mut self, config: &[u8]) -> Result<(), ReplayFault>
+        requires { IsFresh self.old }
+        ensures ok { OnOk result (Configures config.now self.old self.new) }
+        ensures records { has_entries self.new.held ≡ has_entries self.old.held }
+        ensures err { IfErr result (λ fault. IsFaultOf (configured_by config.now) fault) }
+    {
+        self.run.configure(config)
+    }
+
+    /// The same. Where there are links to divide, each of so many shapers then answers the packets on its part of them.
+    pub(crate) fn configure_in_parts(
+        &mut self,
+        alloc: Global,
+        config: &[u8],
+        parts: usize,
+    ) -> Result<(), ReplayFault>
+        requires fresh { IsFresh self.old }
+        requires some { 0 < parts }
+        ensures ok { OnOk result (Configures config.now self.old self.new) }
+        ensures records { has_entries self.new.held ≡ has_entries self.old.held }
+        ensures err { IfErr result (λ fault. IsFaultOf (configured_by config.now) fault) }
+    {
+        self.run.configure(config)?;
+        if parts == 1 || !has_links(self.run.history.as_slice()) {
+            return Ok(());
+        }
+        self.held.divide(alloc, self.run.key, config, parts)
+    }
+
     /// Takes a part of the packets' text, and submits the rows that are whole.
     pub(crate) fn feed(&mut self, part: &[u8]) -> Result<(), AllocError>
         ensures { OnOk result (FeedsPart part.now self.old self.new) }
@@ -82,7 +145,7 @@ impl Pass {
     }
 
     /// Submits what is left of the packets' text, which has ended, and takes all packets that are due by the last moment.
-    fn submit_rest(&mut self) -> Result<(), ReplayFault>
+    fn submit_rest(&mut self, alloc: Global) -> Result<(), ReplayFault>
         ensures ok { OnOk result (Fed self.old (λ records calls text. AreFew (calls_with calls text) → HasEndedWith records self.new calls text)) }
         ensures err { IfErr result (λ fault. Fed self.old (λ records calls text. IsFaultOf (calls_with calls text) fault)) }
     {
@@ -95,7 +158,7 @@ impl Pass {
         ) else {
             return Err(ReplayFault::OutOfMemory);
         };
-        let Ok(()) = self.held.collect_rest(&mut self.run) else {
+        let Ok(()) = self.held.collect_rest(alloc, &mut self.run) else {
             return Err(ReplayFault::OutOfMemory);
         };
         Ok(())
@@ -117,7 +180,7 @@ impl Pass {
         ensures sound { IfOk result (λ _. O.has_failed out.new ≡ false) }
         ensures err { IfErr result (λ fault. LeavesFed self.old (O.contents out.old) (O.contents out.new) (O.has_failed out.new) fault) }
     {
-        self.submit_rest()?;
+        self.submit_rest(alloc)?;
         let outcome = write_kept(alloc, by, &self.kept, self.held.all_given(&self.run), out)?;
         let history = self.held.take_history(&mut self.run, alloc);
         Ok((history, outcome))

@@ -42,7 +42,7 @@ fn begin<T: Threading>(
     requires { IsFresh pass.old }
     ensures { IfOk result (λ stage. TakesConfig config.now packets.now pass.old stage pass.new) }
 {
-    match pass.run.configure(config) {
+    match by.configure(pass, config) {
         Ok(()) => {
             by.feed(pass, packets)?;
             Ok(Stage::Packets)
@@ -88,7 +88,7 @@ impl Stage {
                 let Ok(()) = config.finish() else {
                     return Err(ReplayFault::OutOfMemory);
                 };
-                pass.run.configure(config.lines.as_slice())
+                pass.configure(config.lines.as_slice())
             }
             Stage::Packets => Ok(()),
             Stage::Refused(fault) => Err(fault),

@@ -86,8 +86,8 @@ fn write_by<P: Printing, O: Outlet>(
 
 /// Writes the report of what is kept.
 ///
-/// `given` is what a Collect at the last moment gave: its lines follow the deliveries in their order. The text is written
-/// in parts, for which room is made before the first is written.
+/// `given` is what a Collect at the last moment gives if none was made before it, so it is what all Collects gave. Its lines
+/// follow the deliveries in their order. The text is written in parts, for which room is made before the first is written.
 pub(crate) fn write_kept<P: Printing, O: Outlet>(
     alloc: Global,
     by: &P,

@@ -19,15 +19,15 @@ loop-part-preserved c =
       len = omega (arith, c.push_reserved.ensures.len, len);
       room = c.push_reserved.ensures.capacity ∙ c.loop-part.invariant.room;
       rest = λ k d le. get_or-set_other runs part k c.collect.new.self d (λ e. omega (arith, le, e)) ∙ c.loop-part.invariant.rest k d (omega (arith, le));
-      each = λ k d calls lt has.
+      each = λ k d calls lt has small.
           ap (λ xs. list_at (map vec_items xs) k) c.push_reserved.ensures.items
           ∙ elim (cases_eq part k) [
             | inl e ↦
                 let same : get_or c.args.runs.now k d ≡ get_or runs part this =
                 ap (λ (n : ℕ). get_or c.args.runs.now n d) (sym e) ∙ sym (c.loop-part.invariant.rest part d (omega arith)) ∙ get_or_default runs part d this in-runs in
                 ap (λ (n : ℕ). list_at (map vec_items (c.loop-part.lists.items ++ c.in-Ok.list ∷ [])) n) (sym e) ∙ last-list c.loop-part.lists.items c.in-Ok.list part many
-                ∙ c.in-Ok.ensures calls (subst (λ (r : Run). HasRun r calls) same has) ∙ ap (λ (r : Run). given_in_part r calls c.args.moment) (sym same)
+                ∙ c.in-Ok.ensures calls (subst (λ (r : Run). HasRun r calls) same has) small ∙ ap (λ (r : Run). given_in_part r calls c.args.moment) (sym same)
             | inr ne ↦
-                one-list-more c.loop-part.lists.items c.in-Ok.list part k many ne lt ∙ c.loop-part.invariant.each k d calls (omega (arith, lt, ne)) has
+                one-list-more c.loop-part.lists.items c.in-Ok.list part k many ne lt ∙ c.loop-part.invariant.each k d calls (omega (arith, lt, ne)) has small
           ];
     }

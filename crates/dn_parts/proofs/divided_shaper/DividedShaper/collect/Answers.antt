@@ -23,8 +23,8 @@ returns c =
     let run = h.are_run in
     let all : length lists ≡ parts = let long = run.many in omega (arith, many, same, value, long) in
     let some-part : 0 < parts = let long = run.many in omega (arith, some, long) in
-    is Ordered (division_among parts) calls c.args.moment (packets-run parts runs calls [] run some) few h.numbered
+    is Ordered (division_among parts) calls c.args.moment (packets-run parts runs calls [] run some) (omega (arith, few)) h.numbered
     (subst (λ (n : ℕ). IsAmong (division_among parts) n) (sym all) (among parts some-part))
-    (given-parts parts runs c.args.moment calls (map vec_items lists) run some
+    (given-parts parts runs c.args.moment calls (map vec_items lists) run some few
     (subst (λ (l : List Run). GivesInParts c.args.moment l (map vec_items lists)) c.as_mut_slice.ensures.value c.in_ok-lists.ensures))))
     c.delivered.ensures

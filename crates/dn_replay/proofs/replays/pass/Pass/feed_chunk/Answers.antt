@@ -1,6 +1,6 @@
 use Rattle.std.proofs.Common.{◌∙◌, ◌++◌, flat_map}
 use Rattle.std.proofs.lemmas.Result.{on_ok_weaker}
-use Rattle.dn_replay.specs.Runs.{submitted}
+use Rattle.dn_parts.specs.Rows.{submitted}
 use Rattle.dn_replay.proofs.PassSteps.{last_rows}
 use Rattle.dn_replay.proofs.replays.pass.Pass.feed_chunk.Goals as goal
 

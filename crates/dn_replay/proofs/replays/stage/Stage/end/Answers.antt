@@ -1,17 +1,16 @@
 use Rattle.std.proofs.Common.{[]}
 use Rattle.std.proofs.lemmas.Result.{on_ok_weaker}
 use Rattle.dn_replay.proofs.InputSteps.{at_end, end_begun, stays_refused}
-use Rattle.dn_replay.proofs.PassSteps.{fed-first}
 use Rattle.dn_replay.proofs.replays.stage.Stage.end.Goals as goal
 
 pub returns-in-Ok-clause-ok : goal.returns-in-Ok-clause-ok
 returns-in-Ok-clause-ok c =
     on_ok_weaker c.configure.result (λ configured records asked text taken.
     let (records_is, fresh, so_far, same) = rw c.in-Config.is at taken in
-    let (calls, accepted, made) = rw c.as_slice.ensures.value at configured in (
+    let (calls, accepted, fed) = rw c.as_slice.ensures.value at configured in (
       calls,
       [],
-      fed-first records c.args.pass.now c.configure.new.self c.finish.new.self.lines.items calls records_is fresh accepted made,
+      rw records_is at fed,
       end_begun asked text c.finish.new.self.lines.items calls accepted same (c.in-Ok.ensures text so_far),
     )) c.configure.ensures.ok
 

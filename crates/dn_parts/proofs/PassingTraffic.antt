@@ -27,7 +27,7 @@ use Rattle.dn_types.proofs.Settled.{first_start-of}
 use Rattle.dn_types.proofs.Settling.{next_packet-first, next_start-packet}
 use Rattle.dn_types.proofs.Step.{accept_in, after_event, after_verdict_in, first_start_in, join_in, next_start_in, opening_in, settle_in, settle_most_in}
 use Rattle.dn_types.proofs.Step.{verdict_in, verdict_reply_in, waiting_all_in, waiting_in}
-use Rattle.dn_replay.specs.Passing.{IsPast, with_given}
+use Rattle.dn_parts.specs.Passing.{IsPast, with_given}
 
 -- ---- The order of deliveries
 

@@ -3,7 +3,7 @@ use Rattle.std.proofs.Common.{◌≡◌, ◌∙◌, sym, ap, subst, refl, ℕ, z
 use Rattle.std.specs.Prelude.{filter, nat_le, nat_lt, option_map, Option, Some, None}
 use Rattle.std.specs.List.{All, count_by}
 use Rattle.std.proofs.lemmas.Bool.Decides.{nat_tests}
-use Rattle.std.proofs.lemmas.List.Elements.{All-append, All-cons, All-head, All-nil, All-tail, filter-append}
+use Rattle.std.proofs.lemmas.List.Elements.{All-filter, All-append, All-cons, All-head, All-nil, All-tail, filter-append}
 use Rattle.dn_types.specs.Calls.{Verdict, trace_of, verdict}
 use Rattle.dn_types.specs.Clock.{call_limit, effective_moment}
 use Rattle.dn_types.specs.Configuration.{Settings, settings}
@@ -27,13 +27,14 @@ use Rattle.dn_types.proofs.Conserving.{busy-link}
 use Rattle.dn_types.proofs.Dues.{gives-what-is-due}
 use Rattle.dn_types.proofs.Giving.{count-event}
 use Rattle.dn_types.proofs.InTurn.{gives-in-order}
+use Rattle.dn_types.proofs.Ordered.{trace-proper}
+use Rattle.dn_types.proofs.PacketCounts.{undelivered-below}
 use Rattle.dn_types.proofs.Settled.{first_start-of}
 use Rattle.dn_types.proofs.Step.{after_verdict_in, counted_step, counted_step_reply, settle_in, verdict_in, verdict_reply_in}
-use Rattle.dn_replay.specs.Passing.{HasPassed, IsPast, with_given, without_passing}
-use Rattle.dn_replay.specs.Report.{delivered}
-use Rattle.dn_replay.proofs.KeptReport.{counted-given}
-use Rattle.dn_replay.proofs.PacketNumbers.{counts, settled-accepts, verdict-accepts}
-use Rattle.dn_replay.proofs.PassingTraffic.{IsBusy, after_verdict-behind, next-later, reply-behind, settled-behind, verdict-behind}
+use Rattle.dn_parts.specs.Passing.{HasPassed, IsPast, with_given, without_passing}
+use Rattle.dn_laws.specs.Merges.{delivered}
+use Rattle.dn_parts.proofs.Accepting.{counts, settled-accepts, verdict-grows}
+use Rattle.dn_parts.proofs.PassingTraffic.{IsBusy, after_verdict-behind, next-later, reply-behind, settled-behind, verdict-behind}
 
 -- ---- What is due by a moment, and what is due later
 
@@ -156,6 +157,17 @@ given-first given at t =
     (ap (λ (ds : List Delivery). given ++ ds) (sym (parted at (undelivered Ordered t) (in-turn t))) ∙ sym (append_assoc given first rest))
     ∙ ap (with_given (given ++ given_at Ordered at t)) (sym (collected-traffic at t))
 
+-- A Collect gives packets that were accepted.
+given-numbers : (calls : List Call)
+    → All (λ d. d.packet < accepted_count (trace_of calls)) (given_at Ordered (max (effective_moment calls) 0) (settled (settings calls) (max (effective_moment calls) 0) (trace_of calls)))
+given-numbers calls =
+    let at = max (effective_moment calls) 0 in
+    let trace = settled (settings calls) (max (effective_moment calls) 0) (trace_of calls) in
+    let few : accepted_count (settled (settings calls) (max (effective_moment calls) 0) (trace_of calls)) ≤ accepted_count (trace_of calls) =
+    (let same = settled-accepts (settings calls) (max (effective_moment calls) 0) (trace_of calls) in omega (arith, same)) in
+    All-filter (λ d. nat_le d.due at) (λ d. d.packet < accepted_count (trace_of calls)) (undelivered Ordered trace)
+    (undelivered-below (accepted_count (trace_of calls)) Ordered trace (trace-proper (Collect 0 ∷ calls)) few)
+
 -- ---- One call more
 
 -- No Collect in passing was made.
@@ -204,7 +216,7 @@ module _ (made calls : List Call) (given : List Delivery) (h : HasPassed made ca
     pub passed-submit : HasPassed (Submit target packet moment ∷ made) (Submit target packet moment ∷ calls) given
     passed-submit =
         let trace = settled (settings made) (max (effective_moment made) moment) (trace_of made) in
-        let more = verdict-accepts (settings made) (max (effective_moment made) moment) packet (verdict made target packet trace) trace in
+        let more = verdict-grows (settings made) (max (effective_moment made) moment) packet (verdict made target packet trace) trace in
         let same = settled-accepts (settings made) (max (effective_moment made) moment) (trace_of made) in
         record {
           alike = standing_of_counted-cons Ordered calls (Submit target packet moment)
@@ -245,7 +257,7 @@ module _ (made calls : List Call) (given : List Delivery) (h : HasPassed made ca
             (λ k e lt. ((let due = (h.past k e lt).0 in omega (arith, due)), (let below = (h.past k e lt).1 in omega (arith, below, none, same))))
             (λ k e lt. (
               gives-what-is-due Ordered (max (effective_moment made) 0) trace k e lt,
-              (let below = (counted-given made 0 (accepted_count (trace_of made)) refl).numbers k e lt in omega (arith, below, none, same)),
+              (let below = given-numbers made k e lt in omega (arith, below, none, same)),
             ));
         no_fewer = let fewer = h.no_fewer in omega (arith, fewer);
       }

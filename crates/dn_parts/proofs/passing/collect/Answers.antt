@@ -1,8 +1,8 @@
 use Rattle.std.proofs.Common.{◌∙◌, ◌++◌, List, ap}
 use Rattle.dn_types.specs.declared.delivery.Delivery.{Delivery}
 use Rattle.dn_types.specs.declared.rule.Rule.TheVariants.{Ordered}
-use Rattle.dn_replay.specs.Report.{delivered}
-use Rattle.dn_replay.proofs.replays.held.collect.Goals as goal
+use Rattle.dn_laws.specs.Merges.{delivered}
+use Rattle.dn_parts.proofs.passing.collect.Goals as goal
 
 pub returns : goal.returns
 returns c = λ calls stands.

@@ -1,0 +1,13 @@
+use Rattle.std.proofs.Common.{refl}
+use Rattle.std.proofs.lemmas.Result.{on_ok_weaker}
+use Rattle.dn_replay.proofs.PassSteps.{fed-first, undivided}
+use Rattle.dn_replay.proofs.replays.pass.Pass.configure.Goals as goal
+
+pub returns-clause-ok : goal.returns-clause-ok
+returns-clause-ok c =
+    on_ok_weaker c.configure.result (λ configured.
+    let (calls, accepted, made) = configured in (
+      calls,
+      accepted,
+      fed-first _ c.args.self.now c.configure.new.self c.args.self.now.held c.args.config.now calls refl c.requires accepted made (undivided c.args.config.now c.args.self.now.held),
+    )) c.configure.ensures.ok
