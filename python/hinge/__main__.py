@@ -24,7 +24,7 @@ COMMANDS = {
     "through": "a capture as the far end of the link sees it",
     "sweep": "many configurations and seeds over one packet file",
     "check": "what is wrong with configurations, packet files and histories, and what to write",
-    "shard": "a replay of any length on all processors",
+    "shard": "a replay of packets of any length by several threads",
     "run": "a command behind an emulated link, in real or simulated time",
     "net": "many hosts on any links, as a file describes them",
     "up": "a net in the background",

@@ -42,8 +42,3 @@ def dummynet() -> str:
 def clock() -> str:
     """The library that gives C code the simulated clock; tools/release/hosts builds it."""
     return program_named("HINGE_CLOCK", "hinge-clock.so", "built/hinge-clock.so", "release/hinge-clock.so")
-
-
-def shard() -> str:
-    """The program that replays on all processors; hosts/shard/build builds it."""
-    return program_named("HINGE_SHARD", "hinge-shard", "built/hinge-shard", "release/hinge-shard")

@@ -181,7 +181,7 @@ def by_pip(tally: Tally, copy: Path, place: Path) -> None:
     tally.equal("hinge --version", f"hinge {VERSION}\n", done(tally, "hinge", venv / "bin" / "hinge", "--version", cwd=place))
     told = done(tally, "hinge docs", venv / "bin" / "hinge", "docs", "LIVE", cwd=place)
     tally.equal("a page by pip", (TOP / "docs" / "LIVE.md").read_text(), told)
-    for module, name, where_it_is in (("program", "dummynet", "bin/dummynet"), ("program", "shard", f"{Path(modules).parent}/hinge-shard"),
+    for module, name, where_it_is in (("program", "dummynet", "bin/dummynet"),
                                       ("program", "clock", f"{Path(modules).parent}/hinge-clock.so"),
                                       ("run.host", "program", f"{Path(modules).parent}/run/hinge-link")):
         told = done(tally, f"hinge.{module}", own, "-c", f"from hinge.{module} import {name}; print({name}())", cwd=place)

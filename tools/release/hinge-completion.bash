@@ -9,7 +9,7 @@ _hinge() {
         words=$("$hinge" sweep --help 2>/dev/null | sed -n 's/^    \([a-z]*\)  .*/\1/p')
     elif [ "${word#-}" != "$word" ]; then
         [ "$command" != sweep ] || [ "$COMP_CWORD" = 2 ] || command="sweep ${COMP_WORDS[2]}"
-        words=$("$hinge" $command --help 2>/dev/null | grep -o -e '--[a-z0-9-]*' | sort -u)
+        words=$("$hinge" $command --help 2>/dev/null | grep '^  *-' | grep -o -e '--[a-z0-9-]*' | sort -u)
     else
         mapfile -t COMPREPLY < <(compgen -f -- "$word")
     fi

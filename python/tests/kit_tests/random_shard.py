@@ -1,5 +1,5 @@
-"""Random replays by `dummynet` and by `hinge-shard`: status, report and fault are the same bytes.
-`python3 python/tests/kit_tests/random_shard.py PROGRAM FROM TO` compares those of the seeds from FROM to TO."""
+"""Random replays by `dummynet`, of one thread, and by `hinge shard`: status, report and fault are the same bytes.
+`python3 python/tests/kit_tests/random_shard.py FROM TO` compares those of the seeds from FROM to TO."""
 
 from __future__ import annotations
 
@@ -11,9 +11,10 @@ import tempfile
 from collections import Counter
 from pathlib import Path
 
-sys.path.append(str(Path(__file__).resolve().parents[2]))
+PYTHON = Path(__file__).resolve().parents[2]
+sys.path.append(str(PYTHON))
 
-from hinge.program import dummynet
+from hinge.program import dummynet  # noqa: E402
 
 HEADER = "moment,target,number,src,dst,proto,sport,dport,len,word\n"
 LAST_MOMENT = 2**62
@@ -88,12 +89,12 @@ def random_packets(rng: random.Random, pipes: int) -> str:
 
 
 def replayed(command: list[str]) -> tuple[int, bytes, bytes]:
-    done = subprocess.run(command, capture_output=True, env={**os.environ, "DUMMYNET": dummynet()})
+    done = subprocess.run(command, capture_output=True, env={**os.environ, "PYTHONPATH": str(PYTHON)})
     return done.returncode, done.stdout, done.stderr
 
 
-def compare(shard: str, low: int, high: int) -> Counter[str]:
-    """Compares so many replays, by one to four threads, and counts their rows by event and their statuses."""
+def compare(low: int, high: int) -> Counter[str]:
+    """Compares so many replays, by one to eight threads, and counts their rows by event and their statuses."""
     counts: Counter[str] = Counter()
     with tempfile.TemporaryDirectory() as folder:
         config, packets = Path(folder, "config"), Path(folder, "packets")
@@ -102,8 +103,9 @@ def compare(shard: str, low: int, high: int) -> Counter[str]:
             pipes = rng.choice([1, 2, 4, 9, 30])
             config.write_text(random_configuration(rng, pipes), encoding="latin-1")
             packets.write_bytes(random_packets(rng, pipes).encode())
-            one = replayed([dummynet(), "replay", str(config), str(packets)])
-            other = replayed([shard, "-j", str(seed % 4 + 1), str(config), str(packets)])
+            one = replayed([dummynet(), "replay", "--threads", "1", str(config), str(packets)])
+            words = [sys.executable, "-m", "hinge", "shard", "-j", str(seed % 8 + 1), str(config), str(packets)]
+            other = replayed(words)
             assert one == other, (seed, one[0], other[0], one[2], other[2], len(one[1]), len(other[1]))
             counts[f"status {one[0]}"] += 1
             counts.update(line.partition(b",")[0].decode() for line in one[1].splitlines()[1:])
@@ -111,4 +113,4 @@ def compare(shard: str, low: int, high: int) -> Counter[str]:
 
 
 if __name__ == "__main__":
-    print(dict(compare(sys.argv[1], *map(int, sys.argv[2:4]))))
+    print(dict(compare(*map(int, sys.argv[1:3]))))
