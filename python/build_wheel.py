@@ -38,7 +38,7 @@ BASE = f"{NAME}-{VERSION}"
 PACKAGES = ("hingetulip", "hingetulip_words", "hinge")
 TAG = "py3-none-manylinux_2_34_x86_64"
 LIBRARY = "libhingetulip.so.1"
-HOSTS = {"hinge-link": "hinge/run/hinge-link", "hinge-shard": "hinge/hinge-shard",
+HOSTS = {"hinge-link": "hinge/run/hinge-link",
          "hinge-clock.so": "hinge/hinge-clock.so"}  # built from C, where the release has them
 FIRST_DATE = 315532800  # 1980-01-01, the first that a zip file can have
 METADATA = f"""\

@@ -33,7 +33,6 @@ TOLD = HERE / "mutations.txt"
 SUITES = {"module": "python/tests", "run": "python/tests/run", "kit": "python/tests/kit_tests"}
 TESTS = {  # by the beginning of a path, the first that fits: the tests that are quick and touch it
     "hosts/clock.c": "module clock",
-    "hosts/shard/": "kit shard",
     "hosts/link/": "run link*, run segments, run passes, run pacing, run many_links, run udp*, run control",
     "python/hingetulip_words/": "module link_words, run plan, run net_file",
     "python/hingetulip/aio/": "module aio*, module sockets*, module clock",
@@ -69,7 +68,7 @@ ulimit -v 8388608 && cd "$0/top" && exec "$@" """
 NOTHING: Any = {"stdin": subprocess.DEVNULL, "stdout": subprocess.DEVNULL, "stderr": subprocess.DEVNULL}
 FLAGS = ["-std=gnu17", "-O1", "-w", "-pthread"]
 LONGEST = 600  # s of a test
-HOSTS = {"link": "hinge-link", "shard": "hinge-shard"}
+HOSTS = {"link": "hinge-link"}
 
 
 def tests_of(path: str) -> list[str]:

@@ -3,7 +3,7 @@
 
     python3 tools/fuzz/run.py [--keep] SECONDS [NAME ..]
 
-A NAME is one of packets, plan and rows; all by default, each for so many seconds. Each begins with its kept inputs in corpus/NAME, with the
+A NAME is one of packets and plan; both by default, each for so many seconds. Each begins with its kept inputs in corpus/NAME, with the
 sanitizers for addresses and undefined behaviour. An input that crashes, hangs for ten seconds or takes 2 GB is printed, and left in
 built/fuzz. With --keep the kept inputs are those that reach the most with the least bytes. It takes clang and libFuzzer.
 """
@@ -25,7 +25,7 @@ from tally import Tally  # noqa: E402
 FLAGS = ["-g", "-O1", "-w", "-D_GNU_SOURCE", "-fno-sanitize-recover=undefined", "-fsanitize=fuzzer,address,undefined"]
 LIMITS = ["-timeout=10", "-rss_limit_mb=2048", "-max_len=1024", "-verbosity=0", "-close_fd_mask=2", "-print_final_stats=1"]
 LINK = sorted(path for path in (TOP / "hosts" / "link").glob("*.c") if path.name != "main.c")
-SOURCES = {"packets": LINK, "plan": LINK, "rows": [TOP / "hosts" / "shard" / "plain.c", TOP / "hosts" / "shard" / "rows.c"]}
+TARGETS = ("packets", "plan")
 OF_EXIT = {"plan": ["-Dexit=leave_the_host"]}  # a refusal goes back to the target
 MORE = {"plan": [f"-dict={HERE}/plan.words", "-runs=200000"]}  # what a plan asks for is kept to the end of the program
 WITHOUT_LEAKS = {**os.environ, "ASAN_OPTIONS": "detect_leaks=0"}  # of a line whose reader was left by its refusal
@@ -41,7 +41,7 @@ def library() -> Path:
 
 def built(name: str, folder: Path) -> Path:
     include, made = f"-I{TOP / 'crates/hingetulip_c/include'}", []
-    for path in SOURCES[name]:
+    for path in LINK:
         made.append(folder / f"{name}-{path.stem}.o")
         subprocess.run(["clang", *FLAGS, *OF_EXIT.get(name, []), include, "-c", path, "-o", made[-1]], check=True)
     target = folder / name
@@ -76,11 +76,11 @@ def main() -> int:
     parser = argparse.ArgumentParser(description=__doc__, formatter_class=argparse.RawDescriptionHelpFormatter)
     parser.add_argument("--keep", action="store_true")
     parser.add_argument("seconds", type=int)
-    parser.add_argument("names", nargs="*", choices=[*SOURCES, []], metavar="NAME")
+    parser.add_argument("names", nargs="*", choices=[*TARGETS, []], metavar="NAME")
     asked = parser.parse_args()
     folder, tally = TOP / "built" / "fuzz", Tally()
     folder.mkdir(parents=True, exist_ok=True)
-    for name in asked.names or SOURCES:
+    for name in asked.names or TARGETS:
         tally.note(name, faults(name, asked.seconds, folder))
         if asked.keep:
             keep(name, folder)

@@ -40,8 +40,7 @@ def main() -> int:
     with TemporaryDirectory() as place:
         folder = Path(place)
         subprocess.run([TOP / "tools" / "release" / "hosts", folder], stdout=subprocess.DEVNULL, check=True)
-        subprocess.run([TOP / "hosts" / "shard" / "build", folder / "hinge-shard"], check=True)
-        for file, guarded in ((folder / "hinge-link", True), (folder / "hinge-shard", True), (folder / "hinge-clock.so", False),
+        for file, guarded in ((folder / "hinge-link", True), (folder / "hinge-clock.so", False),
                               (TOP / "release" / "dummynet", False), (TOP / "release" / "libhingetulip.so.1", False)):
             tally.equal(f"{file.name} lacks", [], lacking(file, guarded))
         library = said("readelf", "-lW", TOP / "release" / "libhingetulip.so.1")

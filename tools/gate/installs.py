@@ -80,11 +80,9 @@ def copied(place: Path, program: str) -> Path:
 def with_hosts(tally: Tally, copy: Path) -> None:
     """The programs in C that hinge runs, in the copy's release, where there is a compiler."""
     if shutil.which("cc") is None:
-        print("hinge-link and hinge-shard: skipped, since there is no cc on the path")
+        print("hinge-link and hinge-clock.so: skipped, since there is no cc on the path")
         return
     done(tally, "tools/release/hosts release", copy / "tools" / "release" / "hosts", "release")
-    done(tally, "hosts/shard/build", copy / "hosts" / "shard" / "build", copy / "release" / "hinge-shard",
-         HINGETULIP_STATIC=str(copy / "release" / "libhingetulip.a"))
 
 
 def python() -> Optional[str]:
@@ -218,7 +216,7 @@ def by_each_python(tally: Tally, copy: Path, place: Path) -> None:
 
 def glibc(tally: Tally, copy: Path, place: Path) -> None:
     """What is released needs no later glibc than the wheel's tag and the packages say: 2.34."""
-    for name in ("dummynet", "libhingetulip.so.1", "hinge-link", "hinge-shard", "hinge-clock.so"):
+    for name in ("dummynet", "libhingetulip.so.1", "hinge-link", "hinge-clock.so"):
         file = copy / "release" / name
         if file.is_file():
             asked = {tuple(map(int, it.split(b"."))) for it in re.findall(rb"GLIBC_(\d+\.\d+)", file.read_bytes())}

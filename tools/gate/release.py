@@ -28,7 +28,7 @@ from link_library import SHARED, STATIC  # noqa: E402
 RELEASE = TOP / "release"
 LIBRARY = "hingetulip_c"
 COMPILER = re.compile(rb"GCC: \([^)]*\) [\d.]+")
-HOSTS = ["hinge-link", "hinge-shard", "hinge-clock.so"]
+HOSTS = ["hinge-link", "hinge-clock.so"]
 
 
 def said(*words: str | Path) -> str:
