@@ -24,7 +24,7 @@
 #include "carrier.h"
 #include "changes.h"
 #include "control.h"
-#include "lateness.h"
+#include "late_remarks.h"
 #include "links.h"
 #include "losses.h"
 #include "pacing.h"
@@ -102,7 +102,7 @@ int main(int count, char **words) {
     prctl(PR_SET_PDEATHSIG, SIGTERM);
     prctl(PR_SET_TIMERSLACK, 1); /* else the system wakes it up to 50 us after the moment */
     open_links();
-    prepare_losses(carrier.ways), prepare_passes(carrier.ways), prepare_lateness(carrier.ways), prepare_pacing(carrier.ways);
+    prepare_losses(carrier.ways), prepare_passes(carrier.ways), prepare_late_remarks(carrier.ways), prepare_pacing(carrier.ways);
     read_plan();
     begin_unread(carrier.ways);
     begin_waits(carrier.polled, carrier.ways, ended, control_descriptor());

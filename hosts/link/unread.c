@@ -7,7 +7,7 @@
 #include <unistd.h>
 
 #include "basics.h"
-#include "lateness.h"
+#include "late_remarks.h"
 #include "page.h"
 
 static int schedstat = -1;

@@ -7,7 +7,7 @@
 #include "content.h"
 #include "dissect.h"
 #include "held.h"
-#include "lateness.h"
+#include "late_remarks.h"
 #include "joins.h"
 #include "links.h"
 #include "losses.h"

@@ -8,7 +8,7 @@
 #include "../../hosts/link/basics.h"
 #include "../../hosts/link/carrier.h"
 #include "../../hosts/link/changes.h"
-#include "../../hosts/link/lateness.h"
+#include "../../hosts/link/late_remarks.h"
 #include "../../hosts/link/links.h"
 #include "../../hosts/link/losses.h"
 #include "../../hosts/link/pacing.h"
@@ -31,7 +31,7 @@ static void prepare(void) {
     carrier.ways = WAYS;
     page = zeroed(sizeof *page + WAYS * sizeof *page->ways);
     open_links();
-    prepare_losses(WAYS), prepare_lateness(WAYS), prepare_pacing(WAYS), prepare_passes(WAYS);
+    prepare_losses(WAYS), prepare_late_remarks(WAYS), prepare_pacing(WAYS), prepare_passes(WAYS);
 }
 
 /* Lines that reach the system itself: a file, the scheduler, a descriptor. */

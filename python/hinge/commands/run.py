@@ -8,7 +8,6 @@ import signal
 import sys
 from typing import NoReturn
 
-from hinge.run.ends import ends_of
 from hinge.run.first import BLOCKED, live, status_of
 from hinge.run.host import program
 from hinge.run.inside import Inside
@@ -18,6 +17,7 @@ from hinge.run.order import order_of
 from hinge.run.outside import Outside
 from hinge.run.refusals import refusals
 from hinge.run.rooms import leave_the_system
+from hinge.run.two_hosts import ends_of
 from hinge.run.words import Wrong, duration
 from hinge.simulated import start
 from hinge.simulated.time_options import add_simulated, refuse_alone

@@ -9,7 +9,6 @@ from typing import Optional
 from hinge.command import say
 from hinge.run.control import Enter, HostRoom
 from hinge.run.doors import Doors
-from hinge.run.ends import ends_of
 from hinge.run.host import Link
 from hinge.run.interfaces import NAME, something_listens
 from hinge.run.joined import Joined
@@ -20,6 +19,7 @@ from hinge.run.processes import SIGNALLED, Ended, Processes, Ticker, name_of
 from hinge.run.rooms import Rooms
 from hinge.run.summary import record
 from hinge.run.system import enter
+from hinge.run.two_hosts import ends_of
 from hinge.run.watch import Watch
 from hinge.run.words import Wrong
 

@@ -13,10 +13,10 @@ import socket
 import struct
 from typing import NamedTuple
 
-from hinge.run.ends import OWN
 from hinge.run.interfaces import add_interface_route, add_tun, ask_kernel, dropped, hand_on
 from hinge.run.rooms import Rooms, see_own_processes
 from hinge.run.system import Missing, enter, try_to_write
+from hinge.run.two_hosts import OWN
 from hinge.run.words import Wrong
 
 UP, DOWN = "hinge-up", "hinge-down"

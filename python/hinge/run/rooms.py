@@ -16,13 +16,13 @@ from tempfile import gettempdir
 from typing import Callable, Optional, Sequence
 
 from hinge.command import say
-from hinge.run.ends import Ends
 from hinge.run.interfaces import add_route, add_tun, dropped, set_up
 from hinge.run.processes import Mask
 from hinge.run.system import (
     BIND, NEWNET, NEWNS, NEWPID, NEWUSER, Missing, enter, keep_mounts_to_itself, keep_network_rights, mount, setting,
     try_to_write, unmount, unshare, write
 )
+from hinge.run.two_hosts import Ends
 from hinge.run.users import Users, make_terminals
 
 CANNOT_EXECUTE, NOT_FOUND = 126, 127

@@ -1,13 +1,13 @@
 /* The most by which each way was late, and let packets lie unread: a remark in the transcript for each second in which packets passed, so
    that a stall of the host is seen beside what the links did. */
-#ifndef LATENESS_H
-#define LATENESS_H
+#ifndef LATE_REMARKS_H
+#define LATE_REMARKS_H
 #include <stdint.h>
 
 enum lateness { LATE, UNREAD, LATENESSES };
 
 /* Room for so many ways. */
-void prepare_lateness(int ways);
+void prepare_late_remarks(int ways);
 
 /* A packet of a way was late, or can have lain unread, by so many ns. */
 void note_lateness(int way, enum lateness which, uint64_t ns);

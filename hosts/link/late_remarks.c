@@ -1,4 +1,4 @@
-#include "lateness.h"
+#include "late_remarks.h"
 
 #include <stdbool.h>
 #include <string.h>
@@ -11,7 +11,7 @@ static size_t count;
 static uint64_t begun; /* when the first packet of this second was noted */
 static bool any;
 
-void prepare_lateness(int ways) { most = zeroed((count = (size_t)ways * LATENESSES) * sizeof *most); }
+void prepare_late_remarks(int ways) { most = zeroed((count = (size_t)ways * LATENESSES) * sizeof *most); }
 
 void note_lateness(int way, enum lateness which, uint64_t ns) {
     uint64_t *kept = &most[LATENESSES * way + which];
