@@ -37,7 +37,7 @@ def is_there(name: str, tracked: list[str]) -> bool:
 
 def is_known(name: str) -> bool:
     """Whether a name is in a source file."""
-    words = ["git", "grep", "-q", "-w", "-F", "-e", name, "--", "crates", "python", "rust", "tools", "bench"]
+    words = ["git", "grep", "-q", "-w", "-F", "-e", name, "--", "crates", "hosts", "python", "rust", "tools", "bench"]
     return subprocess.run(words, cwd=TOP).returncode == 0
 
 

@@ -41,7 +41,7 @@ def refusal(it: Datagram) -> Refusal:
 
 
 class Dropped(NamedTuple):
-    """A datagram that a link lost or refused."""
+    """A datagram that a link lost, or that met a full queue."""
 
     row: int  # of the packet in the history, from 1, as `hinge look` counts them
     moment: int  # ns

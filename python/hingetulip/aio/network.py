@@ -39,8 +39,9 @@ PATIENCE = 3600  # s of simulated time that tasks have to end when the network i
 class Network(Traffic):
     """Hosts and the links between them. With `history`, that file has the calls of the emulator when the network is closed.
 
-    `dropped` has the datagrams that links lost or refused, `unrouted` counts those to hosts without a way to them, and `unheard` those to
-    ports without a socket. `options` are those of links for which none are given, and `back` those of the way back of a path.
+    `dropped` has the datagrams that links lost, or that met a full queue. `unrouted` counts those to hosts without a way to them, `unheard`
+    those to ports without a socket, and `refused` those that are longer than a link's `mtu` or than a datagram can be. `options` are those
+    of links for which none are given, and `back` those of the way back of a path.
     """
 
     def __init__(self, *, seed: int = 1, history: Union[str, Path, None] = None, options: str = "", back: Optional[str] = None) -> None:
