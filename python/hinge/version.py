@@ -9,5 +9,5 @@ PLACES = (PACKAGE / "VERSION", PACKAGE.parents[1] / "VERSION")  # where it is in
 
 
 def version() -> str:
-    """The version, as `1.6.0`."""
+    """The version, as `1.7.0`."""
     return next(place for place in PLACES if place.is_file()).read_text(encoding="ascii").strip()

@@ -30,7 +30,7 @@ extern "C" {
 #endif
 
 /* The version of this header: its three numbers, as major * 1000000 + minor * 1000 + patch. */
-#define DN_VERSION 1006000u
+#define DN_VERSION 1007000u
 
 /* The last moment of a call: 2^62 ns. */
 #define DN_LAST_MOMENT ((uint64_t)1 << 62)

@@ -52,7 +52,7 @@ pub const LAST_MOMENT: u64 = 1 << 62;
 /// What a call returns: its value, or why it wasn't obeyed.
 pub type Result<T> = std::result::Result<T, Error>;
 
-/// The version of the library that is linked, as `1.6.0`.
+/// The version of the library that is linked, as `1.7.0`.
 ///
 /// ```
 /// assert_eq!(hingetulip::version().split('.').count(), 3);
