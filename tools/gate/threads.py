@@ -1,4 +1,4 @@
-"""A replay or an audit by 1 to 8 threads, and by as many as it takes without the option, writes what one by one thread does: over
+"""A replay or an audit by 1 to 8 threads, and without the option, writes what one by one thread does: over
 the cases of the independent reference, and over long packet files and histories, also with lines that only csv reads and with faults.
 
     python3 tools/gate/threads.py PROGRAM SEED COUNT
@@ -40,7 +40,7 @@ queue 5 config pipe 4 weight 3 queue 9 mask src-port 0xf
 queue 1 config pipe 4 weight 1 queue 15Kbytes plr 0.01
 queue 2 config pipe 3
 """
-ROWS = 75_000  # 5 MB: some steps for two threads, and some threads without the option
+ROWS = 75_000  # 5 MB: some steps for two threads
 
 
 class Packets(NamedTuple):

@@ -4,7 +4,6 @@
 mod audits;
 mod late_file;
 mod replays;
-mod thread_count;
 
 use audits::audit;
 use dn_command::{Refusal, Request, request_of, words_of};

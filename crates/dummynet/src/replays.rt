@@ -1,5 +1,4 @@
 use crate::late_file::LateFile;
-use crate::thread_count::usual_threads;
 use dn_command::Replay;
 use dn_records::{FromReader, FromWriter};
 use dn_replay::{
@@ -45,7 +44,7 @@ pub fn replay_files<R: Files + Print + AllocGlobal + Threads + Wait + Sync>(
     let Ok(packets) = fs::open(rt, asked.packets) else {
         return Err(ReplayFault::Read(Source::Packets));
     };
-    let threads = asked.threads.unwrap_or(usual_threads(rt, &packets));
+    let threads = asked.threads.unwrap_or(1);
     let mut config = FromReader::new(config);
     let mut packets = FromReader::new(packets);
     let mut out = FromWriter::new(io::writer(rt));
