@@ -10,7 +10,6 @@ through 10 Gbit/s and 1 ms. Each with a transcript and without one. The link goe
 from __future__ import annotations
 
 import json
-import os
 import re
 import subprocess
 import sys

@@ -36,8 +36,8 @@ class Case(NamedTuple):
     run: Callable[[str], Run]
 
 
-def replay(name: str, packets: str, *more: str) -> Callable[[str], Run]:
-    return lambda folder: Run(["replay", f"{folder}/{name}.config", f"{folder}/{name}.{packets}", *(word.format(folder) for word in more)])
+def replay(*more: str) -> Callable[[str], Run]:
+    return lambda folder: Run(["replay", f"{folder}/config", f"{folder}/packets", *(word.format(folder) for word in more)])
 
 
 def session(folder: str) -> Run:
@@ -45,20 +45,20 @@ def session(folder: str) -> Run:
 
 
 CASES = [
-    Case("160,000 flows whose keys collide where the hash has no secret", ["chosen_keys.py", "160000", "{}"], replay("chosen", "packets")),
-    Case("the same flows with other addresses", ["chosen_keys.py", "160000", "{}", "--spread"], replay("chosen", "packets")),
-    Case("a queue of 80,000 flows on one link, two packets each, and its delete", ["queue_delete.py", "80000", "{}/calls"], session),
-    Case("100,000 flows, and 100,000 deletes that reach none", ["idle_deletes.py", "100000", "{}/calls"], session),
-    Case("100,000 rounds of a queue, a new flow of it, and its delete", ["reset_flows.py", "100000", "{}/calls"], session),
-    Case("64,000 flows on one link, and as many turns of a delete and an arrival there", ["delete_turns.py", "64000", "{}/calls"], session),
-    Case("65,535 pipes with a queue each, 1,310,700 packets", ["many_links.py", "65535", "{}/calls"], session),
-    Case("the shortest rows, 64 MiB", ["fullest.py", "rows", str(PACKETS), "{}"], replay("rows", "csv")),
-    Case("the same with a history", ["fullest.py", "rows", str(PACKETS), "{}"], replay("rows", "csv", "--history", "{}/history")),
-    Case("the shortest rows of a flow each, 64 MiB", ["fullest.py", "flows", str(PACKETS), "{}"], replay("flows", "csv")),
-    Case("900,000 rows that end in CR LF", ["forms.py", "900000", "{}", "returns"], replay("forms", "packets")),
-    Case("900,000 rows in quotes", ["forms.py", "900000", "{}", "quoted"], replay("forms", "packets")),
-    Case("900,000 plain rows, to compare", ["forms.py", "900000", "{}"], replay("forms", "packets")),
-    Case("an audit of the shortest entries, 256 MiB", ["fullest.py", "entries", str(HISTORY), "{}"], lambda f: Run(["audit", f"{f}/entries.history"])),
+    Case("160,000 flows whose keys collide where the hash has no secret", ["inputs.py", "chosen", "160000", "{}"], replay()),
+    Case("the same flows with other addresses", ["inputs.py", "spread", "160000", "{}"], replay()),
+    Case("a queue of 80,000 flows on one link, two packets each, and its delete", ["sessions.py", "queue-delete", "80000", "{}/calls"], session),
+    Case("100,000 flows, and 100,000 deletes that reach none", ["sessions.py", "idle-deletes", "100000", "{}/calls"], session),
+    Case("100,000 rounds of a queue, a new flow of it, and its delete", ["sessions.py", "reset-queue", "100000", "{}/calls"], session),
+    Case("64,000 flows on one link, and as many turns of a delete and an arrival there", ["sessions.py", "delete-turns", "64000", "{}/calls"], session),
+    Case("65,535 pipes with a queue each, 1,310,700 packets", ["sessions.py", "many-links", "65535", "{}/calls"], session),
+    Case("the shortest rows, 64 MiB", ["inputs.py", "rows", str(PACKETS), "{}"], replay()),
+    Case("the same with a history", ["inputs.py", "rows", str(PACKETS), "{}"], replay("--history", "{}/history")),
+    Case("the shortest rows of a flow each, 64 MiB", ["inputs.py", "flows", str(PACKETS), "{}"], replay()),
+    Case("900,000 rows that end in CR LF", ["inputs.py", "returns", "900000", "{}"], replay()),
+    Case("900,000 rows in quotes", ["inputs.py", "quoted", "900000", "{}"], replay()),
+    Case("900,000 plain rows, to compare", ["inputs.py", "plain", "900000", "{}"], replay()),
+    Case("an audit of the shortest entries, 256 MiB", ["inputs.py", "entries", str(HISTORY), "{}"], lambda f: Run(["audit", f"{f}/history"])),
 ]
 
 

@@ -1,4 +1,4 @@
-/* hinge-clock.so, which `hinge with-clock` preloads: the clock of C code is the simulated one in a thread that runs simulated time.
+/* hinge-clock.so, to be preloaded from where `hinge kernel --clock` says that it is: the clock of C code is the simulated one in a thread that runs simulated time.
  *
  * hingetulip.aio sets the clock of its thread whenever it moves. In every other thread, and between runs, the system's clock counts.
  */

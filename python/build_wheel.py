@@ -107,6 +107,9 @@ def packages() -> Iterator[File]:
     for name, place in HOSTS.items():
         if (RELEASE / name).is_file():
             yield File(place, (RELEASE / name).read_bytes(), 0o755)
+    for path in sorted(RELEASE.glob("kernels/*/*")):
+        mode = 0o755 if os.access(path, os.X_OK) else 0o644
+        yield File(f"hinge/simulated/{path.relative_to(RELEASE)}", path.read_bytes(), mode)
 
 
 def links_to_clone() -> Iterator[File]:

@@ -1,6 +1,8 @@
 #define _GNU_SOURCE
 #include "basics.h"
 
+#include <errno.h>
+#include <limits.h>
 #include <stdio.h>
 #include <stdlib.h>
 #include <time.h>
@@ -8,6 +10,14 @@
 _Noreturn void fail(const char *what, const char *why) {
     fprintf(stderr, "hinge: %s: %s\n", what, why);
     exit(REFUSED);
+}
+
+int number_of(const char *word) {
+    char *end;
+    errno = 0;
+    long number = strtol(word, &end, 10);
+    if (errno || end == word || *end || number < INT_MIN || number > INT_MAX) fail(word, "no number");
+    return (int)number;
 }
 
 void *grown(void *old, size_t bytes) {

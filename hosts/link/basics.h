@@ -15,6 +15,9 @@ enum { BAD_LINE = 3, REFUSED = 6 };
 /* Ends the program with a line on standard error. */
 _Noreturn void fail(const char *what, const char *why);
 
+/* The number that a word of the command line is; ends the program where it is none. */
+int number_of(const char *word);
+
 /* Memory of so many bytes, with what `old` held. */
 void *grown(void *old, size_t bytes);
 

@@ -6,6 +6,7 @@
 #include <string.h>
 
 #include "basics.h"
+#include "cuts.h"
 #include "held.h"
 #include "links.h"
 #include "losses.h"
@@ -26,22 +27,24 @@ static void add(struct change change) {
     changes[count++] = change;
 }
 
-void add_line(uint64_t moment, const char *line) {
-    char *text = strdup(line);
-    if (!text) fail("the plan", "out of memory");
-    add((struct change){.moment = moment, .line = text});
-}
-
-void insert_line(uint64_t moment, const char *line) {
-    add_line(moment, line);
-    for (size_t at = count - 1; at > done && changes[at - 1].moment > moment; at--) {
+/* Puts a change behind those of its moment and of earlier ones. */
+static void insert(struct change change) {
+    add(change);
+    for (size_t at = count - 1; at > done && changes[at - 1].moment > change.moment; at--) {
         struct change later = changes[at - 1];
-        changes[at - 1] = changes[at], changes[at] = later;
+        changes[at - 1] = changes[at];
+        changes[at] = later;
     }
 }
 
-void add_outage(uint64_t moment, int pipe, uint16_t length) {
-    add((struct change){.moment = moment, .pipe = pipe, .length = length});
+void insert_line(uint64_t moment, const char *line) {
+    char *text = strdup(line);
+    if (!text) fail("the plan", "out of memory");
+    insert((struct change){.moment = moment, .line = text});
+}
+
+void insert_outage(uint64_t moment, int pipe, uint16_t length) {
+    insert((struct change){.moment = moment, .pipe = pipe, .length = length});
 }
 
 uint64_t next_change(void) { return done < count ? changes[done].moment : DN_NEVER; }
@@ -64,8 +67,7 @@ static void make(const struct change *change) {
         return;
     }
     advance(change->moment);
-    const char *wrong = obey(change->line);
-    if (!wrong) note_configured(change->line);
+    const char *wrong = follow(change->line);
     if (wrong) fprintf(stderr, "hinge: at %.3f s: %s: %s\n", (double)change->moment / 1e9, change->line, wrong);
 }
 

@@ -3,14 +3,11 @@
 #define CHANGES_H
 #include <stdint.h>
 
-/* A line that is obeyed at a moment. Moments don't fall from one of these calls to the next. */
-void add_line(uint64_t moment, const char *line);
-
-/* The same in the midst of the others, after those of its moment. */
+/* A line that is followed at a moment, after the other changes of that moment. */
 void insert_line(uint64_t moment, const char *line);
 
 /* An outage of the pipe of a way that begins at a moment, with the length of the longest packet; a line before it has lowered the rate. */
-void add_outage(uint64_t moment, int pipe, uint16_t length);
+void insert_outage(uint64_t moment, int pipe, uint16_t length);
 
 /* The moment of the next change, or DN_NEVER. */
 uint64_t next_change(void);

@@ -24,25 +24,31 @@ enum {
     ROOM = 3500 * 1024, /* bytes of a socket's buffer, which the system doubles: below 10,000 datagrams */
 };
 
-static union end server;
-static int waiting = -1; /* the epoll(7) of all clients' sockets */
-static struct client *buckets[BUCKETS], *oldest, *newest;
-static size_t count, most;
-static struct epoll_event ready[AT_ONCE];
-static int ready_count, ready_next;
-static uint64_t keys[2];
+struct clients {
+    union end server;
+    int waiting; /* the epoll(7) of all clients' sockets */
+    struct client *buckets[BUCKETS], *oldest, *newest;
+    size_t count, most;
+    struct epoll_event ready[AT_ONCE];
+    int ready_count, ready_next;
+    uint64_t keys[2];
+    bool has_said; /* why a client is turned away */
+};
 
-int prepare_clients(const union end *to) {
+struct clients *new_clients(const union end *server) {
+    struct clients *made = zeroed(sizeof *made);
     struct rlimit limit;
     if (getrlimit(RLIMIT_NOFILE, &limit) < 0) fail("getrlimit", strerror(errno));
     limit.rlim_cur = limit.rlim_max;
     setrlimit(RLIMIT_NOFILE, &limit);
-    most = limit.rlim_cur <= OTHERS ? 1 : limit.rlim_cur - OTHERS < MOST ? (size_t)limit.rlim_cur - OTHERS : MOST;
-    server = *to;
-    if (getrandom(keys, sizeof keys, 0) != sizeof keys) fail("getrandom", strerror(errno));
-    if ((waiting = epoll_create1(EPOLL_CLOEXEC)) < 0) fail("epoll", strerror(errno));
-    return waiting;
+    made->most = limit.rlim_cur <= OTHERS ? 1 : limit.rlim_cur - OTHERS < MOST ? (size_t)limit.rlim_cur - OTHERS : MOST;
+    made->server = *server;
+    if (getrandom(made->keys, sizeof made->keys, 0) != sizeof made->keys) fail("getrandom", strerror(errno));
+    if ((made->waiting = epoll_create1(EPOLL_CLOEXEC)) < 0) fail("epoll", strerror(errno));
+    return made;
 }
+
+int clients_descriptor(const struct clients *clients) { return clients->waiting; }
 
 static bool same(const union end *one, const union end *other) {
     if (one->any.sa_family == AF_INET) return one->four.sin_port == other->four.sin_port && one->four.sin_addr.s_addr == other->four.sin_addr.s_addr;
@@ -50,30 +56,33 @@ static bool same(const union end *one, const union end *other) {
 }
 
 /* By keys that are drawn for each run, so that nobody can choose ends that share a bucket. */
-static struct client **bucket_of(const union end *end) {
+static size_t bucket_of(const struct clients *clients, const union end *end) {
     uint64_t half[2] = {end->four.sin_addr.s_addr, end->four.sin_port};
     if (end->any.sa_family == AF_INET6) {
         memcpy(half, &end->six.sin6_addr, 16);
         half[1] ^= (uint64_t)end->six.sin6_port << 48;
     }
-    unsigned __int128 product = (unsigned __int128)(half[0] ^ keys[0]) * (half[1] ^ keys[1]);
-    return &buckets[((uint64_t)product ^ (uint64_t)(product >> 64)) % BUCKETS];
+    unsigned __int128 product = (unsigned __int128)(half[0] ^ clients->keys[0]) * (half[1] ^ clients->keys[1]);
+    return ((uint64_t)product ^ (uint64_t)(product >> 64)) % BUCKETS;
 }
 
-static void take_out(struct client *client) {
-    *(client->older ? &client->older->newer : &oldest) = client->newer;
-    *(client->newer ? &client->newer->older : &newest) = client->older;
+static void take_out(struct clients *clients, struct client *client) {
+    *(client->older ? &client->older->newer : &clients->oldest) = client->newer;
+    *(client->newer ? &client->newer->older : &clients->newest) = client->older;
 }
 
-static void put_last(struct client *client) {
-    client->older = newest, client->newer = NULL;
-    *(newest ? &newest->newer : &oldest) = client;
-    newest = client;
+static void put_last(struct clients *clients, struct client *client) {
+    client->older = clients->newest;
+    client->newer = NULL;
+    *(clients->newest ? &clients->newest->newer : &clients->oldest) = client;
+    clients->newest = client;
 }
 
-void note_active(struct client *client, uint64_t moment) {
+void note_active(struct clients *clients, struct client *client, uint64_t moment) {
     client->active = moment;
-    if (client != newest) take_out(client), put_last(client);
+    if (client == clients->newest) return;
+    take_out(clients, client);
+    put_last(clients, client);
 }
 
 uint64_t dropped_at(int socket) {
@@ -82,24 +91,24 @@ uint64_t dropped_at(int socket) {
     return getsockopt(socket, SOL_SOCKET, SO_MEMINFO, told, &len) == 0 ? told[SK_MEMINFO_DROPS] : 0;
 }
 
-static void let_go(struct client *client) {
-    struct client **at = bucket_of(&client->end);
+static void let_go(struct clients *clients, struct client *client) {
+    struct client **at = &clients->buckets[bucket_of(clients, &client->end)];
     while (*at != client) at = &(*at)->in_bucket;
     *at = client->in_bucket;
-    take_out(client);
+    take_out(clients, client);
     page->ways[1].dropped += dropped_at(client->socket);
     close(client->socket);
     free(client);
-    count--;
-    ready_count = ready_next = 0; /* it may be among them; the others are told again */
+    clients->count--;
+    clients->ready_count = clients->ready_next = 0; /* it may be among them; the others are told again */
 }
 
-void let_go_of_quiet_clients(uint64_t moment) {
-    while (oldest && moment > oldest->active + QUIET) let_go(oldest);
+void let_go_of_quiet_clients(struct clients *clients, uint64_t moment) {
+    while (clients->oldest && moment > clients->oldest->active + QUIET) let_go(clients, clients->oldest);
 }
 
-void count_dropped_of_clients(void) {
-    for (struct client *client = oldest; client; client = client->newer) page->ways[1].dropped += dropped_at(client->socket);
+void count_dropped_of_clients(const struct clients *clients) {
+    for (const struct client *client = clients->oldest; client; client = client->newer) page->ways[1].dropped += dropped_at(client->socket);
 }
 
 void give_room(int socket) {
@@ -107,55 +116,55 @@ void give_room(int socket) {
     if (setsockopt(socket, SOL_SOCKET, SO_RCVBUFFORCE, &room, sizeof room) < 0) setsockopt(socket, SOL_SOCKET, SO_RCVBUF, &room, sizeof room);
 }
 
-struct client *known_client(const union end *end) {
-    struct client *client = *bucket_of(end);
+struct client *known_client(const struct clients *clients, const union end *end) {
+    struct client *client = clients->buckets[bucket_of(clients, end)];
     while (client && !same(&client->end, end)) client = client->in_bucket;
     return client;
 }
 
-static void say_once(const char *what, const char *why) {
-    static bool said;
-    if (!said) fprintf(stderr, "hinge: %s: %s\n", what, why);
-    said = true;
+static void say_once(struct clients *clients, const char *what, const char *why) {
+    if (!clients->has_said) fprintf(stderr, "hinge: %s: %s\n", what, why);
+    clients->has_said = true;
 }
 
 /* A socket of a new client towards the server, or -1. */
-static int opened(struct client *client) {
-    int made = socket(server.any.sa_family, SOCK_DGRAM | SOCK_NONBLOCK | SOCK_CLOEXEC, 0);
+static int opened(struct clients *clients, struct client *client) {
+    const struct sockaddr *server = &clients->server.any;
+    int made = socket(server->sa_family, SOCK_DGRAM | SOCK_NONBLOCK | SOCK_CLOEXEC, 0);
     struct epoll_event event = {.events = EPOLLIN, .data.ptr = client};
-    if (made >= 0 && connect(made, &server.any, end_length(server.any.sa_family)) == 0 && epoll_ctl(waiting, EPOLL_CTL_ADD, made, &event) == 0) {
+    if (made >= 0 && connect(made, server, end_length(server->sa_family)) == 0 && epoll_ctl(clients->waiting, EPOLL_CTL_ADD, made, &event) == 0) {
         give_room(made);
         return made;
     }
-    say_once("a client is turned away", strerror(errno));
+    say_once(clients, "a client is turned away", strerror(errno));
     if (made >= 0) close(made);
     return -1;
 }
 
-struct client *client_of(const union end *end) {
-    struct client *client = known_client(end);
+struct client *client_of(struct clients *clients, const union end *end) {
+    struct client *client = known_client(clients, end), **bucket = &clients->buckets[bucket_of(clients, end)];
     if (client) return client;
-    if (count >= most) {
-        say_once("there are as many clients as the system allows", "new ones are turned away until one was quiet for a minute");
+    if (clients->count >= clients->most) {
+        say_once(clients, "there are as many clients as the system allows", "new ones are turned away until one was quiet for a minute");
         return NULL;
     }
     client = grown(NULL, sizeof *client);
-    *client = (struct client){.end = *end, .active = last_moment(), .in_bucket = *bucket_of(end)};
-    if ((client->socket = opened(client)) < 0) {
+    *client = (struct client){.end = *end, .active = last_moment(), .in_bucket = *bucket};
+    if ((client->socket = opened(clients, client)) < 0) {
         free(client);
         return NULL;
     }
-    *bucket_of(end) = client;
-    put_last(client);
-    count++;
+    *bucket = client;
+    put_last(clients, client);
+    clients->count++;
     return client;
 }
 
-struct client *ready_client(void) {
-    if (ready_next == ready_count) {
-        ready_next = 0;
-        ready_count = epoll_wait(waiting, ready, AT_ONCE, 0);
-        if (ready_count < 0) ready_count = 0;
+struct client *ready_client(struct clients *clients) {
+    if (clients->ready_next == clients->ready_count) {
+        clients->ready_next = 0;
+        clients->ready_count = epoll_wait(clients->waiting, clients->ready, AT_ONCE, 0);
+        if (clients->ready_count < 0) clients->ready_count = 0;
     }
-    return ready_next < ready_count ? ready[ready_next++].data.ptr : NULL;
+    return clients->ready_next < clients->ready_count ? clients->ready[clients->ready_next++].data.ptr : NULL;
 }

@@ -12,26 +12,31 @@ struct client {
     struct client *in_bucket, *older, *newer;
 };
 
-/* Allows as many clients as the system lets this program have sockets, and returns the descriptor on which the server's datagrams can be waited for. */
-int prepare_clients(const union end *server);
+struct clients;
+
+/* Those of a server, of whom there are none yet: as many as the system lets this program have sockets. */
+struct clients *new_clients(const union end *server);
+
+/* The descriptor on which the server's datagrams can be waited for. */
+int clients_descriptor(const struct clients *clients);
 
 /* The client of an end, or NULL. */
-struct client *known_client(const union end *end);
+struct client *known_client(const struct clients *clients, const union end *end);
 
 /* The client of an end, which is made where it is new; NULL where there can be no more. */
-struct client *client_of(const union end *end);
+struct client *client_of(struct clients *clients, const union end *end);
 
 /* A client for which the server's datagrams have come, another one at each call, or NULL. */
-struct client *ready_client(void);
+struct client *ready_client(struct clients *clients);
 
-void note_active(struct client *client, uint64_t moment);
-void let_go_of_quiet_clients(uint64_t moment);
+void note_active(struct clients *clients, struct client *client, uint64_t moment);
+void let_go_of_quiet_clients(struct clients *clients, uint64_t moment);
 
 /* The packets that the system dropped at a socket. */
 uint64_t dropped_at(int socket);
 
 /* Counts what the system dropped at the sockets of all clients. */
-void count_dropped_of_clients(void);
+void count_dropped_of_clients(const struct clients *clients);
 
 /* Gives a socket the room that unread.h reckons with, as far as the system lets it. */
 void give_room(int socket);

@@ -2,9 +2,16 @@
 #ifndef CONTENT_H
 #define CONTENT_H
 #include <stddef.h>
+#include <stdbool.h>
 #include <stdint.h>
+
+/* Whether no host may hand an IP packet on, as its time to live is 1. */
+bool is_last_hop(const unsigned char *bytes);
 
 /* A number of 64 bits for the bytes of an IP packet, but for those of its time to live, its class and its checksums, which are a card's
    affair. Packets that are the same there have the same number. */
 uint64_t content_of(const unsigned char *bytes, size_t len);
+
+/* The same of any bytes, each of which counts. */
+uint64_t content_of_bytes(const unsigned char *bytes, size_t len);
 #endif

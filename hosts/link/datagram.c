@@ -8,20 +8,29 @@ size_t headers_length(sa_family_t family) { return UDP_HEADER + (family == AF_IN
 
 socklen_t end_length(sa_family_t family) { return family == AF_INET ? sizeof(struct sockaddr_in) : sizeof(struct sockaddr_in6); }
 
-static void put_two(unsigned char *at, size_t number) { at[0] = (unsigned char)(number >> 8), at[1] = (unsigned char)number; }
+static void put_two(unsigned char *at, size_t number) {
+    at[0] = (unsigned char)(number >> 8);
+    at[1] = (unsigned char)number;
+}
 
 static void write_ipv4(unsigned char *bytes, size_t data, const struct sockaddr_in *from, const struct sockaddr_in *to) {
     memset(bytes, 0, IPV4_HEADER);
-    bytes[0] = 0x45, bytes[8] = HOPS, bytes[9] = IPPROTO_UDP;
+    bytes[0] = 0x45;
+    bytes[8] = HOPS;
+    bytes[9] = IPPROTO_UDP;
     put_two(bytes + 2, IPV4_HEADER + UDP_HEADER + data);
-    memcpy(bytes + 12, &from->sin_addr, 4), memcpy(bytes + 16, &to->sin_addr, 4);
+    memcpy(bytes + 12, &from->sin_addr, 4);
+    memcpy(bytes + 16, &to->sin_addr, 4);
 }
 
 static void write_ipv6(unsigned char *bytes, size_t data, const struct sockaddr_in6 *from, const struct sockaddr_in6 *to) {
     memset(bytes, 0, IPV6_HEADER);
-    bytes[0] = 0x60, bytes[6] = IPPROTO_UDP, bytes[7] = HOPS;
+    bytes[0] = 0x60;
+    bytes[6] = IPPROTO_UDP;
+    bytes[7] = HOPS;
     put_two(bytes + 4, UDP_HEADER + data);
-    memcpy(bytes + 8, &from->sin6_addr, 16), memcpy(bytes + 24, &to->sin6_addr, 16);
+    memcpy(bytes + 8, &from->sin6_addr, 16);
+    memcpy(bytes + 24, &to->sin6_addr, 16);
 }
 
 void write_headers(unsigned char *bytes, size_t data, const union end *from, const union end *to) {
@@ -31,7 +40,8 @@ void write_headers(unsigned char *bytes, size_t data, const union end *from, con
     else write_ipv6(bytes, data, &from->six, &to->six);
     put_two(udp, ntohs(four ? from->four.sin_port : from->six.sin6_port));
     put_two(udp + 2, ntohs(four ? to->four.sin_port : to->six.sin6_port));
-    put_two(udp + 4, UDP_HEADER + data), put_two(udp + 6, 0);
+    put_two(udp + 4, UDP_HEADER + data);
+    put_two(udp + 6, 0);
 }
 
 union end client_end(int way, const unsigned char *bytes) {

@@ -14,12 +14,15 @@ static uint64_t eight(const unsigned char *at) { return (uint64_t)four(at) << 32
 static struct address mapped(uint32_t address) { return (struct address){0, UINT64_C(0xffff) << 32 | address}; }
 
 static void read_ports(const unsigned char *bytes, size_t len, size_t header, struct dn_packet *packet) {
-    if ((packet->proto == IPPROTO_TCP || packet->proto == IPPROTO_UDP) && len >= header + 4)
-        packet->sport = (uint16_t)two(bytes + header), packet->dport = (uint16_t)two(bytes + header + 2);
+    if ((packet->proto != IPPROTO_TCP && packet->proto != IPPROTO_UDP) || len < header + 4) return;
+    packet->sport = (uint16_t)two(bytes + header);
+    packet->dport = (uint16_t)two(bytes + header + 2);
 }
 
 static void dissect_ipv4(const unsigned char *bytes, size_t len, struct dn_packet *packet, struct headers *headers) {
-    packet->src = four(bytes + 12), packet->dst = four(bytes + 16), packet->proto = bytes[9];
+    packet->src = four(bytes + 12);
+    packet->dst = four(bytes + 16);
+    packet->proto = bytes[9];
     *headers = (struct headers){mapped(packet->src), mapped(packet->dst), bytes[1] >> 2};
     bool first = (two(bytes + 6) & 0x1fff) == 0;
     if (first) read_ports(bytes, len, (bytes[0] & 15) * 4u, packet);
@@ -33,7 +36,8 @@ static void dissect_ipv6(const unsigned char *bytes, size_t len, struct dn_packe
     uint8_t kind = bytes[6];
     size_t header = IPV6_HEADER;
     bool first = true;
-    packet->src = stand_in(bytes + 8), packet->dst = stand_in(bytes + 24);
+    packet->src = stand_in(bytes + 8);
+    packet->dst = stand_in(bytes + 24);
     headers->src = (struct address){eight(bytes + 8), eight(bytes + 16)};
     headers->dst = (struct address){eight(bytes + 24), eight(bytes + 32)};
     headers->dscp = two(bytes) >> 6 & 63;

@@ -11,7 +11,8 @@ static struct packet *held[BUCKETS];
 
 void hold_again(struct packet *packet, uint64_t number) {
     struct packet **bucket = &held[number % BUCKETS];
-    packet->number = number, packet->next = *bucket;
+    packet->number = number;
+    packet->next = *bucket;
     *bucket = packet;
     page->ways[packet->way].held++;
 }

@@ -12,7 +12,9 @@ struct packet {
     uint64_t came;   /* the moment */
     uint64_t behind; /* ns by which its first pass was late */
     bool again;      /* it is in its second pass */
-    size_t len; /* 0 for the packet of an outage, which nobody sent */
+    bool is_for_all; /* a switch has sent it on by each other way */
+    size_t len;  /* that counts on the link; 0 for the packet of an outage, which nobody sent */
+    size_t size; /* bytes that are sent on, behind the carrier's prefix */
     unsigned char bytes[];
 };
 

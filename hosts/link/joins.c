@@ -63,7 +63,8 @@ size_t join(const struct bytes *packets, int count) {
     for (int i = 1; i < count; i++) len += packets[i].len - headers;
     memcpy(&note, packets->at - NOTE, NOTE);
     note.gso_type = is_ipv4(packets->at) ? VIRTIO_NET_HDR_GSO_TCPV4 : VIRTIO_NET_HDR_GSO_TCPV6;
-    note.gso_size = (uint16_t)(packets->len - headers), note.hdr_len = (uint16_t)headers;
+    note.gso_size = (uint16_t)(packets->len - headers);
+    note.hdr_len = (uint16_t)headers;
     memcpy(packets->at - NOTE, &note, NOTE);
     fit_ip(packets->at, len, 0);
     fit_tcp_length(packets->at + start, packets->len - start, len - start);

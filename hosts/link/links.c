@@ -28,7 +28,10 @@ static void open_new(struct dn_handle *handle) {
     if (dn_open_with_key(handle, DN_ORDERED, key[0], key[1]) != DN_OK) fail("the links", "out of memory");
 }
 
-void open_links(void) { open_new(&links), open_new(&trial); }
+void open_links(void) {
+    open_new(&links);
+    open_new(&trial);
+}
 
 /* What a line that was obeyed concerns: `pipe 1 config ..`, `queue delete 2` or `queue 2 delete`, with `ipfw` before it or without. */
 static bool target_of(const char *line, int *kind, int *number) {
@@ -37,7 +40,7 @@ static bool target_of(const char *line, int *kind, int *number) {
     int first = strcmp(words[0], "ipfw") == 0;
     bool number_behind = strcmp(words[first + 1], "delete") == 0;
     *kind = strcmp(words[first], "queue") == 0 ? DN_QUEUE : DN_PIPE;
-    *number = atoi(words[first + 1 + number_behind]);
+    *number = (int)strtol(words[first + 1 + number_behind], NULL, 10);
     return number_behind || strcmp(words[first + 2], "delete") == 0;
 }
 
@@ -73,6 +76,18 @@ const char *wrong_with(const char *line) {
     struct dn_fault fault;
     uint32_t status = configure(&trial, line, &fault);
     return wrong_by(status, &fault);
+}
+
+const char *canonical(const char *line) {
+    static const char front[] = "c,0,configure,";
+    static char text[400]; /* the longest such entry has some 220 */
+    struct dn_fault fault;
+    uint64_t length = 0;
+    uint32_t status = dn_configure_text(0, (const uint8_t *)line, strlen(line), DN_OK, &fault, (uint8_t *)text, sizeof text, &length);
+    char *end = memchr(text, '\n', status == DN_OK ? length : 0);
+    if (!end) return line;
+    *end = 0;
+    return text + strlen(front);
 }
 
 /* The links get a line, which is kept unless it is none; NULL, or what is wrong with it. */

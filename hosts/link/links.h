@@ -9,6 +9,9 @@ void open_links(void);
 /* What is wrong with a line where all lines that were tried before were obeyed, or NULL. Nothing else changes. */
 const char *wrong_with(const char *line);
 
+/* A line as the transcript has it, good until the next call; one that is no configuration line, as it is. */
+const char *canonical(const char *line);
+
 /* Obeys a line at the moment of the last call, and returns NULL or why it is refused. */
 const char *obey(const char *line);
 

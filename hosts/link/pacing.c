@@ -31,7 +31,10 @@ static struct pipe {
 static int pipe_count, most;
 static int *place_of; /* by numbers: from 1, or 0 */
 
-void prepare_pacing(int count) { place_of = zeroed((size_t)(count + 1) * sizeof *place_of), most = count; }
+void prepare_pacing(int count) {
+    place_of = zeroed((size_t)(count + 1) * sizeof *place_of);
+    most = count;
+}
 
 static struct pipe *paced(int number) { return number >= 1 && number <= most && place_of[number] ? &pipes[place_of[number] - 1] : NULL; }
 
@@ -49,8 +52,12 @@ void add_slots(int pipe, const uint32_t *moments, size_t count) { made(pipe)->sl
 void add_hold(int number, uint64_t from, uint64_t to) {
     struct pipe *pipe = made(number);
     pipe->holds = grown(pipe->holds, (pipe->hold_count + 1) * sizeof *pipe->holds);
-    pipe->holds[pipe->hold_count++] = (struct hold){from, to};
+    size_t at = pipe->hold_count++;
+    for (; at > pipe->held && pipe->holds[at - 1].from > from; at--) pipe->holds[at] = pipe->holds[at - 1];
+    pipe->holds[at] = (struct hold){from, to};
 }
+
+void pace(int number) { made(number); }
 
 bool is_paced(int number) { return paced(number); }
 
@@ -62,16 +69,20 @@ static void let_wait(struct pipe *pipe, uint32_t bytes) {
         uint32_t *ring = grown(NULL, room * sizeof *ring);
         for (size_t i = 0; i < pipe->count; i++) ring[i] = pipe->waiting[(pipe->first + i) % pipe->room];
         free(pipe->waiting);
-        pipe->waiting = ring, pipe->room = room, pipe->first = 0;
+        pipe->waiting = ring;
+        pipe->room = room;
+        pipe->first = 0;
     }
     pipe->waiting[(pipe->first + pipe->count++) % pipe->room] = bytes;
 }
 
-/* The end of the outage in which a moment is, or the moment. */
+/* The end of the outages in which a moment is, of which one may begin in another, or the moment. */
 static uint64_t after_hold(struct pipe *pipe, uint64_t moment) {
+    uint64_t end = moment;
     while (pipe->held < pipe->hold_count && pipe->holds[pipe->held].to <= moment) pipe->held++;
-    bool is_held = pipe->held < pipe->hold_count && pipe->holds[pipe->held].from <= moment;
-    return is_held ? pipe->holds[pipe->held].to : moment;
+    for (size_t at = pipe->held; at < pipe->hold_count && pipe->holds[at].from <= end; at++)
+        if (pipe->holds[at].to > end) end = pipe->holds[at].to;
+    return end;
 }
 
 /* The rate at which so many bits take a time, in ns, or a little longer. It always has a limit: without one the links would let the next
@@ -121,7 +132,8 @@ static struct pipe *next_to_begin(uint64_t moment) {
 void catch_up(uint64_t moment) {
     for (struct pipe *pipe; (pipe = next_to_begin(moment));) {
         uint32_t bytes = pipe->waiting[pipe->first];
-        pipe->first = (pipe->first + 1) % pipe->room, pipe->count--;
+        pipe->first = (pipe->first + 1) % pipe->room;
+        pipe->count--;
         advance(pipe->free_at);
         pipe->free_at += transmission(bytes, pipe->in_force);
         prepare_first(pipe);
@@ -148,7 +160,8 @@ void submit_paced(const struct dn_packet *packet, struct dn_fate *fate) {
 /* Splits the line of a pipe at its bandwidth. */
 static void keep_line(struct pipe *pipe, const char *line) {
     const char *found = strstr(line, " bw "), *value = found ? found + strlen(" bw ") : NULL;
-    free(pipe->front), free(pipe->behind);
+    free(pipe->front);
+    free(pipe->behind);
     pipe->bandwidth = pipe->in_force = found ? strtoull(value, NULL, 10) : 0;
     pipe->front = found ? strndup(line, (size_t)(found - line)) : strdup(line);
     pipe->behind = strdup(found ? value + strcspn(value, " ") : "");
@@ -164,6 +177,7 @@ void note_configured(const char *line) {
         else prepare_first(pipe);
     } else if (sscanf(line, "pipe delete %d", &number) == 1 && (pipe = paced(number))) {
         free(pipe->front);
-        pipe->front = NULL, pipe->count = 0;
+        pipe->front = NULL;
+        pipe->count = 0;
     }
 }

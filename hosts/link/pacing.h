@@ -14,7 +14,10 @@ void prepare_pacing(int pipes);
 /* The moments of a trace, in ms, ascending: the last is its period, after which it begins anew. */
 void add_slots(int pipe, const uint32_t *moments, size_t count);
 
-/* An outage: what would begin in it leaves at its end. Those of a pipe come one after the other. */
+/* Has a pipe be paced from the beginning, since outages of it come later. */
+void pace(int pipe);
+
+/* An outage: what would begin in it leaves at its end. */
 void add_hold(int pipe, uint64_t from, uint64_t to);
 
 /* A line of the configuration was obeyed. */

@@ -13,10 +13,9 @@ void open_page(int descriptor, int ways) {
     if (page == MAP_FAILED) fail("the page of counts", strerror(errno));
 }
 
-void count_time(uint64_t bins[BINS], uint64_t *most, uint64_t ns) {
+void count_time(uint64_t bins[BINS], uint64_t ns, uint64_t count) {
     uint64_t us = ns / 1000;
     if (us > UINT32_MAX) us = UINT32_MAX;
     unsigned power = us < 16 ? 0 : 59u - (unsigned)__builtin_clzll(us);
-    bins[us < 16 ? us : (power << 4) + 16 + (us >> power & 15)]++;
-    if (ns > *most) *most = ns;
+    bins[us < 16 ? us : (power << 4) + 16 + (us >> power & 15)] += count;
 }

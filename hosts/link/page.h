@@ -15,12 +15,13 @@ struct way {
     uint64_t came, came_bytes, sent, sent_bytes;
     uint64_t lost, full, no_target; /* by the link */
     uint64_t refused;               /* by the system, behind the link */
-    uint64_t not_ip, turned_away;   /* turned away: of more clients than there can be, or longer than LONGEST */
+    uint64_t not_ip, turned_away;   /* turned away: of more clients than there can be, longer than LONGEST, or shorter than a frame */
     uint64_t dropped;               /* by the system, before the link, as far as this program can see */
     uint64_t held, discarded;       /* packets in the link; those that a delete took out of it */
     uint64_t stayed;                /* ns: the sum of the times that the packets that were sent were in the link */
     uint64_t late_most, unread_most;
-    uint64_t late[BINS], unread[BINS];
+    uint64_t late[BINS], unread[BINS];               /* packets */
+    uint64_t late_time[BINS], unread_time[BINS];     /* ns in which a packet was due, or unread, which was so late then */
 };
 
 struct page {
@@ -33,6 +34,6 @@ extern struct page *page;
 /* Opens the page for so many ways. */
 void open_page(int descriptor, int ways);
 
-/* Counts a time in its bin. */
-void count_time(uint64_t bins[BINS], uint64_t *most, uint64_t ns);
+/* Adds to the bin of a time. */
+void count_time(uint64_t bins[BINS], uint64_t ns, uint64_t count);
 #endif

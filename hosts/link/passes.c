@@ -14,9 +14,16 @@ static struct passes {
 
 void prepare_passes(int ways) { passes = zeroed((size_t)ways * sizeof *passes); }
 
-void set_jitter(int way, int first, int count, uint64_t seed) { passes[way].first = first, passes[way].count = count, passes[way].seed = seed; }
+void set_jitter(int way, int first, int count, uint64_t seed) {
+    passes[way].first = first;
+    passes[way].count = count;
+    passes[way].seed = seed;
+}
 
-void set_copies(int way, uint32_t chance, uint64_t seed) { passes[way].chance = chance, passes[way].seed = seed; }
+void set_copies(int way, uint32_t chance, uint64_t seed) {
+    passes[way].chance = chance;
+    passes[way].seed = seed;
+}
 
 int second_pipe(int way) {
     struct passes *of_way = &passes[way];

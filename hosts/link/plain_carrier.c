@@ -1,28 +1,29 @@
 #include <fcntl.h>
 #include <unistd.h>
 
+#include "basics.h"
 #include "carrier.h"
 
-static const int *ends;
+struct plain {
+    const int *ends;
+    unsigned char bytes[LONGEST];
+};
 
-static ssize_t receive(int way, unsigned char **packet) {
-    static unsigned char bytes[LONGEST];
-    ssize_t len = read(ends[way], *packet = bytes, LONGEST);
+static ssize_t receive(void *state, int way, unsigned char **packet) {
+    struct plain *plain = state;
+    ssize_t len = read(plain->ends[way], *packet = plain->bytes, LONGEST);
     return len > 0 ? len : -1;
 }
 
-static bool goes_on(int way) { return (void)way, false; }
-
-static bool joins(const struct bytes *packets, int count, const struct bytes *next) { return (void)packets, (void)count, (void)next, false; }
-
-static bool transmit(int way, const struct bytes *packets, int count) { return (void)count, write(ends[back(way)], packets->at, packets->len) >= 0; }
-
-static void look_after(uint64_t moment) { (void)moment; }
-
-static void end(void) {}
+/* Packets aren't joined: there is one. */
+static bool transmit(void *state, int way, const struct bytes *packets, int count) {
+    const struct plain *plain = state;
+    return count == 1 && write(plain->ends[back(way)], packets->at, packets->len) >= 0;
+}
 
 struct carrier plain_carrier(int count, const int *descriptors) {
-    ends = descriptors;
-    for (int way = 0; way < count; way++) fcntl(ends[way], F_SETFL, O_NONBLOCK);
-    return (struct carrier){count, ends, 0, receive, goes_on, joins, transmit, look_after, end};
+    struct plain *plain = zeroed(sizeof *plain);
+    plain->ends = descriptors;
+    for (int way = 0; way < count; way++) fcntl(descriptors[way], F_SETFL, O_NONBLOCK);
+    return (struct carrier){.ways = count, .polled = descriptors, .state = plain, .receive = receive, .transmit = transmit};
 }

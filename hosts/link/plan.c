@@ -11,12 +11,14 @@
 #include "basics.h"
 #include "changes.h"
 #include "control.h"
+#include "cuts.h"
 #include "links.h"
 #include "losses.h"
 #include "pacing.h"
 #include "page.h"
 #include "passes.h"
 #include "rules.h"
+#include "switches.h"
 #include "transcript.h"
 #include "ways.h"
 
@@ -25,6 +27,11 @@ enum { PRIORITY = 10, MOST_PIPE = 65535 }; /* of the scheduler's first-in-first-
 _Noreturn static void refuse(const char *line, const char *wrong) {
     fprintf(stderr, "hinge: %s: %s\n", line, wrong);
     exit(BAD_LINE);
+}
+
+static void refuse_wrong(const char *line) {
+    const char *wrong = wrong_with_line(line);
+    if (wrong) refuse(line, wrong);
 }
 
 /* transcript BYTES FILE: at the front, so that it has all lines. */
@@ -40,19 +47,23 @@ static bool read_transcript(const char *rest) {
 static bool read_line(const char *rest) {
     const char *wrong = wrong_with(rest);
     if (wrong) refuse(rest, wrong);
-    obey(rest);
-    note_configured(rest);
+    follow(rest);
     return true;
 }
+
+/* Where the moments of the lines that are read begin: at that of the main command, or at 0. */
+static uint64_t base;
+
+static char **behind_main; /* lines of the plan without the word `main` */
+static size_t behind_main_count;
 
 /* at NS LINE: a configuration line at a moment. */
 static bool read_change(const char *rest) {
     uint64_t moment;
     int at;
     if (sscanf(rest, "%" SCNu64 " %n", &moment, &at) != 1) return false;
-    const char *wrong = wrong_with(rest + at);
-    if (wrong) refuse(rest + at, wrong);
-    add_line(moment, rest + at);
+    if (!base) refuse_wrong(rest + at);
+    insert_line(base + moment, rest + at);
     return true;
 }
 
@@ -62,7 +73,7 @@ static bool read_outage(const char *rest) {
     int pipe;
     uint16_t length;
     if (sscanf(rest, "%" SCNu64 " %d %" SCNu16, &moment, &pipe, &length) != 3 || pipe < 1 || pipe > carrier.ways) return false;
-    add_outage(moment, pipe, length);
+    insert_outage(base + moment, pipe, length);
     return true;
 }
 
@@ -71,7 +82,7 @@ static bool read_hold(const char *rest) {
     int pipe;
     uint64_t from, to;
     if (sscanf(rest, "%d %" SCNu64 " %" SCNu64, &pipe, &from, &to) != 3 || pipe < 1 || pipe > carrier.ways || to < from) return false;
-    add_hold(pipe, from, to);
+    add_hold(pipe, base + from, base + to);
     return true;
 }
 
@@ -82,9 +93,10 @@ static bool read_slots(const char *rest) {
     long pipe = strtol(rest, &end, 10);
     uint32_t *moments = grown(NULL, (room + 1) * sizeof *moments);
     if (pipe < 1 || pipe > carrier.ways) return false;
-    for (char *at = end; *at; at = end, count++) {
+    for (char *at = end; *at; at = end) {
         moments[count] = (uint32_t)strtoul(at, &end, 10);
         if (end == at || (count && moments[count] < moments[count - 1])) return false;
+        count++;
     }
     if (!count || !moments[count - 1]) return false;
     add_slots((int)pipe, moments, count);
@@ -169,6 +181,16 @@ static bool read_copies(const char *rest) {
     return true;
 }
 
+/* switch WAY WAY ..: the ways that end at a switch of frames. */
+static bool read_switch(const char *rest) {
+    int ways[MOST_PIPE], count = 0, way, at;
+    for (; *rest; rest += at) {
+        if (sscanf(rest, "%d%n", &way, &at) != 1 || way < 0 || way >= carrier.ways || count == MOST_PIPE) return false;
+        ways[count++] = way;
+    }
+    return count > 0 && add_switch(ways, count);
+}
+
 static bool read_realtime(const char *rest) {
     struct sched_param first = {.sched_priority = PRIORITY};
     page->realtime = sched_setscheduler(0, SCHED_FIFO, &first) == 0 ? HAS_IT : NOT_ALLOWED;
@@ -188,13 +210,36 @@ static bool read_epoch(const char *rest) {
     return end > rest && *end == 0;
 }
 
-static bool read_remark(const char *rest) { return remark(rest), true; }
+/* main LINE: a line `at`, `outage` or `hold` whose moments begin with the main command. A pipe of it is paced from the beginning. */
+static bool read_main(const char *rest) {
+    int pipe, at;
+    uint64_t moment;
+    if (sscanf(rest, "hold %d", &pipe) == 1 && pipe >= 1 && pipe <= carrier.ways) pace(pipe);
+    else if (sscanf(rest, "at %" SCNu64 " %n", &moment, &at) == 1) refuse_wrong(rest + at);
+    else if (strncmp(rest, "outage ", strlen("outage ")) != 0) return false;
+    behind_main = grown(behind_main, (behind_main_count + 1) * sizeof *behind_main);
+    if (!(behind_main[behind_main_count++] = strdup(rest))) fail("the plan", "out of memory");
+    return true;
+}
+
+static bool read_remark(const char *rest) {
+    remark(rest);
+    return true;
+}
 
 /* control DESCRIPTOR: where lines come from while packets pass. */
-static bool read_control(const char *rest) { return open_control(atoi(rest)), atoi(rest) > 0; }
+static bool read_control(const char *rest) {
+    int descriptor, at;
+    if (sscanf(rest, "%d%n", &descriptor, &at) != 1 || rest[at] || descriptor <= 0) return false;
+    open_control(descriptor);
+    return true;
+}
 
 /* contents: each packet is told by its content, as path audits need it. */
-static bool read_contents(const char *rest) { return tell_contents(), *rest == 0; }
+static bool read_contents(const char *rest) {
+    tell_contents();
+    return *rest == 0;
+}
 
 static bool read_one(const char *line) {
     static const struct { const char *word; bool (*read)(const char *rest); } kinds[] = {
@@ -203,10 +248,20 @@ static bool read_one(const char *line) {
         {"realtime", read_realtime},      {"epoch ", read_epoch},   {"remark ", read_remark},     {"contents", read_contents},
         {"hold ", read_hold},             {"slots ", read_slots},   {"control ", read_control},
         {"jitter ", read_jitter},         {"copies ", read_copies}, {"simulated", read_simulated},
+        {"main ", read_main},             {"switch ", read_switch},
     };
     for (size_t i = 0; i < sizeof kinds / sizeof *kinds; i++)
         if (strncmp(line, kinds[i].word, strlen(kinds[i].word)) == 0) return kinds[i].read(line + strlen(kinds[i].word));
     return false;
+}
+
+void begin_main(uint64_t moment) {
+    base = moment ? moment : 1; /* 0 is the links' beginning */
+    for (size_t i = 0; i < behind_main_count; i++) {
+        if (!read_one(behind_main[i])) refuse(behind_main[i], "no line of a plan");
+        free(behind_main[i]);
+    }
+    behind_main_count = 0;
 }
 
 void read_plan(void) {

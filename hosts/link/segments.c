@@ -9,7 +9,10 @@ enum { FIN = 1, PUSH = 8, WINDOW_REDUCED = 128 };
 
 static unsigned two(const unsigned char *at) { return (unsigned)at[0] << 8 | at[1]; }
 
-static void put_two(unsigned char *at, unsigned number) { at[0] = (unsigned char)(number >> 8), at[1] = (unsigned char)number; }
+static void put_two(unsigned char *at, unsigned number) {
+    at[0] = (unsigned char)(number >> 8);
+    at[1] = (unsigned char)number;
+}
 
 /* A sum of the checksum's kind, of 16 bits. */
 static unsigned folded(unsigned long sum) {
@@ -32,7 +35,9 @@ static size_t headers_of(const struct whole *whole) {
 
 void begin_cutting(struct whole *whole, size_t len) {
     memcpy(&whole->note, whole->bytes, NOTE);
-    whole->len = len, whole->cut = 0, whole->has_another = true;
+    whole->len = len;
+    whole->cut = 0;
+    whole->has_another = true;
     whole->before = headers_of(whole);
     if (whole->before < len) memcpy(whole->headers, whole->bytes + NOTE, whole->before);
 }
@@ -58,7 +63,8 @@ void fit_tcp_length(unsigned char *tcp, size_t was, size_t is) {
 static void fit_tcp(unsigned char *tcp, size_t before, bool is_last, size_t whole_length, size_t length) {
     unsigned long sequence = (unsigned long)two(tcp + TCP_SEQUENCE) << 16 | two(tcp + TCP_SEQUENCE + 2);
     sequence += before;
-    put_two(tcp + TCP_SEQUENCE, (unsigned)(sequence >> 16)), put_two(tcp + TCP_SEQUENCE + 2, (unsigned)sequence);
+    put_two(tcp + TCP_SEQUENCE, (unsigned)(sequence >> 16));
+    put_two(tcp + TCP_SEQUENCE + 2, (unsigned)sequence);
     if (!is_last) tcp[TCP_FLAGS] &= (unsigned char)~(FIN | PUSH);
     if (before > 0) tcp[TCP_FLAGS] &= (unsigned char)~WINDOW_REDUCED;
     fit_tcp_length(tcp, whole_length, length);
@@ -71,7 +77,8 @@ size_t cut_next(struct whole *whole, unsigned char **packet) {
     *packet = whole->bytes + NOTE + whole->cut;
     whole->has_another = data < left;
     if (left == 0) return len; /* it isn't to be cut */
-    memcpy(*packet - NOTE, &note, NOTE), memcpy(*packet, whole->headers, whole->before);
+    memcpy(*packet - NOTE, &note, NOTE);
+    memcpy(*packet, whole->headers, whole->before);
     fit_ip(*packet, len, whole->cut / whole->note.gso_size);
     fit_tcp(*packet + start, whole->cut, data == left, whole->len - start, len - start);
     whole->cut += data;

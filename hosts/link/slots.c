@@ -13,7 +13,8 @@ void seek(struct slots *slots, uint64_t moment, uint64_t bytes) {
         if (slots->base + (uint64_t)slots->moments[middle] * MS < moment) low = middle + 1;
         else high = middle;
     }
-    slots->at = low, slots->left = bytes;
+    slots->at = low;
+    slots->left = bytes;
 }
 
 static void go_on(struct slots *slots, uint64_t bytes) {

@@ -53,7 +53,8 @@ static void begin(const char *path) {
         close(ends[1]);
         write_file(ends[0], made, path);
     }
-    close(ends[0]), close(made);
+    close(ends[0]);
+    close(made);
     fcntl(ends[1], F_SETPIPE_SZ, (int)MEGABYTE);
     if (!(file = fdopen(ends[1], "w"))) fail("the transcript", strerror(errno));
     setvbuf(file, NULL, _IOFBF, BUFFER);
@@ -63,7 +64,8 @@ static void begin(const char *path) {
 }
 
 void open_transcript(const char *path, uint64_t most) {
-    name = strdup(path), longest = most;
+    name = strdup(path);
+    longest = most;
     lines = grown(NULL, room);
     begin(path);
 }
@@ -123,7 +125,8 @@ static bool are_written(uint32_t status) {
 
 /* Puts an entry, unless it has no lines: a line without words is no call. */
 static void put_entry(void) {
-    entries += length > 0, bytes += length;
+    entries += length > 0;
+    bytes += length;
     fwrite_unlocked(lines, 1, length, file);
 }
 
@@ -154,7 +157,10 @@ void keep_configure(const char *line, uint32_t status) {
 }
 
 void remark(const char *words) {
-    if (file) put("#,"), put(words), put("\n");
+    if (!file) return;
+    put("#,");
+    put(words);
+    put("\n");
 }
 
 void remark_content(uint64_t content) {
@@ -166,25 +172,36 @@ void remark_content(uint64_t content) {
 }
 
 void remark_refused(uint64_t packet) {
-    if (file) put("#,refused"), put_number(',', packet), put("\n");
+    if (!file) return;
+    put("#,refused");
+    put_number(',', packet);
+    put("\n");
 }
 
 void remark_address(uint32_t stand_in, const unsigned char address[16]) {
     char text[8];
     if (!file) return;
-    put("#,address"), put_address(stand_in), put(",");
-    for (int i = 0; i < 16; i++) snprintf(text, sizeof text, i % 2 || !i ? "%02x" : ":%02x", address[i]), put(text);
+    put("#,address");
+    put_address(stand_in);
+    put(",");
+    for (int i = 0; i < 16; i++) {
+        snprintf(text, sizeof text, i % 2 || !i ? "%02x" : ":%02x", address[i]);
+        put(text);
+    }
     put("\n");
 }
 
 void remark_seed(uint64_t seed) {
     if (!file) return;
-    put("#,seed"), put_number(',', seed), put("\n");
+    put("#,seed");
+    put_number(',', seed);
+    put("\n");
 }
 
 void remark_late(uint64_t moment, const uint64_t *most, size_t count) {
     if (!file) return;
-    put("#,late"), put_number(',', moment);
+    put("#,late");
+    put_number(',', moment);
     for (size_t i = 0; i < count; i++) put_number(',', most[i]);
     put("\n");
 }

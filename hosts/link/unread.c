@@ -8,7 +8,8 @@
 
 #include "basics.h"
 #include "late_remarks.h"
-#include "page.h"
+
+enum { OVERSLEPT = 10000000 }; /* ns by which a timer of a busy machine may be late */
 
 static int schedstat = -1;
 static uint64_t waits, waited; /* how many have ended, and when the last did */
@@ -37,7 +38,8 @@ void begin_unread(int ways) {
     interfaces = zeroed((size_t)ways * sizeof *interfaces);
     if (!time_stands()) schedstat = open("/proc/thread-self/schedstat", O_RDONLY | O_CLOEXEC);
     queued_for_processor();
-    waited = now(), waits = 1;
+    waited = now();
+    waits = 1;
 }
 
 void note_taken(int way, uint64_t moment) {
@@ -47,12 +49,12 @@ void note_taken(int way, uint64_t moment) {
     *taken_then = moment;
 }
 
-void count_unread(int way) {
-    count_time(page->ways[way].unread, &page->ways[way].unread_most, interfaces[way].lain);
-    note_lateness(way, UNREAD, interfaces[way].lain);
-}
+void note_unread(int way) { note_lateness(way, UNREAD, interfaces[way].lain, last_moment()); }
 
-void note_empty(int way, uint64_t moment) { interfaces[way].caught_up = moment, interfaces[way].unemptied = false; }
+void note_empty(int way, uint64_t moment) {
+    interfaces[way].caught_up = moment;
+    interfaces[way].unemptied = false;
+}
 
 void note_unemptied(int way) { interfaces[way].unemptied = true; }
 
@@ -60,13 +62,21 @@ static void note_had_nothing(struct interface *it, uint64_t moment) {
     if (moment > it->caught_up) it->caught_up = moment;
 }
 
-void note_wait(uint64_t moment, bool slept, const int *ready, int count) {
-    uint64_t lay = slept ? queued_for_processor() : 0;
-    for (int i = 0; i < count; i++) {
-        struct interface *it = &interfaces[ready[i]];
+/* The last moment at which what is ready behind a wait that slept wasn't there. A wait that went on behind its timer, for longer than
+   this program waited for a processor, was paused without being told of it. */
+static uint64_t last_nothing(uint64_t moment, const struct wait *wait) {
+    uint64_t lay = queued_for_processor(), ready = lay < moment ? moment - lay : 0;
+    return wait->paused || (ready > OVERSLEPT && ready - OVERSLEPT > wait->timer) ? wait->nothing : ready;
+}
+
+void note_wait(uint64_t moment, const struct wait *wait) {
+    uint64_t nothing = wait->slept ? last_nothing(moment, wait) : 0;
+    for (int i = 0; i < wait->count; i++) {
+        struct interface *it = &interfaces[wait->ready[i]];
         if (it->ready_at != waits) note_had_nothing(it, waited); /* the wait before this one didn't find it ready */
-        if (slept && !it->unemptied && lay < moment) note_had_nothing(it, moment - lay);
+        if (wait->slept && !it->unemptied) note_had_nothing(it, nothing);
         it->ready_at = waits + 1;
     }
-    waits++, waited = moment;
+    waits++;
+    waited = moment;
 }

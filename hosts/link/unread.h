@@ -5,6 +5,8 @@
 #include <stdbool.h>
 #include <stdint.h>
 
+#include "waits.h"
+
 enum { QUEUE = 10000 }; /* packets that the system keeps, as rooms.py asks for */
 
 void begin_unread(int ways);
@@ -12,8 +14,8 @@ void begin_unread(int ways);
 /* Something that the system kept as one packet was taken of a way at a moment. */
 void note_taken(int way, uint64_t moment);
 
-/* Counts how long a packet in it can have lain. */
-void count_unread(int way);
+/* Notes how long a packet in it can have lain. */
+void note_unread(int way);
 
 /* The interface of a way had nothing more at a moment: that at which it was found empty, or an earlier one behind the last packet that was
    taken of it. */
@@ -23,6 +25,7 @@ void note_empty(int way, uint64_t moment);
 void note_unemptied(int way);
 
 /* A wait has ended at a moment, at which the interfaces of these ways had something, and all others had nothing. `slept` where it was
-   a wait at all: what woke it then came when this program was put into the queue for a processor, and not before. */
-void note_wait(uint64_t moment, bool slept, const int *ready, int count);
+   a wait at all: what woke it then came when this program was put into the queue for a processor, and not before. Where it was paused
+   meanwhile, that can have come since the last moment of the wait at which nothing was there. */
+void note_wait(uint64_t moment, const struct wait *wait);
 #endif

@@ -6,50 +6,110 @@
 #include <string.h>
 #include <sys/epoll.h>
 #include <sys/timerfd.h>
+#include <unistd.h>
 
 #include "basics.h"
 
-/* All are told by one call, each with its way, behind which come the signal, the timer and the lines: what isn't told of had nothing. */
-static int polling, timer, ways, *ready;
-static struct epoll_event *told;
+/* The beat of an idle link: a stop of this program is counted from the last one, and not from the last packet. */
+enum { BEAT = 100000000 }; /* ns */
 
-static void poll_for(int descriptor, int number) {
+/* All are told by one call, each with its way, behind which come the signal, the timers and the lines: what isn't told of had nothing. */
+struct waits {
+    int polling, timer, beats, ways, *ready;
+    uint64_t first_beat, set; /* the moment of the timer */
+    struct epoll_event *told;
+};
+
+enum { THE_SIGNAL, THE_TIMER, THE_LINES, THE_BEATS, OTHERS }; /* behind the ways */
+
+static void poll_for(const struct waits *waits, int descriptor, int number) {
     struct epoll_event event = {.events = EPOLLIN, .data.u32 = (uint32_t)number};
-    if (epoll_ctl(polling, EPOLL_CTL_ADD, descriptor, &event) < 0) fail("epoll", strerror(errno));
+    if (epoll_ctl(waits->polling, EPOLL_CTL_ADD, descriptor, &event) < 0) fail("epoll", strerror(errno));
 }
 
-void begin_waits(const int *polled, int count, int signal, int control) {
-    ways = count;
-    ready = grown(NULL, (size_t)ways * sizeof *ready);
-    told = grown(NULL, (size_t)(ways + 3) * sizeof *told);
-    if ((polling = epoll_create1(EPOLL_CLOEXEC)) < 0) fail("epoll", strerror(errno));
-    if ((timer = timerfd_create(CLOCK_MONOTONIC, TFD_CLOEXEC)) < 0) fail("timerfd", strerror(errno));
-    for (int way = 0; way < ways; way++) poll_for(polled[way], way);
-    poll_for(signal, ways), poll_for(timer, ways + 1);
-    if (control >= 0) poll_for(control, ways + 2);
+static int made_timer(void) {
+    int made = timerfd_create(CLOCK_MONOTONIC, TFD_CLOEXEC);
+    if (made < 0) fail("timerfd", strerror(errno));
+    return made;
+}
+
+/* In time that passes only while all wait nothing stops this program, and a beat would wake it for nothing. */
+static void begin_beats(struct waits *waits) {
+    if (time_stands()) return;
+    waits->beats = made_timer();
+    waits->first_beat = now() + BEAT;
+    struct itimerspec at = {.it_value = time_of(waits->first_beat), .it_interval.tv_nsec = BEAT};
+    if (timerfd_settime(waits->beats, TFD_TIMER_ABSTIME, &at, NULL) < 0) fail("timerfd", strerror(errno));
+    poll_for(waits, waits->beats, waits->ways + THE_BEATS);
+}
+
+static uint64_t next_beat(const struct waits *waits, uint64_t moment) {
+    uint64_t first = waits->first_beat;
+    return moment < first ? first : first + ((moment - first) / BEAT + 1) * BEAT;
+}
+
+struct waits *begun_waits(const int *polled, int ways, int signal, int control) {
+    struct waits *made = grown(NULL, sizeof *made);
+    *made = (struct waits){.timer = made_timer(), .ways = ways, .first_beat = DN_NEVER, .set = DN_NEVER};
+    made->ready = grown(NULL, (size_t)ways * sizeof *made->ready);
+    made->told = grown(NULL, (size_t)(ways + OTHERS) * sizeof *made->told);
+    if ((made->polling = epoll_create1(EPOLL_CLOEXEC)) < 0) fail("epoll", strerror(errno));
+    for (int way = 0; way < ways; way++)
+        if (polled[way] >= 0) poll_for(made, polled[way], way);
+    poll_for(made, signal, ways + THE_SIGNAL);
+    poll_for(made, made->timer, ways + THE_TIMER);
+    if (control >= 0) poll_for(made, control, ways + THE_LINES);
+    begin_beats(made);
+    return made;
 }
 
 /* A timeout of the poll itself would have a slack of a thousandth of the wait, whatever PR_SET_TIMERSLACK says. */
-static void set_timer(uint64_t moment) {
-    static uint64_t set = DN_NEVER;
+static void set_timer(struct waits *waits, uint64_t moment) {
     struct itimerspec at = {0};
-    if (moment == set) return;
+    if (moment == waits->set) return;
     if (moment != DN_NEVER) at.it_value = time_of(moment);
-    if (timerfd_settime(timer, TFD_TIMER_ABSTIME, &at, NULL) < 0) fail("timerfd", strerror(errno));
-    set = moment;
+    if (timerfd_settime(waits->timer, TFD_TIMER_ABSTIME, &at, NULL) < 0) fail("timerfd", strerror(errno));
+    waits->set = moment;
 }
 
-struct wait wait_until(uint64_t moment) {
-    struct wait wait = {.slept = moment > last_moment(), .ready = ready};
-    if (wait.slept) set_timer(moment);
-    int count = epoll_wait(polling, told, ways + 3, wait.slept ? -1 : 0);
+/* The system begins the next beat once this one is read. */
+static void take_beat(const struct waits *waits) {
+    uint64_t count;
+    if (read(waits->beats, &count, sizeof count) < 0 && errno != EAGAIN) fail("timerfd", strerror(errno));
+}
+
+/* What is there, or comes within so many ms. */
+static int polled(const struct waits *waits, int patience) {
+    int count = epoll_wait(waits->polling, waits->told, waits->ways + OTHERS, patience);
     if (count < 0 && errno != EINTR) fail("epoll", strerror(errno));
+    return count;
+}
+
+/* Sleeps until something is there. All signals are blocked or ignored, so that only a stop of this program interrupts the sleep: what is
+   there then can have come in the stop, and what comes later hasn't. */
+static int slept_poll(const struct waits *waits, struct wait *wait, uint64_t moment) {
+    wait->nothing = last_moment();
+    wait->timer = next_beat(waits, wait->nothing);
+    if (moment < wait->timer) wait->timer = moment;
+    int count = polled(waits, -1);
+    wait->paused = count < 0;
+    return wait->paused ? polled(waits, 0) : count;
+}
+
+struct wait wait_until(struct waits *waits, uint64_t moment) {
+    struct wait wait = {.ready = waits->ready};
+    bool may_sleep = moment > last_moment();
+    if (may_sleep) set_timer(waits, moment);
+    int count = polled(waits, 0);
+    wait.slept = may_sleep && count == 0;
+    if (wait.slept) count = slept_poll(waits, &wait, moment);
     for (int i = 0; i < count; i++) {
-        int number = (int)told[i].data.u32;
-        if (number < ways && told[i].events & (EPOLLERR | EPOLLHUP)) wait.end = INTERFACE_GONE;
-        else if (number < ways) ready[wait.count++] = number;
-        else if (number == ways && wait.end != INTERFACE_GONE) wait.end = SIGNAL;
-        wait.control |= number == ways + 2;
+        int number = (int)waits->told[i].data.u32, other = number - waits->ways;
+        if (other < 0 && waits->told[i].events & (EPOLLERR | EPOLLHUP)) wait.end = INTERFACE_GONE;
+        else if (other < 0) waits->ready[wait.count++] = number;
+        else if (other == THE_SIGNAL && wait.end != INTERFACE_GONE) wait.end = SIGNAL;
+        wait.control |= other == THE_LINES;
+        if (other == THE_BEATS) take_beat(waits);
     }
     return wait;
 }

@@ -6,6 +6,7 @@
 #include "basics.h"
 #include "content.h"
 #include "dissect.h"
+#include "frames.h"
 #include "held.h"
 #include "late_remarks.h"
 #include "joins.h"
@@ -15,6 +16,7 @@
 #include "page.h"
 #include "passes.h"
 #include "rules.h"
+#include "switches.h"
 #include "transcript.h"
 #include "unread.h"
 
@@ -25,19 +27,45 @@ static bool contents_are_told;
 
 void tell_contents(void) { contents_are_told = true; }
 
-/* Submits a packet, behind its prefix, and keeps it where the link accepts it. */
-static void enter(int way, const unsigned char *bytes, struct dn_packet *packet) {
+/* Tells by what a packet is known again on another link, and that each host may have it, or that none may hand it on. */
+static void tell_content(const struct payload *payload, bool is_for_all) {
+    if (!contents_are_told) return;
+    if (is_for_all) remark("flooded");
+    else if (payload->is_ip && is_last_hop(payload->bytes)) remark("last");
+    remark_content((payload->is_ip ? content_of : content_of_bytes)(payload->bytes, payload->len));
+}
+
+/* What comes on a way, behind its prefix: a frame or an IP packet. */
+struct arrival {
+    const unsigned char *bytes;
+    size_t size;
+    bool is_for_all; /* a switch sends it on by each other way */
+};
+
+/* Reads what the link and the rules look at; false where it is neither a frame nor a packet. */
+static bool look_at(int way, const struct arrival *arrival, struct payload *payload, struct dn_packet *packet, struct headers *headers) {
+    *payload = (struct payload){arrival->bytes, arrival->size, true};
+    if (!(carries_frames(way) ? dissect_frame(arrival->bytes, arrival->size, payload, packet, headers) : dissect(arrival->bytes, arrival->size, packet, headers)))
+        return false;
+    packet->length = (uint16_t)(payload->len ? payload->len : 1);
+    return payload->len <= LONGEST;
+}
+
+/* Submits a packet and keeps it where the link accepts it. */
+static void enter(int way, const struct arrival *arrival, const struct payload *payload, struct dn_packet *packet) {
     struct way *counts = &page->ways[way];
     struct dn_fate fate;
-    counts->came++, counts->came_bytes += packet->length;
+    counts->came++;
+    counts->came_bytes += packet->length;
     packet->word = next_word(way);
     catch_up(packet->moment);
-    if (contents_are_told) remark_content(content_of(bytes, packet->length));
+    tell_content(payload, arrival->is_for_all);
     submit_paced(packet, &fate);
     switch (fate.outcome) {
     case DN_QUEUED:
-        hold(&(struct packet){.number = fate.packet, .way = way, .came = packet->moment, .len = packet->length}, bytes - carrier.prefix,
-             carrier.prefix + packet->length);
+        hold(&(struct packet){.number = fate.packet, .way = way, .came = packet->moment, .is_for_all = arrival->is_for_all, .len = packet->length,
+                             .size = arrival->size},
+             arrival->bytes - carrier.prefix, carrier.prefix + arrival->size);
         break;
     case DN_LOST: counts->lost++; break;
     case DN_FULL: counts->full++; break;
@@ -45,19 +73,28 @@ static void enter(int way, const unsigned char *bytes, struct dn_packet *packet)
     }
 }
 
-/* Gives a packet, behind its prefix, to the link. */
-static void take(int way, const unsigned char *bytes, size_t len, uint64_t moment) {
-    struct way *counts = &page->ways[way];
-    struct dn_packet packet = {.moment = moment, .length = (uint16_t)len};
+/* Gives what came to the link; false where it is neither a frame nor a packet. */
+static bool give(int way, const struct arrival *arrival, uint64_t moment) {
+    struct dn_packet packet = {.moment = moment};
+    struct payload payload;
     struct headers headers;
-    if (!dissect(bytes, len, &packet, &headers)) {
-        counts->not_ip++;
-        return;
-    }
-    count_unread(way);
+    if (!look_at(way, arrival, &payload, &packet, &headers)) return false;
     classify(way, &headers, &packet);
-    enter(way, bytes, &packet);
-    if (is_copied(way)) enter(way, bytes, &packet);
+    enter(way, arrival, &payload, &packet);
+    if (is_copied(way)) enter(way, arrival, &payload, &packet);
+    return true;
+}
+
+static void take(int way, const unsigned char *bytes, size_t size, uint64_t moment) {
+    if (give(way, &(struct arrival){.bytes = bytes, .size = size}, moment)) note_unread(way);
+    else if (carries_frames(way)) page->ways[way].turned_away++;
+    else page->ways[way].not_ip++;
+}
+
+void begin_ways(void) {
+    unsigned char *bytes;
+    for (int way = 0; way < carrier.ways; way++)
+        while (carries_frames(way) && carrier.polled[way] >= 0 && carrier.receive(carrier.state, way, &bytes) >= 0);
 }
 
 void come(int way) {
@@ -65,13 +102,13 @@ void come(int way) {
     bool goes_on = false;
     note_unemptied(way);
     for (int i = 0; i < AT_ONCE || goes_on; i++) {
-        ssize_t len = carrier.receive(way, &bytes);
+        ssize_t len = carrier.receive(carrier.state, way, &bytes);
         if (len < 0) {
             note_empty(way, last_moment());
             return;
         }
         if (!goes_on) note_taken(way, present());
-        goes_on = carrier.goes_on(way);
+        goes_on = carrier.goes_on && carrier.goes_on(carrier.state);
         if (len > 0) take(way, bytes, (size_t)len, last_moment());
     }
 }
@@ -88,16 +125,18 @@ static struct {
 static bool pass_again(struct packet *packet, uint64_t due) {
     int pipe = packet->again ? 0 : second_pipe(packet->way);
     if (!pipe) return false;
-    unsigned char *bytes = packet->bytes + carrier.prefix;
-    struct dn_packet again = {.moment = last_moment(), .length = (uint16_t)packet->len, .word = WORD_OF_NONE};
+    struct dn_packet again = {.moment = last_moment(), .word = WORD_OF_NONE};
+    struct payload payload;
     struct headers headers;
     struct dn_fate fate;
-    dissect(bytes, packet->len, &again, &headers);
-    again.kind = DN_PIPE, again.number = (uint16_t)pipe;
-    if (contents_are_told) remark_content(content_of(bytes, packet->len));
+    look_at(packet->way, &(struct arrival){.bytes = packet->bytes + carrier.prefix, .size = packet->size}, &payload, &again, &headers);
+    again.kind = DN_PIPE;
+    again.number = (uint16_t)pipe;
+    tell_content(&payload, packet->is_for_all);
     submit(&again, &fate);
     if (fate.outcome == DN_QUEUED) {
-        packet->again = true, packet->behind = last_moment() - due;
+        packet->again = true;
+        packet->behind = last_moment() - due;
         hold_again(packet, fate.packet);
     } else {
         page->ways[packet->way].no_target++; /* a line has deleted it */
@@ -109,17 +148,48 @@ static bool pass_again(struct packet *packet, uint64_t due) {
 /* A packet is late from its due moment to the end of the write that sent it, and by what its first pass was late. */
 static void note_left(const struct packet *packet, uint64_t due, bool sent, uint64_t moment) {
     struct way *counts = &page->ways[packet->way];
-    if (sent) counts->sent++, counts->sent_bytes += packet->len;
-    else counts->refused++, remark_refused(packet->number);
+    counts->sent += sent;
+    counts->refused += !sent;
+    if (sent) counts->sent_bytes += packet->len;
+    else remark_refused(packet->number);
     uint64_t late = moment - due + packet->behind;
     counts->stayed += moment - packet->came;
-    count_time(counts->late, &counts->late_most, late);
-    note_lateness(packet->way, LATE, late);
+    note_lateness(packet->way, LATE, late, moment);
+}
+
+/* What has left at switches since the links were asked last, in its order. */
+static struct {
+    struct packet *first, *last;
+} at_switches;
+
+static void arrive_at_switch(struct packet *packet, uint64_t due) {
+    note_left(packet, due, true, present());
+    packet->next = NULL;
+    *(at_switches.first ? &at_switches.last->next : &at_switches.first) = packet;
+    at_switches.last = packet;
+}
+
+/* Gives a frame to the way by which a switch sends it on, or to each other one. */
+static void switch_on(const struct packet *packet) {
+    struct arrival arrival = {.bytes = packet->bytes + carrier.prefix, .size = packet->size};
+    int next = next_way(packet->way, arrival.bytes, last_moment()), way = packet->way;
+    arrival.is_for_all = next == TO_ALL;
+    if (arrival.is_for_all) next = other_way(way, NO_WAY);
+    if (next < 0) remark_refused(packet->number);
+    for (; next >= 0; next = arrival.is_for_all ? other_way(way, next) : NO_WAY) give(next, &arrival, last_moment());
+}
+
+static void switch_all_on(void) {
+    for (struct packet *packet; (packet = at_switches.first);) {
+        at_switches.first = packet->next;
+        switch_on(packet);
+        free(packet);
+    }
 }
 
 static void send_on(void) {
     if (!leaving.count) return;
-    bool sent = carrier.transmit(leaving.packets[0]->way, leaving.bytes, leaving.count);
+    bool sent = carrier.transmit(carrier.state, leaving.packets[0]->way, leaving.bytes, leaving.count);
     uint64_t moment = present();
     for (int i = 0; i < leaving.count; i++) {
         note_left(leaving.packets[i], leaving.dues[i], sent, moment);
@@ -129,9 +199,11 @@ static void send_on(void) {
 }
 
 static void add_leaving(struct packet *packet, uint64_t due) {
-    struct bytes bytes = {packet->bytes + carrier.prefix, packet->len};
-    if (leaving.count && (packet->way != leaving.packets[0]->way || !carrier.joins(leaving.bytes, leaving.count, &bytes))) send_on();
-    leaving.packets[leaving.count] = packet, leaving.bytes[leaving.count] = bytes, leaving.dues[leaving.count++] = due;
+    struct bytes bytes = {packet->bytes + carrier.prefix, packet->size};
+    if (leaving.count && (packet->way != leaving.packets[0]->way || !carrier.joins || !carrier.joins(leaving.bytes, leaving.count, &bytes))) send_on();
+    leaving.packets[leaving.count] = packet;
+    leaving.bytes[leaving.count] = bytes;
+    leaving.dues[leaving.count++] = due;
 }
 
 void leave(void) {
@@ -141,9 +213,12 @@ void leave(void) {
     for (uint64_t i = 0; i < count; i++) {
         struct packet *packet = taken(list[i].packet);
         if (!packet->len) free(packet);
-        else if (!pass_again(packet, list[i].due)) add_leaving(packet, list[i].due);
+        else if (pass_again(packet, list[i].due)) continue;
+        else if (ends_at_switch(packet->way)) arrive_at_switch(packet, list[i].due);
+        else add_leaving(packet, list[i].due);
     }
     send_on();
+    switch_all_on();
 }
 
 void count_the_rest(void) {

@@ -8,6 +8,9 @@ extern struct carrier carrier;
 /* Has the transcript tell by what each packet is known again on another link. */
 void tell_contents(void);
 
+/* Throws away what the systems of hosts at switches said before there were links, as of their groups of IPv6. */
+void begin_ways(void);
+
 /* Takes what has come of a way, some packets at most. */
 void come(int way);
 

@@ -13,30 +13,27 @@ if not __package__:
     sys.path[0] = str(Path(__file__).resolve().parents[1])
 
 from hinge import command  # noqa: E402
+from hinge.border import terminal  # noqa: E402
 from hinge.version import version  # noqa: E402
 
 COMMANDS = {
     "packets": "a capture as a packet file",
     "ipfw": "configuration lines from files of ipfw and dnctl",
-    "stats": "a table of the flows of a replay",
-    "picture": "a picture of a replay",
     "why": "what happened to a packet of a replay",
-    "through": "a capture as the far end of the link sees it",
     "sweep": "many configurations and seeds over one packet file",
     "check": "what is wrong with configurations, packet files and histories, and what to write",
-    "shard": "a replay of packets of any length by several threads",
     "run": "a command behind an emulated link, in real or simulated time",
     "net": "many hosts on any links, as a file describes them",
+    "search": "a net by many seeds in simulated time, and the least of one that fails",
     "up": "a net in the background",
     "down": "the end of a net or a run",
     "kernel": "the kernel of simulated time, from the sources of Linux",
     "change": "a change of a link that runs",
     "status": "how a link that runs is doing",
     "exec": "a command on a host of a run that goes on",
-    "with-clock": "a command whose C code has the simulated clock",
-    "look": "table, picture and paragraphs of a live session or a history",
-    "paths": "what happened between the links of a net",
+    "look": "tables and pictures of a live session, a replay or a net",
     "udp": "a UDP path between two programs through emulated links",
+    "doctor": "what works on this machine, why not, and what to install",
     "docs": "the pages of the documentation",
 }
 USAGE = 2  # the exit status
@@ -51,11 +48,16 @@ def list_of_commands() -> str:
             "prints the version.\n")
 
 
-def refuse(word: str) -> NoReturn:
-    """Ends the kit because of a word that is no command."""
-    near = difflib.get_close_matches(word, COMMANDS, 1)
-    told = f"did you mean `hinge {near[0]}`?" if near else "`hinge help` lists the commands."
-    print(f"hinge: no command {word!r}; {told}", file=sys.stderr)
+def refuse(words: list[str]) -> NoReturn:
+    """Ends the kit because its first word is no command, with what to type."""
+    from hinge.elsewhere import answer_of  # which a wrong word alone needs
+
+    answer, near = answer_of(words), difflib.get_close_matches(words[0], COMMANDS, 1)
+    if answer is not None:
+        text = answer.text()
+    else:
+        text = f"did you mean `hinge {near[0]}`?" if near else "`hinge help` lists the commands."
+    terminal.tell(f"hinge: no command {words[0]!r}; {text}")
     sys.exit(USAGE)
 
 
@@ -75,14 +77,14 @@ def main() -> None:
     if words[:1] == ["help"] and len(words) > 1:
         words = [words[1], "--help"]
     if not words:
-        print(list_of_commands(), end="", file=sys.stderr)
+        terminal.tell(list_of_commands(), "")
         sys.exit(USAGE)
     if words[0] in HELP:
-        command.run(lambda: print(list_of_commands(), end=""))
+        command.run(lambda: terminal.show(list_of_commands(), ""))
     if words[0] in VERSION:
-        command.run(lambda: print(f"hinge {version()}"))
+        command.run(lambda: terminal.show(f"hinge {version()}"))
     if words[0] not in COMMANDS:
-        refuse(words[0])
+        refuse(words)
     sys.argv[1:] = words[1:]
     command.NAME[0] = f"hinge {words[0]}"
     command.run(lambda: run_module(words[0]))

@@ -8,22 +8,30 @@ import importlib
 import os
 import shutil
 import sys
+import textwrap
 import threading
 import time
 from contextlib import contextmanager
 from types import ModuleType
-from typing import Callable, Iterator, NoReturn
+from typing import Callable, Iterator, NoReturn, Optional
+
+from hinge.border.terminal import printable, tell, tell_over
 
 USAGE, CONFIGURATION, ROWS, FILES, MISSING = 2, 3, 4, 6, 7
-STATUSES = ("exit status: 0 done, 2 command line, 3 configuration, 4 packet file, report or capture, 6 files, 7 a "
-            "package is missing")
+STATUSES = "0 done, 2 command line, 3 configuration, 4 packet file, report or capture, 6 files, 7 a package is missing"
+WIDTH = 80  # columns of a help
 # of a write, whose file has no name where it is standard output
 WRITING = (errno.ENOSPC, errno.EIO, errno.EBADF, errno.EFBIG, errno.EDQUOT)
 PROGRESS_AFTER = 2  # seconds
+LONGEST = 4000  # letters of a line
 NAME = ["hinge"]  # as the user typed it, with the command
 
 
-class Fault(Exception):
+class Told(Exception):
+    """One whose text is a line for the user."""
+
+
+class Fault(Told):
     """Why a command can't go on, as one line, and its exit status."""
 
     def __init__(self, line: str, status: int) -> None:
@@ -34,12 +42,17 @@ class Fault(Exception):
         return str(self.args[0])
 
 
-def parser(what: str, example: str) -> argparse.ArgumentParser:
-    """A command line whose help ends in an example and the exit statuses."""
+def filled(text: str) -> str:
+    """Paragraphs as wide as a help."""
+    return "\n\n".join(textwrap.fill(" ".join(part.split()), WIDTH - 1) for part in text.strip().split("\n\n"))
+
+
+def parser(what: str, example: str, statuses: str = STATUSES, usage: Optional[str] = None, words: str = "") -> argparse.ArgumentParser:
+    """A command line whose help says what the command does and what it takes, and ends in an example and the exit statuses.
+    `words` are of a file, in lines of their own."""
     return argparse.ArgumentParser(
-        prog=NAME[0],
-        description=what,
-        epilog=f"example:\n  {example}\n\n{STATUSES}",
+        prog=NAME[0], usage=usage, description=filled(what),
+        epilog=f"{words}example:\n  {example.strip()}\n\n{filled(f'exit status: {statuses}')}",
         formatter_class=argparse.RawDescriptionHelpFormatter,
     )
 
@@ -56,14 +69,9 @@ def open_closed_streams() -> None:
             setattr(sys, name, open(number, "w" if number else "r", closefd=False))
 
 
-def printable(text: str) -> str:
-    """A text that may name a file or quote one, without what a terminal would obey."""
-    return "".join(letter if letter.isprintable() else f"\\x{ord(letter):02x}" for letter in text)
-
-
 def say(line: str) -> None:
-    """One line on standard error."""
-    print(f"{NAME[0]}: {printable(line)}", file=sys.stderr)
+    """One line on standard error, which may quote some of what others wrote."""
+    tell(f"{NAME[0]}: {printable(line[:LONGEST])}" + " .." * (len(line) > LONGEST))
 
 
 def run(main: Callable[[], object]) -> NoReturn:
@@ -112,13 +120,13 @@ def working(what: str) -> Iterator[None]:
     if not sys.stderr.isatty():
         yield
         return
-    teller = threading.Timer(PROGRESS_AFTER, lambda: print(f"\r{what} ..", end="", file=sys.stderr, flush=True))
+    teller = threading.Timer(PROGRESS_AFTER, tell_over, (f"{what} ..",))
     teller.start()
     try:
         yield
     finally:
         teller.cancel()
-        print("\r\x1b[K", end="", file=sys.stderr, flush=True)
+        tell_over()
 
 
 class Progress:
@@ -134,11 +142,11 @@ class Progress:
         if now - self.began < PROGRESS_AFTER or now - self.told < 0.5 or not sys.stderr.isatty():
             return
         self.told, self.shown = now, True
-        print(f"\r{self.what}: {count:,}", end="", file=sys.stderr, flush=True)
+        tell_over(f"{self.what}: {count:,}")
 
     def done(self) -> None:
         if self.shown:
-            print("\r\x1b[K", end="", file=sys.stderr, flush=True)
+            tell_over()
 
 
 class Bar:
@@ -153,14 +161,13 @@ class Bar:
         self.done, self.failed, now = self.done + 1, self.failed + failed, time.monotonic()
         if now - self.began < PROGRESS_AFTER or now - self.told < 0.5 or not sys.stderr.isatty():
             return
-        left = (now - self.began) / self.done * (self.total - self.done)
+        remainder = (now - self.began) / self.done * (self.total - self.done)
         bad = f", {self.failed:,} failed" if self.failed else ""
-        print(f"\r\x1b[K{self.done:,} of {self.total:,} {self.what}{bad}, {left:.0f} s left", end="", file=sys.stderr,
-              flush=True)
+        tell_over(f"{self.done:,} of {self.total:,} {self.what}{bad}, {remainder:.0f} s left")
         self.told, self.shown = now, True
 
     def clear(self) -> None:
         """Takes the line away, so that another one can be told."""
         if self.shown:
-            print("\r\x1b[K", end="", file=sys.stderr, flush=True)
+            tell_over()
             self.shown = False

@@ -12,7 +12,9 @@ class Lazy(ModuleType):
     """A module that isn't loaded yet."""
 
     def __getattr__(self, name: str) -> Any:
-        return getattr(importlib.import_module(self.__name__), name)
+        result = getattr(importlib.import_module(self.__name__), name)
+        setattr(self, name, result)  # which isn't asked for again
+        return result
 
 
 if TYPE_CHECKING:

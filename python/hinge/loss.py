@@ -101,14 +101,14 @@ class Listed(Chosen):
 
 def read_numbers(text: str) -> list[int]:
     """The numbers of `3,17-20`."""
-    found: list[int] = []
+    numbers: list[int] = []
     for part in text.split(","):
         ends = re.fullmatch(r"(\d{1,9})(?:-(\d{1,9}))?", part)
         low, high = (int(ends[1]), int(ends[2] or ends[1])) if ends else (0, 0)
         if not 1 <= low <= high:
             raise ValueError(f"{part!r} is no packet number and no range of them, from 1")
-        found.extend(range(low, high + 1))
-    return found
+        numbers.extend(range(low, high + 1))
+    return numbers
 
 
 def read_rates(text: str) -> list[Fraction]:

@@ -26,11 +26,11 @@ def places(name: str, *in_repository: str) -> Iterator[Optional[str]]:
 
 def program_named(variable: str, name: str, *in_repository: str) -> str:
     """The program that a variable names, else the first of these places that has it."""
-    named = os.environ.get(variable)
-    for place in [named] if named else places(name, *in_repository):
+    path = os.environ.get(variable)
+    for place in [path] if path else places(name, *in_repository):
         if place and os.path.isfile(place) and os.access(place, os.X_OK):
             return place
-    raise Fault(f"{variable} names {named}, which is no program" if named
+    raise Fault(f"{variable} names {path}, which is no program" if path
                 else f"there is no program {name}: the variable {variable} can name it", MISSING)
 
 

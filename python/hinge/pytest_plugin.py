@@ -36,6 +36,7 @@ from typing import TYPE_CHECKING, Callable, Coroutine, Generator, Optional, Prot
 import pytest
 
 from hinge.testing import async_fixtures
+from hinge.testing.marks import fault_of, is_unused, link_of
 from hingetulip_words.presets import either_way
 
 if TYPE_CHECKING:
@@ -77,18 +78,6 @@ def pytest_configure(config: pytest.Config) -> None:
         from hinge.simulated.one_test import Keeper
 
         config.pluginmanager.register(Keeper(config, os.environ[INSIDE]))
-
-
-def marked(item: pytest.Item) -> tuple[str, Optional[str]]:
-    """The options of the mark `link`, there and back; an empty text where there is none."""
-    mark = item.get_closest_marker("link")
-    if mark is None:
-        return "", None
-    there, back = (*mark.args, None, None)[:2]
-    back = mark.kwargs.get("back", back)
-    if "preset" in mark.kwargs:
-        return either_way(mark.kwargs["preset"], there, back)
-    return str(there or ""), back
 
 
 @pytest.fixture
@@ -133,14 +122,14 @@ def udp_path(
         if preset is not None:
             there, back = either_way(preset, there, back)
         elif there is None:
-            there, back = marked(request.node)
+            there, back = link_of(request.node)
         history = tmp_path / f"link{len(emulated_links) + 1}.history"
-        made = UdpPath(
+        product = UdpPath(
             f"127.0.0.1:{server}" if isinstance(server, int) else server, there, there if back is None else back,
             link_seed if seed is None else seed, history
         )
-        emulated_links.append(made)
-        return made
+        emulated_links.append(product)
+        return product
 
     return make
 
@@ -150,9 +139,9 @@ def sim_net(request: pytest.FixtureRequest, emulated_links: list[Emulated], link
     """A network of hosts in simulated time."""
     from hinge.testing.emulated import SimulatedPath
 
-    made = SimulatedPath(link_seed, tmp_path / "link.history", *marked(request.node))
-    emulated_links.append(made)
-    return made.net
+    product = SimulatedPath(link_seed, tmp_path / "link.history", *link_of(request.node))
+    emulated_links.append(product)
+    return product.net
 
 
 @pytest.fixture
@@ -162,10 +151,10 @@ def net(request: pytest.FixtureRequest, emulated_links: list[Emulated], link_see
     from hinge.net import Net
     from hinge.testing.net_of_test import NetOfTest
 
-    there, back = marked(request.node)
-    made = Net(tmp_path / "net", seed=link_seed, link=there, back=back)
-    emulated_links.append(NetOfTest(made))
-    return made
+    there, back = link_of(request.node)
+    product = Net(tmp_path / "net", seed=link_seed, link=there, back=back)
+    emulated_links.append(NetOfTest(product))
+    return product
 
 
 @pytest.fixture
@@ -178,8 +167,8 @@ def in_simulated_time(test: Callable[..., Coroutine[object, object, None]]) -> C
     """A coroutine as a test that runs it in its network."""
 
     @functools.wraps(test)
-    def run(*words: object, sim_net: Network, **named: object) -> None:
-        sim_net.run(test(*words, sim_net=sim_net, **named))
+    def run(*words: object, sim_net: Network, **keywords: object) -> None:
+        sim_net.run(test(*words, sim_net=sim_net, **keywords))
 
     return run
 
@@ -193,6 +182,16 @@ def pytest_pycollect_makeitem(collector: pytest.Collector, name: str, obj: objec
     is_test = getattr(collector, "istestfunction", None)  # of modules and classes
     if is_test is not None and is_test(obj, name):  # a helper stays a coroutine
         setattr(getattr(collector, "obj"), name, in_simulated_time(obj))
+
+
+@pytest.hookimpl(tryfirst=True)  # type: ignore[misc]
+def pytest_runtest_setup(item: pytest.Item) -> None:
+    """A mark that says what it doesn't take would leave a test without its link, and so would one that nothing takes."""
+    fault = fault_of(item)
+    if fault is not None:
+        pytest.fail(fault, pytrace=False)
+    if is_unused(item):
+        item.warn(pytest.PytestWarning("the mark link is of no effect: no fixture of the test is sim_net, udp_path or net"))
 
 
 @pytest.hookimpl(hookwrapper=True)  # type: ignore[misc]
@@ -220,7 +219,7 @@ def seed_of(item: pytest.Item) -> int:
 
 def links_of(item: pytest.Item) -> list[str]:
     """The options of the mark `link` for `hinge run`."""
-    there, back = marked(item)
+    there, back = link_of(item)
     return ["--up", there, "--down", there if back is None else back]
 
 
@@ -230,8 +229,8 @@ def pytest_runtest_protocol(item: pytest.Item) -> Optional[bool]:
     mark = item.get_closest_marker("simulated")
     if mark is None and "simulated_net" in getattr(item, "fixturenames", ()):
         mark = pytest.mark.simulated.mark
-    if mark is None or INSIDE in os.environ:
-        return None
+    if mark is None or INSIDE in os.environ or fault_of(item) is not None:
+        return None  # a wrong mark is told by the test's setup
     from hinge.simulated.one_test import reports
 
     item.ihook.pytest_runtest_logstart(nodeid=item.nodeid, location=item.location)

@@ -20,13 +20,15 @@ class ClosedError(HingetulipError, ValueError):
 
 
 class LineError(HingetulipError, ValueError):
-    """A line is no command. Its text is that of the program `dummynet`, as `word 5: bad number`, or names a word of a link, and what to write."""
+    """A line is no command, or a word is none of a link. The text has the word and what to write."""
 
     def __init__(self, kind: str, word: int, line: str = "") -> None:
-        words = line.split()
-        shown = f" {words[word - 1]!r}" if 0 < word <= len(words) else ""
-        where = f", in {line!r}" if line else ""
-        super().__init__((f"word {word}{shown}: {kind}" if word else kind) + where)
+        fault = f"word {word}: {kind}" if word else kind
+        if line and word:
+            from hingetulip_words.explained import explained  # which a wrong line alone needs
+
+            fault = explained(line, fault)
+        super().__init__(f"{fault}, in {line!r}" if line else fault)
         self.line = line
         """The line, where it is known."""
         self.kind = kind

@@ -12,7 +12,7 @@ from hingetulip.errors import (
 )
 
 NAMES = ("libhingetulip.so.1", "libhingetulip.so")
-MAJOR = 1  # of the library's version; later minor ones only add
+MAJORS = (1, 2)  # of the library's version: 2 has the calls of 1, and later minor ones only add
 LAST_MOMENT = 2**62
 NEVER = 2**64 - 1
 HISTORY_LIMIT = 268_435_456  # bytes
@@ -61,9 +61,12 @@ def failure(status: int) -> HingetulipError:
 
 
 def places() -> Iterator[str]:
-    """Where the library is looked for: beside this module, in `lib` below each folder in which it lies, and by the system."""
+    """Where the library is looked for: beside this module, in `release` of the clone in which it lies, in `lib` below each folder in which
+    it lies, and by the system."""
     here = Path(__file__).resolve().parent
-    for folder in (here, *(above / "lib" for above in here.parents)):
+    clone = here.parents[1]
+    release = [clone / "release"] * (clone / "crates.txt").exists()
+    for folder in (here, *release, *(above / "lib" for above in here.parents)):
         yield from (str(folder / name) for name in NAMES if (folder / name).exists())
     yield NAMES[0]
 
@@ -80,8 +83,8 @@ def loaded(place: str) -> PyDLL:
         if hasattr(library, name):
             getattr(library, name).restype = c_uint32
     version = library.dn_version()
-    if version // 1_000_000 != MAJOR:
-        raise ImportError(f"{place} has version {version}, and not {MAJOR}.x")
+    if version // 1_000_000 not in MAJORS:
+        raise ImportError(f"{place} has version {version}, and not {' or '.join(f'{major}.x' for major in MAJORS)}")
     return library
 
 

@@ -3,7 +3,7 @@
 from __future__ import annotations
 
 from contextlib import ExitStack
-from ctypes import CDLL, Array, byref, c_char, c_size_t, c_uint32, c_uint64, sizeof
+from ctypes import CDLL, Array, PyDLL, byref, c_char, c_size_t, c_uint32, c_uint64, sizeof
 from operator import index
 from os import PathLike, urandom
 from random import Random
@@ -11,7 +11,7 @@ from struct import error as StructError
 from threading import RLock
 from time import sleep
 from types import TracebackType
-from typing import Any, Callable, NoReturn, Optional, Union
+from typing import Any, Callable, NoReturn, Optional, TypeVar, Union
 
 from hingetulip.batches import QUEUED, make_fate, read_fate
 from hingetulip.errors import HingetulipError, InUseError, LineError, RangeError
@@ -33,9 +33,13 @@ FIRST_ROOM, MOST_CALLERS = 16384, 15
 TRIES_AT_ONCE, REST = 4, 20e-6
 
 
-def loaded() -> CDLL:
-    """The functions of a service. Unlike those of a shaper they give up Python's lock during a call, so that threads go on."""
-    library = CDLL(LIBRARY)
+# PyDLL holds Python's lock during a call, and CDLL releases it. A call of a caller is shorter than the way out of the lock and back, by
+# which eight threads got a quarter of what one gets. So callers hold it, and release it only where they wait for a call that takes long.
+Functions = TypeVar("Functions", CDLL, PyDLL)
+
+
+def loaded(library: Functions) -> Functions:
+    """The functions of a service in `library`, with the type of what they return."""
     try:
         for name in FUNCTIONS:
             getattr(library, name).restype = c_uint32
@@ -99,7 +103,7 @@ class Caller:
     Its calls are those of Shaper. Each reply comes after all calls that this caller's earlier replies came after.
     """
 
-    def __init__(self, calls: CDLL, handle: Any, number: int, seed: Optional[int]) -> None:
+    def __init__(self, calls: PyDLL, handle: Any, number: int, seed: Optional[int]) -> None:
         self.number = number
         self._calls, self._self, self._turn, self._random = calls, handle, Turn(), Random(seed)
         self._packet, self._fate = (c_char * PACKET.size)(), (c_char * FATE.size)()
@@ -122,7 +126,7 @@ class Caller:
             status = answered(self._calls.dn_caller_configure, self._self, text, c_size_t(len(text)), byref(fault), self._holder)
         if status == LINE:
             word, kind = FAULT.record.unpack(fault)
-            raise LineError(FAULT_KINDS[kind], word)
+            raise LineError(FAULT_KINDS[kind], word, text.decode("utf-8", "replace"))
         succeed(status)
 
     def submit(self, moment: int, length: int, *, pipe: Optional[int] = None, queue: Optional[int] = None, src: int = 0, dst: int = 0,
@@ -201,14 +205,14 @@ class Service:
         """
         if not 1 <= index(callers) <= MOST_CALLERS:
             raise RangeError(f"callers {callers} isn't in 1 to {MOST_CALLERS}")
-        self._calls, self._turn, self._taken = loaded(), Turn(), 0
+        self._calls, self._turn, self._taken = loaded(CDLL(LIBRARY)), Turn(), 0
         self._file: Optional[HistoryFile] = None
         self._handle, self._handles = Handle(), (Handle * callers)()
         self._text, self._texts = (c_char * FIRST_ROOM)(), texts_of(self._calls)
         high, low = SECRET.unpack(urandom(SECRET.size))
         succeed(self._calls.dn_service_open_with_key(byref(self._handle), self._handles, c_size_t(len(self._handles)), c_uint64(high), c_uint64(low)))
-        seeds = Random(seed)
-        self.callers = tuple(Caller(self._calls, byref(self._handles, number * sizeof(Handle)), number, seeds.getrandbits(64))
+        seeds, calls = Random(seed), loaded(PyDLL(LIBRARY))
+        self.callers = tuple(Caller(calls, byref(self._handles, number * sizeof(Handle)), number, seeds.getrandbits(64))
                              for number in range(callers))
 
     def history(self, path: Union[str, PathLike[str]]) -> None:

@@ -156,7 +156,7 @@ class Shaper:
             status: int = CALLS.dn_configure(self._self, line, c_size_t(len(line)), byref(fault))
         if status == LINE:
             word, kind = FAULT.record.unpack(fault)
-            raise LineError(FAULT_KINDS[kind], word)
+            raise LineError(FAULT_KINDS[kind], word, line.decode("utf-8", "replace"))
         return status
 
     def submit(self, moment: int, length: int, *, pipe: Optional[int] = None, queue: Optional[int] = None, src: int = 0, dst: int = 0,

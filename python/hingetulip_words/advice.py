@@ -4,8 +4,9 @@ from __future__ import annotations
 
 import difflib
 import re
+from typing import Sequence
 
-from hingetulip_words.values import FIELD_BITS, FORMS, Advice, mask, mask_bits, value
+from hingetulip_words.values import FIELD_BITS, FORMS, Advice, fault_of, mask, mask_bits, wrong_form
 
 OPTIONS = {"pipe": ["bw", "delay", "queue", "plr", "buckets", "mask"],
            "queue": ["pipe", "weight", "queue", "plr", "buckets", "mask"]}
@@ -55,9 +56,10 @@ def config_word(kind: str, number: str, text: str) -> Advice:
     return Advice("`config` is missing before it", f"write {kind} {number} config {text}", f"config {text}")
 
 
-def missing_value(text: str, following: str) -> Advice:
+def missing_value(text: str, following: str = "") -> Advice:
+    """Of an option without its value, and the word behind it."""
     if text != "mask":
-        return Advice("the line ends before its value", FORMS.get(text, "write a number behind it"))
+        return Advice("its value is missing", FORMS.get(text, "write a number behind it"))
     bits = mask_bits(following) or "0xffffffff"
     return Advice("a mask names the fields that tell flows apart",
                   f"write mask src-ip {bits}, or dst-ip, src-port, dst-port, proto, all")
@@ -74,11 +76,11 @@ def left_out(before: str, text: str) -> Advice:
     return Advice("ipfw(8) has it, and this program leaves it out", "leave it and its values out")
 
 
-def option_word(kind: str, before: str, text: str) -> Advice:
-    """Of a word where an option belongs."""
+def option_word(kind: str, before: str, text: str, more: Sequence[str] = ()) -> Advice:
+    """Of a word where an option belongs, or one of some more words that have a value."""
     options, other = OPTIONS.get(kind, []), "queue" if kind == "pipe" else "pipe"
     takes = f"a {kind} takes {', '.join(options)}"
-    if "=" in text and text.partition("=")[0] in options:
+    if "=" in text and text.partition("=")[0] in (*options, *more):
         return Advice("a blank parts an option from its value", f"write {text.replace('=', ' ', 1)}",
                       text.replace("=", " ", 1))
     if text in (";", ","):
@@ -118,4 +120,6 @@ def advice(words: list[str], number: int, cause: str) -> Advice:
         return config_word(kind, before, text)
     if cause == "left out":
         return left_out(before, text)
-    return value(before, text) if cause in ("bad number", "out of range") else option_word(kind, before, text)
+    if cause in ("bad number", "out of range"):
+        return fault_of(before, text) or wrong_form(before, text)
+    return option_word(kind, before, text)

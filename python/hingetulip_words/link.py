@@ -1,93 +1,86 @@
 """The words of a link: `10Mbit/s 20ms queue 100 loss 1%`, or ipfw's options in full. This is the one place that reads
-them."""
+them: of `hinge run`, nets, timelines, changes, presets, marks of tests and hingetulip.aio."""
 
 from __future__ import annotations
 
 import re
+from enum import Enum
 from fractions import Fraction
-from typing import NamedTuple
+from typing import NamedTuple, Optional
 
-from hingetulip_words.advice import OPTIONS, left_out, option_word
-from hingetulip_words.values import FIELD_BITS, FORMS, Advice, bandwidth, delay, plain, room, value
+from hingetulip_words.advice import OPTIONS, left_out, missing_value, option_word
+from hingetulip_words.elsewhere import Netem
+from hingetulip_words.values import FIELD_BITS, LONGEST_WORD, PERCENT, Advice, bandwidth, delay, fault_of, plain, room
 
 RATE = re.compile(r"\d+[kmg]?(bits?|bytes?)/s", re.ASCII | re.IGNORECASE)
 DELAY = re.compile(r"\d+ms", re.ASCII)
-PERCENT = re.compile(r"(\d+(?:\.\d+)?)%", re.ASCII)
 LIKE_A_DELAY = re.compile(r"-?\d+(\.\d+)?(ns|us|µs|usec|ms|msec|s|sec)", re.ASCII | re.IGNORECASE)
 LIKE_ROOM = re.compile(r"\d+(pkts?|packets?|p|slots?|[km]?bytes?|kb|kib|mib)", re.ASCII | re.IGNORECASE)
 UNIT = re.compile(r"[kmg]?(bits?|bytes?|bps|b)(/s|ps)?|[munµ]?s|m?sec|usec|%", re.ASCII | re.IGNORECASE)
 LINE = ("ipfw", "pipe", "config")
+NETEMS = {"rate", "limit", "netem"}  # words that netem has, and no link
 LEFT_OUT = ("red", "gred", "ecn", "codel", "pie", "fq_codel", "fq_pie", "sched", "burst", "profile", "noerror",
             "droptail")
 LIKE_A_LINE = Advice("a link has the options alone", "leave out all before them, or give the whole line by --line")
-NO_PERCENTAGE = "a loss is a percentage here"
-
-
-class Form(NamedTuple):
-    """How a value is written, and the least and the greatest number, in the unit that the number has if it has none."""
-
-    written: re.Pattern[str]
-    least: int
-    most: int
-    range: str
-
-
-NUMBER = r"(0|[1-9]\d*)"
-TAKEN = {
-    "bw": Form(re.compile(NUMBER + "([kmg]?)(bits?/s|bytes?/s)?", re.ASCII | re.IGNORECASE), 0, 10**12,
-               "a bandwidth is 0 to 1000Gbit/s"),
-    "delay": Form(re.compile(NUMBER + "(ms)?", re.ASCII), 0, 3_600_000, "a delay is 0 to 3600000ms"),
-    "queue": Form(re.compile(NUMBER + "(kbytes?|kb|k)?", re.ASCII | re.IGNORECASE), 1, 10_000,
-                  "a queue has room for 1 to 10000 packets, or for 1 to 1024Kbytes"),
-    "weight": Form(re.compile(NUMBER, re.ASCII), 1, 100, "a weight is 1 to 100"),
-    "buckets": Form(re.compile(NUMBER, re.ASCII), 16, 65_536, "buckets are 16 to 65536"),
-    **{field: Form(re.compile(NUMBER + r"|0[xX][\da-fA-F]+", re.ASCII), 0, 2**bits - 1,
-                   f"a mask of {field} has at most {bits} bits")
-       for field, bits in FIELD_BITS.items()},
-}
-VALUES = {**FORMS, "loss": "write loss 1%"}
-LOSS_RATE = re.compile(r"(?=\.?\d)\d{0,18}(\.\d{0,18})?", re.ASCII)
-MOST_KBYTES = 1024
-SCALE = {"": 1, "k": 10**3, "m": 10**6, "g": 10**9}
+WRITTEN = re.compile(r"write ([^,;()]+)")
+MOST_CORRECTIONS = 12  # of one text
+NO_WORDS = "no words of a link, as 10Mbit/s 20ms"
+MOST_JITTER = 1000  # ms: each has a pipe of its own
+CERTAIN = 2**31
+JITTER, DUPLICATE = "write jitter 5ms, a whole number from 1ms to 1000ms", "write duplicate 1%"
+MISSING = {"loss": "write loss 1%", "jitter": JITTER, "duplicate": DUPLICATE}
 NAMES = {"bw": "bandwidth", "delay": "delay", "queue": "queue limit", "plr": "loss rate", "weight": "weight",
          "buckets": "number of buckets", "mask": "mask"}
+
+
+class Place(Enum):
+    """Where the words of a link stand. Jitter and duplicates aren't dummynet's: a run does both, from its beginning on."""
+
+    DUMMYNET = "dummynet"
+    RUN = "run"
+    CHANGE = "change"
+
+
+OF_RUNS = {
+    Place.RUN: Advice("no link reorders by a share", "write jitter 5ms, by which packets overtake each other"),
+    Place.CHANGE: Advice("of a whole run", "write it in --up, --down or a line `link`, from the beginning on"),
+}
 
 
 class WordError(ValueError):
     """A word that isn't one of a link. The text has it as it was typed, and what to write."""
 
-    def __init__(self, word: str, said: Advice) -> None:
-        super().__init__(f"'{word}': {said.wrong}; {said.right}")
+    def __init__(self, word: str, advice: Advice) -> None:
+        super().__init__(f"'{word}': {advice.wrong}; {advice.right}")
+        self.word, self.advice = word, advice
+
+    def right(self) -> Optional[str]:
+        """What may stand in the place of the word, if the advice says one thing."""
+        write = WRITTEN.fullmatch(self.advice.right)
+        return write[1] if write else self.advice.word
 
 
-def number_of(name: str, text: str) -> int:
-    """The number that a value of the right form means, in the unit of its range."""
-    if name == "bw":
-        found = TAKEN[name].written.fullmatch(text)
-        assert found
-        return int(found[1]) * SCALE[found[2].lower()] * (8 if "byte" in text.lower() else 1)
-    return int(text, 16) if text[:2].lower() == "0x" else int(re.sub(r"\D", "", text))
+class Extra(NamedTuple):
+    """What a run does beside dummynet: the most ms that are drawn for a packet, and the chance of 2^31 that it enters twice."""
+
+    jitter: int = 0
+    duplicate: int = 0
+
+    @property
+    def pipes(self) -> int:
+        """How many pipes its second passes take."""
+        return self.jitter + 1 if self.jitter else 0
 
 
-def is_in_range(name: str, text: str) -> bool:
-    form, number = TAKEN[name], number_of(name, text)
-    most = MOST_KBYTES if name == "queue" and not text.isdigit() else form.most
-    return form.least <= number <= most
+class Link(NamedTuple):
+    """What the words of a link ask for."""
 
+    options: dict[str, str]  # by ipfw's names, in the order in which they were given
+    extra: Extra
 
-def checked(name: str, text: str, typed: str) -> str:
-    """A value of an option, if it is one; `typed` is what the user wrote of both."""
-    if name == "plr":
-        if not LOSS_RATE.fullmatch(text):
-            raise WordError(typed, value(name, text))
-        within, limits = Fraction(text.rstrip(".") or "0") <= 1, "a loss rate is 0 to 1, as 0.01 for 1 %"
-    else:
-        if not TAKEN[name].written.fullmatch(text):
-            raise WordError(typed, value(name, text))
-        within, limits = is_in_range(name, text), TAKEN[name].range
-    if not within:
-        raise WordError(typed, Advice("out of range", limits))
-    return text
+    def line(self, pipe: int) -> str:
+        """The configuration line of a pipe with these options."""
+        return f"pipe {pipe} config {in_full(self.options)}".strip()
 
 
 def number_alone(word: str, following: str) -> tuple[str, Advice]:
@@ -111,36 +104,49 @@ def unknown(word: str) -> Advice:
     if LIKE_A_DELAY.fullmatch(word):
         return delay(word)
     if LIKE_ROOM.fullmatch(word):
-        said = room(word.lower())
-        return Advice("a queue limit has its word before it", f"write queue {said.word}", f"queue {said.word}")
+        limit = room(word.lower()).word
+        return Advice("a queue limit has its word before it", f"write queue {limit}", f"queue {limit}")
     if word != (bare := word.rstrip(",;")):
         return Advice(f"ends in {word[len(bare):]!r}, and blanks alone part the words", f"write {bare}", bare)
     return bandwidth(word)
 
 
 class Words:
-    """The words of one text, which are read from left to right into `options`, by their full names."""
+    """The words of one text, which are read from left to right into `options`, by their full names, and `extra`."""
 
-    def __init__(self, text: str, kind: str) -> None:
-        self.kind, self.names = kind, [name for name in OPTIONS[kind] if name != "pipe"]
+    def __init__(self, text: str, kind: str, place: Place) -> None:
+        self.kind, self.place, self.names = kind, place, [name for name in OPTIONS[kind] if name != "pipe"]
         self.rest = text.partition("#")[0].split()
         self.options: dict[str, str] = {}
+        self.extra = Extra()
         self.typed: dict[str, str] = {}
         self.before = ""
 
-    def read(self) -> dict[str, str]:
+    def read(self) -> Link:
         while self.rest:
             self.read_one(self.rest.pop(0))
-        return self.options
+        return Link(self.options, self.extra)
+
+    def note(self, name: str, typed: str) -> None:
+        """Refuses a second word of one kind."""
+        if name in self.typed:
+            raise WordError(typed, Advice(f"a second {NAMES.get(name, name)} beside '{self.typed[name]}'", "write one of them"))
+        self.typed[name], self.before = typed, typed.split()[-1]
 
     def put(self, name: str, text: str, typed: str) -> None:
-        if name in self.options:
-            raise WordError(typed, Advice(f"a second {NAMES[name]} beside '{self.typed[name]}'", "write one of them"))
-        self.options[name], self.typed[name], self.before = text, typed, typed.split()[-1]
+        self.note(name, typed)
+        self.options[name] = text
+
+    def check(self, name: str, text: str, typed: str) -> str:
+        """A value of an option, if it is one; `typed` is what the user wrote of both."""
+        if fault := fault_of(name, text):
+            raise WordError(typed, fault)
+        return text
 
     def value_of(self, word: str) -> str:
         if not self.rest:
-            raise WordError(word, Advice("its value is missing", VALUES.get(word, "write a number behind it")))
+            advice = missing_value(word)
+            raise WordError(word, advice._replace(right=MISSING.get(word, advice.right)))
         return self.rest.pop(0)
 
     def read_one(self, word: str) -> None:
@@ -149,41 +155,58 @@ class Words:
             self.put(word, fields, f"{word} {fields}")
         elif word in self.names:
             text = self.value_of(word)
-            self.put(word, checked(word, text, f"{word} {text}"), f"{word} {text}")
+            self.put(word, self.check(word, text, f"{word} {text}"), f"{word} {text}")
         elif RATE.fullmatch(word) and "bw" in self.names:
-            self.put("bw", checked("bw", word, word), word)
+            self.put("bw", self.check("bw", word, word), word)
         elif DELAY.fullmatch(word) and "delay" in self.names:
-            self.put("delay", checked("delay", word, word), word)
+            self.put("delay", self.check("delay", word, word), word)
         elif word == "loss":
             text = self.value_of(word)
             self.put("plr", self.part_of_one(text), f"{word} {text}")
+        elif word in ("jitter", "duplicate", "reorder") and self.place is not Place.DUMMYNET:
+            self.read_extra(word)
         else:
             raise self.refused(word)
 
+    def read_extra(self, word: str) -> None:
+        """What a run does beside dummynet."""
+        if word == "reorder" or self.place is not Place.RUN:
+            raise WordError(word, OF_RUNS[Place.RUN if word == "reorder" else self.place])
+        text = self.value_of(word)
+        typed = f"{word} {text}"
+        self.note(word, typed)
+        if word == "jitter":
+            if not DELAY.fullmatch(text) or not 1 <= int(text[:-2]) <= MOST_JITTER:
+                raise WordError(typed, Advice("not a jitter", JITTER))
+            self.extra = self.extra._replace(jitter=int(text[:-2]))
+        else:
+            share = PERCENT.fullmatch(text)
+            if not share or float(share[1]) > 100:
+                raise WordError(typed, Advice("not a share of the packets", DUPLICATE))
+            self.extra = self.extra._replace(duplicate=round(float(share[1]) * CERTAIN / 100))
+
     def part_of_one(self, text: str) -> str:
         """A percentage as the part of one that `plr` takes."""
-        found = PERCENT.fullmatch(text)
-        if not found:
+        share = PERCENT.fullmatch(text)
+        if not share:
             is_number = re.fullmatch(r"\d*\.?\d+", text, re.ASCII)
             right = f"write loss {text}%, or plr {text} for a part of one" if is_number else "write it as loss 1%"
-            raise WordError(f"loss {text}", Advice(NO_PERCENTAGE, right))
-        part = Fraction(found[1]) / 100
+            raise WordError(f"loss {text}", Advice("a loss is a percentage here", right))
+        part = Fraction(share[1]) / 100
         if part > 1:
             raise WordError(f"loss {text}", Advice("out of range", "a loss is 0% to 100%"))
         return plain(part)
 
     def fields(self) -> str:
         """The fields of a mask, with their values."""
-        taken: list[str] = []
+        fields: list[str] = []
         while self.rest and (self.rest[0] == "all" or self.rest[0] in FIELD_BITS):
-            taken.append(field := self.rest.pop(0))
+            fields.append(field := self.rest.pop(0))
             if field != "all":
-                taken.append(checked(field, text := self.value_of(field), f"{field} {text}"))
-        if not taken:
-            raise WordError(" ".join(["mask", *self.rest[:1]]),
-                            Advice("a mask names the fields that tell flows apart",
-                                   "write mask src-ip 0xffffffff, or mask all"))
-        return " ".join(taken)
+                fields.append(self.check(field, text := self.value_of(field), f"{field} {text}"))
+        if not fields:
+            raise WordError(" ".join(["mask", *self.rest[:1]]), missing_value("mask", self.rest[0] if self.rest else ""))
+        return " ".join(fields)
 
     def refused(self, word: str) -> WordError:
         """What is wrong with a word that is none of these."""
@@ -191,15 +214,23 @@ class Words:
             return WordError(word, LIKE_A_LINE)
         if word in LEFT_OUT:
             return WordError(word, left_out("", word))
-        if (parts := word.partition("="))[1] and parts[0] in (*self.names, "loss"):
-            return WordError(word, Advice("a blank parts an option from its value", f"write {parts[0]} {parts[2]}"))
         if self.before.isdigit() and UNIT.fullmatch(word):
             return WordError(f"{self.before} {word}",
                              Advice("a number and its unit are one word", f"write {self.before}{word}"))
         if word.isdigit():
             return WordError(*number_alone(word, self.rest[0] if self.rest else ""))
         is_value = word[:1].isdigit() or re.match(r"[-.]\d", word)
-        return WordError(word, unknown(word) if is_value else option_word(self.kind, self.before, word))
+        return WordError(word, unknown(word) if is_value else option_word(self.kind, self.before, word, tuple(MISSING)))
+
+
+def read_words(text: str, place: Place, kind: str = "pipe") -> Link:
+    """What the words of a link ask for at a place, of a pipe or a queue.
+
+    WordError: a word isn't one of a link there, or a second one says the same.
+    """
+    if long := next((word for word in text.split() if len(word) > LONGEST_WORD), ""):
+        raise WordError(f"{long[:20]} ..", Advice(f"a word of {len(long):,} letters", f"at most {LONGEST_WORD} are taken"))
+    return Words(text, kind, place).read()
 
 
 def read_link(text: str, kind: str = "pipe") -> dict[str, str]:
@@ -208,7 +239,33 @@ def read_link(text: str, kind: str = "pipe") -> dict[str, str]:
 
     WordError: a word isn't one of a link, or a second one says the same.
     """
-    return Words(text, kind).read()
+    return read_words(text, Place.DUMMYNET, kind).options
+
+
+def corrected(text: str, place: Place = Place.RUN) -> Optional[str]:
+    """The words of a link that a text means which isn't one: netem's, or these with each wrong word exchanged for what its refusal says."""
+    text = " ".join(text.partition("#")[0].split())
+    words = text.split()
+    netem = Netem(words[words.index("netem") + 1:] if "netem" in words else words).read()
+    if NETEMS & {*words} or (words[:1] == ["delay"] and len(netem.link) > 1):
+        text = " ".join(netem.link) if netem.link and not netem.lacking + netem.others else text
+    for _ in range(MOST_CORRECTIONS):
+        try:
+            read_words(text, place)
+            return text
+        except WordError as wrong:
+            right = wrong.right()
+            if right is None or right == wrong.word or f" {wrong.word} " not in f" {text} ":
+                return None
+            text = f" {text} ".replace(f" {wrong.word} ", f" {right} ", 1).strip()
+    return None
+
+
+def as_words(name: str, text: str) -> str:
+    """An option and its value as the words of a link."""
+    if RATE.fullmatch(text) or DELAY.fullmatch(text):
+        return text
+    return f"{'loss' if PERCENT.fullmatch(text) else name} {text}"
 
 
 def in_full(options: dict[str, str]) -> str:

@@ -44,10 +44,11 @@ PRESETS = {
 
 
 def preset(name: str) -> Preset:
-    """The links of a name. ValueError: there is no such preset."""
-    if name in PRESETS:
-        return PRESETS[name]
-    near = difflib.get_close_matches(name, PRESETS, 1)
+    """The links of a name, in letters of either case. ValueError: there is no such preset."""
+    plain = "-".join(name.lower().split())
+    if plain in PRESETS:
+        return PRESETS[plain]
+    near = difflib.get_close_matches(plain, PRESETS, 1)
     raise ValueError(f"'{name}': no preset; {f'write {near[0]}' if near else 'they are ' + ', '.join(PRESETS)}")
 
 

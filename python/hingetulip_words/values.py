@@ -1,4 +1,4 @@
-"""The values of options that people write, and how dummynet has them."""
+"""The values of options: how dummynet has them, what they mean, and what to say of one that it doesn't take."""
 
 from __future__ import annotations
 
@@ -12,12 +12,39 @@ FORMS = {
     "plr": "write a rate from 0 to 1, as 0.01 for 1 %",
     "weight": "write 1 to 100", "buckets": "write 16 to 65536", "pipe": "write 1 to 65535",
 }
+LONGEST_WORD = 200  # letters; no value that is taken has as many
 FIELD_BITS = {"src-ip": 32, "dst-ip": 32, "src-port": 16, "dst-port": 16, "proto": 8}
 BANDWIDTH = re.compile(r"(\d+(?:\.\d+)?)([kmgt]?)i?"
                        r"(b|bit|bits|byte|bytes|bps|b/s|bit/sec|bits/sec|bit/s|bits/s|byte/s|bytes/s|byte/sec|)")
 DELAY = re.compile(r"(-?)(\d+(?:\.\d+)?)(us|µs|usec|ns|s|sec|ms|msec|)")
 ROOM = re.compile(r"(\d+)(kib|mb|mbyte|mbytes|m|mib|b|byte|bytes|pkt|pkts|packet|packets|p|slots?|k|kb|kbytes?)")
 MOST_KBYTES = 1024
+SCALE = {"": 1, "k": 10**3, "m": 10**6, "g": 10**9}
+
+
+class Form(NamedTuple):
+    """How dummynet has a value, and the least and the greatest number, in the unit that the number has if it has none."""
+
+    pattern: re.Pattern[str]
+    least: int
+    most: int
+    range: str
+
+
+NUMBER = r"(0|[1-9]\d*)"
+PERCENT = re.compile(r"(\d+(?:\.\d+)?)%", re.ASCII)
+TAKEN = {
+    "bw": Form(re.compile(NUMBER + "([kmg]?)(bits?/s|bytes?/s)?", re.ASCII | re.IGNORECASE), 0, 10**12, "a bandwidth is 0 to 1000Gbit/s"),
+    "delay": Form(re.compile(NUMBER + "(ms)?", re.ASCII), 0, 3_600_000, "a delay is 0 to 3600000ms"),
+    "queue": Form(re.compile(NUMBER + "(kbytes?|kb|k)?", re.ASCII | re.IGNORECASE), 1, 10_000,
+                  "a queue has room for 1 to 10000 packets, or for 1 to 1024Kbytes"),
+    "plr": Form(re.compile(r"(?=\.?\d)\d{0,18}(\.\d{0,18})?", re.ASCII), 0, 1, "a loss rate is 0 to 1, as 0.01 for 1 %"),
+    "weight": Form(re.compile(NUMBER, re.ASCII), 1, 100, "a weight is 1 to 100"),
+    "buckets": Form(re.compile(NUMBER, re.ASCII), 16, 65_536, "buckets are 16 to 65536"),
+    "pipe": Form(re.compile(NUMBER, re.ASCII), 1, 65_535, "pipes are 1 to 65535"),
+    **{field: Form(re.compile(NUMBER + r"|0[xX][\da-fA-F]+", re.ASCII), 0, 2**bits - 1, f"a mask of {field} has at most {bits} bits")
+       for field, bits in FIELD_BITS.items()},
+}
 
 
 class Advice(NamedTuple):
@@ -116,14 +143,33 @@ def mask(field: str, text: str) -> Advice:
 READERS: dict[str, Callable[[str], Advice]] = {"bw": bandwidth, "delay": delay, "queue": room, "plr": loss}
 
 
-def value(option: str, text: str) -> Advice:
-    """What to say of a word that isn't a value of its option."""
-    bare = text.rstrip(",;")
+def number_of(option: str, text: str) -> Fraction:
+    """What a value of the right form means, in the unit of its range."""
+    if option == "plr":
+        return Fraction(text.rstrip(".") or "0")
+    if option == "bw" and (bits := TAKEN["bw"].pattern.fullmatch(text)):
+        return Fraction(int(bits[1]) * SCALE[bits[2].lower()] * (8 if "byte" in text.lower() else 1))
+    return Fraction(int(text, 16) if text[:2].lower() == "0x" else int(re.sub(r"\D", "", text)))
+
+
+def fault_of(option: str, text: str) -> Optional[Advice]:
+    """What is wrong with a word as a value of its option; None where it is one."""
+    bare, form = text.rstrip(",;"), TAKEN.get(option)
     if bare and bare != text:
         also = ", and a line one command from the next" if ";" in text else ""
         return Advice(f"ends in {text[len(bare):]!r}, and blanks alone part the words{also}", f"write {bare}", bare)
+    if form is None or len(text) > LONGEST_WORD or not form.pattern.fullmatch(text):
+        return wrong_form(option, text)
+    in_kbytes = option == "queue" and not text.isdigit()
+    if form.least <= number_of(option, text) <= (MOST_KBYTES if in_kbytes else form.most):
+        return None
+    return READERS[option](text) if option == "plr" or in_kbytes else Advice("out of range", form.range)
+
+
+def wrong_form(option: str, text: str) -> Advice:
+    """What to say of a word that isn't written as a value of its option."""
+    if len(text) > LONGEST_WORD:
+        return Advice(f"a word of {len(text):,} letters", FORMS.get(option, "write a number"))
     if option in READERS:
         return READERS[option](text)
-    if option in FIELD_BITS:
-        return mask(option, text)
-    return Advice("not a number here", FORMS.get(option, "write a number"))
+    return mask(option, text) if option in FIELD_BITS else Advice("not a number here", FORMS.get(option, "write a number"))

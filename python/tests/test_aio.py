@@ -114,23 +114,23 @@ class Moments(unittest.TestCase):
             self.assertEqual([2 * MS, 1050 * MS, 2002 * MS], [it[2] for it in net.run(main()).got])
             self.assertEqual({Outcome.QUEUED: 1}, net.links[one, far].counts)
 
-    def test_change_keeps_the_other_options(self) -> None:
+    def test_a_change_gives_the_whole_link(self) -> None:
         with network("bw 8Mbit/s delay 20ms plr 1 queue 5") as net:
             link = net.links[tuple(net.hosts.values())]
-            link.change(plr=0)
-            self.assertEqual(link.line, "pipe 1 config bw 8Mbit/s delay 20ms plr 0 queue 5")
-            link.change(plr=0.000001, delay=None, mask="src-ip 0xff")
-            self.assertEqual(link.line, "pipe 1 config bw 8Mbit/s plr 0.000001 queue 5 mask src-ip 0xff")
-            link.configure("loss 0.5% 4ms 1MByte/s")
+            for words, line in (("plr 0", "plr 0"), ("bw 8Mbit/s mask src-ip 0xff", "bw 8Mbit/s mask src-ip 0xff"),
+                                ("loss 0.5% 4ms 1MByte/s", "plr 0.005 delay 4ms bw 1MByte/s")):
+                link.change(words)
+                self.assertEqual(link.line, f"pipe 1 config {line}")
+            for words in ("plr lots", "", " "):
+                with self.assertRaises(LineError):
+                    link.change(words)
             self.assertEqual(link.line, "pipe 1 config plr 0.005 delay 4ms bw 1MByte/s")
-            with self.assertRaises(LineError):
-                link.change(plr="a lot")
-            self.assertEqual(link.line, "pipe 1 config plr 0.005 delay 4ms bw 1MByte/s")
+            self.assertRaises(TypeError, lambda: link.change(plr=0))
 
     def test_a_change_under_way(self) -> None:
         with network("delay 10ms") as net:
             async def main() -> Ends:
-                net.loop.call_later(2.5, lambda: net.links[tuple(net.hosts.values())].change(delay=100))
+                net.loop.call_later(2.5, lambda: net.links[tuple(net.hosts.values())].change("100ms"))
                 return await exchange(net, 5, 1)
 
             took = [at - second * 1000 * MS for second, (_, _, at) in enumerate(net.run(main()).got)]

@@ -28,7 +28,7 @@ class Histories(unittest.TestCase):
             history = Path(folder) / "h"
             with network("bw 64Kbit/s plr 0.1 queue 2", history=history) as net:
                 async def main() -> None:
-                    net.loop.call_later(0.1, lambda: net.links[tuple(net.hosts.values())].change(bw="32Kbit/s"))
+                    net.loop.call_later(0.1, lambda: net.links[tuple(net.hosts.values())].change("32Kbit/s plr 0.1 queue 2"))
                     await exchange(net, 200, 0.002)
 
                 net.run(main())

@@ -255,7 +255,7 @@ class Repeats(unittest.TestCase):
                 return other.recv(2)
 
         before = time.sleep
-        for main, text in ((sleeps, "await asyncio.sleep"), (asks, "the real network")):
+        for main, text in ((sleeps, "await asyncio.sleep"), (asks, "hinge run --simulated")):
             with self.assertRaisesRegex(aio.RealTimeError, text):
                 aio.run(main())
             with aio.Network() as net:

@@ -26,9 +26,11 @@ class Faults(unittest.TestCase):
 
     def test_lines(self) -> None:
         for line, text, kind, word in (
-            ("pipe 1 config bw 8Mbps", "word 5: bad number", "bad number", 5),
-            ("queue 1 config weight 3", "word 1: needs a pipe", "needs a pipe", 1),
-            (b"pipe 1 config # \xff", "not UTF-8", "not UTF-8", 0), ("pipe \udcff", "not UTF-8", "not UTF-8", 0)
+            ("pipe 1 config bw 8Mbps", "word 5 '8Mbps': not a bandwidth; write 8Mbit/s, in 'pipe 1 config bw 8Mbps'", "bad number", 5),
+            ("queue 1 config weight 3", "word 1 'queue': the queue's line names no pipe; write queue 1 config pipe 1 .., in"
+             " 'queue 1 config weight 3'", "needs a pipe", 1),
+            (b"pipe 1 config # \xff", "not UTF-8, in 'pipe 1 config # \ufffd'", "not UTF-8", 0),
+            ("pipe \udcff", "not UTF-8, in 'pipe \ufffd\ufffd\ufffd'", "not UTF-8", 0)
         ):
             with self.assertRaises(LineError) as raised:
                 self.shaper.configure(line)

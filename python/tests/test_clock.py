@@ -1,4 +1,4 @@
-"""The clock that C code has in simulated time, with `hinge with-clock` and without."""
+"""The clock that C code has in simulated time, with the library of `hinge kernel --clock` and without."""
 
 from __future__ import annotations
 
@@ -62,10 +62,9 @@ class WithClock(unittest.TestCase):
             env = {
                 **os.environ, "HINGE_CLOCK": made, "PYTHONPATH": str(TOP / "python"), "PYTHONDONTWRITEBYTECODE": "1"
             }
-            words = [
-                sys.executable, TOP / "python" / "hinge" / "__main__.py", "with-clock", sys.executable, "-c", ASKED
-            ]
-            done = subprocess.run(words, env=env, capture_output=True, text=True)
+            asked = [sys.executable, TOP / "python" / "hinge" / "__main__.py", "kernel", "--clock"]
+            clock = subprocess.run(asked, env=env, stdout=subprocess.PIPE, text=True, check=True).stdout.strip()
+            done = subprocess.run([sys.executable, "-c", ASKED], env={**env, "LD_PRELOAD": clock}, capture_output=True, text=True)
         self.assertEqual(done.stderr, "")
         self.assertEqual(done.stdout.splitlines(),
                          ["(1700000090000001000, 90000001000, 1700000090000001, 1700000090, True)", "True True"])
@@ -83,7 +82,7 @@ class Warnings(unittest.TestCase):
         user.ssl, user.__file__ = sys.modules["ssl"], "/elsewhere/user_of_ssl.py"
         self.assertEqual(self.warned(3599, user_of_ssl=user), [])
         (told,) = self.warned(7200, user_of_ssl=user)
-        self.assertRegex(told, "user_of_ssl may use it: run under `hinge with-clock`")
+        self.assertRegex(told, "user_of_ssl may use it: preload the clock, as LD_PRELOAD=")
 
     def test_an_hour_without(self) -> None:
         with mock.patch.object(clock_in_c, "users_of_ssl", list):
@@ -91,7 +90,7 @@ class Warnings(unittest.TestCase):
 
     def test_a_run_with_dtls_that_does_not_end(self) -> None:
         with mock.patch.dict(sys.modules, OpenSSL=types.ModuleType("OpenSSL")), self.assertRaisesRegex(
-            asyncio.TimeoutError, "hinge with-clock"
+            asyncio.TimeoutError, "hinge kernel --clock"
         ):
             aio.run(asyncio.sleep(10), timeout=5)
 

@@ -127,7 +127,7 @@ class Header(unittest.TestCase):
         self.assertEqual(
             {name: library.FAULT_KINDS.index(text) for name, text in FAULTS.items()}, numbers("dn_fault_kind")
         )
-        self.assertIn(f"#define DN_VERSION {library.MAJOR}0", HEADER)
+        self.assertIn(f"#define DN_VERSION {library.MAJORS[-1]}0", HEADER)
 
     def test_functions(self) -> None:
         named = sorted(library.FUNCTIONS + library.LATER_FUNCTIONS)

@@ -54,7 +54,7 @@ WRONG = (
             "a pipe takes bw, delay, queue, plr, buckets, mask"
         ),
     ),
-    ("mask 5", "'mask 5': a mask names the fields that tell flows apart; write mask src-ip 0xffffffff, or mask all"),
+    ("mask 5", "'mask 5': a mask names the fields that tell flows apart; write mask src-ip 0xffffffff, or dst-ip, src-port, dst-port, proto, all"),
 )
 TWICE = (
     ("5Mbit/s bw 6Mbit/s", "'bw 6Mbit/s': a second bandwidth beside '5Mbit/s'; write one of them"),
@@ -66,8 +66,8 @@ OUTSIDE = (
     ("3600001ms", "'3600001ms': out of range; a delay is 0 to 3600000ms"),
     ("1001Gbit/s", "'1001Gbit/s': out of range; a bandwidth is 0 to 1000Gbit/s"),
     ("queue 0", "'queue 0': out of range; a queue has room for 1 to 10000 packets, or for 1 to 1024Kbytes"),
-    ("queue 1025K", "'queue 1025K': out of range; a queue has room for 1 to 10000 packets, or for 1 to 1024Kbytes"),
-    ("plr 1.01", "'plr 1.01': out of range; a loss rate is 0 to 1, as 0.01 for 1 %"),
+    ("queue 1025K", "'queue 1025K': more than the 1024 Kbytes (or 10000 packets) that a queue has at most; write 1024Kbytes"),
+    ("plr 1.01", "'plr 1.01': a loss rate is at most 1; write 0.0101 for 1.01 %"),
     ("loss 100.5%", "'loss 100.5%': out of range; a loss is 0% to 100%"),
     ("mask proto 0x1ff", "'proto 0x1ff': out of range; a mask of proto has at most 8 bits"),
 )
@@ -135,7 +135,7 @@ class Words(unittest.TestCase):
             self.assertEqual(net.links, {})
             link = net.link(one, other, "bw 8Mbit/s delay 20")
             with self.assertRaises(LineError) as raised:
-                link.change(queue=0)
+                link.change("queue 0")
             self.assertIn("'queue 0': out of range; ", str(raised.exception))
             self.assertEqual(link.line, f"pipe {link.pipe} config bw 8Mbit/s delay 20")
 

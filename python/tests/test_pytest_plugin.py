@@ -42,6 +42,66 @@ class Plugin(Runs):
             """, "--strict-markers")
         self.assertEqual((done.counts, done.status), ({"passed": 1}, 0), done.text)
 
+    def test_a_mark_that_says_what_it_does_not_take_is_refused(self) -> None:
+        rows = {
+            'link(bw="10Mbit/s", delay="20ms")': """takes no 'bw'; write link("10Mbit/s 20ms")""",
+            'link(rate="1Mbit/s", loss="5%")': """takes no 'rate'; write link("1Mbit/s loss 5%")""",
+            'link("20ms", queue=30)': """takes no 'queue'; write link("20ms queue 30")""",
+            'link(perset="lte")': "takes no 'perset'; write preset=..",
+            'link("20ms", bak="5ms")': "takes no 'bak'; write back=..",
+            'link(colour="red")': """takes no 'colour'; write link("10Mbit/s 20ms loss 1%")""",
+            'link(delay="20 min")': """takes no 'delay'; write link("10Mbit/s 20ms loss 1%")""",
+            'link("10Mbit/s", "20ms", "loss 1%")': "has 3 texts, and takes one for the way there",
+            'link("10Mbit/s", "20ms", back="5ms")': "has the way back twice",
+            "link(20)": "takes texts, and 20 is none",
+            'link(preset="ltee")': "'ltee': no preset; write lte",
+            'simulated("lte")': "takes options by name alone",
+        }
+        body = "".join(
+            f"@pytest.mark.{mark}\ndef test_{number}(sim_net):\n    pass\n" for number, mark in enumerate(rows)
+        )
+        done = self.run_pytest(body, "--strict-markers")
+        self.assertEqual(done.counts, {"errors": len(rows)}, done.text)
+        for mark, text in rows.items():
+            with self.subTest(mark):
+                self.assertIn(text, done.text)
+
+    def test_what_a_refusal_says_to_write_is_taken(self) -> None:
+        done = self.run_pytest("""
+            @pytest.mark.parametrize("marked", ["bw='10Mbit/s', delay='20ms'", "'20ms', queue=30", "loss='5%'", "x=1"])
+            def test_it(marked):
+                from hinge.testing.marks import WrongMark, ends_of
+                from hingetulip_words.link import read_link
+                with pytest.raises(WrongMark) as refusal:
+                    ends_of(eval(f"pytest.mark.link({marked})").mark)
+                written = str(refusal.value).partition("; write ")[2]
+                assert read_link(ends_of(eval(f"pytest.mark.{written}").mark).there)
+            """, "--strict-markers")
+        self.assertEqual((done.counts, done.status), ({"passed": 4}, 0), done.text)
+
+    def test_a_mark_that_nothing_takes_is_told(self) -> None:
+        done = self.run_pytest("""
+            pytestmark = pytest.mark.link("20ms")
+
+            def test_of_a_module():
+                pass
+
+            @pytest.mark.link("20ms")
+            def test_of_its_own():
+                pass
+            """, "--strict-markers")
+        self.assertEqual(done.counts, {"passed": 2, "warning": 1}, done.text)
+        self.assertIn("the mark link is of no effect: no fixture of the test is sim_net, udp_path or net", done.text)
+
+    def test_a_preset_in_capital_letters(self) -> None:
+        done = self.run_pytest("""
+            @pytest.mark.link(preset="Slow 3G")
+            def test_it(sim_net):
+                sim_net.path(sim_net.host("10.0.0.1"), sim_net.host("10.0.0.2"))
+                assert {link.line[14:] for link in sim_net.links.values()} == {"bw 400Kbit/s delay 200ms queue 10"}
+            """, "--strict-markers")
+        self.assertEqual((done.counts, done.status), ({"passed": 1}, 0), done.text)
+
     def test_a_failure_has_the_link(self) -> None:
         done = self.run_pytest("""
             async def test_all_come(sim_net):
@@ -62,6 +122,14 @@ class Plugin(Runs):
         self.assertEqual(len(rows), 20)
         self.assertIn(f"  and {lost - 20} more\n", section)
         self.assertRegex(section, r"simulated time 100\.0\d+ s\nseed 1, lawful \d+: hinge look /.*/link\.history\n")
+
+    def test_a_mark_without_words_is_refused(self) -> None:
+        done = self.run_pytest("""
+            @pytest.mark.link()
+            def test_it(sim_net):
+                raise AssertionError
+            """)
+        self.assertIn("the mark link has no words of a link; write link(", done.text)
 
     def test_a_stuck_test_names_who_waits(self) -> None:
         done = self.run_pytest("""

@@ -101,7 +101,8 @@ class Lines(unittest.TestCase):
                     with self.assertRaises(hingetulip.LineError) as raised:
                         shaper.configure(line)
                     self.assertEqual((fault.kind, fault.word), (raised.exception.kind, raised.exception.word))
-                    self.assertEqual(f"word {fault.word}: {fault.kind}", str(raised.exception))
+                    self.assertTrue(str(raised.exception).startswith(f"word {fault.word} "), raised.exception)
+                    self.assertIn(repr(line), str(raised.exception))
                     kinds.add(fault.kind)
                 else:
                     try:

@@ -8,11 +8,13 @@ import re
 import resource
 import signal
 import subprocess
+import sys
 import unittest
 from concurrent.futures import ThreadPoolExecutor
 from pathlib import Path
 from random import Random
 from tempfile import TemporaryDirectory
+from time import sleep
 from unittest import mock
 
 import hingetulip
@@ -292,6 +294,30 @@ class Threads(unittest.TestCase):
             entries = THREADS * CALLS + 3
             done = subprocess.run([program(), "audit", path], stdout=subprocess.PIPE, text=True)
             self.assertEqual((0, f"lawful {entries}\n"), (done.returncode, done.stdout))
+
+    def test_a_call_of_a_caller_keeps_pythons_lock(self) -> None:
+        """Another thread would get on in one of so many calls, if a call released the lock."""
+        turns, is_over = 0, False
+
+        def beside() -> None:
+            nonlocal turns
+            while not is_over:
+                turns += 1
+                sleep(0)  # releases the lock
+
+        interval = sys.getswitchinterval()
+        self.addCleanup(sys.setswitchinterval, interval)
+        sys.setswitchinterval(1000)
+        with Service(1) as shared, ThreadPoolExecutor(1) as pool:
+            other = pool.submit(beside)
+            while turns == 0:
+                sleep(0)
+            before = turns
+            for at in range(20_000):
+                shared.callers[0].advance(at)
+            after, is_over = turns, True
+            other.result()
+        self.assertEqual(before, after)
 
 
 if __name__ == "__main__":

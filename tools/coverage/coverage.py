@@ -30,9 +30,11 @@ KEPT_AT_EXIT = """void __gcov_dump(void);
 _Noreturn void __real__exit(int status);
 _Noreturn void __wrap__exit(int status) { __gcov_dump(), __real__exit(status); }
 """
+FOLDERS = {"run": "python/tests/run", "kit": "python/tests/kit_tests", "simulated": "python/tests/simulated"}
+PYTEST = ["-m", "pytest", "-q", "-p", "no:cacheprovider"]
 SUITES = {  # each by its words behind those of Python; PROGRAM is that of the repository
-    "module": ["python/tests"], "run": ["python/tests/run", "--long"], "kit": ["python/tests/kit"],
-    "simulated": ["python/tests/simulated"], "examples": ["tools/gate/examples.py", "PROGRAM"]}
+    "module": [*PYTEST, "python/tests", *(f"--ignore={folder}" for folder in FOLDERS.values())],
+    **{name: [*PYTEST, folder] for name, folder in FOLDERS.items()}, "examples": ["tools/gate/examples.py", "PROGRAM"]}
 FIGURES = ("num_statements", "covered_lines", "num_branches", "covered_branches")  # as coverage.py names them
 LONGEST = 1800  # s of a suite
 OPTIONS = """[run]
@@ -98,7 +100,7 @@ def environment(folder: Path, python: str) -> dict[str, str]:
     (packages / "coverage_start.pth").write_text("import coverage_start\n")
     (folder / "options").write_text(OPTIONS.format(folder=folder, top=TOP))
     start["PATH"] = f"{folder / 'bin'}:{os.environ['PATH']}"
-    named = {"COVERAGE_PROCESS_START": str(folder / "options"), "HINGETULIP_LIBRARY": f"{library}/libhingetulip.so.1"}
+    named = {"HINGE_LONG": "yes", "COVERAGE_PROCESS_START": str(folder / "options"), "HINGETULIP_LIBRARY": f"{library}/libhingetulip.so.1"}
     return {**start, **hosts, **named, "DUMMYNET": os.environ.get("DUMMYNET", f"{TOP}/dummynet")}
 
 

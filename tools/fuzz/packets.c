@@ -1,5 +1,5 @@
-/* What a packet's sender chooses, as hinge-link reads it: headers, the cutting of TCP and its joining, contents, and a client's address.
-   What is cut is joined again, and has all bytes of the data. */
+/* What a packet's sender chooses, as hinge-link reads it: headers, also those of frames, the cutting of TCP and its joining, contents, and a
+   client's address. What is cut is joined again, and has all bytes of the data. */
 #include <stdint.h>
 #include <stdlib.h>
 #include <string.h>
@@ -8,11 +8,23 @@
 #include "../../hosts/link/content.h"
 #include "../../hosts/link/datagram.h"
 #include "../../hosts/link/dissect.h"
+#include "../../hosts/link/frames.h"
 #include "../../hosts/link/joins.h"
 #include "../../hosts/link/page.h"
 #include "../../hosts/link/segments.h"
 
 enum { IPV4_AND_UDP = 28, IPV6_AND_UDP = 48, SHORTEST = 40 }; /* bytes; a packet lies in a longer buffer */
+
+/* What a frame carries is the rest of it. */
+static void look_at_frame(const unsigned char *bytes, size_t len) {
+    struct dn_packet packet = {0};
+    struct headers headers;
+    struct payload payload;
+    bool is_frame = dissect_frame(bytes, len, &payload, &packet, &headers);
+    if (is_frame != (len >= SHORTEST_FRAME)) abort();
+    if (is_frame && (payload.bytes < bytes + SHORTEST_FRAME || payload.bytes + payload.len != bytes + len)) abort();
+    if (is_frame) (payload.is_ip ? content_of : content_of_bytes)(payload.bytes, payload.len);
+}
 
 /* A packet where nothing lies behind it, so that a read beyond its end is seen. */
 static void look_at(const unsigned char *bytes, size_t len) {
@@ -20,10 +32,14 @@ static void look_at(const unsigned char *bytes, size_t len) {
     struct dn_packet packet = {0};
     struct headers headers;
     memcpy(alone, bytes, len);
-    if (dissect(alone, len, &packet, &headers)) {
+    if (len > 0 && dissect(alone, len, &packet, &headers)) {
         content_of(alone, len);
-        if (len >= (alone[0] >> 4 == 4 ? IPV4_AND_UDP : IPV6_AND_UDP)) client_end(0, alone), client_end(1, alone);
+        if (len >= (alone[0] >> 4 == 4 ? IPV4_AND_UDP : IPV6_AND_UDP)) {
+            client_end(0, alone);
+            client_end(1, alone);
+        }
     }
+    look_at_frame(alone, len);
     free(alone);
 }
 
@@ -38,8 +54,9 @@ static int cut(struct whole *whole, struct bytes *made, size_t *data) {
         look_at(packet, len);
         *data += len - whole->before;
         if (count == MOST_JOINED) continue;
-        made[count].at = (unsigned char *)malloc(NOTE + (len < SHORTEST ? SHORTEST : len)) + NOTE, made[count].len = len;
-        memcpy(made[count++].at - NOTE, packet - NOTE, NOTE + len);
+        unsigned char *room = malloc(NOTE + (len < SHORTEST ? SHORTEST : len));
+        memcpy(room, packet - NOTE, NOTE + len);
+        made[count++] = (struct bytes){.at = room + NOTE, .len = len};
     }
     return count;
 }

@@ -15,6 +15,7 @@
 #include "../../hosts/link/page.h"
 #include "../../hosts/link/passes.h"
 #include "../../hosts/link/plan.h"
+#include "../../hosts/link/switches.h"
 #include "../../hosts/link/ways.h"
 
 enum { WAYS = 4, LOOKED_AT = 1000 };
@@ -31,7 +32,7 @@ static void prepare(void) {
     carrier.ways = WAYS;
     page = zeroed(sizeof *page + WAYS * sizeof *page->ways);
     open_links();
-    prepare_losses(WAYS), prepare_late_remarks(WAYS), prepare_pacing(WAYS), prepare_passes(WAYS);
+    prepare_losses(WAYS), prepare_late_remarks(WAYS), prepare_pacing(WAYS), prepare_passes(WAYS), prepare_switches(WAYS);
 }
 
 /* Lines that reach the system itself: a file, the scheduler, a descriptor. */

@@ -1,9 +1,10 @@
 #!/usr/bin/env python3
 """Coverage-guided fuzzing of what the hosts in C read from a stranger.
 
-    python3 tools/fuzz/run.py [--keep] SECONDS [NAME ..]
+    python3 tools/fuzz/run.py [--keep] [--seed N] COUNT [NAME ..]
 
-A NAME is one of packets and plan; both by default, each for so many seconds. Each begins with its kept inputs in corpus/NAME, with the
+A NAME is one of frames, packets and plan; all by default, each with so many inputs. The seed follows from the sources of the hosts, or is N, or
+a new one by `--seed fresh`. Each begins with its kept inputs in corpus/NAME, with the
 sanitizers for addresses and undefined behaviour. An input that crashes, hangs for ten seconds or takes 2 GB is printed, and left in
 built/fuzz. With --keep the kept inputs are those that reach the most with the least bytes. It takes clang and libFuzzer.
 """
@@ -12,6 +13,7 @@ from __future__ import annotations
 
 import argparse
 import os
+import shutil
 import subprocess
 import sys
 from pathlib import Path
@@ -20,14 +22,16 @@ HERE = Path(__file__).resolve().parent
 TOP = HERE.parents[1]
 sys.path.insert(0, str(TOP / "tools" / "gate"))
 
+import seeds  # noqa: E402
 from tally import Tally  # noqa: E402
 
 FLAGS = ["-g", "-O1", "-w", "-D_GNU_SOURCE", "-fno-sanitize-recover=undefined", "-fsanitize=fuzzer,address,undefined"]
 LIMITS = ["-timeout=10", "-rss_limit_mb=2048", "-max_len=1024", "-verbosity=0", "-close_fd_mask=2", "-print_final_stats=1"]
 LINK = sorted(path for path in (TOP / "hosts" / "link").glob("*.c") if path.name != "main.c")
-TARGETS = ("packets", "plan")
+TARGETS = ("frames", "packets", "plan")
 OF_EXIT = {"plan": ["-Dexit=leave_the_host"]}  # a refusal goes back to the target
-MORE = {"plan": [f"-dict={HERE}/plan.words", "-runs=200000"]}  # what a plan asks for is kept to the end of the program
+MORE = {"plan": [f"-dict={HERE}/plan.words"]}
+MOST = {"plan": 200_000}  # inputs, since what a plan asks for is kept to the end of the program
 WITHOUT_LEAKS = {**os.environ, "ASAN_OPTIONS": "detect_leaks=0"}  # of a line whose reader was left by its refusal
 
 
@@ -49,15 +53,17 @@ def built(name: str, folder: Path) -> Path:
     return target
 
 
-def faults(name: str, seconds: int, folder: Path) -> str:
+def faults(name: str, count: int, seed: int, folder: Path) -> str:
     """What the fuzzer says of an input that it found, if anything."""
     found, kept = folder / f"{name}-found", HERE / "corpus" / name
+    shutil.rmtree(found, ignore_errors=True)  # of another run
     for path in (found, kept):
         path.mkdir(parents=True, exist_ok=True)
-    words = [built(name, folder), *LIMITS, *MORE.get(name, []), f"-max_total_time={seconds}", f"-artifact_prefix={folder}/{name}-", found, kept]
+    limits = [*LIMITS, *MORE.get(name, []), f"-runs={min(count, MOST.get(name, count))}", f"-seed={seed}"]
+    words = [built(name, folder), *limits, f"-artifact_prefix={folder}/{name}-", found, kept]
     done = subprocess.run(words, stdout=subprocess.PIPE, stderr=subprocess.STDOUT, text=True, errors="replace", env=WITHOUT_LEAKS)
     figures = dict(line.split(":")[-2:] for line in done.stdout.splitlines() if line.startswith("stat::"))
-    print(f"{name}: {figures.get('number_of_executed_units', '?').strip()} inputs, {len(list(kept.iterdir()))} of them kept", flush=True)
+    print(f"{name}: {figures.get('number_of_executed_units', '?').strip()} inputs, {len(list(kept.iterdir()))} of them kept, seed {seed}", flush=True)
     return "" if done.returncode == 0 else "\n".join(done.stdout.splitlines()[-40:])
 
 
@@ -75,13 +81,14 @@ def keep(name: str, folder: Path) -> None:
 def main() -> int:
     parser = argparse.ArgumentParser(description=__doc__, formatter_class=argparse.RawDescriptionHelpFormatter)
     parser.add_argument("--keep", action="store_true")
-    parser.add_argument("seconds", type=int)
+    parser.add_argument("--seed")
+    parser.add_argument("count", type=int)
     parser.add_argument("names", nargs="*", choices=[*TARGETS, []], metavar="NAME")
     asked = parser.parse_args()
-    folder, tally = TOP / "built" / "fuzz", Tally()
+    folder, tally, seed = TOP / "built" / "fuzz", Tally(), seeds.chosen(asked.seed, *seeds.HOSTS)
     folder.mkdir(parents=True, exist_ok=True)
     for name in asked.names or TARGETS:
-        tally.note(name, faults(name, asked.seconds, folder))
+        tally.note(name, faults(name, asked.count, seed, folder))
         if asked.keep:
             keep(name, folder)
     return tally.end()

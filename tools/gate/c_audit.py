@@ -17,15 +17,14 @@ from pathlib import Path
 from random import Random
 from tempfile import TemporaryDirectory
 
-from c_library import STYLES, TOOLS, program
+from c_library import REFUSING, program
 from c_texts import EXAMPLES, replay
 from files import ReplayFault
 from history_reader import audit_line
 from random_histories import random_history
+from scenarios import STYLES
 from tally import Tally
 
-REFUSES = TOOLS / "gate" / "refused_growths.c"
-WRAPPED = "-Wl,--wrap=rattle_alloc,--wrap=rattle_realloc"
 STEPS = (1, 2, 7, 64, 1000, 65_536)
 LIMIT = 268_435_456
 TOO_LONG = ("history too long", 6)
@@ -75,7 +74,7 @@ def main(dummynet: str, seed: str, count: str) -> int:
     os.environ["ASAN_OPTIONS"] = "detect_leaks=1"
     print(f"seed {seed}", flush=True)
     with TemporaryDirectory() as folder:
-        audit, file = program(Path(folder), "audit", REFUSES, WRAPPED), Path(folder) / "history"
+        audit, file = program(Path(folder), "audit", *REFUSING), Path(folder) / "history"
         for name, (text, wanted) in CASES.items():
             for step in range(1, len(text) + 2):
                 tally.equal(f"{name}, parts of {step}", wanted, from_c(audit, text, step, LIMIT, "growths"))

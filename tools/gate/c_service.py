@@ -5,9 +5,9 @@
 It takes the library of the present sources, as tools/release/library finds it. Each run has 1 to 15 threads. Each is made twice, with the
 sanitizers for addresses and undefined behaviour, and with the one for threads. The latter sees the program and the header alone: the
 shared library isn't made for it, and orders its threads by atomics that it doesn't see. The history has to be lawful, and each
-caller's entries have to be as many, and of the kinds, as its thread was told. Then each growth of memory is refused, and arguments of
-every kind are tried. A program of two threads, under the sanitizer for threads and with the suppressions that are installed, reports
-nothing but a race of its own. At last C and Python make ten times as many calls in the same memory, since entries are taken out meanwhile.
+caller's entries have to be as many, and of the kinds, as its thread was told. A program of two threads, under the sanitizer for threads
+and with the suppressions that are installed, reports nothing but a race of its own. At last ten times as many calls are made in the same
+memory, since entries are taken out meanwhile.
 """
 
 from __future__ import annotations
@@ -20,12 +20,20 @@ from collections import Counter
 from pathlib import Path
 from random import Random
 from tempfile import TemporaryDirectory
+from typing import Iterator
 
-from c_library import HEADER, SOURCES, TOOLS, ends_well, library, program, scenario
+from c_library import HEADER, SOURCES, library
+
+from broken import bad_line
+from config_lines import LineFault, parse_line
 from link_library import SHARED
+from model import Advance, Call, Configure, Show, Submit
+from scenarios import STYLES, random_calls
+from spelling import spell
 from tally import Tally
 
 MOST_CALLERS = 15
+CALLS = 120  # of a caller
 FEW, MANY = 100_000, 1_000_000  # calls
 MOST_GROWN = 3 * 1024  # KiB
 COMMON = ["-std=c99", "-g", "-O1", "-Wall", "-Wextra", "-Werror", "-fno-sanitize-recover=all", "-pthread"]
@@ -39,6 +47,35 @@ def threads(place: Path, name: str, sanitizer: str, *linked: str | Path) -> Path
     made = place / name
     subprocess.run(["gcc", *COMMON, sanitizer, f"-I{HEADER}", "-o", made, SOURCES / "service.c", *linked], check=True)
     return made
+
+
+def faulty_line(rng: Random) -> str:
+    while True:
+        line = bad_line(rng, rng.choice(STYLES))
+        try:
+            parse_line(line)
+        except LineFault:
+            if not {"\n", "\0"}.intersection(line):
+                return line
+
+
+def line_of(rng: Random, call: Call) -> str:
+    """A call as c_library/service.c reads it."""
+    if isinstance(call, Configure):
+        return f"f {spell(rng, call.command)}"
+    if isinstance(call, Submit):
+        packet, key = call.packet, call.packet.tuple
+        numbers = (call.moment, int(call.target.kind == "queue"), call.target.number, key.src, key.dst, key.proto, key.sport, key.dport, packet.len, packet.word)
+        return " ".join(map(str, ("p", *numbers)))
+    return "s" if isinstance(call, Show) else f"{'a' if isinstance(call, Advance) else 'c'} {call.moment}"
+
+
+def lines(rng: Random) -> Iterator[str]:
+    """The calls of a caller, and lines with a fault between them."""
+    for _, call in random_calls(rng, rng.choice(STYLES), CALLS, 1, rng.random() < 0.7):
+        if rng.random() < 0.05:
+            yield f"f {faulty_line(rng)}\n"
+        yield f"{line_of(rng, call)}\n"
 
 
 def told_by(history: str) -> dict[int, Counter[str]]:
@@ -77,17 +114,17 @@ def tried(tally: Tally, name: str, made: Path, place: Path, audit: str, calls: l
     return entries
 
 
-def flat(tally: Tally, name: str, words: list[str | Path], history: Path, audit: str, **more: str) -> None:
+def flat(tally: Tally, made: Path, history: Path, audit: str) -> None:
     """A program that makes calls and takes their entries out, and prints the most memory that it had: it grows with the calls by nothing."""
     peaks = []
     for calls in (FEW, MANY):
-        done = subprocess.run([*words, history, str(calls)], env={**os.environ, **more}, stdout=subprocess.PIPE, stderr=subprocess.STDOUT, text=True)
-        tally.note(f"{name}: {calls} calls", "" if done.returncode == 0 and done.stdout.strip().isdigit() else done.stdout)
+        done = subprocess.run([made, history, str(calls)], stdout=subprocess.PIPE, stderr=subprocess.STDOUT, text=True)
+        tally.note(f"{calls} calls", "" if done.returncode == 0 and done.stdout.strip().isdigit() else done.stdout)
         peaks.append(int(done.stdout) if done.stdout.strip().isdigit() else 0)
     judged = subprocess.run([audit, "audit", history], stdout=subprocess.PIPE, stderr=subprocess.STDOUT, text=True)
-    tally.equal(f"{name}: the audit", f"lawful {MANY + 1}", judged.stdout.strip())
-    tally.note(f"{name}: memory", "" if peaks[1] - peaks[0] <= MOST_GROWN else f"grew from {peaks[0]} to {peaks[1]} KiB")
-    print(f"memory from {name}: {peaks[0]} KiB for {FEW} calls, {peaks[1]} KiB for {MANY}")
+    tally.equal(f"the audit of {MANY} calls", f"lawful {MANY + 1}", judged.stdout.strip())
+    tally.note("memory", "" if peaks[1] - peaks[0] <= MOST_GROWN else f"grew from {peaks[0]} to {peaks[1]} KiB")
+    print(f"memory: {peaks[0]} KiB for {FEW} calls, {peaks[1]} KiB for {MANY}")
 
 
 def races(tally: Tally, place: Path, compiler: str, linked: list[str | Path]) -> None:
@@ -115,20 +152,15 @@ def main(audit: str, seed: str, count: str) -> int:
         for number in range(int(count)):
             calls = [place / f"calls{thread}" for thread in range(rng.randint(1, MOST_CALLERS))]
             for one in calls:
-                one.write_text("".join(f"{line}\n" for line in scenario(rng) if line[0] in "fpacs"))
+                one.write_text("".join(lines(rng)))
             for name, made in programs.items():
                 entries += tried(tally, f"run {number}, {name}", made, place, audit, calls)
         made = place / "service_memory"
         subprocess.run(["gcc", "-std=c99", "-O2", "-Wall", "-Wextra", "-Werror", f"-I{HEADER}", "-o", made, SOURCES / "service_memory.c", static], check=True)
-        flat(tally, "C", [made], place / "history", audit)
-        flat(tally, "Python", [sys.executable, TOOLS / "gate" / "service_memory.py"], place / "history", audit, PYTHONPATH=str(TOOLS.parent / "python"),
-             HINGETULIP_LIBRARY=str(shared))
+        flat(tally, made, place / "history", audit)
         for compiler in filter(shutil.which, ("gcc", "clang")):
             races(tally, place, compiler, [static])
             races(tally, place, compiler, [shared, f"-Wl,-rpath,{shared.parent}"])
-        ends_well(tally, "arguments", [program(place, "service_arguments")])
-        wrapped = "-Wl,--wrap=rattle_alloc,--wrap=rattle_realloc"
-        ends_well(tally, "growths", [program(place, "service_growths", TOOLS / "gate" / "refused_growths.c", wrapped)])
     print(f"{entries} entries of histories")
     return tally.end()
 

@@ -16,8 +16,9 @@ from pathlib import Path
 from random import Random
 from tempfile import TemporaryDirectory
 
-from c_library import STYLES, TOOLS, program, random_calls
+from c_library import TOOLS, program
 from history import call_text
+from scenarios import STYLES, random_calls
 from tally import Tally
 
 EXAMPLES = TOOLS.parent / "examples"

@@ -3,7 +3,7 @@
     python3 tools/gate/command_line.py PROGRAM
 
 Each form, each status from 0 to 6, help and version, broken pipes, full devices, files that may not grow, files that are missing,
-unreadable or folders, lines that end in CR LF, and byte order marks. What is wanted stands here in full, from docs/FORMATS.md.
+unreadable or folders, lines that end in CR LF, and byte order marks. What is wanted stands here in full, from docs/FILES.md.
 """
 
 from __future__ import annotations
@@ -26,7 +26,6 @@ PACKETS = HEADER + ROW
 REPORT = "event,row,flow,packet,at,start,due\nout,1,0,0,0,0,1000000\n"
 LOST = HEADER + ROW.replace("pipe,1", "pipe,7")
 LOST_REPORT = "event,row,flow,packet,at,start,due\nnone,1,,,0,,\n"
-UNTARGETED = "no row has a target: nothing went through a link\n"
 HISTORY = ("dummynet-history,3\nc,0,configure,pipe 1 config bw 8000000bit/s\nr,configured\n"
            "c,0,submit,pipe,1,10.0.0.1,10.0.0.2,17,1000,2000,1000,0,0\nr,queued,0,0,0\n"
            "c,0,collect,4611686018427387904\nr,delivered,4611686018427387904,1\nd,0,0,0,1000000\nend,3\n")
@@ -36,7 +35,8 @@ LOST_HISTORY = ("dummynet-history,3\nc,0,configure,pipe 1 config bw 8000000bit/s
 TRANSCRIPT = HISTORY.replace("dummynet-history,3", "dummynet-live,1")
 CHANGED = HISTORY.replace("r,queued,0,0,0", "r,queued,0,0,1")
 FILES = {"c": CONFIG, "p": PACKETS, "h": HISTORY}
-OLDER = "an older history\n"
+OLDER = "dummynet-history,3\nend,0\n"
+OTHER = "cannot write history: FILE isn't empty and isn't a history. Give --history another name, or remove FILE first\n"
 SUBMIT = "c,0,submit,pipe,1,10.0.0.1,10.0.0.2,17,1000,2000,1000,0,0\n"
 SESSION = f"{CONFIG}{SUBMIT}c,0,collect,4611686018427387904\n"
 BAD_LINE = "#,bad,4,1,word 1: unknown word\n"
@@ -74,7 +74,19 @@ FORMS = [
     Case("files after two dashes", ["replay", "--", "c", "p"], 0, REPORT),
     Case("a history", replay("--history", "new"), 0, REPORT, made={"new": HISTORY}),
     Case("an older history is replaced", replay("--history", "old"), 0, REPORT, files={**FILES, "old": OLDER * 100}, made={"old": HISTORY}),
-    Case("a history over the packets by another name", replay("--history", "./p"), 0, REPORT, made={"p": HISTORY}),
+    Case("a longer history is replaced", replay("--history", "old"), 0, REPORT, files={**FILES, "old": HISTORY + OLDER}, made={"old": HISTORY}),
+    Case("a shorter history is replaced", replay("--history", "old"), 0, REPORT, files={**FILES, "old": "dummynet-history,"}, made={"old": HISTORY}),
+    Case("an empty file is replaced", replay("--history", "old"), 0, REPORT, files={**FILES, "old": ""}, made={"old": HISTORY}),
+    *[Case(f"a history over {what}", replay("--history", name), 6, "", OTHER, files={**FILES, "old": text})
+      for what, name, text in (("the packets by another name", "./p", ""), ("the configuration by another name", "./c", ""),
+                               ("notes", "old", "notes\n"), ("a transcript", "old", TRANSCRIPT), ("a file of one byte", "old", "d"),
+                               ("a part of a history's first record", "old", HISTORY[:16]), ("a file that has a history in it", "old", "\n" + HISTORY))],
+    *[Case(f"a history over notes, {how}", replay("--history", "old", *words), 6, "", OTHER, files={**FILES, "old": "notes\n"})
+      for how, words in (("two callers", ["--callers", "2"]), ("threads", ["--threads", "2"]), ("a limit", ["--most-packets", "999"]))],
+    Case("a history over notes, told before a bad configuration", ["replay", "bad", "p", "--history", "old"], 6, "", OTHER,
+         files={**FILES, "bad": "bad\n", "old": "notes\n"}),
+    Case("no packets, told before a history over notes", ["replay", "c", "none", "--history", "old"], 6, "", "cannot read packets\n",
+         files={**FILES, "old": "notes\n"}),
     Case("sixteen callers", replay("--callers", "16"), 0, REPORT),
     Case("two callers", replay("--callers", "2"), 0, REPORT),
     *[Case(f"{n} threads", replay("--threads", n), 0, REPORT) for n in ("1", "2", "64")],
@@ -86,7 +98,6 @@ FORMS = [
     Case("the greatest limit", replay(f"--most-packets={2**40}"), 0, REPORT),
     fault("packets of one byte more", replay("--most-packets", str(len(PACKETS) - 1)), 6, "packets too long"),
     fault("the same with a history", replay("--most-packets", str(len(PACKETS) - 1), "--history", "old"), 6, "packets too long", files={**FILES, "old": OLDER}),
-    *[Case(f"an audit by {n} threads", ["audit", "h", "--threads", n], 0, "lawful 3\n") for n in ("1", "2", "64")],
     Case("a history of as many bytes as are told", ["audit", "h", "--most-history", str(len(HISTORY))], 0, "lawful 3\n"),
     fault("a history of one byte more", ["audit", "--most-history", str(len(HISTORY) - 1), "h"], 6, "history too long"),
     Case("lawful history", ["audit", "h"], 0, "lawful 3\n"),
@@ -94,21 +105,18 @@ FORMS = [
     Case("a live session", ["live"], 0, TRANSCRIPT, stdin=SESSION),
     Case("a live session without lines", ["live"], 0, "dummynet-live,1\nend,0\n"),
     Case("a bad line of a live session", ["live"], 4, TRANSCRIPT.replace("end,3\n", f"{BAD_LINE}end,3\n"), stdin=f"{SESSION}hello\n"),
-    Case("CR LF in a joined input", [], 0, REPORT, stdin=f"{CONFIG}--\n{PACKETS}".replace("\n", "\r\n")),
-    Case("CR LF in two files", replay(), 0, REPORT, files={"c": CONFIG.replace("\n", "\r\n"), "p": PACKETS.replace("\n", "\r\n")}),
     Case("CR LF in a history", ["audit", "h"], 0, "lawful 3\n", files={"h": HISTORY.replace("\n", "\r\n")}),
     Case("a byte order mark before packets", replay(), 0, REPORT, files={"c": CONFIG, "p": MARK + PACKETS}),
-    Case("blank lines between rows", replay(), 0, REPORT, files={"c": f"\n{CONFIG}\n", "p": f"{HEADER}\n\n{ROW}\n"}),
 ]
 LOST_FILES = {"c": CONFIG, "p": LOST}
 TARGETS = [
-    Case("no row of a joined input has a target", [], 0, LOST_REPORT, UNTARGETED, stdin=f"{CONFIG}--\n{LOST}"),
-    *[Case(f"no row has a target, {how}", replay(*words), 0, LOST_REPORT, UNTARGETED, files=LOST_FILES)
+    Case("no row of a joined input has a target", [], 0, LOST_REPORT, stdin=f"{CONFIG}--\n{LOST}"),
+    *[Case(f"no row has a target, {how}", replay(*words), 0, LOST_REPORT, files=LOST_FILES)
       for how, words in (("two files", []), ("one caller", ["--callers", "1"]), ("two callers", ["--callers", "2"]),
                          ("a limit", ["--most-packets", "999"]), ("threads", ["--threads", "2"]))],
-    Case("no row has a target, with a history", replay("--history", "new"), 0, LOST_REPORT, UNTARGETED, files=LOST_FILES, made={"new": LOST_HISTORY}),
-    Case("the queue of a row isn't there", replay(), 0, LOST_REPORT, UNTARGETED, files={"c": CONFIG, "p": PACKETS.replace("pipe,1", "queue,1")}),
-    Case("no row of two callers has a target", replay("--callers", "2"), 0, LOST_REPORT + "none,2,,,0,,\n", UNTARGETED,
+    Case("no row has a target, with a history", replay("--history", "new"), 0, LOST_REPORT, files=LOST_FILES, made={"new": LOST_HISTORY}),
+    Case("the queue of a row isn't there", replay(), 0, LOST_REPORT, files={"c": CONFIG, "p": PACKETS.replace("pipe,1", "queue,1")}),
+    Case("no row of two callers has a target", replay("--callers", "2"), 0, LOST_REPORT + "none,2,,,0,,\n",
          files={"c": CONFIG, "p": LOST + LOST.removeprefix(HEADER)}),
     *[Case(f"one row of two has a target, {how}", replay(*words), 0, REPORT.replace("out,1", "out,2") + "none,1,,,0,,\n", files={"c": CONFIG, "p": LOST + ROW})
       for how, words in (("two files", []), ("two callers", ["--callers", "2"]))],
@@ -120,14 +128,6 @@ TARGETS = [
 FAULTS = [
     fault("a byte order mark before a configuration", replay(), 3, "config line 1, word 1: unknown word",
           files={"c": MARK + CONFIG, "p": PACKETS}),
-    fault("a bad number", replay(), 3, "config line 2, word 5: bad number", files={"c": "# a note\npipe 1 config bw 1.5Mbit/s\n", "p": ""}),
-    fault("a part of ipfw that is left out", replay(), 3, "config line 1, word 4: left out", files={"c": "pipe 1 config red 1/2/3/0.1\n", "p": ""}),
-    fault("a line that isn't text", [], 3, "config line 1: not UTF-8", stdin="pipe 1 config # \udcff\n"),
-    fault("a queue without its pipe", [], 3, "config line 1: no such pipe", stdin="queue 1 config pipe 3\n"),
-    fault("a pipe with queues", [], 3, "config line 3: pipe has queues", stdin="pipe 1 config\nqueue 1 config pipe 1\npipe delete 1\n"),
-    fault("a queue that isn't there", [], 3, "config line 1: no such queue", stdin="queue delete 1\n"),
-    fault("another header", replay(), 4, "packet row 0, field 0: bad", files={"c": CONFIG, "p": "moment,target\n"}),
-    fault("a short row", replay(), 4, "packet row 2, field 0: bad", files={"c": CONFIG, "p": f"{PACKETS}\n\n0,pipe,1\n"}),
     fault("a row of commas", replay(), 4, "packet row 2, field 0: bad", files={"c": CONFIG, "p": f"{PACKETS}{',' * 90_000}\n"}),
     fault("empty lines and a row of commas", replay(), 4, "packet row 2, field 0: bad",
           files={"c": CONFIG, "p": f"{PACKETS}\n\r\n{',' * 90_000}\n"}),
@@ -138,10 +138,6 @@ FAULTS = [
           files={"c": CONFIG, "p": f"{PACKETS}{',' * 9}\n,{ROW}"}),
     fault("commas in quotes", replay(), 4, "packet row 2, field 1: bad",
           files={"c": CONFIG, "p": f'{PACKETS}"{"," * 10}",pipe{ROW.partition("pipe")[2]}'}),
-    fault("a bad field", replay(), 4, "packet row 1, field 9: bad", files={"c": CONFIG, "p": PACKETS.replace(",1000,0\n", ",0,0\n")}),
-    fault("a bad row of a joined input", [], 4, "packet row 1, field 0: bad", stdin=f"{CONFIG}--\n{HEADER}0\n"),
-    fault("a joined input without end", [], 6, "input too long", stdin="#" * 67_108_865),
-    fault("a cut history", ["audit", "h"], 4, "history record 9: bad", files={"h": HISTORY.replace("end,3\n", "")}),
     fault("no configuration", ["replay", "none", "p"], 6, "cannot read config"),
     fault("no packets, told before a bad configuration", ["replay", "c", "none"], 6, "cannot read packets", files={"c": "bad\n"}),
     fault("a folder as configuration", ["replay", ".", "p"], 6, "cannot read config"),
@@ -149,7 +145,6 @@ FAULTS = [
     fault("a folder as history", ["audit", "."], 6, "cannot read history"),
     fault("no history", ["audit", "none"], 6, "cannot read history"),
     fault("a read that fails", ["replay", "/proc/self/mem", "p"], 6, "cannot read config"),
-    fault("a configuration without end", ["replay", "/dev/zero", "p"], 6, "config too long"),
     *[fault(f"{told} with {' '.join(options)}", ["replay", *names, *options], status, line, files={**FILES, "bad": "bad\n", "rows": HEADER + "0\n"})
       for options in (["--callers", "2"], ["--history", "new"], ["--callers", "2", "--history", "new"], ["--threads", "2"],
                       ["--threads", "2", "--history", "new"])
@@ -175,7 +170,7 @@ USAGES = [
                     replay("--most-packets"), replay("--most-packets", "0"), replay("--most-packets", str(2**40 + 1)), replay("--most-packets", "x"),
                     replay("--most-packets", "9", "--callers", "2"), replay("--most-history", "9"), ["--most-packets", "9"],
                     replay("--threads"), replay("--threads", "0"), replay("--threads", "65"), replay("--threads", "x"), ["--threads", "2"],
-                    replay("--threads", "2", "--callers", "2"), ["audit", "h", "--threads", "0"], ["audit", "h", "--threads", "65"],
+                    replay("--threads", "2", "--callers", "2"), ["audit", "h", "--threads", "2"],
                     ["audit", "h", "--callers", "2"],
                     ["audit", "h", "--most-history", "0"], ["audit", "h", "--most-history", str(2**40 + 1)], ["audit", "h", "--most-packets", "9"])],
     *[Case(f"a history over {name}, the {word}", ["replay", *names, "--history", name], 2, "", None)
@@ -212,7 +207,7 @@ def judged(tally: Tally, program: str, case: Case) -> None:
 def texts(tally: Tally, program: str) -> None:
     """Help and version, and the words of the usage fault that is the program's own."""
     with TemporaryDirectory() as folder:
-        for words, wanted in ((["--version"], ["dummynet 1.", "rattle-kit"]), (["-V"], ["dummynet 1.", "rattle-kit"]),
+        for words, wanted in ((["--version"], ["dummynet 2.", "rattle-kit"]), (["-V"], ["dummynet 2.", "rattle-kit"]),
                               (["--help"], ["CONFIG", "PACKETS", "HISTORY", "Example:", "replay", "audit", "live"]), (["-h"], ["Usage: dummynet"]),
                               (["help"], ["Usage: dummynet"]), (["replay", "--help"], ["CONFIG", "PACKETS", "--callers", "--history", "--most-packets", "--threads"]),
                               (["help", "replay"], ["CONFIG"]), (["audit", "--help"], ["HISTORY", "--most-history", "live"])):
@@ -258,8 +253,8 @@ def devices(tally: Tally, program: str) -> None:
         done = run(program, replay("--history", "/dev/stdout"), folder, "")
         tally.equal("a history after the report in one pipe", (REPORT + HISTORY).encode(), done.stdout)
         with open(Path(folder) / "both", "wb") as both:
-            run(program, replay("--history", "both"), folder, "", stdout=both)
-        tally.equal("a history over the report", HISTORY, (Path(folder) / "both").read_text())
+            done = run(program, replay("--history", "both"), folder, "", stdout=both)
+        tally.equal("a history over the report", (6, REPORT, OTHER), (done.returncode, (Path(folder) / "both").read_text(), done.stderr.decode()))
         for name, form, begun in (("", "", b""), (" of a live session", "live", b"dummynet-live,1\n")):
             done = subprocess.run(["sh", "-c", f'exec "$0" {form} <&-', program], cwd=folder, capture_output=True)
             tally.equal(f"standard input{name} closed", (6, begun, b"cannot read input\n"), (done.returncode, done.stdout, done.stderr))
@@ -285,6 +280,36 @@ def short_writes(tally: Tally, program: str) -> None:
                 done = subprocess.run([*limited, *words], cwd=folder, input=stdin.encode(), stdout=out, stderr=subprocess.PIPE, timeout=120)
             tally.equal(f"{name} that is cut", (6, f"cannot write {fault}\n".encode(), whole[what][:512]), (done.returncode, done.stderr, cut.read_bytes()))
             tally.equal(f"{name} has more bytes", True, len(whole[what]) > 512)
+
+
+def links(tally: Tally, program: str) -> None:
+    """No name of an input lets a history replace it, and an older history is replaced under all of its names."""
+    for kind, link in (("a symbolic link", os.symlink), ("a hard link", os.link)):
+        with TemporaryDirectory() as folder:
+            laid(Path(folder), {**FILES, "old": OLDER})
+            for name in ("c", "p", "old"):
+                link(Path(folder) / name, Path(folder) / f"{name}.link")
+            for name in ("c", "p"):
+                done = run(program, replay("--history", f"{name}.link"), folder, "")
+                tally.equal(f"a history over {kind} to {name}", (6, b"", OTHER.encode(), FILES[name]),
+                            (done.returncode, done.stdout, done.stderr, (Path(folder) / name).read_text()))
+            done = run(program, replay("--history", "old.link"), folder, "")
+            tally.equal(f"a history over {kind} to an older one", (0, HISTORY), (done.returncode, (Path(folder) / "old").read_text()))
+    with TemporaryDirectory() as folder:
+        laid(Path(folder), FILES)
+        os.symlink("new", Path(folder) / "link")
+        done = run(program, replay("--history", "link"), folder, "")
+        tally.equal("a history through a link to no file", (0, HISTORY), (done.returncode, (Path(folder) / "new").read_text()))
+
+
+def full_disks(tally: Tally, program: str) -> None:
+    """An older history stays whole if the one that is to replace it finds no room. The limit of a file's length stands for the disk's end."""
+    limited = ["sh", "-c", "trap '' XFSZ; ulimit -f 1; exec \"$@\"", "sh", program]
+    with TemporaryDirectory() as folder:
+        laid(Path(folder), {"c": CONFIG, "p": HEADER + ROW * 40, "old": HISTORY})
+        done = subprocess.run([*limited, *replay("--history", "old")], cwd=folder, stdout=subprocess.PIPE, stderr=subprocess.PIPE, timeout=120)
+        tally.equal("a longer history on a full disk", (6, b"cannot write history\n", HISTORY),
+                    (done.returncode, done.stderr, (Path(folder) / "old").read_text()))
 
 
 def rights(tally: Tally, program: str) -> None:
@@ -314,6 +339,8 @@ def main(program: str) -> int:
         judged(tally, program, case)
     texts(tally, program)
     devices(tally, program)
+    links(tally, program)
+    full_disks(tally, program)
     short_writes(tally, program)
     rights(tally, program)
     return tally.end()

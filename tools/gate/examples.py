@@ -1,4 +1,4 @@
-"""The examples: each report is what the program writes of its configuration and packets, and README's is that of first.txt.
+"""The examples: each report is what the program writes of its configuration and packets, and the one on their page is that of first.txt.
 
     python3 tools/gate/examples.py PROGRAM
 
@@ -33,7 +33,7 @@ def main(program: str) -> int:
             tally.note(f"{made.name} by tools/release/examples.py", "" if is_same else "differs")
     with open(EXAMPLES / "first.txt", "rb") as first:
         done = subprocess.run([program], stdin=first, capture_output=True, text=True)
-    tally.note("the report in README.md", "" if f"< examples/first.txt\n{done.stdout}```" in (TOP / "README.md").read_text() else "isn't what first.txt gives")
+    tally.note("the report in examples/README.md", "" if f"< examples/first.txt\n{done.stdout}```" in (EXAMPLES / "README.md").read_text() else "isn't what first.txt gives")
     return tally.end()
 
 

@@ -5,19 +5,19 @@ where it is 0 cost much with that key and little with another.
     python3 tools/gate/hash_key.py PROGRAM
 
 It needs cc, for a library that answers getentropy in the system's place. The cost is counted by valgrind, where that is there;
-tools/hostile/known_key.py writes the packets.
+tools/hostile/known_key.py has the keys.
 """
 
 from __future__ import annotations
 
 import os
-import re
 import shutil
 import subprocess
 import sys
 from pathlib import Path
 from tempfile import TemporaryDirectory
 
+from hostile import counted, inputs
 from tally import Tally
 
 EXAMPLES = Path(__file__).resolve().parent.parent.parent / "examples"
@@ -35,9 +35,7 @@ int getentropy(void *bytes, size_t count) {
 }
 """
 KEYS = ("0", "1", "85", "255")
-HOSTILE = Path(__file__).resolve().parent.parent / "hostile"
-COUNTED = ["valgrind", "--tool=cachegrind", "--cache-sim=no", "--cachegrind-out-file=/dev/null"]
-FLOWS = 3_000
+FLOWS = 2_000
 LEAST = 3  # of a live session it is about 6, of the others 10 and more
 
 
@@ -48,17 +46,9 @@ def run(program: str, words: list[str], place: str, key: dict[str, str]) -> tupl
     return done.returncode, done.stdout, done.stderr
 
 
-def instructions(program: str, words: list[str], stdin: str, place: str, key: str) -> int:
-    """What a run costs with a key."""
-    env = {**os.environ, "LD_PRELOAD": f"{place}/given.so", "KEY": key}
-    with open(stdin, "rb") as given:
-        done = subprocess.run([*COUNTED, program, *words], stdin=given, stdout=subprocess.DEVNULL, stderr=subprocess.PIPE, env=env, text=True, check=True)
-    return int(re.search(r"I +refs: +([\d,]+)", done.stderr)[1].replace(",", ""))
-
-
 def forms_of_flows(program: str, place: str) -> dict[str, tuple[list[str], str]]:
     """Each form of the program to which the key is handed, over the flows that were chosen: its words and its input."""
-    config, packets = f"{place}/chosen.config", f"{place}/chosen.packets"
+    config, packets = f"{place}/config", f"{place}/packets"
     replay, history, calls, joined = ["replay", config, packets], f"{place}/chosen.history", f"{place}/chosen.calls", f"{place}/chosen.joined"
     Path(joined).write_text(f"{Path(config).read_text()}--\n{Path(packets).read_text()}")
     subprocess.run([program, *replay, "--history", history], check=True, stdout=subprocess.DEVNULL)
@@ -73,9 +63,9 @@ def count_known_key(tally: Tally, program: str, place: str) -> None:
     if shutil.which("valgrind") is None:
         print("the cost of a known key: skipped, since there is no valgrind on the path")
         return
-    subprocess.run([sys.executable, HOSTILE / "known_key.py", str(FLOWS), place], check=True)
+    inputs.write("known", FLOWS, Path(place))
     for name, (words, stdin) in forms_of_flows(program, place).items():
-        known, other = (instructions(program, words, stdin, place, key) for key in ("0", "1"))
+        known, other = (counted([program, *words], stdin, LD_PRELOAD=f"{place}/given.so", KEY=key) for key in ("0", "1"))
         print(f"{name}: {FLOWS} flows chosen for the key 0 take {known} instructions with it, and {other} with another", flush=True)
         tally.note(f"a known key, {name}", "" if known >= LEAST * other else f"the flows chosen for it cost less than {LEAST} times as much")
 

@@ -17,8 +17,9 @@ import sys
 import time
 from pathlib import Path
 from socket import AF_INET, SOCK_DGRAM, socket
-from tempfile import TemporaryDirectory, TemporaryFile
+from tempfile import TemporaryDirectory
 
+import pytests
 from tally import Tally
 
 TOP = Path(__file__).resolve().parent.parent.parent
@@ -27,9 +28,8 @@ HINGE = TOP / "hinge"
 REFUSED = 6  # the status of `hinge net` where the system doesn't allow it
 STRICT = ["cc", "-O2", "-Wall", "-Wextra", "-Werror"]
 ROUND = 0.01  # s of 2 x 5 ms
-LONGEST_SUITE = 1200  # s
 # By name: the program without which it is left out, and what the main command prints last.
-NETS = {"etcd": ("etcd", "consistent"), "redis": ("redis-server", "consistent"), "weights": ("iperf3", "as weighted")}
+NETS = {"etcd": ("etcd", "consistent"), "redis": ("redis-server", "consistent"), "weights": ("iperf3", "as weighted"), "ospf": ("bird", "converged")}
 
 
 def environment(program: str, folder: Path) -> dict[str, str]:
@@ -44,17 +44,7 @@ def tests(tally: Tally, program: str, folder: Path) -> None:
     if shutil.which("cc"):
         done = subprocess.run([TOP / "tools" / "release" / "hosts", folder], capture_output=True, text=True)
         tally.equal("tools/release/hosts", (0, f"{folder.resolve()}/hinge-link\n", ""), (done.returncode, done.stdout, done.stderr))
-    # Into a file: what a failed test left running would hold a pipe.
-    with TemporaryFile("w+", errors="replace") as said:
-        words = [sys.executable, TOP / "python" / "tests" / "run"]
-        how = {"env": env, "stdin": subprocess.DEVNULL, "stdout": said, "stderr": said, "timeout": LONGEST_SUITE}
-        status = subprocess.run(words, **how).returncode
-        said.seek(0)
-        text = said.read()
-    print("".join(f"{line}\n" for line in text.splitlines() if line.startswith("skipped: ")), end="")
-    found = re.search(r"(\d+) passed, (\d+) failed$", text.strip())
-    tally.note("python/tests/run", "" if found and status == 0 else text)
-    tally.passed += int(found[1]) if found else 0
+    pytests.count(tally, ["tests/run"], env, *(f"--ignore={plan}" for plan in pytests.PLANS))
 
 
 def nets(tally: Tally, program: str, folder: Path) -> None:
@@ -76,7 +66,7 @@ def net(tally: Tally, program: str, folder: Path, name: str, last_line: str) -> 
     audit = subprocess.run([program, "audit", session / "net.history"], capture_output=True, text=True)
     tally.equal("the audit of its links", (0, "lawful"), (audit.returncode, audit.stdout.partition(" ")[0]))
     if subprocess.run(["/usr/bin/python3", "-c", "import numpy"], capture_output=True).returncode == 0:
-        paths = subprocess.run([HINGE, "paths", session], env=env, capture_output=True, text=True)
+        paths = subprocess.run([HINGE, "look", session], env=env, capture_output=True, text=True)
         tally.equal("the audit of what is between them", (0, "lawful between links"), (paths.returncode, (paths.stdout.splitlines() or [paths.stderr])[-1]))
 
 
@@ -91,7 +81,7 @@ def example(tally: Tally, program: str, folder: Path) -> None:
     port = free_port()
     with socket(AF_INET, SOCK_DGRAM) as server, socket(AF_INET, SOCK_DGRAM) as client:
         server.bind(("127.0.0.1", 0))
-        client.settimeout(0.5), server.settimeout(0.5)
+        client.settimeout(5), server.settimeout(5)
         words = [sys.executable, "host.py", str(port), f"127.0.0.1:{server.getsockname()[1]}", "pipe 1 config delay 5", "pipe 2 config delay 5"]
         host = subprocess.Popen(words, cwd=LIVE, env={**os.environ, "DUMMYNET": program})
         took = []
@@ -113,11 +103,12 @@ def example(tally: Tally, program: str, folder: Path) -> None:
 
 
 def page(tally: Tally, program: str, folder: Path) -> None:
-    """What docs/SESSIONS.md shows of a session in Python and of one without a clock is what they print."""
-    text = (TOP / "docs" / "SESSIONS.md").read_text()
+    """What the pages show of a session in Python and of one without a clock is what they print."""
+    text = (TOP / "docs" / "EMBEDDING.md").read_text()
     [(source, printed)] = re.findall(r"```\n(from session .*?)```\n\n```\n(.*?)```", text, re.S)
     done = subprocess.run([sys.executable, "-c", source], cwd=LIVE, env={**os.environ, "DUMMYNET": program}, capture_output=True, text=True)
     tally.equal("the session in Python", (printed, ""), (done.stdout, done.stderr))
+    text = (TOP / "docs" / "FILES.md").read_text()
     [(source, printed)] = re.findall(r"\$ ./dummynet live <<END\n(.*?)END\n(.*?)```", text, re.S)
     done = subprocess.run([program, "live"], input=source, capture_output=True, text=True)
     tally.equal("the session without a clock", (0, printed, ""), (done.returncode, done.stdout, done.stderr))
@@ -172,7 +163,7 @@ def lines_in_c(tally: Tally, program: str, folder: Path) -> None:
     done = subprocess.run([*STRICT, "-o", folder / "lines", TOP / "tools" / "gate" / "session_lines.c"], capture_output=True, text=True)
     tally.equal("session_lines.c compiled", (0, ""), (done.returncode, done.stderr))
     session = subprocess.run([folder / "lines"], env={**os.environ, "DUMMYNET": program}, input=b"\n".join(line for line, _ in LINES), stdout=subprocess.PIPE,
-                             timeout=20)
+                             timeout=120)
     told = session.stdout.decode().splitlines()
     for (line, wanted), got in zip(LINES, told):
         tally.equal(f"{line!r} by session.h", f"{wanted}; #,next", got)
@@ -196,7 +187,7 @@ def lines_in_python(tally: Tally, program: str, folder: Path) -> None:
     """The same lines in Python, as far as they are text, and two at once."""
     lines = [(line.decode(), wanted) for line, wanted in [*LINES, (b"pipe 1 config\npipe 2 config", "more than one line")] if b"\xff" not in line]
     done = subprocess.run([sys.executable, "-c", IN_PYTHON], cwd=LIVE, env={**os.environ, "DUMMYNET": program}, input=repr([line for line, _ in lines]),
-                          capture_output=True, text=True, timeout=20)
+                          capture_output=True, text=True, timeout=120)
     tally.equal("the session in Python at its end", (0, "", len(lines)), (done.returncode, done.stderr, done.stdout.count("\n")))
     for (line, wanted), got in zip(lines, done.stdout.splitlines()):
         tally.equal(f"{line!r} by session.py", f"{wanted.replace('-', ' ')}; next", got)

@@ -9,6 +9,7 @@ What needs numpy, cmake, pkg-config, dpkg-deb or lintian is skipped, and told, w
 
 from __future__ import annotations
 
+import ctypes
 import itertools
 import os
 import re
@@ -22,14 +23,22 @@ from tempfile import TemporaryDirectory
 from typing import Iterator, Optional
 
 from tally import Tally
+from version import found, spelled
 
 TOP = Path(__file__).resolve().parent.parent.parent
 VERSION = (TOP / "VERSION").read_text().strip()
-LEAST = {"docs/CAPTURE.md": 20, "docs/LONG.md": 1, "docs/FORMATS.md": 1, "README.md": 1, "examples/README.md": 1}  # commands of a page
+LEAST = {"docs/CAPTURE.md": 20, "docs/FILES.md": 1, "README.md": 1, "examples/README.md": 1}  # commands of a page
 RUN = ("hinge", "dummynet", "echo", "printf")
 NEEDS_MORE = ("hinge udp", "hinge run", "hinge net")  # another program, or rights: tools/gate/hosts.py tries these
 STATUSES = {"hinge ipfw ": 3}  # other than 0: the page's file has lines that are left out
 MULTIARCH = "lib/x86_64-linux-gnu"
+VERSIONS = {
+    "lib/pkgconfig/hingetulip.pc": r"^Version: (.*)$",
+    "lib/cmake/Hingetulip/HingetulipConfigVersion.cmake": r"^set\(PACKAGE_VERSION (.*)\)$",
+    "lib/python/hinge/VERSION": r"^(.*)$",
+    f"lib/python/hingetulip-{VERSION}.dist-info/METADATA": r"^Version: (.*)$",
+    **{f"share/man/{name}": r"^\.Os Hingetulip (.*)$" for name in ("man1/dummynet.1", "man1/hinge.1", "man3/hingetulip.3")},
+}
 CMAKE = """\
 cmake_minimum_required(VERSION 3.13)
 project(first C)
@@ -74,6 +83,9 @@ def copied(place: Path, program: str) -> Path:
         shutil.copy2(file, copy / "release" / ("dummynet" if file == Path(program) else file.name))
     (copy / "release" / "sources").write_text(run(copy / "tools" / "release" / "program_sources").stdout)
     (copy / "release" / "library-sources").write_text(run(copy / "tools" / "release" / "program_sources", "hingetulip_c").stdout)
+    released = [line.split()[1] for line in (copy / "release" / "SHA256SUMS").read_text().splitlines()]
+    sums = [f"{sha256((copy / 'release' / name).read_bytes()).hexdigest()}  {name}\n" for name in released]
+    (copy / "release" / "SHA256SUMS").write_text("".join(sums))
     return copy
 
 
@@ -141,6 +153,13 @@ def behind_a_link(tally: Tally, place: Path, folder: Path) -> None:
     tally.note(line, "" if it.returncode == 0 and it.stdout.count(" 3 came, 3 delivered") == 2 else it.stdout)
 
 
+def simulated(tally: Tally, hinge: Path, place: Path) -> None:
+    """A run in simulated time with what was installed and nothing else: this user has built no kernel."""
+    names = {"XDG_CACHE_HOME": str(place / "no cache"), "HINGE_KERNEL": ""}
+    told = done(tally, "an hour", hinge, "run", "--simulated", "--", "sleep", "3600", cwd=place, **names)
+    tally.note("an hour's line", "" if "simulated 3600.0" in told else told)
+
+
 def leftover(folder: Path) -> list[str]:
     return sorted(str(it.relative_to(folder)) for it in folder.rglob("*") if re.search("hinge|dummynet", it.name, re.I))
 
@@ -189,6 +208,7 @@ def by_pip(tally: Tally, copy: Path, place: Path) -> None:
     else:
         pages(tally, venv, place / "pages")
         behind_a_link(tally, venv, place / "pages")
+    simulated(tally, venv / "bin" / "hinge", place)
     done(tally, "pip uninstall", *pip, "uninstall", "-y", "hingetulip")
     tally.equal("what pip leaves", [], leftover(venv))
     done(tally, "pip install -e ./python", *pip, "install", "--no-index", "-e", copy / "python")
@@ -227,7 +247,7 @@ def with_cmake(tally: Tally, prefix: Path, place: Path) -> None:
     if shutil.which("cmake") is None or shutil.which("cc") is None:
         print("CMake: skipped, since there is no cmake or cc on the path")
         return
-    for version, is_taken in ((VERSION, True), ("1.0", True), ("2.0", False)):
+    for version, is_taken in ((VERSION, True), ("1.0", True), ("3.0", False)):
         source = place / f"cmake-{version}"
         source.mkdir()
         shutil.copy(TOP / "examples" / "embed" / "first.c", source)
@@ -263,12 +283,41 @@ def in_prefix(tally: Tally, copy: Path, place: Path) -> None:
     module = done(tally, "the module", sys.executable, "-B", "-c", "import hingetulip; print(hingetulip.LIBRARY)", cwd=place, PYTHONPATH=f"{prefix}/lib/python")
     tally.equal("its library", f"{prefix}/lib/libhingetulip.so.1\n", module)
     tally.equal("the program", f"dummynet {VERSION}", " ".join(done(tally, "dummynet", prefix / "bin" / "dummynet", "--version").split()[:2]))
+    simulated(tally, prefix / "bin" / "hinge", place)
     with_cmake(tally, prefix, place)
-    done(tally, "./install --uninstall", copy / "install", "--uninstall", prefix)
-    tally.equal("what it leaves", [], sorted(prefix.rglob("*")))
+    where_installed(tally, prefix)
+    trees = [contents(prefix)]
+    done(tally, "./install --all once more", copy / "install", "--all", prefix)
+    tally.equal("./install twice", trees[0], contents(prefix))
+    done(tally, "./install without a folder", copy / "install", wanted=2)
+    uninstalled(tally, copy, prefix)
     done(tally, "./install below DESTDIR", copy / "install", "--all", "/usr", DESTDIR=str(root), LIBDIR=MULTIARCH, PYTHONDIR="lib/python3/dist-packages")
     with_pkg_config(tally, root / "usr", MULTIARCH, place)
     tally.equal("a list of what is installed below DESTDIR", False, (root / "usr" / "share" / "hingetulip" / "installed").exists())
+
+
+def contents(prefix: Path) -> dict[str, bytes]:
+    return {str(it.relative_to(prefix)): it.read_bytes() for it in prefix.rglob("*") if it.is_file()}
+
+
+def where_installed(tally: Tally, prefix: Path) -> None:
+    """All that tells a version tells that of the file VERSION."""
+    for name, pattern in VERSIONS.items():
+        tally.equal(f"the version in {name}", VERSION, found(prefix / name, pattern))
+    number = ctypes.CDLL(str(prefix / "lib" / "libhingetulip.so.1")).dn_version()
+    tally.equal("the version of the C library (crates/hingetulip_c/src/exports/lifetime.rt)", VERSION, spelled(number))
+
+
+def uninstalled(tally: Tally, copy: Path, prefix: Path) -> None:
+    """./install --uninstall takes away what was put there and its byte code, and leaves a file of the user's own."""
+    (prefix / "lib" / "own").write_text("")
+    kept = prefix / "lib" / "python" / "hingetulip" / "__pycache__"
+    kept.mkdir(exist_ok=True)
+    (kept / "errors.cpython-39.pyc").write_text("")
+    done(tally, "./install --uninstall", copy / "install", "--uninstall", prefix)
+    tally.equal("what it leaves", [prefix / "lib", prefix / "lib" / "own"], sorted(prefix.rglob("*")))
+    told = done(tally, "nothing to uninstall", copy / "install", "--uninstall", prefix, wanted=1)
+    tally.note("what is told of it", "" if "isn't there" in told else told)
 
 
 def as_packages(tally: Tally, copy: Path, place: Path) -> None:
@@ -276,19 +325,14 @@ def as_packages(tally: Tally, copy: Path, place: Path) -> None:
     if shutil.which("dpkg-deb") is None:
         print("Debian's packages: skipped, since there is no dpkg-deb on the path")
         return
-    kernel = run(copy / "hinge", "kernel", "--path")
-    if kernel.returncode:
-        print(f"hingetulip-kernel: skipped: {kernel.stdout.strip()}")
-    built, sums = kernel.returncode == 0, []
+    sums = []
     for name in ("debs", "debs again"):
-        done(tally, "tools/release/deb", copy / "tools" / "release" / "deb", *["--kernel"] * built, place / name)
+        done(tally, "tools/release/deb", copy / "tools" / "release" / "deb", place / name)
         sums.append({it.name: sha256(it.read_bytes()).hexdigest() for it in (place / name).iterdir()})
-    packages = ["hingetulip", *["hingetulip-kernel"] * built, "libhingetulip-dev", "libhingetulip1", "python3-hingetulip"]
+    packages = ["hingetulip", "libhingetulip-dev", "libhingetulip1", "python3-hingetulip"]
     names = [f"hingetulip-{VERSION}-x86_64.tar.gz", *(f"{name}_{VERSION}-1_amd64.deb" for name in packages)]
     tally.equal("the packages", sorted(names), sorted(sums[0]))
     tally.equal("packages made twice", sums[0], sums[1])
-    if built:
-        of_the_kernel(tally, copy, place / "debs", Path(kernel.stdout.strip()))
     if shutil.which("lintian") is None:
         print("lintian: skipped, since it isn't on the path")
         return
@@ -304,18 +348,6 @@ def symbols(tally: Tally, copy: Path, place: Path) -> None:
     names = run("nm", "-D", "--defined-only", "--with-symbol-versions", copy / "release" / "libhingetulip.so.1").stdout
     wanted = [f" {name}@{version} {version.rpartition('_')[2]}" for name, version in re.findall(r" T (dn_\w+)@@(\S+)", names)]
     tally.equal("symbols of the library's package", sorted(wanted), told)
-
-
-def of_the_kernel(tally: Tally, copy: Path, debs: Path, kernel: Path) -> None:
-    """The package of the kernel that was built: a machine runs by it, and it tells its licence and its source."""
-    root = debs.parent / "kernel's root"
-    done(tally, "dpkg-deb -x", "dpkg-deb", "-x", debs / f"hingetulip-kernel_{VERSION}-1_amd64.deb", root)
-    unpacked = root / "usr" / "lib" / "hingetulip" / "kernels" / kernel.name
-    tally.equal("the kernel of the package", sha256((kernel / "linux").read_bytes()).hexdigest(), (unpacked / "checksum").read_text().strip())
-    told = done(tally, "a run by the package", copy / "hinge", "run", "--simulated", "--quiet", "--", "uname", "-r", cwd=debs.parent, HINGE_KERNEL=str(unpacked))
-    tally.equal("the version that runs", kernel.name.split("-")[0], told.strip())
-    text = (root / "usr" / "share" / "doc" / "hingetulip-kernel" / "copyright").read_text()
-    tally.note("its licence and its source", "" if "GPL-2.0-only" in text and f"Linux {told.strip()}: linux-" in text else text)
 
 
 def main(program: str) -> int:

@@ -101,7 +101,7 @@ class Piped:
     def end(self) -> tuple[bytes, int]:
         self.process.stdin.close()  # type: ignore[union-attr]
         rest = self.read(1 << 16)
-        return rest, self.process.wait(timeout=10)
+        return rest, self.process.wait(timeout=120)
 
 
 def byte_by_byte(tally: Tally, program: str, lines: list[bytes]) -> None:

@@ -44,7 +44,7 @@ def named(tally: Tally, text: str, whose: str, words: list[str]) -> None:
 
 def of_dummynet(tally: Tally, program: str) -> None:
     text = page(tally, "dummynet.1")
-    for line in re.findall(r"^\| `([^`]+)` \|", (TOP / "docs" / "FORMATS.md").read_text().partition("## Faults")[2], re.M):
+    for line in re.findall(r"^\| `([^`]+)` \|", (TOP / "docs" / "FILES.md").read_text().partition("\n## Faults\n")[2].partition("\n## ")[0], re.M):
         tally.note(f"fault line {line}", "" if line in text else "the manual page doesn't name it")
     named(tally, text, "dummynet", options(printed(program, "replay", "--help")))
 
@@ -58,7 +58,7 @@ def of_hinge(tally: Tally) -> None:
     for command in commands:
         told = printed(*hinge, command, "--help")
         example = re.split(r"\nexamples?:\n", told)[-1]
-        tally.note(f"the example of hinge {command}", "" if re.search(rf"^  hinge {command} ", example, re.M) else f"got {example!r}")
+        tally.note(f"the example of hinge {command}", "" if re.search(rf"^  hinge {command}( |$)", example, re.M) else f"got {example!r}")
         tally.equal(f"hinge help {command}", told, printed(*hinge, "help", command))
         steps = re.findall(r"^    ([a-z]+) ", told.partition("positional arguments:")[2].partition("options:")[0], re.M)
         for words in [[command], *([command, step] for step in steps)]:

@@ -12,6 +12,8 @@ from pathlib import Path
 from typing import NamedTuple, Optional
 
 import command
+import seeds
+from pytests import PLANS
 
 TOP = Path(__file__).resolve().parent.parent.parent
 TALLY = re.compile(r"(\d+) passed, (\d+) failed")
@@ -19,15 +21,17 @@ RANDOM_CASES = 400
 RUNS_BY_CALLERS = 100
 CASES_BY_THREADS = 40
 LIVE_SESSIONS = 200
-SCENARIOS_IN_C = 200
 SERVICES_IN_C = 40
 TEXTS_IN_C = 60
 AUDITS_IN_C = 120
+LONGEST = 7200  # s after which a part that hasn't ended is ended and counts as failed: the edits take that on one processor
+CALLS_BY_DEFINITIONS = 10_000
 # The seconds after which a part that hasn't ended is ended and counts as failed: ten times what the longest takes, and
 # for the edits what they take on one processor.
 LONGEST_PART, LONGEST_EDITS = 1800, 7200
-FUZZING = 20  # seconds for each target
-LINUX = "/usr/src/linux-source-*.tar.xz"  # a source package
+FUZZED_IN_C, FUZZED_IN_PYTHON = 20_000, 800  # inputs of each target
+SYSTEMS = "/usr/bin/python3"
+NUMPY = "/usr/lib/python3/dist-packages/numpy/__init__.py"
 FUZZER = "/usr/lib/llvm-*/lib/clang/*/lib/linux/libclang_rt.fuzzer-x86_64.a"  # clang's libFuzzer
 
 
@@ -44,9 +48,8 @@ class Part(NamedTuple):
     name: str
     words: list[str]
     needs: Optional[str] = None
-    # Whether it runs what `rt ci` has built, or `rt` itself, or takes minutes.
+    # Whether it runs what `rt ci` has built, or `rt` itself, takes minutes, or can fail by the clock of a busy machine.
     is_long: bool = False
-    limit: int = LONGEST_PART
 
     def lacks(self) -> bool:
         """Whether this machine lacks what the part needs: a program, or files of a pattern."""
@@ -86,21 +89,27 @@ def growths() -> list[Part]:
     return [Part(f"refused growths: {word}", [*script, *word.split()], "cc", True) for word in words]
 
 
-def parts(cases: str, seed: int, program: str) -> list[Part]:
-    """All parts, those that take longest first."""
-    python, words = sys.executable, [program, str(seed)]
+def parts(fresh: Optional[int], program: str) -> list[Part]:
+    """All parts, those that take longest first. Their seeds follow from the sources that they try, unless there is a fresh one."""
+    seed, of_laws = (str(fresh or one) for one in (seeds.of_programs(), seeds.of_files(*seeds.LAWS)))
+    by_seed = [] if fresh is None else ["--seed", str(fresh)]
+    python, words = sys.executable, [program, seed]
+    kit = SYSTEMS if shutil.which(SYSTEMS) else python  # which has Debian's numpy
     return [
-        Part("hosts of a live session", [python, "tools/gate/hosts.py", program]),
-        Part("the kit", ["python/tests/kit"]),
+        Part("hosts of a live session", [python, "tools/gate/hosts.py", program], is_long=True),
+        Part("the kit", [python, "tools/gate/pytests.py", "tests/kit_tests"], "pytest"),
+        Part("plans of links", [python, "tools/gate/pytests.py", *PLANS], "pytest"),
         Part("writers that are killed", [python, "tools/gate/cut_off.py", program], "cc"),
-        Part("programs in simulated time", [python, "tools/gate/simulated.py", program], LINUX, True),
+        Part("programs in simulated time", [python, "tools/gate/simulated.py", program], "cc", True),
         Part("limits of input", [python, "tools/gate/limit_checks.py", program], is_long=True),
         *growths(),
-        Part("cases of the reference", [python, "tools/gate/cases.py", *words, str(RANDOM_CASES), cases]),
+        Part("cases of the reference", [python, "tools/gate/cases.py", *words, str(RANDOM_CASES)]),
+        Part("lists of the reference", [python, "tools/gate/lists.py", seed], is_long=True),
         Part("replays by threads", [python, "tools/gate/threads.py", *words, str(CASES_BY_THREADS)]),
+        Part("replays cut by pipes", [python, "tools/reference/cut_replay.py", program, "0", "12"]),
         Part("replays by callers", [python, "tools/reference/callers_checks.py", *words, str(RUNS_BY_CALLERS)]),
         Part("live sessions", [python, "tools/gate/live.py", *words, str(LIVE_SESSIONS)]),
-        Part("the C library", [python, "tools/gate/c_library.py", str(seed), str(SCENARIOS_IN_C)], "gcc"),
+        Part("the C library", [python, "tools/gate/c_library.py"], "gcc"),
         Part("the service from C", [python, "tools/gate/c_service.py", *words, str(SERVICES_IN_C)], "gcc", True),
         Part("texts of entries from C", [python, "tools/gate/c_texts.py", *words, str(TEXTS_IN_C)], "gcc"),
         Part("audits from C", [python, "tools/gate/c_audit.py", *words, str(AUDITS_IN_C)], "gcc"),
@@ -112,31 +121,41 @@ def parts(cases: str, seed: int, program: str) -> list[Part]:
         Part("a history of sixteen threads", [python, "tools/gate/senders.py", program], is_long=True),
         Part("keys of the hash", [python, "tools/gate/hash_key.py", program], "cc"),
         Part("the command line", [python, "tools/gate/command_line.py", program]),
-        Part("the wrapper, ./build and ./install", [python, "tools/gate/wrapper.py", program]),
+        Part("the wrapper and ./build", [python, "tools/gate/wrapper.py", program]),
         Part("examples", [python, "tools/gate/examples.py", program]),
         Part("the release", [python, "tools/gate/release.py", program]),
+        Part("a bare root", [python, "tools/gate/bare_root.py", program], "debootstrap", True),
         Part("what a team installs", [python, "tools/gate/installs.py", program], is_long=True),
         Part("the crate for cargo", [python, "tools/gate/crate.py"], "cargo"),
         Part("the version", [python, "tools/gate/version.py", program]),
         Part("why not one mutex", [python, "tools/gate/one_mutex.py"], is_long=True),
-        Part("tests in simulated time", [python, "tools/gate/testing.py"]),
-        Part("libraries in simulated time", [python, "tools/libraries", "--seeds", "3"]),
-        Part("fuzzing of the hosts", [python, "tools/fuzz/run.py", str(FUZZING)], FUZZER, True),
+        Part("tests in simulated time", [python, "tools/gate/testing.py"], "pytest"),
+        Part("libraries in simulated time", [python, "tools/libraries", "--seeds", "3"], "pytest"),
+        Part("fuzzing of the hosts", [python, "tools/fuzz/run.py", *by_seed, str(FUZZED_IN_C)], FUZZER, True),
+        Part("fuzzing of the kit", [kit, "tools/fuzz/border.py", *by_seed, str(FUZZED_IN_PYTHON)], NUMPY, True),
+        Part("kills of the kit's commands", [kit, "tools/gate/kills.py", *by_seed], NUMPY, True),
         Part("the notices of the crates", [python, "tools/release/notices.py", "--check"], "rt"),
         Part("the manual pages", [python, "tools/gate/manual.py", program], "mandoc"),
         Part("hardening of what is released", [python, "tools/gate/hardening.py"], "readelf"),
         Part("the texts of edits", [python, "tools/edits/edit_controls.py", "--missing"]),
         Part("doc comments", [python, "tools/gate/doc_comments.py"]),
         Part("words of the laws", [python, "tools/laws/pinned_words.py"]),
+        Part("wrong definitions", [python, "tools/gate/laws.py", of_laws], "rt", True),
+        Part("the text of the definitions", [python, "tools/definitions", "gate", *words, str(CALLS_BY_DEFINITIONS)], is_long=True),
+        Part("callers that wait", [python, "tools/gate/waiting.py"], "objdump"),
         Part("the tables of CONTRIBUTING", [python, "tools/gate/contributing.py"], "git"),
+        Part("the border of the kit", [python, "tools/gate/border.py"]),
         Part("types of Python", [python, "tools/gate/python_types.py"], "mypy"),
+        Part("unused names of Python", [python, "tools/gate/linter.py"], "pyflakes3"),
+        Part("the source archive", [python, "tools/gate/archive.py"], "git"),
+        Part("what grows", [python, "tools/gate/growth.py"], "git"),
         Part("samples of the READMEs", [python, "tools/gate/samples.py"]),
     ]
 
 
 def edits_part() -> Part:
     """The edits that `rt ci` leaves to us, which take all processors."""
-    return Part("edits", [sys.executable, "tools/gate/edits.py", "--built"], "rt", is_long=True, limit=LONGEST_EDITS)
+    return Part("edits", [sys.executable, "tools/gate/edits.py", "--built"], "rt", is_long=True)
 
 
 def left_out(parts: list[Part]) -> str:
@@ -152,7 +171,7 @@ def tried(part: Part, program: str) -> Tried:
         print(f"== {part.name}: skipped, since there is no {part.needs} on the path", flush=True)
         return Tried(part.name, Sum(0, 0), 0)
     begun = time.monotonic()
-    done = command.run(part.words, part.limit, TOP, {**os.environ, "DUMMYNET": program})
+    done = command.run(part.words, LONGEST, TOP, {**os.environ, "DUMMYNET": program})
     end = "" if done.text.endswith("\n") else "\n"
     print(f"== {part.name}, {time.monotonic() - begun:.0f} s\n{done.text}", end=end, flush=True)
     return Tried(part.name, sum_in(done.text, done.status), done.seconds)

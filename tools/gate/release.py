@@ -21,14 +21,16 @@ from tempfile import TemporaryDirectory
 from tally import Tally
 
 TOP = Path(__file__).resolve().parent.parent.parent
-sys.path.append(str(TOP / "tools" / "release"))
+sys.path += [str(TOP / "tools" / "release"), str(TOP / "python")]
 
+from hinge.simulated.kernel import kept  # noqa: E402
 from link_library import SHARED, STATIC  # noqa: E402
 
 RELEASE = TOP / "release"
 LIBRARY = "hingetulip_c"
 COMPILER = re.compile(rb"GCC: \([^)]*\) [\d.]+")
 HOSTS = ["hinge-link", "hinge-clock.so"]
+SUM = re.compile("[0-9a-f]{64}")
 
 
 def said(*words: str | Path) -> str:
@@ -73,13 +75,25 @@ def compare_library(tally: Tally, sum: str, anew: str) -> None:
             tally.note(f"bytes of {name}", "" if built == released else f"the release isn't what was built here; {anew}")
 
 
+def kernel(tally: Tally) -> list[str]:
+    """The files of the kernel of simulated time that the list of checksums has. tools/gate/simulated.py compares the kernel's bytes."""
+    whole = [it for it in kept(RELEASE / "kernels") if it.is_whole]
+    there = sorted((RELEASE / "kernels").glob("*"))
+    tally.equal("kernels of the present patch and first process", there, [it.folder for it in whole])
+    for it in whole:
+        tally.equal("the kernel's checksum", it.checksum, sha256(it.linux.read_bytes()).hexdigest())
+        unnamed = set(SUM.findall((it.folder / "source").read_text())) - set(SUM.findall((TOP / "NOTICE").read_text()))
+        tally.equal("what the kernel is built of, and NOTICE doesn't name", set(), unnamed)
+    return [str(path.relative_to(RELEASE)) for it in whole for path in (it.linux, it.init)]
+
+
 def main(program: str) -> int:
     tally = Tally()
     if not (RELEASE / "dummynet").is_file():
         tally.note("release", "there is none; tools/release/release makes it from what ./check or ./build has built")
         return tally.end()
     sources = said(TOP / "tools" / "release" / "program_sources")
-    names = ["dummynet", *(name for name in (STATIC, SHARED, *HOSTS) if (RELEASE / name).is_file())]
+    names = ["dummynet", *(name for name in (STATIC, SHARED, *HOSTS) if (RELEASE / name).is_file()), *kernel(tally)]
     anew = "tools/release/release makes it anew from what ./check or ./build has built"
     tally.note("sources", "" if (RELEASE / "sources").read_text() == sources else f"the release was built from other sources; {anew}")
     sums = "".join(f"{sha256((RELEASE / name).read_bytes()).hexdigest()}  {name}\n" for name in names)

@@ -1,11 +1,12 @@
 """The gate: `rt ci`, and then what is tried over what it has built.
 
-    python3 tools/gate/run.py [--built | --quick | --needs]
+    python3 tools/gate/run.py [--built | --quick | --needs] [--fresh]
 
 With --built the parts are tried over what an earlier `rt ci` built, without `rt ci`: that isn't the gate. With --quick
 the short ones are tried without `rt`, over the program of ./dummynet or the one that DUMMYNET names: an answer in some
 two minutes. Without `rt` on the path the short parts are tried, and the status is 2, since that isn't the gate. With
---needs it says which packages are missing here, and tries nothing.
+--needs it says which packages are missing here, and tries nothing. The seeds of random parts follow from the sources
+that they try, or are drawn by --fresh.
 
 Each part is a command whose last line is 'N passed, M failed'; one that ends otherwise counts as one that failed. The
 last line is the sum. A part that needs what this machine lacks passes nothing. The last line says how many were left
@@ -16,19 +17,17 @@ the program for the parts that aren't told.
 from __future__ import annotations
 
 import os
-import re
-import secrets
 import shutil
 import signal
 import subprocess
 import sys
 from concurrent.futures import ThreadPoolExecutor
 from pathlib import Path
-from tempfile import TemporaryDirectory
-from typing import Any
+from typing import Any, Optional
 
 import command
 import needs
+import seeds
 from machine import lanes
 from minutes import Minutes
 from parts import TALLY, TOP, Sum, Tried, edits_part, left_out, parts, sum_in, tried
@@ -36,12 +35,14 @@ from parts import TALLY, TOP, Sum, Tried, edits_part, left_out, parts, sum_in, t
 MADE = TOP / "crates" / "dummynet" / "out" / "dummynet"
 NOT_THE_GATE = 2
 MISTYPED = 2
-HELP = """usage: ./check [--quick | --built | --needs | --help]
+HELP = """usage: ./check [--quick | --built | --needs | --help] [--fresh]
 
 ./check          the gate: proves all crates, tries the edits, runs the tests and the programs; 40 to 60 minutes
 ./check --quick  what needs no prover, over the program of these sources; some two minutes
 ./check --built  what the gate tries behind `rt ci`, over what an earlier one built
-./check --needs  which of Debian's packages the parts lack here"""
+./check --needs  which of Debian's packages the parts lack here
+
+With --fresh random parts have a new seed, in the place of the one that follows from the sources."""
 MINUTES = TOP / "built" / "minutes"
 
 
@@ -89,12 +90,11 @@ def quick_program() -> Path:
     return Path(os.environ.get("DUMMYNET") or (released if is_released else built)).absolute()
 
 
-def tried_over(program: Path, is_quick: bool) -> tuple[list[Tried], str]:
+def tried_over(program: Path, is_quick: bool, fresh: Optional[int]) -> tuple[list[Tried], str]:
     """Tries the parts over a program, and says which this machine lacks something for."""
-    seed = secrets.randbelow(2**32)
-    print(f"== parts over {program}, random ones by seed {seed}", flush=True)
-    with TemporaryDirectory() as cases, ThreadPoolExecutor(len(os.sched_getaffinity(0))) as pool:
-        wanted = [part for part in parts(cases, seed, str(program)) if not (is_quick and part.is_long)]
+    print(f"== parts over {program}, random ones by {'seeds of the sources' if fresh is None else f'seed {fresh}'}", flush=True)
+    with ThreadPoolExecutor(len(os.sched_getaffinity(0))) as pool:
+        wanted = [part for part in parts(fresh, str(program)) if not (is_quick and part.is_long)]
         try:
             return list(pool.map(lambda part: tried(part, str(program)), wanted)), left_out(wanted)
         except KeyboardInterrupt:
@@ -111,14 +111,14 @@ def tell_minutes(minutes: Minutes, parts: list[Tried]) -> None:
     print(f"== where the minutes went, also in {MINUTES.relative_to(TOP)}\n{table}", end="", flush=True)
 
 
-def tried_and_told(words: list[str], is_quick: bool) -> tuple[list[Sum], str]:
+def tried_and_told(words: list[str], is_quick: bool, fresh: Optional[int]) -> tuple[list[Sum], str]:
     """Tries all that these words ask for. What was left out comes beside the sums."""
     minutes, done, note = Minutes(), list[Tried](), ""
     sums = [] if words or is_quick else [proved()]
     program = quick_program() if is_quick else MADE
     if program.exists():
         done += [] if is_quick else [tried(edits_part(), str(program))]
-        others, note = tried_over(program, is_quick)
+        others, note = tried_over(program, is_quick, fresh)
         done += others
     else:
         print("no program of these sources is built, so nothing more is tried: ./build makes one")
@@ -128,6 +128,8 @@ def tried_and_told(words: list[str], is_quick: bool) -> tuple[list[Sum], str]:
 
 
 def main(words: list[str]) -> int:
+    fresh = seeds.fresh() if "--fresh" in words else None
+    words = [word for word in words if word != "--fresh"]
     if words not in ([], ["--built"], ["--quick"], ["--needs"]):
         is_asked = words in (["--help"], ["-h"])
         print(HELP, file=sys.stdout if is_asked else sys.stderr)
@@ -137,7 +139,7 @@ def main(words: list[str]) -> int:
     # A shell that starts this in the background has ^C ignored, and so would all programs that the tests interrupt.
     signal.signal(signal.SIGINT, signal.default_int_handler)
     lacks_prover = not words and shutil.which("rt") is None
-    sums, note = tried_and_told(words, lacks_prover or words == ["--quick"])
+    sums, note = tried_and_told(words, lacks_prover or words == ["--quick"], fresh)
     if lacks_prover:
         note += "; this isn't the gate: no proof, edit or test was tried, since there is no rt on the path"
     failed = sum(one.failed for one in sums)

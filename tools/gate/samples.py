@@ -1,5 +1,5 @@
 """The samples of the READMEs, each of which is code of a test or of the program that rt has proved and run, the counts of definitions
-that docs/TRUST.md and README.md have, and marks that a merge left in a page.
+that docs/TRUST.md and README.md have, links that lead nowhere, and marks that a merge left in a page.
 
     python3 tools/gate/samples.py
 
@@ -23,8 +23,9 @@ REGION = re.compile(r"^ *// In the README (of .*?):\n(.*?)^ *// Up to here\.$", 
 PLACE = re.compile(r"of (\w+), (\d+)")
 SAMPLE = re.compile(r"^```rust\n(.*?)^```$", re.M | re.S)
 USE = re.compile(r"^use (\w+)::(?:\{(.*?)\}|(\w+));\n", re.M | re.S)
-PAGES = ("*.md", "docs/*.md", "crates/*/*.md", "python/**/*.md", "rust/**/*.md", "tools/**/*.md", "hosts/**/*.md")
+PAGES = ("*.md", "docs/**/*.md", "crates/*/*.md", "python/**/*.md", "rust/**/*.md", "tools/**/*.md", "hosts/**/*.md")
 MARK = re.compile(r"^(?:<{7}|>{7}) ", re.M)
+LINK = re.compile(r"\]\((?!http)([^)\s#]*)#?([^)\s]*)\)")
 # Libraries have a sample each, and so has a crate of tests.
 WITH_SAMPLES = ("dn_", "test_shaper")
 # Samples that are on the page alone. That of dn_laws is the contract of a law.
@@ -72,6 +73,25 @@ def counted(tally: Tally) -> None:
     tally.note("README.md", "" if told in readme and f"and {service} of the service" in readme else f"isn't {told} and {service} of the service")
 
 
+def anchors(page: Path) -> set[str]:
+    """The places of a page to which a link can lead, by its headings."""
+    headings = re.findall(r"^#+ (.*)$", page.read_text(encoding="utf-8"), re.M)
+    plain = (re.sub(r"\[([^]]*)\]\([^)]*\)", r"\1", heading).replace("`", "").strip().lower() for heading in headings)
+    return {re.sub(r"[^\w\- ]", "", heading).replace(" ", "-") for heading in plain}
+
+
+def linked(tally: Tally) -> None:
+    """Each link of a page leads to a file, and to a heading where it names one."""
+    for page in sorted(path for pattern in PAGES for path in TOP.glob(pattern)):
+        text = re.sub(r"```.*?```", "", page.read_text(encoding="utf-8"), flags=re.S)
+        for name, place in LINK.findall(text):
+            target = page.parent / name if name else page
+            is_stale = not target.exists() or place and target.suffix == ".md" and place not in anchors(target)
+            if is_stale:
+                tally.note(f"{page.relative_to(TOP)}: {name}#{place}", "leads nowhere")
+        tally.note(f"links of {page.relative_to(TOP)}", "")
+
+
 def merged(tally: Tally) -> None:
     """No page has the marks of a merge that wasn't ended."""
     for page in sorted(path for pattern in PAGES for path in TOP.glob(pattern)):
@@ -81,6 +101,7 @@ def merged(tally: Tally) -> None:
 def main() -> int:
     tally = Tally()
     counted(tally)
+    linked(tally)
     merged(tally)
     sources = in_sources()
     for crate in sorted(path.parent.name for path in TOP.glob("crates/*/README.md")):

@@ -3,7 +3,7 @@
     python3 tools/gate/senders.py PROGRAM
 
 The program of crates/many_senders makes 10^5 calls and then 10^6. After each run PROGRAM audits the file, and the entries of each
-caller are counted. The ten times longer run may have a few MiB more in memory at most. The functions that docs/THREADS.md shows first
+caller are counted. The ten times longer run may have a few MiB more in memory at most. The functions that docs/EMBEDDING.md shows first
 are the program's.
 """
 
@@ -71,15 +71,15 @@ def run(tally: Tally, program: str, calls: int, folder: str) -> float:
 
 
 def missing() -> list[str]:
-    """The functions of the first example in docs/THREADS.md that aren't in the program, by their first lines."""
+    """The functions of the first example in docs/EMBEDDING.md that aren't in the program, by their first lines."""
     sources = "\n\n".join(path.read_text() for path in CRATE.glob("src/*.rt"))
-    block = (TOP / "docs" / "THREADS.md").read_text().split("```rust\n")[1].split("```")[0]
+    block = (TOP / "docs" / "EMBEDDING.md").read_text().split("```rust\n")[1].split("```")[0]
     return [shown.splitlines()[0] for shown in block.strip().split("\n\n") if f"\n\n{shown}\n" not in sources]
 
 
 def main(program: str) -> int:
     tally = Tally()
-    tally.equal("the first example in docs/THREADS.md", [], missing())
+    tally.equal("the first example in docs/EMBEDDING.md", [], missing())
     if not SENDERS.exists():
         tally.note("the program", f"{SENDERS} isn't built")
         return tally.end()

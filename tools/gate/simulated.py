@@ -1,32 +1,74 @@
-"""Programs in simulated time: their kernel, built where it isn't yet, and the tests of `hinge run --simulated`.
+"""Programs in simulated time: the released kernel, built anew, and the tests of `hinge run --simulated`.
 
     python3 tools/gate/simulated.py PROGRAM
 
-The kernel is built from the source package of Linux, in some 9 minutes of processor time, and kept for the next time. The host in C is
-built anew from the present sources. The last line is that of the tests.
+Where the source package of Linux is, the kernel is built from it, in some 9 minutes of processor time, once for its recipe: it is kept in what
+`rt ci` keeps between runs, or else in this user's cache. It is compared with the released one where both are of the same source and compilers.
+The host in C is built anew from the present sources.
 """
 
 from __future__ import annotations
 
 import os
+import shutil
 import subprocess
 import sys
 from pathlib import Path
 from tempfile import TemporaryDirectory
 
+import pytests
+from tally import Tally
+
 TOP = Path(__file__).resolve().parent.parent.parent
+sys.path[:0] = [str(TOP / "tools"), str(TOP / "python")]
+
+from edits.kept import folder  # noqa: E402
+from hinge.command import MISSING  # noqa: E402
+from hinge.simulated.build import sha256_of  # noqa: E402
+from hinge.simulated.kernel import Kernel, cache, kept  # noqa: E402
+
+
+def keep_beside() -> None:
+    """Has a user without kernels of their own keep them beside what `rt ci` keeps."""
+    place = folder() / "kernels" if shutil.which("rt") else cache()
+    if place != cache() and not cache().exists():
+        place.mkdir(parents=True, exist_ok=True)
+        cache().parent.mkdir(parents=True, exist_ok=True)
+        cache().symlink_to(place)
+
+
+def compare(tally: Tally, built: Kernel, released: Kernel) -> None:
+    """The kernel and its first process are the same bytes by the same source and compilers."""
+    sources = [(kernel.folder / "source").read_text() for kernel in (built, released)]
+    if sources[0] != sources[1]:
+        print(f"the released kernel was built of another source, so its bytes aren't compared:\n{sources[0]}\n{sources[1]}")
+        return
+    for one, other in ((built.linux, released.linux), (built.init, released.init)):
+        tally.equal(f"{one.name} of the release", sha256_of(one), sha256_of(other))
+
+
+def build(tally: Tally) -> None:
+    done = subprocess.run([TOP / "hinge", "kernel"], capture_output=True, text=True)
+    if done.returncode == MISSING:
+        print(f"the bytes of the released kernel: skipped: {done.stderr}", end="", flush=True)
+        return
+    print(done.stderr, end="", flush=True)
+    tally.equal("hinge kernel", 0, done.returncode)
+    kernels = [next(kept(place), None) for place in (cache(), TOP / "release" / "kernels")]
+    tally.note("a kernel of the present patch", "" if all(kernels) else "the release has none: tools/release/release puts it there")
+    if all(kernels):
+        compare(tally, *(kernel for kernel in kernels if kernel))
 
 
 def main(program: str) -> int:
-    built = subprocess.run([TOP / "hinge", "kernel"], capture_output=True, text=True)
-    print(built.stderr, end="", flush=True)
-    if built.returncode:
-        print("0 passed, 1 failed")
-        return 1
-    with TemporaryDirectory() as folder:
-        subprocess.run([TOP / "tools" / "release" / "hosts", folder], check=True, stdout=subprocess.DEVNULL)
-        env = {**os.environ, "DUMMYNET": program, "HINGE_LINK": f"{folder}/hinge-link"}
-        return subprocess.run([sys.executable, TOP / "python" / "tests" / "simulated"], env=env).returncode
+    keep_beside()
+    tally = Tally()
+    build(tally)
+    with TemporaryDirectory() as place:
+        subprocess.run([TOP / "tools" / "release" / "hosts", place], check=True, stdout=subprocess.DEVNULL)
+        env = {**os.environ, "DUMMYNET": program, "HINGE_LINK": f"{place}/hinge-link"}
+        pytests.count(tally, ["tests/simulated"], env, is_alone=True)
+    return tally.end()
 
 
 if __name__ == "__main__":

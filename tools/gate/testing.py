@@ -1,4 +1,4 @@
-"""The examples of docs/TESTING.md, as a team runs them: pytest over examples/tests, by `hinge with-clock`, twice with one seed.
+"""The examples of docs/TESTING.md, as a team runs them: pytest over examples/tests, with the clock of `hinge kernel --clock`, twice with one seed.
 
     python3 tools/gate/testing.py
 
@@ -55,10 +55,10 @@ class Pytest:
 
     def run(self, folder: str, *files: Path) -> str:
         """What pytest prints."""
-        clock = [self.interpreter, TOP / "python" / "hinge" / "__main__.py", "with-clock"] if "HINGE_CLOCK" in self.env else []
         options = ["-v", "-rs", "-p", "hinge.pytest_plugin", "-p", "no:cacheprovider", f"--basetemp={self.place / folder}"]
-        words = [*clock, self.interpreter, "-m", "pytest", *options, *files]
-        return subprocess.run(list(map(str, words)), cwd=self.place, env=self.env, stdout=subprocess.PIPE, stderr=subprocess.STDOUT, text=True).stdout
+        words = [self.interpreter, "-m", "pytest", *options, *files]
+        env = {**self.env, "LD_PRELOAD": self.env["HINGE_CLOCK"]} if "HINGE_CLOCK" in self.env else self.env
+        return subprocess.run(list(map(str, words)), cwd=self.place, env=env, stdout=subprocess.PIPE, stderr=subprocess.STDOUT, text=True).stdout
 
     def no_rooms(self) -> str:
         """Why this machine or this user can't have namespaces, or nothing."""

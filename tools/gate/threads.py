@@ -1,10 +1,10 @@
-"""A replay or an audit by 1 to 8 threads, and without the option, writes what one by one thread does: over
-the cases of the independent reference, and over long packet files and histories, also with lines that only csv reads and with faults.
+"""A replay by 1, 2, 3 and 8 threads, and without the option, writes what one by one thread does: over the cases of the independent
+reference, and over long packet files, also with rows that only csv reads and with faults.
 
     python3 tools/gate/threads.py PROGRAM SEED COUNT
 
-COUNT is that of the random cases of tools/reference/program_cases.py. The report, the history, the verdict, the fault and the status
-are compared.
+COUNT is that of the random cases of tools/reference/program_cases.py. The report, the history, the fault and the status are
+compared.
 """
 
 from __future__ import annotations
@@ -13,20 +13,15 @@ import os
 import subprocess
 import sys
 from collections.abc import Iterator
-from concurrent.futures import ThreadPoolExecutor
 from pathlib import Path
 from random import Random
 from tempfile import TemporaryDirectory
 from typing import NamedTuple
 
+from cases import Case, cases, first_difference, run
 from tally import Tally
 
-TOOLS = Path(__file__).resolve().parent.parent
-sys.path.insert(0, str(TOOLS / "reference"))
-
-from run_cases import faults_of, first_difference  # noqa: E402
-
-THREADS = range(1, 9)
+THREADS = (1, 2, 3, 8)
 SOME_THREADS = (2, 5)
 USAGE = 2
 HEADER = "moment,target,number,src,dst,proto,sport,dport,len,word\n"
@@ -45,13 +40,6 @@ ROWS = 75_000  # 5 MB: some steps for two threads
 
 class Packets(NamedTuple):
     """A packet file, and what is unlike plain rows in it."""
-
-    name: str
-    text: str
-
-
-class History(NamedTuple):
-    """A history, and what is unlike the history that a program wrote in it."""
 
     name: str
     text: str
@@ -115,105 +103,14 @@ def try_long(tally: Tally, program: str, seed: str, name: str, config: str) -> N
                     tally.note(" ".join([name, packets.name, *words, *option]), *wrong)
 
 
-def replayed(program: str, random: Random) -> str:
-    """The history of a replay. Its deliveries are one list at its end."""
-    with TemporaryDirectory() as folder:
-        place = Path(folder)
-        (place / "config").write_text(CONFIG)
-        (place / "packets").write_text(with_others(rows(random), "", []))
-        words = [program, "replay", "config", "packets", "--history", "history"]
-        subprocess.run(words, cwd=place, stdout=subprocess.DEVNULL, check=True)
-        return (place / "history").read_text()
-
-
-def session(program: str, history: str) -> str:
-    """The transcript of a live session with the calls of a history, and with Collects, Shows and remarks between them."""
-    asked = []
-    for i, call in enumerate(line for line in history.split("\n") if line.startswith("c,")):
-        asked.append(call)
-        asked += [f"c,0,collect,{20_000 * i}"] if i % 50 == 0 else []
-        asked += ["c,0,show", "next"] if i % 5_000 == 0 else []
-    done = subprocess.run([program, "live"], input="\n".join(asked) + "\n", stdout=subprocess.PIPE, text=True, check=True)
-    return done.stdout
-
-
-def with_line(text: str, place: float, line: str) -> str:
-    """The text with a line before the line at this share of it."""
-    at = text.index("\n", int(len(text) * place)) + 1
-    return text[:at] + line + text[at:]
-
-
-def with_other_reply(text: str, place: float) -> str:
-    """The text with another number in the first reply to a packet behind this share of it."""
-    at = text.index("r,queued,", int(len(text) * place)) + len("r,queued,")
-    return text[:at] + "1" + text[at:]
-
-
-def long_histories(program: str, random: Random) -> Iterator[History]:
-    history = replayed(program, random)
-    for name, text in (("a replay's history", history), ("a session's transcript", session(program, history))):
-        late = random.uniform(0.4, 0.6)
-        early = random.uniform(0.1, 0.3)
-        quoted = text.index(",pipe,", int(len(text) * late))
-        yield History(name, text)
-        yield History(f"{name}, no line feed at the end", text[:-1])
-        yield History(f"{name} that is cut", text[:int(len(text) * late)])
-        yield History(f"{name}, a byte order mark", "\ufeff" + text)
-        yield History(f"{name}, carriage returns", text.replace("\n", "\r\n"))
-        yield History(f"{name}, quotes in a call", text[:quoted] + ',"pipe",' + text[quoted + 6:])
-        yield History(f"{name}, another reply", with_other_reply(text, late))
-        yield History(f"{name}, two other replies", with_other_reply(with_other_reply(text, late), early))
-        yield History(f"{name}, a bad record", with_line(text, late, "c,0,send\n"))
-        yield History(f"{name}, another reply and a bad record", with_line(with_other_reply(text, early), late, "bad\n"))
-        yield History(f"{name}, an empty line", with_line(text, late, "\n"))
-        yield History(f"{name}, a remark", with_line(text, late, "# a remark\n"))
-        yield History(f"{name}, a count of one more", text.replace("end,", "end,1"))
-
-
-def verdict(program: str, history: Path, option: list[str]) -> tuple[int, bytes, bytes]:
-    """The status of an audit, and what is written."""
-    done = subprocess.run([program, "audit", str(history), *option], capture_output=True)
-    return done.returncode, done.stdout, done.stderr
-
-
-def try_audits(tally: Tally, program: str, seed: str) -> None:
-    for history in long_histories(program, Random(seed)):
-        with TemporaryDirectory() as folder:
-            place = Path(folder, "history")
-            place.write_bytes(history.text.encode())
-            one = verdict(program, place, ["--threads", "1"])
-            for option in [[], *(["--threads", str(n)] for n in THREADS if n > 1)]:
-                many = verdict(program, place, option)
-                tally.note(" ".join([history.name, *option]), *([] if one == many else [f"want {one}, got {many}"]))
-
-
-def by_threads(folder: Path, name: str, n: int) -> str:
-    """A case that is another one with an option more, and its name."""
-    more = f"{name}-{n}-threads"
-    for part in folder.glob(f"{name}.*"):
-        (folder / f"{more}{part.suffix}").symlink_to(part)
-    args = folder / f"{more}.args"
-    args.unlink()
-    args.write_text((folder / f"{name}.args").read_text() + f"--threads\n{n}\n")
-    return more
-
-
-def takes_threads(folder: Path, name: str) -> bool:
-    """Whether a case replays two files by one caller, or audits, and its words are understood."""
-    words = (folder / f"{name}.args").read_text().split("\n")
-    return words[0] in ("replay", "audit") and "--callers" not in words and int((folder / f"{name}.status").read_text()) != USAGE
+def is_replay(case: Case) -> bool:
+    """Whether a case replays two files by one caller, and its words are understood."""
+    return case.words[:1] == ["replay"] and "--callers" not in case.words and case.wanted.status != USAGE
 
 
 def try_cases(tally: Tally, program: str, seed: str, count: str) -> None:
-    with TemporaryDirectory() as place:
-        folder = Path(place, "cases")
-        words = [sys.executable, str(TOOLS / "reference" / "program_cases.py"), seed, count, str(folder)]
-        subprocess.run(words, check=True, stdout=subprocess.DEVNULL)
-        names = [f.stem for f in sorted(folder.glob("*.args")) if takes_threads(folder, f.stem)]
-        cases = [by_threads(folder, name, n) for name in names for n in THREADS]
-        with ThreadPoolExecutor(max_workers=2) as pool:
-            for case, faults in zip(cases, pool.map(lambda case: faults_of([program], folder, case), cases)):
-                tally.note(case, *faults)
+    chosen = [case for case in cases(seed, int(count)) if is_replay(case)]
+    run(tally, [program], ((case, ["--threads", str(n)]) for case in chosen for n in THREADS))
 
 
 def main(program: str, seed: str, count: str) -> int:
@@ -222,7 +119,6 @@ def main(program: str, seed: str, count: str) -> int:
     try_cases(tally, os.path.abspath(program), seed, count)
     for name, config in (("five pipes", CONFIG), ("flows and queues", LINKS)):
         try_long(tally, os.path.abspath(program), seed, name, config)
-    try_audits(tally, os.path.abspath(program), seed)
     return tally.end()
 
 

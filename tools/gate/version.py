@@ -2,31 +2,21 @@
 
     python3 tools/gate/version.py PROGRAM
 
-These are the program, the C library and its header, the manual pages and what pkg-config, CMake and pip read where ./install has put
-them, the crate for cargo, and the newest release in CHANGELOG.md.
+These are the program, the header of the C library, the crate for cargo, `hinge`, CITATION.cff, and the newest release in CHANGELOG.md. installs.py
+looks at what ./install puts.
 """
 
 from __future__ import annotations
 
-import ctypes
 import re
 import subprocess
 import sys
 from pathlib import Path
-from tempfile import TemporaryDirectory
 
 from tally import Tally
 
 TOP = Path(__file__).resolve().parent.parent.parent
 VERSION = (TOP / "VERSION").read_text().strip()
-INSTALLED = {
-    "lib/pkgconfig/hingetulip.pc": r"^Version: (.*)$",
-    "lib/cmake/Hingetulip/HingetulipConfigVersion.cmake": r"^set\(PACKAGE_VERSION (.*)\)$",
-    "lib/python/hinge/VERSION": r"^(.*)$",
-    f"lib/python/hingetulip-{VERSION}.dist-info/METADATA": r"^Version: (.*)$",
-    **{f"share/man/{name}": r"^\.Os Hingetulip (.*)$" for name in ("man1/dummynet.1", "man1/hinge.1", "man3/hingetulip.3")},
-}
-
 
 def found(path: Path, pattern: str) -> str:
     """The first text of a file that a pattern has in brackets."""
@@ -47,25 +37,14 @@ def in_sources(tally: Tally, program: str) -> None:
     tally.equal("hingetulip.h", VERSION, spelled(int(header)) if header.isdigit() else header)
     tally.equal("the crate for cargo", VERSION, found(TOP / "rust" / "hingetulip" / "Cargo.toml", r'^version = "(.*)"$'))
     tally.equal("CHANGELOG.md", VERSION, found(TOP / "CHANGELOG.md", r"^## \[(\d.*?)\]"))
+    tally.equal("CITATION.cff", VERSION, found(TOP / "CITATION.cff", r"^version: (.*)$"))
     told = subprocess.run([sys.executable, TOP / "hinge", "--version"], capture_output=True, text=True).stdout
     tally.equal("hinge", f"hinge {VERSION}\n", told)
-
-
-def where_installed(tally: Tally, prefix: Path) -> None:
-    done = subprocess.run([TOP / "install", "--all", prefix], stdout=subprocess.PIPE, stderr=subprocess.STDOUT, text=True)
-    tally.note("./install --all", "" if done.returncode == 0 else done.stdout)
-    for name, pattern in INSTALLED.items():
-        tally.equal(name, VERSION, found(prefix / name, pattern))
-    library = prefix / "lib" / "libhingetulip.so.1"
-    number = ctypes.CDLL(str(library)).dn_version() if library.exists() else 0
-    tally.equal("the C library (crates/hingetulip_c/src/exports/lifetime.rt)", VERSION, spelled(number))
 
 
 def main(program: str) -> int:
     tally = Tally()
     in_sources(tally, program)
-    with TemporaryDirectory() as prefix:
-        where_installed(tally, Path(prefix))
     return tally.end()
 
 

@@ -1,4 +1,4 @@
-"""The scripts ./dummynet, ./build, tools/release/release and ./install in copies of the repository, and the words of ./check.
+"""The scripts ./dummynet, ./build and tools/release/release in copies of the repository, and the words of ./check.
 
     python3 tools/gate/wrapper.py PROGRAM
 
@@ -20,20 +20,9 @@ from tempfile import TemporaryDirectory
 from tally import Tally
 
 TOP = Path(__file__).resolve().parent.parent.parent
-SCRIPTS = ("dummynet", "build", "install", "hinge", "tools/release/program_sources", "tools/release/build_program.py",
-           "tools/release/link_library.py", "tools/release/library", "tools/release/release", "tools/release/dummynet-completion.bash",
-           "tools/release/hinge-completion.bash", "docs/dummynet.1", "docs/hinge.1", "docs/hingetulip.3",
-           "crates.txt", "HANDLES", "VERSION", "crates/hingetulip_c/include/hingetulip.h", "crates/hingetulip_c/include/hingetulip_service.h", "crates/hingetulip_c/hingetulip.pc.in",
-           "crates/hingetulip_c/hingetulip.tsan",
-           "crates/hingetulip_c/cmake/HingetulipConfig.cmake.in", "crates/hingetulip_c/cmake/HingetulipConfigVersion.cmake.in",
-           "examples/live/session.h", "python/hinge/__main__.py", "python/hingetulip/errors.py", "python/hingetulip_words/link.py", "LICENSE", "NOTICE")
-PROGRAM = ["bin/dummynet", "bin/hinge", "lib/python/hinge/VERSION", "lib/python/hinge/__main__.py", "lib/python/hingetulip_words/link.py", "share/bash-completion/completions/dummynet",
-           "share/bash-completion/completions/hinge", "share/doc/hingetulip/LICENSE", "share/doc/hingetulip/NOTICE", "share/hingetulip/installed", "share/hingetulip/live/session.h",
-           "share/man/man1/dummynet.1", "share/man/man1/hinge.1"]
-LIBRARY = ["include/hingetulip.h", "include/hingetulip_service.h", "lib/cmake/Hingetulip/HingetulipConfig.cmake", "lib/cmake/Hingetulip/HingetulipConfigVersion.cmake",
-           "lib/libhingetulip.a", "lib/libhingetulip.so", "lib/libhingetulip.so.1", "lib/pkgconfig/hingetulip.pc", "lib/python/hingetulip/errors.py", "lib/python/hingetulip_words/link.py",
-           "share/doc/hingetulip/LICENSE", "share/doc/hingetulip/NOTICE", "share/hingetulip/hingetulip.tsan", "share/hingetulip/installed",
-           "share/man/man3/hingetulip.3"]
+SCRIPTS = ("dummynet", "build", "tools/release/program_sources", "tools/release/build_program.py", "tools/release/link_library.py",
+           "tools/release/library", "tools/release/release", "crates.txt", "HANDLES", "VERSION",
+           "crates/hingetulip_c/include/hingetulip.h", "crates/hingetulip_c/include/hingetulip_service.h", "LICENSE", "NOTICE")
 PRETENDED = """#!/bin/sh
 crate=$(basename "$PWD")
 case $1 in
@@ -154,64 +143,30 @@ def stale(tally: Tally, copy: Copy) -> None:
     tally.equal("neither release nor program", (0, "built x\n"), (done.returncode, done.stdout))
 
 
-def released_and_installed(tally: Tally, copy: Copy) -> None:
-    """tools/release/release over what was built, and ./install."""
+def released(tally: Tally, copy: Copy) -> None:
+    """tools/release/release over what was built."""
     done = copy.run(script="tools/release/release")
     tally.equal("tools/release/release", 0, done.returncode)
     tally.equal("its sources", copy.sources(), (copy.top / "release" / "sources").read_text())
     done = subprocess.run(["sha256sum", "-c", "--quiet", "SHA256SUMS"], cwd=copy.top / "release", capture_output=True, text=True)
     tally.equal("its checksum", (0, ""), (done.returncode, done.stdout))
-    prefix = copy.top.parent / "prefix"
-    trees = []
-    for _ in range(2):
-        done = copy.run(str(prefix), script="install", has_rt=False)
-        trees.append({str(it.relative_to(prefix)): it.read_bytes() for it in prefix.rglob("*") if it.is_file()})
-        tally.equal("./install", 0, done.returncode)
-    tally.equal("./install twice", trees[0], trees[1])
-    tally.equal("what is installed", PROGRAM, sorted(trees[0]))
-    tally.equal("./install without a folder", 2, copy.run(script="install").returncode)
     copy.change("crates/dummynet/src/main.rt")
     done = copy.run(script="tools/release/release")
     tally.note("no release of what isn't built", "" if done.returncode == 1 and "isn't built" in done.stderr else f"got {done}")
 
 
 def the_library(tally: Tally, copy: Copy) -> None:
-    """./build --lib and ./install --lib, where there is a C compiler."""
+    """./build --lib, where there is a C compiler."""
     if shutil.which("cc") is None:
         print("the C library: skipped, since there is no cc on the path")
         return
     programs = copy.built()
-    prefix = copy.top.parent / "library"
-    done = copy.run("--lib", str(prefix), script="install", has_rt=False)
-    tally.equal("no toolchain, no library", 70, done.returncode)
     done = copy.run("--lib", script="build", fails="hingetulip_c")
     tally.equal("a failed build of the library", 70, done.returncode)
     done = copy.run("--lib", script="build")
     tally.note("./build --lib", "" if done.returncode == 0 else f"got {done}")
     tally.equal("./build --lib leaves the programs", programs, copy.built())
-    done = copy.run("--lib", str(prefix), script="install", has_rt=False)
-    tally.note("./install --lib", "" if done.returncode == 0 else f"got {done}")
-    tally.equal("what is installed of the library", LIBRARY, installed(prefix))
-    uninstalled(tally, copy, prefix)
     tally.equal("./build of something else", 2, copy.run("--all", script="build").returncode)
-
-
-def installed(prefix: Path) -> list[str]:
-    return sorted(str(it.relative_to(prefix)) for it in prefix.rglob("*") if it.is_file())
-
-
-def uninstalled(tally: Tally, copy: Copy, prefix: Path) -> None:
-    """./install --uninstall takes away what was put there and its byte code, and leaves a file of the user's own."""
-    (prefix / "lib" / "own").write_text("")
-    kept = prefix / "lib" / "python" / "hingetulip" / "__pycache__"
-    kept.mkdir()
-    for version in ("39", "311"):
-        (kept / f"errors.cpython-{version}.pyc").write_text("")
-    done = copy.run("--uninstall", str(prefix), script="install", has_rt=False)
-    tally.equal("./install --uninstall", (0, ["lib/own"]), (done.returncode, installed(prefix)))
-    tally.equal("folders that are left", ["lib"], sorted(str(it.relative_to(prefix)) for it in prefix.rglob("*") if it.is_dir()))
-    done = copy.run("--uninstall", str(prefix), script="install", has_rt=False)
-    tally.note("nothing to uninstall", "" if done.returncode == 1 and "isn't there" in done.stderr else f"got {done}")
 
 
 def through_the_wrapper(tally: Tally, program: str) -> None:
@@ -245,7 +200,7 @@ def main(program: str) -> int:
         copy = Copy(place)
         which_program(tally, copy)
         stale(tally, copy)
-        released_and_installed(tally, copy)
+        released(tally, copy)
         the_library(tally, copy)
     through_the_wrapper(tally, os.path.abspath(program))
     return tally.end()

@@ -1,9 +1,4 @@
-"""Writes a configuration and a packet file whose flows all have one hash where the flow table's hash has the known key 0.
-
-    python3 tools/hostile/known_key.py FLOWS FOLDER
-
-Writes FOLDER/chosen.config and FOLDER/chosen.packets: a pipe with `mask all`, and a packet for each of FLOWS flows (at most
-100,000), which differ in their ports and addresses.
+"""Keys of flows that have one hash where the flow table's hash has the known key 0.
 
 The table's hash adds a secret factor times each half of a key's words, modulo 2^64. Whoever knows the factors finds short
 differences of source, destination and ports that add nothing: they are the lattice of x, y, z with a x + b y + c z = 0, and each
@@ -14,19 +9,10 @@ count squared.
 
 from __future__ import annotations
 
-import argparse
 import itertools
 import sys
 from fractions import Fraction
-from pathlib import Path
 
-sys.path.insert(0, str(Path(__file__).parent.parent / "oracle"))
-
-from files import PACKET_HEADER  # noqa: E402
-from history import address_text  # noqa: E402
-
-CONFIG = "pipe 1 config bw 8Gbit/s mask all\n"
-PROTOCOL = 17
 WORD = 1 << 64
 HALF = 1 << 32
 EACH_WAY = 30  # of each short vector so many are added or taken away
@@ -98,38 +84,13 @@ def differences() -> list[Vector]:
     return reduced([(1, 0, -source * inverse % WORD), (0, 1, -destination * inverse % WORD), (0, 0, WORD)])
 
 
-def row(number: int, key: Vector) -> str:
-    source, destination, ports = key
-    both = f"{address_text(source)},{address_text(destination)}"
-    return f"{number},pipe,1,{both},{PROTOCOL},{ports >> 16},{ports & 0xFFFF},40,0\n"
-
-
 def colliding(flows: int) -> list[Vector]:
-    short = differences()
-    keys = []
+    """So many keys, at most 100,000, each a source, a destination and the ports."""
+    short, keys = differences(), list[Vector]()
     for times in itertools.product(range(-EACH_WAY, EACH_WAY), repeat=3):
         key = tuple(HALF // 2 + sum(t * v[place] for t, v in zip(times, short)) for place in range(3))
         if all(0 <= part < HALF for part in key):
             keys.append(key)
         if len(keys) == flows:
-            break
-    return keys
-
-
-def main() -> None:
-    parser = argparse.ArgumentParser()
-    parser.add_argument("flows", type=int)
-    parser.add_argument("folder", type=Path)
-    a = parser.parse_args()
-    a.folder.mkdir(parents=True, exist_ok=True)
-    (a.folder / "chosen.config").write_text(CONFIG)
-    keys = colliding(a.flows)
-    if len(keys) < a.flows:
-        sys.exit(f"only {len(keys)} keys collide")
-    with open(a.folder / "chosen.packets", "w", encoding="ascii") as packets:
-        packets.write(f"{PACKET_HEADER}\n")
-        packets.writelines(row(number, key) for number, key in enumerate(keys))
-
-
-if __name__ == "__main__":
-    main()
+            return keys
+    sys.exit(f"only {len(keys)} keys collide")

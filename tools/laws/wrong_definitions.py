@@ -3,6 +3,7 @@
 
     tools/laws/wrong_definitions.py              prints a table in Markdown: a law, and the wrong definitions that it refuses
     tools/laws/wrong_definitions.py 3 17         tries these rows alone
+    tools/laws/wrong_definitions.py --determined 3 17     asks that laws_hold refuses them: the laws that determine the replies
     tools/laws/wrong_definitions.py --list       prints the rows and tries nothing
     tools/laws/wrong_definitions.py --table      prints the table as it is if each row is refused, and tries nothing
 
@@ -378,7 +379,7 @@ def add_the_laws(crate):
             with open(os.path.join(crate, path), 'a' if name == 'Lib.antt' else 'w') as file:
                 file.write(text)
     with open(os.path.join(crate, 'src', 'lib.rt'), 'a') as file:
-        file.write('pub mod laws;\npub mod merging;\n')
+        file.write('pub mod determined;\npub mod laws;\npub mod merging;\n')
 
 
 def set_aside(proofs):
@@ -411,8 +412,8 @@ def check(crate, function):
     """The functions that are not proved, the first lemma that was refused, and whether the check was finished."""
     command = os.environ.get('RT', 'rt').split() + ['check', '--only', function]
     told = subprocess.run(command, cwd=crate, stdout=subprocess.PIPE, stderr=subprocess.STDOUT, text=True).stdout
-    unproved = re.findall(r'^fn dn_types::laws::(\w+): (?!proved)', told, flags=re.M)
-    proved = re.findall(r'^fn dn_types::laws::(\w+): proved', told, flags=re.M)
+    unproved = re.findall(r'^fn dn_types::(?:laws|determined)::(\w+): (?!proved)', told, flags=re.M)
+    proved = re.findall(r'^fn dn_types::(?:laws|determined)::(\w+): proved', told, flags=re.M)
     refused = re.search(r'proofs/(\w+)\.antt:\d+:\d+: error: `([^`]+)`', told)
     return set(unproved), refused.group(1) + '.' + refused.group(2) if refused else '', len(unproved) + len(proved) > 0
 
@@ -485,10 +486,12 @@ def main(arguments):
     if '--table' in arguments:
         print_table(ROWS)
         return 0
-    rows = [ROWS[int(argument) - 1] for argument in arguments] or ROWS
+    rows = [ROWS[int(argument) - 1] for argument in arguments if argument != '--determined'] or ROWS
+    if '--determined' in arguments:
+        rows = [row[:4] + ('laws_hold', '') for row in rows]
     with tempfile.TemporaryDirectory() as folder:
         crate = copy_of_the_crate(folder)
-        unproved, _, finished = check(crate, 'laws')
+        unproved, _, finished = check(crate, 'laws_hold' if '--determined' in arguments else 'laws')
         if unproved or not finished:
             print('the laws are not proved of the right definitions:', ', '.join(sorted(unproved)))
             return 1

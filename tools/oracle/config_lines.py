@@ -1,4 +1,4 @@
-"""Configuration lines: what docs/CONFIG.md says of a line."""
+"""Configuration lines: what docs/LINKS.md says of a line."""
 
 from __future__ import annotations
 

@@ -1,19 +1,19 @@
-"""A second, fast program for the same replies: running clock and counts, two heaps, an epoch per busy period.
+"""The replies of dummynet, from the rules in words: running clock and counts, two heaps, an epoch per busy period.
 
-It shares with definitions.py only the plain values (model.py). It serves two ends: to reach the same answers by
-another way, and to carry the wrong bodies of mutants.py.
+The wrong bodies of mutants.py are its text with a slip each.
 """
 
 from __future__ import annotations
 
 import heapq
 from collections import deque
+from collections.abc import Iterable
 from dataclasses import dataclass, field
 from typing import Optional, Union
 
 from model import (
     ORDERED, Advance, Advanced, Call, Collect, Command, Configure, Configured, DeletePipe, Deleted,
-    Delivered, Delivery, FlowKey, FlowStatus, Full, Lost, NoSuchPipe, NoSuchQueue, NoTarget, Pipe, PipeHasQueues,
+    Delivered, Delivery, Entry, FlowKey, FlowStatus, Full, Lost, NoSuchPipe, NoSuchQueue, NoTarget, Pipe, PipeHasQueues,
     Queue, Queued, Reply, Show, Status, Submit, masked,
 )
 
@@ -301,3 +301,14 @@ class FastDummynet:
             self.start(link, self.clock)
         self.list_link(link)
         return Queued(self.clock, flow.number, w.packet)
+
+
+def run(calls: Iterable[Call], rule: str = ORDERED) -> list[Reply]:
+    net = FastDummynet(rule)
+    return [net.apply(call) for call in calls]
+
+
+def first_difference(entries: list[Entry], rule: str) -> Optional[int]:
+    """The least place of an entry whose reply isn't that of sequential dummynet, or None."""
+    net = FastDummynet(rule)
+    return next((place for place, entry in enumerate(entries) if net.apply(entry.call) != entry.reply), None)

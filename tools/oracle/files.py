@@ -1,4 +1,4 @@
-"""What docs/FORMATS.md says of configurations, joined inputs, packet files, reports and faults."""
+"""What docs/FILES.md says of configurations, joined inputs, packet files, reports and faults."""
 
 from __future__ import annotations
 

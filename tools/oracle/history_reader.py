@@ -1,4 +1,4 @@
-"""Reading of history files, of versions 1 to 3, and of transcripts of live sessions, as docs/HISTORIES.md says, and their audit."""
+"""Reading of history files, of versions 1 to 3, and of transcripts of live sessions, as docs/FILES.md says, and their audit."""
 
 from __future__ import annotations
 
@@ -6,7 +6,7 @@ from typing import Callable, Optional, TypeVar
 
 from config_lines import LineFault, parse_line
 from csv_bytes import read_records
-from definitions import first_difference
+from fast import first_difference
 from files import ReplayFault, address_of, kind_of, number_of, text_of
 from history import BARE_REPLIES, NUMBERED_REPLIES
 from model import (

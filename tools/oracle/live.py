@@ -1,4 +1,4 @@
-"""A live session, as docs/SESSIONS.md says: what is written for an input, and the program's status."""
+"""A live session, as docs/FILES.md says: what is written for an input, and the program's status."""
 
 from __future__ import annotations
 

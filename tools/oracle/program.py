@@ -1,4 +1,4 @@
-"""The program `dummynet` by the definitions, slow on purpose.
+"""The program `dummynet` by the independent reference.
 
     python3 tools/oracle/program.py < JOINED
     python3 tools/oracle/program.py replay CONFIG PACKETS [--callers N] [--history FILE]
@@ -12,14 +12,13 @@ from dataclasses import dataclass, field
 from pathlib import Path
 from typing import BinaryIO, Callable, Optional
 
-from definitions import Dummynet
+from fast import FastDummynet
 from files import LIMITS, ReplayFault, read_line, read_packets, refused_line, report, split_joined, split_lines
 from history import history_text
 from history_reader import audit_line
-from model import MAX_CALLERS, MAX_MOMENT, ORDERED, Collect, Configure, Configured, Deleted, Entry, NoTarget, Submit
+from model import MAX_CALLERS, MAX_MOMENT, ORDERED, Collect, Configure, Configured, Deleted, Entry, Submit
 
 USAGE = 2
-UNTARGETED = b"no row has a target: nothing went through a link\n"
 
 
 @dataclass(frozen=True)
@@ -50,7 +49,7 @@ def open_for_reading(path: Path, source: str) -> BinaryIO:
         raise ReplayFault(f"cannot read {source}", 6) from None
 
 
-def configured(net: Dummynet, config: bytes) -> list[Entry]:
+def configured(net: FastDummynet, config: bytes) -> list[Entry]:
     """The lines one by one: text, grammar, application."""
     entries: list[Entry] = []
     for number, line in enumerate(split_lines(config), 1):
@@ -64,9 +63,9 @@ def configured(net: Dummynet, config: bytes) -> list[Entry]:
     return entries
 
 
-def replay_over(config: bytes, packets: Callable[[], bytes], new: Callable[[], Dummynet] = Dummynet) -> list[Entry]:
+def replay_over(config: bytes, packets: Callable[[], bytes]) -> list[Entry]:
     """The history of a replay. The packets are asked for where the configuration has no fault."""
-    net = new()
+    net = FastDummynet()
     entries = configured(net, config)
     calls = [Submit(row.target, row.packet, row.moment) for row in read_packets(packets())]
     return entries + [Entry(0, call, net.apply(call)) for call in [*calls, Collect(MAX_MOMENT)]]
@@ -86,14 +85,12 @@ def replay_files(config: Path, packets: Path) -> list[Entry]:
 def reported(history: list[Entry], folder: Path, file: Optional[str]) -> Outcome:
     """The report, and then the file of the history, where one is asked for. Its folder may not be there."""
     text = report(history).encode()
-    replies = [e.reply for e in history if isinstance(e.call, Submit)]
-    told = UNTARGETED if replies and all(isinstance(reply, NoTarget) for reply in replies) else b""
     if file is None:
-        return Outcome(text, told, 0)
+        return Outcome(text, b"", 0)
     if not (folder / file).parent.is_dir():
         return Outcome(text, b"cannot write history\n", 6)
     calls = [(e.caller, e.call) for e in history]
-    return Outcome(text, told, 0, {file: history_text(ORDERED, calls, [e.reply for e in history]).encode()})
+    return Outcome(text, b"", 0, {file: history_text(ORDERED, calls, [e.reply for e in history]).encode()})
 
 
 def audited(path: Path) -> Outcome:

@@ -18,7 +18,7 @@ from tempfile import TemporaryDirectory
 
 sys.path.insert(0, str(Path(__file__).parent.parent / "oracle"))
 
-from definitions import first_difference  # noqa: E402
+from fast import first_difference  # noqa: E402
 from files import read_line, read_packets, report, split_lines  # noqa: E402
 from history_reader import HistoryReader  # noqa: E402
 from model import MAX_CALLERS, MAX_MOMENT, ORDERED, Collect, Configure, Submit  # noqa: E402

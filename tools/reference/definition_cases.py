@@ -3,7 +3,7 @@
     python3 tools/reference/definition_cases.py CRATE COUNT CALLS SEED..      (those kept: crates/dn_types 40 30 9 14 41 88)
 
 The lists go into files SeedN.antt in CRATE/proofs/Cases, which CRATE/proofs/Cases.antt names. Each
-theorem says that the definitions answer the calls as tools/oracle/definitions.py does, and is shown by `refl`. COUNT lists
+theorem says that the definitions answer the calls as tools/oracle/fast.py does, and is shown by `refl`. COUNT lists
 of at most CALLS calls are taken over all seeds. Lists that refuse a wrong body of tools/oracle/mutants.py which no list
 before them refuses are taken first, so that a slip in a definition which such a body makes is shown by a theorem. The
 last line names the wrong bodies that no list refuses.
@@ -17,10 +17,9 @@ from random import Random
 
 sys.path.insert(0, str(Path(__file__).parent.parent / "oracle"))
 
-import mutants  # noqa: E402
-from definitions import run  # noqa: E402
-from fast import FastDummynet  # noqa: E402
+from fast import run  # noqa: E402
 from model import FREE, NO_BITS, ORDERED  # noqa: E402
+from mutants import bodies, refuses  # noqa: E402
 from scenarios import STYLES, random_calls  # noqa: E402
 
 DECLARED = "Rattle.dn_types.specs.declared"
@@ -105,26 +104,9 @@ def theorem(name: str, rule: str, calls) -> str:
     return f"{name} : Answers {word} (\n" + "".join(row.rstrip("\n") + " ∷\n" for row in rows) + f"    [])\n{name} = refl\n"
 
 
-def refuses(body, rule, calls) -> bool:
-    right, wrong = FastDummynet(rule), body(rule)
-    for c in calls:
-        want = right.apply(c)
-        try:
-            if wrong.apply(c) != want:
-                return True
-        except Exception:  # a wrong body may break down
-            return True
-    return False
-
-
-def wrong_bodies() -> dict[str, type]:
-    bodies = [mutants.with_sched(s) for s in mutants.SCHEDS] + list(mutants.WHOLE)
-    return {b.__name__: b for b in bodies}
-
-
 def cases(seeds, count: int, size: int):
     """For each seed the theorems that are taken, and then the names of the wrong bodies that none of them refuses."""
-    left, found = wrong_bodies(), 0
+    left, found = bodies(), 0
     for i, seed in enumerate(seeds):
         rng, taken, tries = Random(seed), [], 0
         share = count * (i + 1) // len(seeds)

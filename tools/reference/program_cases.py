@@ -1,23 +1,15 @@
-"""Writes cases of the program, each with what it has to write and its status by the independent reference.
+"""Cases of the program, each with what it has to write and its status by the independent reference.
 
-    python3 tools/reference/program_cases.py SEED COUNT FOLDER
-
-A case NAME is these files of FOLDER, which has to be empty:
-  NAME.args     the command line, one word a line
-  NAME.stdin    what it reads from standard input (absent: nothing)
-  NAME.data/    files that lie where it runs (absent: none)
-  NAME.made/    files that it has to make, or to write anew (absent: none)
-  NAME.stdout, NAME.stderr, NAME.status    what it has to write, and its status
-Where NAME.stdout is absent the streams aren't compared (help and usage, whose text the program has from a library).
-The fixed cases are the same for every SEED. COUNT random ones follow, of four kinds in turn: joined inputs, two files,
+The fixed cases are the same for every seed. COUNT random ones follow, of four kinds in turn: joined inputs, two files,
 faulty configurations and faulty packet files, then a quarter as many that ask for the history, half of these by a service of
-one caller, and half as many audits of histories. `tools/reference/run_cases.py` runs a program over them.
+one caller, and half as many audits of histories. `tools/gate/cases.py` runs a program over them.
 """
 
 from __future__ import annotations
 
 import sys
-from collections import Counter
+from collections.abc import Iterator
+from dataclasses import dataclass, field
 from io import BytesIO
 from pathlib import Path
 from random import Random
@@ -32,7 +24,7 @@ from fixed_cases import AUDITS, ENDLESS, JOINED, REPLAYS, USAGES  # noqa: E402
 from history import tuple_text  # noqa: E402
 from model import Command, DeletePipe, DeleteQueue, Queue, Row  # noqa: E402
 from printing import command_text  # noqa: E402
-from program import outcome  # noqa: E402
+from program import Outcome, outcome  # noqa: E402
 from random_histories import random_history  # noqa: E402
 from scenarios import STYLES, Style, first_commands, random_rows  # noqa: E402
 from spelling import spell  # noqa: E402
@@ -43,38 +35,22 @@ LINES_NOT_TEXT = (b"pipe 1 config \xff", b"# \xc3\x28", b"\xed\xa0\x80", b"pipe 
                   b"\xef\xbb\xbfpipe 1 config")
 
 
-class Cases:
-    """A folder of cases, and how many of them there are of each kind and status."""
+@dataclass(frozen=True)
+class Case:
+    """A command line, its standard input, the files that lie where it runs, and what it has to do."""
 
-    def __init__(self, folder: Path) -> None:
-        self.folder = folder
-        self.counts: Counter[tuple[str, int]] = Counter()
-        folder.mkdir(parents=True, exist_ok=True)
-        if any(folder.iterdir()):
-            sys.exit(f"{folder} isn't empty: old cases would stay among the new ones")
+    name: str
+    words: list[str]
+    wanted: Outcome
+    stdin: bytes = b""
+    files: dict[str, bytes] = field(default_factory=dict)
 
-    def add(self, name: str, words: list[str], stdin: Optional[bytes] = None, files: Optional[dict[str, bytes]] = None) -> None:
-        with TemporaryDirectory() as place:
-            for file, data in (files or {}).items():
-                Path(place, file).write_bytes(data)
-            done = outcome(words, BytesIO(stdin or b""), Path(place))
-        self.write(f"{name}.args", "".join(f"{w}\n" for w in words).encode())
-        if stdin is not None:
-            self.write(f"{name}.stdin", stdin)
+
+def case(name: str, words: list[str], stdin: Optional[bytes] = None, files: Optional[dict[str, bytes]] = None) -> Case:
+    with TemporaryDirectory() as place:
         for file, data in (files or {}).items():
-            self.write(f"{name}.data/{file}", data)
-        if done.stdout or done.stderr:
-            self.write(f"{name}.stdout", done.stdout)
-            self.write(f"{name}.stderr", done.stderr)
-        self.write(f"{name}.status", f"{done.status}\n".encode())
-        for file, data in done.files.items():
-            self.write(f"{name}.made/{file}", data)
-        self.counts[name.split("-")[0], done.status] += 1
-
-    def write(self, name: str, data: bytes) -> None:
-        path = self.folder / name
-        path.parent.mkdir(exist_ok=True)
-        path.write_bytes(data)
+            Path(place, file).write_bytes(data)
+        return Case(name, words, outcome(words, BytesIO(stdin or b""), Path(place)), stdin or b"", files or {})
 
 
 # ---- Texts -------------------------------------------------------------------------------------------------------
@@ -142,22 +118,21 @@ def replay_input(rng: Random, style: Style) -> tuple[bytes, bytes]:
     return config_text(rng, commands, plain), packet_text(rng, rows, plain)
 
 
-def joined_case(rng: Random, cases: Cases, name: str, style: Style) -> None:
+def joined_case(rng: Random, name: str, style: Style) -> Case:
     config, packets = replay_input(rng, style)
-    cases.add(name, [], ended(config) + rng.choice((b"--\n", b"--\n", b"--\r\n")) + packets)
+    return case(name, [], ended(config) + rng.choice((b"--\n", b"--\n", b"--\r\n")) + packets)
 
 
-def replay_case(rng: Random, cases: Cases, name: str, style: Style) -> None:
+def replay_case(rng: Random, name: str, style: Style) -> Case:
     config, packets = replay_input(rng, style)
-    cases.add(name, ["replay", "config", "packets"], None, {"config": config, "packets": packets})
+    return case(name, ["replay", "config", "packets"], None, {"config": config, "packets": packets})
 
 
-def add_either(rng: Random, cases: Cases, name: str, config: bytes, packets: bytes) -> None:
+def either(rng: Random, name: str, config: bytes, packets: bytes) -> Case:
     """A joined input or two files."""
     if rng.random() < 0.5:
-        cases.add(name, [], ended(config) + b"--\n" + packets)
-    else:
-        cases.add(name, ["replay", "c.txt", "p.csv"], None, {"c.txt": config, "p.csv": packets})
+        return case(name, [], ended(config) + b"--\n" + packets)
+    return case(name, ["replay", "c.txt", "p.csv"], None, {"c.txt": config, "p.csv": packets})
 
 
 def faulty_line(rng: Random, style: Style) -> bytes:
@@ -169,7 +144,7 @@ def faulty_line(rng: Random, style: Style) -> bytes:
     return (random_words_line(rng) if kind < 4 else bad_line(rng, style)).encode()
 
 
-def config_case(rng: Random, cases: Cases, name: str, style: Style) -> None:
+def config_case(rng: Random, name: str, style: Style) -> Case:
     """Mostly a faulty configuration; the packets may be faulty too, which is not reached then."""
     lines = [spell(rng, c).encode() for c in first_commands(rng, style)]
     for _ in range(rng.choice((1, 1, 2))):
@@ -179,10 +154,10 @@ def config_case(rng: Random, cases: Cases, name: str, style: Style) -> None:
     packets = packet_text(rng, random_rows(rng, style, 3), True)
     if rng.random() < 0.2:
         packets = packets.replace(b"moment", b"moments")
-    add_either(rng, cases, name, b"\n".join(lines) + rng.choice((b"", b"\n", b"\n\n")), packets)
+    return either(rng, name, b"\n".join(lines) + rng.choice((b"", b"\n", b"\n\n")), packets)
 
 
-def packets_case(rng: Random, cases: Cases, name: str, style: Style) -> None:
+def packets_case(rng: Random, name: str, style: Style) -> Case:
     """Mostly a faulty packet file."""
     config = config_text(rng, first_commands(rng, style), True)
     lines = packet_text(rng, random_rows(rng, style, rng.randint(1, 8)), True).split(b"\n")
@@ -192,10 +167,10 @@ def packets_case(rng: Random, cases: Cases, name: str, style: Style) -> None:
     data = b"\n".join(lines)
     if rng.random() < 0.2:
         data = data.replace(b"\n", rng.choice((b"\r\n", b"\r", b"\n\n", b"\n\r\n")))
-    add_either(rng, cases, name, config, data)
+    return either(rng, name, config, data)
 
 
-def history_case(rng: Random, cases: Cases, name: str, style: Style) -> None:
+def history_case(rng: Random, name: str, style: Style) -> Case:
     """A replay that writes its history: to a new file, over an older one, or to a folder that isn't there."""
     config, packets = replay_input(rng, style)
     files = {"config": config, "packets": packets}
@@ -205,44 +180,36 @@ def history_case(rng: Random, cases: Cases, name: str, style: Style) -> None:
         files["history"] = b"dummynet-history,3\nend,0\n" * rng.choice((1, 1000))
     file = "no/history" if rng.random() < 0.1 else "history"
     callers = ["--callers", "1"] if rng.random() < 0.5 else []
-    cases.add(name, ["replay", *callers, "config", "packets", "--history", file], None, files)
+    return case(name, ["replay", *callers, "config", "packets", "--history", file], None, files)
 
 
-def audit_case(rng: Random, cases: Cases, name: str, style: Style) -> None:
-    cases.add(name, ["audit", "history"], None, {"history": random_history(rng, style)})
+def audit_case(rng: Random, name: str, style: Style) -> Case:
+    return case(name, ["audit", "history"], None, {"history": random_history(rng, style)})
 
 
 KINDS = (("joined", joined_case), ("replay", replay_case), ("config", config_case), ("packets", packets_case))
 
 
-def add_fixed(cases: Cases) -> None:
+def fixed() -> Iterator[Case]:
     for name, text in JOINED.items():
-        cases.add(f"fixed-{name}", [], text.encode())
+        yield case(f"fixed-{name}", [], text.encode())
     for name, (words, files) in {**REPLAYS, **ENDLESS}.items():
-        cases.add(f"fixed-{name}", ["replay", *words], None, files)
+        yield case(f"fixed-{name}", ["replay", *words], None, files)
     for name, text in AUDITS.items():
-        cases.add(f"fixed-audit-{name}", ["audit", "h"], None, {"h": text.encode()})
-    cases.add("fixed-audit-missing", ["audit", "none"])
-    cases.add("fixed-audit-folder", ["audit", "."])
+        yield case(f"fixed-audit-{name}", ["audit", "h"], None, {"h": text.encode()})
+    yield case("fixed-audit-missing", ["audit", "none"])
+    yield case("fixed-audit-folder", ["audit", "."])
     for i, words in enumerate(USAGES):
-        cases.add(f"fixed-usage-{i:02}", list(words), None, {"c": b"", "p": b""})
+        yield case(f"fixed-usage-{i:02}", list(words), None, {"c": b"", "p": b""})
 
 
-def main(seed: str, count: str, folder: str) -> None:
-    cases = Cases(Path(folder))
-    add_fixed(cases)
+def cases(seed: str, count: int) -> Iterator[Case]:
+    yield from fixed()
     rng = Random(int(seed))
-    for i in range(int(count)):
+    for i in range(count):
         kind, make = KINDS[i % len(KINDS)]
-        make(rng, cases, f"{kind}-{i:05}", rng.choice(STYLES))
-    for i in range(int(count) // 4):
-        history_case(rng, cases, f"history-{i:05}", rng.choice(STYLES))
-    for i in range(int(count) // 2):
-        audit_case(rng, cases, f"audit-{i:05}", rng.choice(STYLES))
-    for (kind, status), number in sorted(cases.counts.items()):
-        print(f"{kind:8} status {status}: {number}")
-    print(f"{cases.counts.total()} cases in {folder}")
-
-
-if __name__ == "__main__":
-    main(*sys.argv[1:])
+        yield make(rng, f"{kind}-{i:05}", rng.choice(STYLES))
+    for i in range(count // 4):
+        yield history_case(rng, f"history-{i:05}", rng.choice(STYLES))
+    for i in range(count // 2):
+        yield audit_case(rng, f"audit-{i:05}", rng.choice(STYLES))

@@ -1,27 +1,30 @@
 """What the growth of virtual time costs: longest times on a shared link, by this project's rule and by that of the papers.
 
-    python3 tools/reference/virtual_time_cost.py [PROGRAM]
+    python3 tools/reference/virtual_time_cost.py
 
 Here virtual time grows after a pick by the packet's length over the sum of the weights of the *heads*. In WF2Q+ as Bennett and
-Zhang have it (1997) it grows with time, at the link's rate over the sum of *all* weights. Each scenario is replayed by the program
-(./dummynet where none is named), and by a model of one link below with either rule. By this project's rule the model has to give
-the program's due moments, row by row; else the status is 1.
+Zhang have it (1997) it grows with time, at the link's rate over the sum of *all* weights. The independent reference replays each
+scenario, by its own rule, which is the program's, and with the papers' in its place.
 
 The first table has, for each scenario, the longest time from a packet's submission to the end of its transmission, over all
-packets of the flows watched: by the program, by the papers' virtual time, and the bound of WF2Q+, which is the packet's bits at
-its flow's share of the rate and one longest packet. Its last row is of random lists, in parts of the bound. Each flow that is
-watched keeps to its share, as the bound asks. The second table has the bytes of flows that stay backlogged.
+packets of the flows watched: here, by the papers' virtual time, and the bound of WF2Q+, which is the packet's bits at its flow's
+share of the rate and one longest packet. Its last row is of random lists, in parts of the bound. Each flow that is watched
+keeps to its share, as the bound asks. The second table has the bytes of flows that stay backlogged.
 """
 
 from __future__ import annotations
 
 import random
-import subprocess
 import sys
-from collections import deque
+from collections.abc import Iterable
 from dataclasses import dataclass
 from pathlib import Path
-from typing import Iterable, NamedTuple
+from typing import NamedTuple
+
+sys.path.insert(0, str(Path(__file__).resolve().parents[1] / "oracle"))
+
+from fast import FastDummynet, Flow, Link, Sched, Waiting  # noqa: E402
+from model import MAX_MOMENT, Collect, Configure, FiveTuple, Limit, Packet, Pipe, Queue, Submit, Target  # noqa: E402
 
 MS = 1_000_000  # ns
 LEN = 1_000  # bytes: a millisecond at 8 Mbit/s
@@ -48,81 +51,53 @@ class Scenario:
         return MS * sum(self.weights.values()) // self.weights[queue] + MS
 
 
-class Head(NamedTuple):
-    row: int
-    start_tag: int
-    finish_tag: int
+class AsPapers(FastDummynet):
+    """The reference, with the papers' virtual time on its one link."""
+
+    moment = 0  # of the start at hand
+
+    def new_sched(self) -> Sched:
+        return PapersSched(self)
+
+    def start(self, link: Link, moment: int) -> None:
+        self.moment = moment
+        super().start(link, moment)
 
 
-class Link:
-    """One shared link of 8 Mbit/s, whose virtual time grows as the papers say or as this project does."""
+class PapersSched(Sched):
+    def __init__(self, net: AsPapers) -> None:
+        super().__init__()
+        self.net, self.since = net, 0  # the last start, at which virtual time stood so
 
-    def __init__(self, weights: dict[int, int], as_papers: bool) -> None:
-        self.weights = weights
-        self.as_papers = as_papers
-        self.queues: dict[int, deque[Head]] = {queue: deque() for queue in weights}
-        self.finish = dict.fromkeys(weights, 0)
-        self.virtual_time = 0
-        self.since = 0  # the last start, at which virtual time stood so
-        self.free = 0
-        self.ends: dict[int, int] = {}
+    def at(self, moment: int) -> int:
+        sent = max(0, min(moment, self.net.links[0].free) - self.since)
+        return self.v + sent * LEN * SCALE // (MS * sum(queue.weight for queue in self.net.queues.values()))
 
-    def waits(self) -> bool:
-        return any(self.queues.values())
+    def begin_busy(self) -> None:
+        super().begin_busy()
+        self.since = self.net.clock
 
-    def virtual_time_at(self, moment: int) -> int:
-        sent = max(0, min(moment, self.free) - self.since) if self.as_papers else 0
-        return self.virtual_time + sent * LEN * SCALE // (MS * sum(self.weights.values()))
+    def stamp(self, flow: Flow, w: Waiting) -> None:
+        before, self.v = self.v, self.at(self.net.clock)
+        super().stamp(flow, w)
+        self.v = before
 
-    def start(self, moment: int) -> None:
-        heads = {queue: packets[0] for queue, packets in self.queues.items() if packets}
-        self.virtual_time = max(self.virtual_time_at(moment), min(head.start_tag for head in heads.values()))
-        eligible = [(head.finish_tag, queue) for queue, head in heads.items() if head.start_tag <= self.virtual_time]
-        head = self.queues[min(eligible)[1]].popleft()
-        if not self.as_papers:
-            self.virtual_time += LEN * SCALE // sum(self.weights[queue] for queue in heads)
-        self.since = moment
-        self.free = self.ends[head.row] = moment + MS
+    def promote(self) -> None:
+        self.v, self.since = self.at(self.net.moment), self.net.moment
+        super().promote()
 
-    def settle(self, moment: int | None) -> None:
-        while self.waits() and (moment is None or self.free <= moment):
-            self.start(self.free)
-
-    def submit(self, number: int, row: Row) -> None:
-        self.settle(row.moment)
-        idle = not self.waits() and self.free <= row.moment
-        if idle:
-            self.virtual_time, self.since = 0, row.moment
-            self.finish = dict.fromkeys(self.finish, 0)
-        packets, last = self.queues[row.queue], self.finish[row.queue]
-        start_tag = last if packets else max(last, self.virtual_time_at(row.moment))
-        self.finish[row.queue] = start_tag + LEN * SCALE // self.weights[row.queue]
-        packets.append(Head(number, start_tag, self.finish[row.queue]))
-        if idle:
-            self.start(row.moment)
+    def grow(self, w: Waiting) -> None:
+        """It grows with time."""
 
 
-def modelled(scenario: Scenario, as_papers: bool) -> dict[int, int]:
+def replayed(scenario: Scenario, net: FastDummynet) -> dict[int, int]:
     """The end of each row's transmission, by row number from 1."""
-    link = Link(scenario.weights, as_papers)
-    for number, row in enumerate(scenario.rows, 1):
-        link.submit(number, row)
-    link.settle(None)
-    return link.ends
-
-
-def replayed(program: str, scenario: Scenario) -> dict[int, int]:
-    """The due moment of each row, by the program, which the model has to give too."""
-    lines = ["pipe 1 config bw 8Mbit/s"]
-    lines += [f"queue {queue} config pipe 1 weight {weight} queue 10000" for queue, weight in scenario.weights.items()]
-    lines += ["--", "moment,target,number,src,dst,proto,sport,dport,len,word"]
-    lines += [f"{row.moment},queue,{row.queue},10.0.0.1,10.0.0.2,17,1,1,{LEN},0" for row in scenario.rows]
-    report = subprocess.run([program], input="\n".join(lines) + "\n", capture_output=True, text=True, check=True).stdout
-    fields = [line.split(",") for line in report.splitlines()[1:]]
-    ends = {int(row): int(due) for event, row, _, _, _, _, due in fields if event == "out"}
-    if ends != modelled(scenario, as_papers=False):
-        sys.exit(f"{scenario.name}: the model and the program differ")
-    return ends
+    net.apply(Configure(Pipe(1, bw=8_000_000)))
+    for queue, weight in scenario.weights.items():
+        net.apply(Configure(Queue(queue, 1, weight=weight, limit=Limit(10_000, None))))
+    for row in scenario.rows:
+        net.apply(Submit(Target("queue", row.queue), Packet(FiveTuple(), LEN, 0), row.moment))
+    return {delivery.packet + 1: delivery.due for delivery in net.apply(Collect(MAX_MOMENT)).list}
 
 
 def by_moment(rows: Iterable[Row]) -> list[Row]:
@@ -179,23 +154,23 @@ def milliseconds(duration: int) -> str:
     return f"{duration / MS:.2f}".rstrip("0").rstrip(".") + " ms"
 
 
-def tell_times(program: str) -> None:
+def tell_times() -> None:
     scenarios = [one_among_many(), paced(60, MS, "50 paced in turn, one greedy")]
     scenarios += [paced(rounds, 0, "50 paced in step, one greedy") for rounds in (20, 60, 100)]
     print("| 8 Mbit/s, packets of 1,000 bytes | longest, here | by the papers | bound of WF2Q+ |\n|---|---|---|---|")
     for scenario in scenarios:
-        here, bound = max(times(scenario, replayed(program, scenario)))
-        papers, _ = max(times(scenario, modelled(scenario, as_papers=True)))
+        here, bound = max(times(scenario, replayed(scenario, FastDummynet())))
+        papers, _ = max(times(scenario, replayed(scenario, AsPapers())))
         print(f"| {scenario.name} | {milliseconds(here)} | {milliseconds(papers)} | {milliseconds(bound)} |")
     lists = [at_random(seed) for seed in range(RANDOM_LISTS)]
-    here = max(time / bound for it in lists for time, bound in times(it, replayed(program, it)))
-    papers = max(time / bound for it in lists for time, bound in times(it, modelled(it, as_papers=True)))
+    here = max(time / bound for it in lists for time, bound in times(it, replayed(it, FastDummynet())))
+    papers = max(time / bound for it in lists for time, bound in times(it, replayed(it, AsPapers())))
     print(f"| {RANDOM_LISTS} random lists, by the bound | {here:.2f} | {papers:.2f} | 1 |")
 
 
-def tell_shares(program: str) -> None:
+def tell_shares() -> None:
     scenario = backlogged()
-    ends = replayed(program, scenario)
+    ends = replayed(scenario, FastDummynet())
     print("| Both always backlogged, 40 others come and go | after 0.5 s | 1 s | 2 s |\n|---|---|---|---|")
     for queue in sorted(scenario.watched):
         mine = [ends[number] for number, row in enumerate(scenario.rows, 1) if row.queue == queue]
@@ -203,13 +178,7 @@ def tell_shares(program: str) -> None:
         print(f"| weight {scenario.weights[queue]} | {' | '.join(f'{count:,} bytes' for count in sent)} |")
 
 
-def main() -> None:
-    beside = Path(__file__).resolve().parents[2] / "dummynet"
-    program = sys.argv[1] if len(sys.argv) > 1 else str(beside)
-    tell_times(program)
-    print()
-    tell_shares(program)
-
-
 if __name__ == "__main__":
-    main()
+    tell_times()
+    print()
+    tell_shares()

@@ -13,7 +13,7 @@ _dummynet() {
     elif [ "$command" = replay ] && [ "${word#-}" != "$word" ]; then
         mapfile -t COMPREPLY < <(compgen -W '--callers --history --most-packets --threads --help' -- "$word")
     elif [ "$command" = audit ] && [ "${word#-}" != "$word" ]; then
-        mapfile -t COMPREPLY < <(compgen -W '--most-history --threads --help' -- "$word")
+        mapfile -t COMPREPLY < <(compgen -W '--most-history --help' -- "$word")
     elif [ "$command" = replay ] || [ "$command" = audit ]; then
         mapfile -t COMPREPLY < <(compgen -f -- "$word")
     fi

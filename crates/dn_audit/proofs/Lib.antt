@@ -1,5 +1,4 @@
 pub mod AuditSteps
 pub mod FileAuditSteps
 pub mod Found
-pub mod PartSteps
 pub mod SameReplies

@@ -35,12 +35,6 @@ pub record IsAuditing (begun : PartsAudit) (text : List ℕ) : Type 0 where
   pub read : HasRead begun.parts text entries
   pub audited : HasAudited (rule_of begun.parts.version) begun.audit entries
 
--- The same, but the last entries of that text were read and aren't audited yet.
-pub record HasReady (begun : PartsAudit) (text : List ℕ) (ready : List Entry) : Type 0 where
-  pub entries : List Entry
-  pub read : HasRead begun.parts text (entries ++ ready)
-  pub audited : HasAudited (rule_of begun.parts.version) begun.audit entries
-
 -- This text has come of a file: it is kept until the line of its version has come, and audited from then on.
 abbrev pub IsTakenBy : Option (Box PartsAudit Global) → List ℕ → List ℕ → Type 0
 IsTakenBy None kept text = kept ≡ text

@@ -5,16 +5,11 @@ ghost use Rattle.dn_files.specs.Reading.{IsRefusal, IsTextOf, within_limit};
 ghost use Rattle.dn_files.specs.declared.source.Source.TheVariants.{History};
 ghost use Rattle.dn_audit.specs.FileAudit.{HasVerdict, history_within, IsAuditFault, IsAudited, IsAuditedWithin, IsUnaudited, IsUnauditedWithin, verdict_line};
 
-mod by_threads;
-mod chunks;
 mod entries;
 mod file_audit;
 mod parts_audit;
-mod threading;
 
-use crate::file_audit::threading::{OneThread, Threading, read_by};
 use crate::verdict::Verdict;
-pub use by_threads::audit_file_by_threads;
 use dn_files::{ReplayFault, Source, write_text};
 use dn_history::HISTORY_LIMIT;
 use dn_records::{Inlet, Outlet};
@@ -32,10 +27,9 @@ fn verdict_line(alloc: Global, entries: usize, verdict: Verdict) -> Result<Strin
     }
 }
 
-/// Reads a history file by these threads and audits it: the verdict, and the count of its entries.
-fn audit_input<T: Threading, I: Inlet>(
+/// Reads a history file and audits it: the verdict, and the count of its entries.
+fn audit_input<I: Inlet>(
     alloc: Global,
-    by: &T,
     key: HashKey,
     limit: usize,
     history: &mut I,
@@ -47,42 +41,14 @@ fn audit_input<T: Threading, I: Inlet>(
     ensures err { IfErr result (λ fault. IsRefusal History (history_within limit)
         (I.remaining history.old) (I.has_failed history.new) fault) }
 {
-    let audit = FileAudit::within(alloc, key, limit);
-    match read_by(alloc, by, audit, history) {
-        Ok(audit) => audit.finish(),
-        Err(fault) => Err(fault),
-    }
-}
-
-/// Reads a history file by these threads, audits it, and writes the line of the verdict.
-pub(crate) fn audit_by<T: Threading, I: Inlet, O: Outlet>(
-    alloc: Global,
-    by: &T,
-    key: HashKey,
-    limit: usize,
-    history: &mut I,
-    out: &mut O,
-) -> Result<Verdict, ReplayFault>
-    requires input { I.has_failed history.old ≡ false }
-    requires out { O.has_failed out.old ≡ false }
-    ensures ok { IfOk result (λ verdict. IsAuditedWithin limit (I.remaining history.old) verdict
-        (O.contents out.old) (O.contents out.new)) }
-    ensures inputs { IfOk result (λ _. I.has_failed history.new ≡ false) }
-    ensures sound { IfOk result (λ _. O.has_failed out.new ≡ false) }
-    ensures err { IfErr result (λ fault. IsUnauditedWithin limit (I.remaining history.old) (I.has_failed history.new)
-        (O.contents out.old) (O.contents out.new) (O.has_failed out.new) fault) }
-    ensures faults { IfErr result (λ fault. IsAuditFault fault) }
-{
-    let (verdict, entries) = match audit_input(alloc, by, key, limit, history) {
-        Ok(found) => found,
-        Err(fault) => return Err(fault),
-    };
-    let Ok(line) = verdict_line(alloc, entries, verdict) else {
-        return Err(ReplayFault::OutOfMemory);
-    };
-    match write_text(out, Source::Report, line.as_bytes()) {
-        Ok(()) => Ok(verdict),
-        Err(fault) => Err(fault),
+    let mut audit = FileAudit::within(alloc, key, limit);
+    match audit.read(history) {
+        Ok(()) => audit.finish(),
+        Err(fault) => {
+            // The proof of a drop by a call has one step, where that of a drop at the end has one for each field.
+            drop(audit);
+            Err(fault)
+        }
     }
 }
 
@@ -156,5 +122,15 @@ pub fn audit_file_within<I: Inlet, O: Outlet>(
         (O.contents out.old) (O.contents out.new) (O.has_failed out.new) fault) }
     ensures faults { IfErr result (λ fault. IsAuditFault fault) }
 {
-    audit_by(alloc, &OneThread, key, limit, history, out)
+    let (verdict, entries) = match audit_input(alloc, key, limit, history) {
+        Ok(found) => found,
+        Err(fault) => return Err(fault),
+    };
+    let Ok(line) = verdict_line(alloc, entries, verdict) else {
+        return Err(ReplayFault::OutOfMemory);
+    };
+    match write_text(out, Source::Report, line.as_bytes()) {
+        Ok(()) => Ok(verdict),
+        Err(fault) => Err(fault),
+    }
 }

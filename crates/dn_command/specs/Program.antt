@@ -57,13 +57,9 @@ limited_form = with_rule unlimited_form (most_rule (codes "most-packets"))
 abbrev pub replay_form : App
 replay_form = with_rule limited_form threads_rule
 
--- audit HISTORY, with one of its options
-abbrev pub limited_audit_form : App
-limited_audit_form = with_rule (with_rule (new_app (codes "audit")) (file_rule (codes "history"))) (most_rule (codes "most-history"))
-
--- The same with --threads
+-- audit HISTORY
 abbrev pub audit_form : App
-audit_form = with_rule limited_audit_form threads_rule
+audit_form = with_rule (with_rule (new_app (codes "audit")) (file_rule (codes "history"))) (most_rule (codes "most-history"))
 
 -- live
 abbrev pub live_form : App

@@ -41,7 +41,6 @@ pub record IsReplayOf (rows : List Row) (replay : Replay) : Type 0 where
 pub record IsAuditOf (rows : List Row) (audit : Audit) : Type 0 where
   pub history : audit.history.now ≡ value_of (codes "history") rows
   pub most_history : IsCountOf (one_of (codes "most-history") rows) audit.most_history
-  pub threads : IsCountOf (one_of (codes "threads") rows) audit.threads
 
 abbrev pub AsksForAudit : List Row → Request → Type 0
 AsksForAudit rows (request.Audit audit) = IsAuditOf rows audit

@@ -34,11 +34,9 @@ fn replay<'a>(found: &ArgMatches<'a>) -> Replay<'a>
 fn audit<'a>(found: &ArgMatches<'a>) -> Audit<'a>
     ensures { IsAuditOf (rows_of (found_of found.now)) result }
 {
-    let threads = found.get_one::<usize>("threads");
     Audit {
         history: value(found, "history"),
         most_history: found.get_one::<usize>("most-history"),
-        threads,
     }
 }
 

@@ -1,13 +1,13 @@
 ghost use Rattle.std.specs.Prelude.{◌≡◌, IfOk, false};
 ghost use Rattle.clap.specs.Words.{rule_of};
-ghost use Rattle.dn_command.specs.Program.{IsForm, audit_form, bare_form, callers_rule, file_rule, history_rule, limited_audit_form, limited_form, live_form, most_rule, program, replay_form, threads_rule, unlimited_form};
+ghost use Rattle.dn_command.specs.Program.{IsForm, audit_form, bare_form, callers_rule, file_rule, history_rule, limited_form, live_form, most_rule, program, replay_form, threads_rule, unlimited_form};
 
 use clap::builder::ValueParser;
 use clap::{Arg, Command};
 use std::alloc::{AllocError, Global};
 
 // What `--version` tells: the version, and the kit with which it is proved and built.
-const VERSION: &str = "1.7.0 (rattle-kit-13f)";
+const VERSION: &str = "2.0.0 (rattle-kit-13f)";
 
 // What stands below the options in the help of the whole.
 const EXAMPLE: &str = "Example:
@@ -18,7 +18,7 @@ CONFIG has a line for each pipe or queue, as ipfw(8): pipe 1 config bw 8Mbit/s d
 PACKETS is CSV with a header and a row for each packet that is sent
 HISTORY is what --history wrote: each call and the reply that it got
 The report on standard output tells for each packet when it left, or why it didn't.
-dummynet(1) and docs/FORMATS.md describe the files, the faults and the statuses.";
+dummynet(1) and docs/FILES.md describe the files, the faults and the statuses.";
 
 // A file that has to be named.
 fn required<'a>(alloc: Global, name: &'a str, shown: &'a str, help: &'a str) -> Arg<'a>
@@ -43,8 +43,8 @@ fn callers<'a>(alloc: Global) -> Arg<'a>
         .help("Replays by N callers in threads of their own, 1 to 16")
 }
 
-// How many threads read a file.
-fn threads<'a>(alloc: Global, help: &'a str) -> Arg<'a>
+// How many threads read the packets.
+fn threads<'a>(alloc: Global) -> Arg<'a>
     ensures rule { rule_of result ≡ threads_rule }
     ensures local { result.global ≡ false }
 {
@@ -52,7 +52,7 @@ fn threads<'a>(alloc: Global, help: &'a str) -> Arg<'a>
         .long("threads")
         .value_name("N")
         .value_parser(ValueParser::unsigned(1, 64))
-        .help(help)
+        .help("Reads PACKETS by N threads, 1 to 64. The report stays the same. Not with --callers")
 }
 
 // Where the history goes.
@@ -117,10 +117,7 @@ fn limited_replay<'a>(alloc: Global) -> Result<Command<'a>, AllocError>
 fn replay<'a>(alloc: Global) -> Result<Command<'a>, AllocError>
     ensures { IfOk result (IsForm replay_form) }
 {
-    limited_replay(alloc)?.arg(threads(
-        alloc,
-        "Reads PACKETS by N threads, 1 to 64. The report stays the same. Not with --callers",
-    ))
+    limited_replay(alloc)?.arg(threads(alloc))
 }
 
 // The same command under the name by which it is called, so that a fault of its own shows its own usage.
@@ -128,9 +125,9 @@ pub(crate) fn called_replay<'a>(alloc: Global) -> Result<Command<'a>, AllocError
     replay(alloc)?.bin_name("dummynet replay")
 }
 
-// The command that audits a history, by one thread.
-fn limited_audit<'a>(alloc: Global) -> Result<Command<'a>, AllocError>
-    ensures { IfOk result (IsForm limited_audit_form) }
+// The command that audits a history.
+fn audit<'a>(alloc: Global) -> Result<Command<'a>, AllocError>
+    ensures { IfOk result (IsForm audit_form) }
 {
     Command::new(alloc, "audit")
         .about("Tells whether a history is lawful, or the first entry that differs")
@@ -145,16 +142,6 @@ fn limited_audit<'a>(alloc: Global) -> Result<Command<'a>, AllocError>
             "most-history",
             "Takes a HISTORY of at most so many bytes, in place of 268435456",
         ))
-}
-
-// The command that audits a history.
-fn audit<'a>(alloc: Global) -> Result<Command<'a>, AllocError>
-    ensures { IfOk result (IsForm audit_form) }
-{
-    limited_audit(alloc)?.arg(threads(
-        alloc,
-        "Reads HISTORY by N threads, 1 to 64. The verdict stays the same",
-    ))
 }
 
 // The command that serves a live session.

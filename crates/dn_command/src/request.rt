@@ -35,6 +35,4 @@ pub struct Audit<'a> {
     pub history: &'a str,
     /// How many bytes it can have at most, 1 to 2^40; as many as is usual, where no count is given.
     pub most_history: Option<usize>,
-    /// By how many threads it is read, 1 to 64; by one, where no count is given.
-    pub threads: Option<usize>,
 }

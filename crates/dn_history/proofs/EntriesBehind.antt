@@ -1,157 +1,101 @@
--- What is read off the front of some records is read off them also where other records come before and more stand behind.
-use Rattle.std.proofs.Common.{◌≡◌, ℕ, zero, suc, ◌+◌, ◌&&◌, Bool, true, false, List, [], ◌∷◌, ◌++◌, Option, Some, None, Result, Ok, Err, refl, ap, arith}
-use Rattle.std.specs.Prelude.{codes, cond, not, ⊤}
+-- What is read off the front of some records is read off them also where more records stand behind.
+use Rattle.std.proofs.Common.{◌≡◌, ℕ, zero, suc, Bool, true, false, List, [], ◌∷◌, ◌++◌, Option, Some, None, Result, Ok, Err, refl}
+use Rattle.std.specs.Prelude.{codes, cond, ⊤}
 use Rattle.dn_types.specs.declared.call.Call.{Call}
-use Rattle.dn_types.specs.declared.call.Call.TheVariants.{Configure}
-use Rattle.dn_types.specs.declared.command.Command.{Command}
 use Rattle.dn_types.specs.declared.entry.Entry.{Entry}
 use Rattle.dn_types.specs.declared.reply.Reply.{Reply}
 use Rattle.dn_records.specs.Records.{Fields}
-use Rattle.dn_files.specs.ConfigFile.{command_at}
-use Rattle.dn_files.specs.Fields.{column}
 use Rattle.dn_files.specs.Reading.{◌>>=◌}
 use Rattle.dn_files.specs.declared.replay_fault.ReplayFault.{ReplayFault}
-use Rattle.dn_files.specs.declared.replay_fault.ReplayFault.TheVariants.{BadRecord, OutOfMemory}
-use Rattle.dn_history.specs.HistoryFile.{between, call_of, command_by, delivered_from, end_by, entry_by, entry_from, nothing_in, reply_by, reply_from, status_from}
-use Rattle.dn_history.specs.HistoryRecords.{caller_of, has_deletes, has_remarks, is_call, is_delete, is_end, is_reply, long_at, plain_call, plain_reply, told_count, two_of}
+use Rattle.dn_history.specs.HistoryFile.{between, call_of, delivered_from, end_by, entry_by, entry_from, nothing_in, reply_by, reply_from, status_from}
+use Rattle.dn_history.specs.HistoryRecords.{caller_of, has_remarks, is_end, is_reply, plain_reply, told_count}
 use Rattle.dn_history.specs.RecordsLeft.{Read, Rest, first_record, in_record, item_from, items_from, next_record}
 use Rattle.dn_history.specs.Remarks.{ahead, is_remark, past_remarks}
 use Rattle.dn_history.specs.declared.history_version.HistoryVersion.{HistoryVersion}
 
--- What stands around some records: how many come before them, and those behind.
-pub record Around : Type 0 where
-  pub before : ℕ
-  pub after : List Fields
+-- More records behind those that are left.
+abbrev pub behind : Rest → List Fields → Rest
+behind rest more = record { number = rest.number; records = rest.records ++ more }
 
--- The records that are left, with what stands around them.
-abbrev pub behind : Rest → Around → Rest
-behind rest around = record { number = around.before + rest.number; records = rest.records ++ around.after }
+abbrev IsSame : {A : Type 0} → List Fields → Read A → Read A → Type 0
+IsSame more (Ok read) again = again ≡ Ok (read.0, behind read.1 more)
+IsSame more (Err fault) again = ⊤
 
-abbrev IsSame : {A : Type 0} → Around → Read A → Read A → Type 0
-IsSame around (Ok read) again = again ≡ Ok (read.0, behind read.1 around)
-IsSame around (Err fault) again = ⊤
+-- What is read, if anything, is read again with more records behind.
+record Reads {A : Type 0} (more : List Fields) (read again : Read A) : Type 0 where
+  same : IsSame more read again
 
--- What is read, if anything, is read again with this around.
-record Reads {A : Type 0} (around : Around) (read again : Read A) : Type 0 where
-  same : IsSame around read again
+then : {A B : Type 0} (more : List Fields) (first again : Read A) (rest : A × Rest → Read B) → Reads more first again
+    → ((p : A × Rest) → Reads more (rest p) (rest (p.0, behind p.1 more))) → Reads more (first >>= rest) (again >>= rest)
+then more (Ok p) again rest first next = rw first.same (next p)
+then more (Err fault) again rest first next = record { same = tt }
 
-abbrev IsValue : {A : Type 0} → Result A ReplayFault → Result A ReplayFault → Type 0
-IsValue (Ok value) again = again ≡ Ok value
-IsValue (Err fault) again = ⊤
+after_value : {A B : Type 0} (more : List Fields) (first : Result A ReplayFault) (rest again : A → Read B) → ((x : A) → Reads more (rest x) (again x)) → Reads more (first >>= rest) (first >>= again)
+after_value more (Ok x) rest again next = next x
+after_value more (Err fault) rest again next = record { same = tt }
 
--- What a record says, if anything, it says again where its number is another.
-record Says {A : Type 0} (said again : Result A ReplayFault) : Type 0 where
-  same : IsValue said again
+chosen : {A : Type 0} (more : List Fields) (b : Bool) (x y x2 y2 : Read A) → Reads more x x2 → Reads more y y2 → Reads more (cond b x y) (cond b x2 y2)
+chosen more true x y x2 y2 p q = p
+chosen more false x y x2 y2 p q = q
 
-then : {A B : Type 0} (around : Around) (first again : Read A) (rest other : A × Rest → Read B) → Reads around first again
-    → ((p : A × Rest) → Reads around (rest p) (other (p.0, behind p.1 around))) → Reads around (first >>= rest) (again >>= other)
-then around (Ok p) again rest other first next = rw first.same (next p)
-then around (Err fault) again rest other first next = record { same = tt }
+first_reads : (more : List Fields) (number : ℕ) (records : List Fields) → Reads more (first_record number records) (first_record number (records ++ more))
+first_reads more number [] = record { same = tt }
+first_reads more number (fields ∷ records) = record { same = refl }
 
-after_value : {A B : Type 0} (around : Around) (first other : Result A ReplayFault) (rest again : A → Read B) → Says first other
-    → ((x : A) → Reads around (rest x) (again x)) → Reads around (first >>= rest) (other >>= again)
-after_value around (Ok x) other rest again says next = rw says.same (next x)
-after_value around (Err fault) other rest again says next = record { same = tt }
-
-chosen : {A : Type 0} (around : Around) (b : Bool) (x y x2 y2 : Read A) → Reads around x x2 → Reads around y y2 → Reads around (cond b x y) (cond b x2 y2)
-chosen around true x y x2 y2 p q = p
-chosen around false x y x2 y2 p q = q
-
-numbered : {A : Type 0} (number other : ℕ) (said : Result A ℕ) → Says (in_record number said) (in_record other said)
-numbered number other (Ok value) = record { same = refl }
-numbered number other (Err place) = record { same = tt }
-
-chosen_value : {A : Type 0} (b : Bool) (x y x2 y2 : Result A ReplayFault) → Says x x2 → Says y y2 → Says (cond b x y) (cond b x2 y2)
-chosen_value true x y x2 y2 p q = p
-chosen_value false x y x2 y2 p q = q
-
-command_says : (version : HistoryVersion) (number other : ℕ) (read : Result (Option Command) ReplayFault) → Says (command_by version number read) (command_by version other read)
-command_says version number other (Ok (Some command)) =
-    chosen_value (is_delete command && not (has_deletes version)) (Err (BadRecord number)) (Ok command) (Err (BadRecord other)) (Ok command) (record { same = tt }) (record { same = refl })
-command_says version number other (Ok None) = record { same = tt }
-command_says version number other (Err OutOfMemory) = record { same = tt }
-command_says version number other (Err fault) = record { same = tt }
-
-configured : (said again : Result Command ReplayFault) → Says said again → Says (said >>= λ command. Ok (Configure command)) (again >>= λ command. Ok (Configure command))
-configured (Ok command) again says = rw says.same (record { same = refl })
-configured (Err fault) again says = record { same = tt }
-
-call_says : (version : HistoryVersion) (number other : ℕ) (fields : Fields) → Says (call_of version number fields) (call_of version other fields)
-unfolding call_of
-call_says version number other fields = chosen_value (is_call (codes "configure") 4 fields) _ _ _ _
-    (configured _ _ (command_says version number other (command_at 1 (column 4 fields)))) (numbered number other (plain_call fields))
-
-first_reads : (around : Around) (number : ℕ) (records : List Fields) → Reads around (first_record number records) (first_record (around.before + number) (records ++ around.after))
-first_reads around number [] = record { same = tt }
-first_reads around number (fields ∷ records) =
-    let next : around.before + number + 1 ≡ around.before + (number + 1) = omega arith in
-    record { same = rw next refl }
-
-next_reads : (around : Around) (rest : Rest) → Reads around (next_record rest) (next_record (behind rest around))
+next_reads : (more : List Fields) (rest : Rest) → Reads more (next_record rest) (next_record (behind rest more))
 unfolding next_record
-next_reads around rest = first_reads around rest.number rest.records
+next_reads more rest = first_reads more rest.number rest.records
 
-past_reads : (around : Around) (number : ℕ) (records : List Fields)
-    → Reads around (first_record number (past_remarks records)) (first_record (around.before + number) (past_remarks (records ++ around.after)))
-past_reads around number [] = record { same = tt }
-past_reads around number (fields ∷ records) = by_test (is_remark fields) (past_reads around number records)
+past_reads : (more : List Fields) (number : ℕ) (records : List Fields) → Reads more (first_record number (past_remarks records)) (first_record number (past_remarks (records ++ more)))
+past_reads more number [] = record { same = tt }
+past_reads more number (fields ∷ records) = by_test (is_remark fields) (past_reads more number records)
   where
-    by_test : (b : Bool) → Reads around (first_record number (past_remarks records)) (first_record (around.before + number) (past_remarks (records ++ around.after)))
-        → Reads around (first_record number (cond b (past_remarks records) (fields ∷ records)))
-        (first_record (around.before + number) (cond b (past_remarks (records ++ around.after)) (fields ∷ (records ++ around.after))))
+    by_test : (b : Bool) → Reads more (first_record number (past_remarks records)) (first_record number (past_remarks (records ++ more)))
+        → Reads more (first_record number (cond b (past_remarks records) (fields ∷ records))) (first_record number (cond b (past_remarks (records ++ more)) (fields ∷ (records ++ more))))
     by_test true h = h
-    by_test false h = first_reads around number (fields ∷ records)
+    by_test false h = record { same = refl }
 
-ahead_reads : (around : Around) (remarks : Bool) (number : ℕ) (records : List Fields)
-    → Reads around (first_record number (ahead remarks records)) (first_record (around.before + number) (ahead remarks (records ++ around.after)))
-ahead_reads around true number records = past_reads around number records
-ahead_reads around false number records = first_reads around number records
+ahead_reads : (more : List Fields) (remarks : Bool) (number : ℕ) (records : List Fields)
+    → Reads more (first_record number (ahead remarks records)) (first_record number (ahead remarks (records ++ more)))
+ahead_reads more true number records = past_reads more number records
+ahead_reads more false number records = first_reads more number records
 
-between_reads : (around : Around) (version : HistoryVersion) (rest : Rest) → Reads around (next_record (between version rest)) (next_record (between version (behind rest around)))
+between_reads : (more : List Fields) (version : HistoryVersion) (rest : Rest) → Reads more (next_record (between version rest)) (next_record (between version (behind rest more)))
 unfolding next_record
-between_reads around version rest = ahead_reads around (has_remarks version) rest.number rest.records
+between_reads more version rest = ahead_reads more (has_remarks version) rest.number rest.records
 
-item_reads : {A : Type 0} (around : Around) (item : Fields → Result A ℕ) (rest : Rest) → Reads around (item_from item rest) (item_from item (behind rest around))
+item_reads : {A : Type 0} (more : List Fields) (item : Fields → Result A ℕ) (rest : Rest) → Reads more (item_from item rest) (item_from item (behind rest more))
 unfolding item_from
-item_reads {A} around item rest = then around _ _ _ _ (next_reads around rest) (λ first.
-    after_value {A = A} around (in_record rest.number (item first.0)) (in_record (around.before + rest.number) (item first.0)) (λ value. Ok (value, first.1))
-    (λ value. Ok (value, behind first.1 around)) (numbered rest.number (around.before + rest.number) (item first.0)) (λ value. record { same = refl }))
+item_reads {A} more item rest = then more _ _ _ (next_reads more rest) (λ first.
+    after_value {A = A} more (in_record rest.number (item first.0)) (λ value. Ok (value, first.1)) (λ value. Ok (value, behind first.1 more)) (λ value. record { same = refl }))
 
-items_read : {A : Type 0} (around : Around) (item : Fields → Result A ℕ) (count : ℕ) (rest : Rest) → Reads around (items_from item count rest) (items_from item count (behind rest around))
+items_read : {A : Type 0} (more : List Fields) (item : Fields → Result A ℕ) (count : ℕ) (rest : Rest) → Reads more (items_from item count rest) (items_from item count (behind rest more))
 unfolding items_from
-items_read around item zero rest = record { same = refl }
-items_read around item (suc count) rest =
-    then around _ _ _ _ (item_reads around item rest) (λ first. then around _ _ _ _ (items_read around item count first.1) (λ list. record { same = refl }))
+items_read more item zero rest = record { same = refl }
+items_read more item (suc count) rest = then more _ _ _ (item_reads more item rest) (λ first. then more _ _ _ (items_read more item count first.1) (λ list. record { same = refl }))
 
-delivered_reads : (around : Around) (number other : ℕ) (fields : Fields) (rest : Rest)
-    → Reads around (delivered_from number fields rest) (delivered_from other fields (behind rest around))
+delivered_reads : (more : List Fields) (number : ℕ) (fields : Fields) (rest : Rest) → Reads more (delivered_from number fields rest) (delivered_from number fields (behind rest more))
 unfolding delivered_from
-delivered_reads around number other fields rest =
-    after_value around _ _ _ _ (numbered number other (two_of fields)) (λ head. then around _ _ _ _ (items_read around _ head.1 rest) (λ list. record { same = refl }))
+delivered_reads more number fields rest = after_value more _ _ _ (λ head. then more _ _ _ (items_read more _ head.1 rest) (λ list. record { same = refl }))
 
-status_reads : (around : Around) (version : HistoryVersion) (number other : ℕ) (fields : Fields) (rest : Rest)
-    → Reads around (status_from version number fields rest) (status_from version other fields (behind rest around))
+status_reads : (more : List Fields) (version : HistoryVersion) (number : ℕ) (fields : Fields) (rest : Rest)
+    → Reads more (status_from version number fields rest) (status_from version number fields (behind rest more))
 unfolding status_from
-status_reads around version number other fields rest =
-    after_value around _ _ _ _ (numbered number other (long_at 3 fields)) (λ count. then around _ _ _ _ (items_read around _ count rest) (λ list. record { same = refl }))
+status_reads more version number fields rest = after_value more _ _ _ (λ count. then more _ _ _ (items_read more _ count rest) (λ list. record { same = refl }))
 
-reply_reads : (around : Around) (version : HistoryVersion) (rest : Rest) → Reads around (reply_from version rest) (reply_from version (behind rest around))
+reply_reads : (more : List Fields) (version : HistoryVersion) (rest : Rest) → Reads more (reply_from version rest) (reply_from version (behind rest more))
 unfolding reply_from reply_by
-reply_reads around version rest = then around _ _ _ _ (next_reads around rest) (λ first.
-    let other = around.before + rest.number in
-    chosen around (is_reply (codes "delivered") 4 first.0) _ _ _ _ (delivered_reads around rest.number other first.0 first.1)
-    (chosen around (is_reply (codes "status") 3 first.0) _ _ _ _ (status_reads around version rest.number other first.0 first.1)
-    (after_value {A = Reply} around (in_record rest.number (plain_reply version first.0)) (in_record other (plain_reply version first.0)) (λ reply. Ok (reply, first.1))
-    (λ reply. Ok (reply, behind first.1 around)) (numbered rest.number other (plain_reply version first.0)) (λ reply. record { same = refl }))))
+reply_reads more version rest = then more _ _ _ (next_reads more rest) (λ first.
+    chosen more (is_reply (codes "delivered") 4 first.0) _ _ _ _ (delivered_reads more rest.number first.0 first.1)
+    (chosen more (is_reply (codes "status") 3 first.0) _ _ _ _ (status_reads more version rest.number first.0 first.1)
+    (after_value {A = Reply} more (in_record rest.number (plain_reply version first.0)) (λ reply. Ok (reply, first.1)) (λ reply. Ok (reply, behind first.1 more))
+    (λ reply. record { same = refl }))))
 
-entry_by_reads : (around : Around) (version : HistoryVersion) (number other : ℕ) (fields : Fields) (rest : Rest)
-    → Reads around (entry_by version number fields rest) (entry_by version other fields (behind rest around))
+entry_by_reads : (more : List Fields) (version : HistoryVersion) (number : ℕ) (fields : Fields) (rest : Rest)
+    → Reads more (entry_by version number fields rest) (entry_by version number fields (behind rest more))
 unfolding entry_by
-entry_by_reads around version number other fields rest =
-    after_value {A = ℕ} around (in_record number (caller_of fields)) (in_record other (caller_of fields)) _ _ (numbered number other (caller_of fields)) (λ caller.
-    after_value {A = Call} around (call_of version number fields) (call_of version other fields) _ _ (call_says version number other fields)
-    (λ call. then around _ _ (λ reply. Ok (Some (record { caller = caller; call = call; reply = reply.0 }), reply.1))
-    (λ reply. Ok (Some (record { caller = caller; call = call; reply = reply.0 }), reply.1)) (reply_reads around version rest) (λ reply. record { same = refl })))
+entry_by_reads more version number fields rest = after_value {A = ℕ} more (in_record number (caller_of fields)) _ _ (λ caller. after_value {A = Call} more (call_of version number fields) _ _
+    (λ call. then more _ _ (λ reply. Ok (Some (record { caller = caller; call = call; reply = reply.0 }), reply.1)) (reply_reads more version rest) (λ reply. record { same = refl })))
 
 -- The end is no entry.
 abbrev IsNoEntry : Read (Option Entry) → Type 0
@@ -170,21 +114,19 @@ end_ends count number fields rest = go (in_record number (told_count count field
     go (Ok n) = nothing_ends rest rest.records
     go (Err fault) = tt
 
--- An entry is read again with other records around, whatever count of entries comes before it.
-pub entry_reads : (around : Around) (version : HistoryVersion) (count again : ℕ) (rest new : Rest) (entry : Entry) → entry_from version count rest ≡ Ok (Some entry, new)
-    → entry_from version again (behind rest around) ≡ Ok (Some entry, behind new around)
+-- An entry is read again with more records behind.
+pub entry_reads : (more : List Fields) (version : HistoryVersion) (count : ℕ) (rest new : Rest) (entry : Entry) → entry_from version count rest ≡ Ok (Some entry, new)
+    → entry_from version count (behind rest more) ≡ Ok (Some entry, behind new more)
 unfolding entry_from
-entry_reads around version count again rest new entry = go (next_record (between version rest)) (next_record (between version (behind rest around))) (between_reads around version rest)
+entry_reads more version count rest new entry = go (next_record (between version rest)) (next_record (between version (behind rest more))) (between_reads more version rest)
   where
     chosen_by : (last : Bool) (first : Fields) (left : Rest) → cond last (end_by count rest.number first left) (entry_by version rest.number first left) ≡ Ok (Some entry, new)
-        → cond last (end_by again (around.before + rest.number) first (behind left around)) (entry_by version (around.before + rest.number) first (behind left around))
-        ≡ Ok (Some entry, behind new around)
+        → cond last (end_by count rest.number first (behind left more)) (entry_by version rest.number first (behind left more)) ≡ Ok (Some entry, behind new more)
     chosen_by true first left is = let no = rw is at (end_ends count rest.number first left) in cc no
-    chosen_by false first left is = let same = rw is at ((entry_by_reads around version rest.number (around.before + rest.number) first left).same) in same
+    chosen_by false first left is = let again = rw is at ((entry_by_reads more version rest.number first left).same) in again
 
-    go : (read other : Read Fields) → Reads around read other
+    go : (read again : Read Fields) → Reads more read again
         → (read >>= λ first. cond (is_end first.0) (end_by count rest.number first.0 first.1) (entry_by version rest.number first.0 first.1)) ≡ Ok (Some entry, new)
-        → (other >>= λ first. cond (is_end first.0) (end_by again (around.before + rest.number) first.0 first.1) (entry_by version (around.before + rest.number) first.0 first.1))
-        ≡ Ok (Some entry, behind new around)
-    go (Ok first) other reads is = rw reads.same (chosen_by (is_end first.0) first.0 first.1 is)
-    go (Err fault) other reads is = cc is
+        → (again >>= λ first. cond (is_end first.0) (end_by count rest.number first.0 first.1) (entry_by version rest.number first.0 first.1)) ≡ Ok (Some entry, behind new more)
+    go (Ok first) again reads is = rw reads.same (chosen_by (is_end first.0) first.0 first.1 is)
+    go (Err fault) again reads is = cc is

@@ -64,8 +64,8 @@ BeginsNoHistory text = (version : HistoryVersion) (rest : List ℕ) → ¬ Begin
 abbrev pub after_entries : List Entry → Result (List Entry) ReplayFault → Result (List Entry) ReplayFault
 after_entries front read = read >>= λ entries. Ok (front ++ entries)
 
--- Of records these entries were read in so many of them, behind which the others are left: whatever stands behind them all, and however
--- many entries and records come before.
-pub record AreRead (version : HistoryVersion) (records : List Fields) (entries : List Entry) (count : ℕ) (left : List Fields) : Type 0 where
-  pub goes_on : (given number : ℕ) (more : List Fields) → entries_left Reading version given (record { number = number; records = records ++ more })
-      ≡ after_entries entries (entries_left Reading version (given + length entries) (record { number = number + count; records = left ++ more }))
+-- Of records these entries were read, behind which the others are left, whatever stands behind them all.
+pub record AreRead (version : HistoryVersion) (given : ℕ) (rest : Rest) (entries : List Entry) (count : ℕ) (left : Rest) : Type 0 where
+  pub counted : count ≡ given + length entries
+  pub goes_on : (more : List Fields) → entries_left Reading version given (record { number = rest.number; records = rest.records ++ more })
+      ≡ after_entries entries (entries_left Reading version count (record { number = left.number; records = left.records ++ more }))

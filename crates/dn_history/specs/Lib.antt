@@ -6,7 +6,6 @@ pub mod HistoryItems
 pub mod HistoryParts
 pub mod HistoryRecords
 pub mod HistoryText
-pub mod InChunks
 pub mod PlainRecords
 pub mod Ranges
 pub mod RecordsLeft

@@ -8,7 +8,7 @@ use dn_types::Rule;
 
 /// The version of a history file, which its first record tells. A live session's transcript is one of its own.
 #[derive(Clone, Copy, Debug, PartialEq, Eq)]
-pub enum HistoryVersion {
+pub(crate) enum HistoryVersion {
     First,
     Second,
     Third,

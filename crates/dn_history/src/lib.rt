@@ -5,10 +5,8 @@ mod history_version;
 mod read;
 mod write;
 
-pub use history_version::HistoryVersion;
 pub use read::{
-    ChunkEntries, EntryReader, HISTORY_LIMIT, HistoryParts, entries_of_chunk_by_threads,
-    first_call, is_call, last_call, read_caller, read_history, read_plain_call,
+    EntryReader, HISTORY_LIMIT, HistoryParts, is_call, read_caller, read_history, read_plain_call,
 };
 pub use write::{
     entry_in_range, parts_are_a_file, write_end, write_entry, write_history, write_history_end,

@@ -2,7 +2,6 @@
 
 mod batch;
 mod calls;
-mod chunks;
 mod entries;
 mod entry_reader;
 mod fields;
@@ -18,7 +17,6 @@ mod remarks;
 mod replies;
 
 pub use calls::{is_call, read_caller, read_plain_call};
-pub use chunks::{ChunkEntries, entries_of_chunk_by_threads, first_call, last_call};
 pub use entry_reader::EntryReader;
 pub use history::{HISTORY_LIMIT, read_history};
 pub use history_parts::HistoryParts;

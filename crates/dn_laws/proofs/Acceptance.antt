@@ -39,10 +39,10 @@ pub record IsTakenAs (calls : List Call) (target : Target) (packet : Packet) (mo
   pub told : reply_to_verdict (max (effective_moment calls) moment) (verdict calls target packet (trace_of (Advance moment ∷ calls))) (trace_of (Advance moment ∷ calls))
       ≡ Queued (max (effective_moment calls) moment) p.stamped.flow p.packet
 
-abbrev IsVerdict : List FlowKey → Target → Packet → Option Treatment → Link → ℕ → Treatment → Type 0
+abbrev pub IsVerdict : List FlowKey → Target → Packet → Option Treatment → Link → ℕ → Treatment → Type 0
 IsVerdict known target packet o link flow how = (o ≡ Some how) × (link ≡ link_of target flow how.pipe) × (flow ≡ flow_number known (key_of target packet.tuple how))
 
-verdict-takes : (known : List FlowKey) (target : Target) (packet : Packet) (o : Option Treatment) (trace : List Event) (link : Link) (flow : ℕ) (how : Treatment) →
+pub verdict-takes : (known : List FlowKey) (target : Target) (packet : Packet) (o : Option Treatment) (trace : List Event) (link : Link) (flow : ℕ) (how : Treatment) →
     verdict_by known target packet o trace ≡ takes link flow how → IsVerdict known target packet o link flow how
 verdict-takes known target packet None trace link flow how e = absurd cc
 verdict-takes known target packet (Some h) trace link flow how e =
@@ -115,7 +115,7 @@ taken-as calls target packet moment p now = by (verdict calls target packet (tra
 
 -- ---- What carries it
 
-carried-by : (t : Target) (command : Command) → IsOfTarget t command → (how : Treatment) → treatment (Some command) ≡ Some how → (flow : ℕ) →
+pub carried-by : (t : Target) (command : Command) → IsOfTarget t command → (how : Treatment) → treatment (Some command) ≡ Some how → (flow : ℕ) →
     IsCarriedBy command flow (link_of t flow how.pipe)
 carried-by (ToPipe n) (Pipe number bw delay limit loss buckets mask) kept how e flow = ap (λ (m : ℕ). own m flow) (sym (ap (pipe-or 0) e))
   where

@@ -45,10 +45,10 @@ pub record HasSettled (set : Settings) (known : List FlowKey) (old f : List Even
   pub waited : (link : Link) (flow : ℕ) → 0 < length (backlog link flow (f ++ old)) → 0 < length (backlog link flow old)
   pub accepted : accepted_count (f ++ old) ≡ accepted_count old
 
-none-settled : (set : Settings) (known : List FlowKey) (old : List Event) → AreKnown set known old → HasSettled set known old []
+pub none-settled : (set : Settings) (known : List FlowKey) (old : List Event) → AreKnown set known old → HasSettled set known old []
 none-settled set known old h = record { are_known = h; waited = λ link flow some. some; accepted = refl }
 
-settled-more : (set : Settings) (known : List FlowKey) (old : List Event) (s : Start) (f : List Event) → HasSettled set known old f → HasSettled set known old (started s ∷ f)
+pub settled-more : (set : Settings) (known : List FlowKey) (old : List Event) (s : Start) (f : List Event) → HasSettled set known old f → HasSettled set known old (started s ∷ f)
 settled-more set known old s f h = record {
   are_known = known-started set known s (f ++ old) h.are_known;
   waited = λ link flow some. h.waited link flow (fewer-started (is_of link flow s.packet) (backlog link flow (f ++ old)) some);
@@ -64,7 +64,7 @@ pub record IsBegun (set : Settings) (at : ℕ) (old : List Event) (s : Start) (f
   pub soon : s.moment ≤ at
   pub when : ((s.moment ≡ free s.packet.link (f ++ old)) × HasWaited old s.packet.link f) ⊎ ((s.moment ≡ at) × ((older : List Event) × (f ≡ arrived s.packet ∷ older)))
 
-next_start-is : (set : Settings) (at : ℕ) (link : Link) (trace : List Event) (s : Start) → next_start set at link trace ≡ Some s → (s ≡ start_at set link s.packet (free link trace))
+pub next_start-is : (set : Settings) (at : ℕ) (link : Link) (trace : List Event) (s : Start) → next_start set at link trace ≡ Some s → (s ≡ start_at set link s.packet (free link trace))
     × (s.moment ≡ free link trace) × (s.moment ≤ at)
 next_start-is set at link trace s e = by (nat_le (free link trace) at) refl (next_packet link trace) e
   where
@@ -79,7 +79,7 @@ next_start-is set at link trace s e = by (nat_le (free link trace) at) refl (nex
         let soon : free link trace ≤ at = grind (arith, nat_tests) in
         (sym same ∙ ap (λ (x : Accepted). start_at set link x (free link trace)) packet, moment, omega arith)
 
-begun-next : (set : Settings) (known : List FlowKey) (at : ℕ) (old : List Event) (link : Link) (s : Start) (f : List Event) → HasSettled set known old f →
+pub begun-next : (set : Settings) (known : List FlowKey) (at : ℕ) (old : List Event) (link : Link) (s : Start) (f : List Event) → HasSettled set known old f →
     next_start set at link (f ++ old) ≡ Some s → IsBegun set at old s f
 begun-next set known at old link s f all e =
     let is = next_start-is set at link (f ++ old) s e in

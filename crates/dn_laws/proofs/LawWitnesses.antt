@@ -18,7 +18,7 @@ use Rattle.dn_types.specs.SharedLinks.{next_packet, last_finish_tag, virtual_tim
 use Rattle.dn_laws.specs.TimeLaws.{IsDelayed}
 use Rattle.dn_types.specs.Trace.{own, shared, Accepted, Start, Event, arrived, started, backlog}
 use Rattle.dn_types.specs.declared.call.Call.{Call}
-use Rattle.dn_types.specs.declared.call.Call.TheVariants.{Configure, Submit, Advance}
+use Rattle.dn_types.specs.declared.call.Call.TheVariants.{Configure, Submit, Advance, Collect}
 use Rattle.dn_types.specs.declared.command.Command.{Command}
 use Rattle.dn_types.specs.declared.command.Command.TheVariants.{Pipe, DeletePipe, DeleteQueue}
 use Rattle.dn_types.specs.declared.limit.Limit.TheVariants.{Slots}
@@ -39,7 +39,7 @@ use Rattle.dn_laws.proofs.Rates.{starts-apart, keeps-the-rate}
 use Rattle.dn_laws.proofs.Resets.{tags-begin-afresh, queue-delete-resets, dropped-changes-nothing}
 use Rattle.dn_laws.proofs.Shares.{tags-by-weight}
 use Rattle.dn_laws.proofs.StartLaws.{starts-at-once, starts-the-next, starts-as-configured}
-use Rattle.dn_laws.proofs.Sums.{delays-add-up}
+use Rattle.dn_laws.proofs.Sums.{delays-add-up, delivered-delays-add-up}
 use Rattle.dn_laws.proofs.Timely.{events-stay, starts-in-time, none-starts-early}
 use Rattle.dn_types.proofs.TransmissionTime.{unlimited-takes-no-time}
 
@@ -183,6 +183,10 @@ its_delay = it_adds_up 1 (delivery 1 0 1000000 52000000) (ltb-true 1 2 refl) ref
 
 its_wait : 1000000 ≡ free its_delay.start.packet.link its_delay.earlier - 0
 its_wait = let start = its_delay.waits in let wait = its_delay.busy in omega (arith, start, wait)
+
+-- And so it is for both as a Collect gives them.
+given_add_up : All (λ d. d.packet ≡ 1 → IsDelayed Ordered (Collect 60000000 ∷ two) 0 d) (delivery 0 0 0 51000000 ∷ delivery 1 0 1000000 52000000 ∷ [])
+given_add_up = delivered-delays-add-up Ordered [] (drop 1 two) (ToPipe 1) (worded 0) 0 0 0 1 60000000 60000000 (delivery 0 0 0 51000000 ∷ delivery 1 0 1000000 52000000 ∷ []) refl refl
 
 -- At bandwidth 0 both start at once, and their link is free at once.
 takes_no_time : transmission_time 0 1000 ≡ 0

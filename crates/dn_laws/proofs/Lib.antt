@@ -12,6 +12,7 @@ pub mod DelayBound
 pub mod Delays
 mod DeleteWitnesses
 pub mod Delivered
+pub mod Determines
 pub mod Divided
 mod DividedWitnesses
 pub mod DropLaws
@@ -21,9 +22,12 @@ pub mod Exactly
 pub mod Fair
 mod FairWitness
 pub mod Fates
+pub mod GivesHold
 pub mod Heads
 pub mod Isolation
+pub mod JoinsHold
 pub mod Kept
+pub mod LawsHold
 mod LawWitnesses
 pub mod Least
 pub mod Masks
@@ -35,6 +39,7 @@ pub mod MergedReplies
 pub mod Merges
 mod MergeWitnesses
 pub mod Obeyed
+pub mod Obeying
 pub mod OneLink
 pub mod OnPipes
 pub mod PartCalls
@@ -50,16 +55,24 @@ mod PartWitnesses
 pub mod Pauses
 pub mod PickLaws
 pub mod Places
+pub mod PlainLawsHold
 pub mod QueuesRate
 pub mod Rates
 pub mod Readings
+pub mod ReadingsObey
 mod ReadingWitnesses
 mod ReplyWitnesses
 pub mod Resets
+pub mod SameAnswers
+pub mod SameCalls
+pub mod SameReadings
+pub mod SameReplies
 pub mod Seen
+pub mod SettlingHolds
 pub mod Shares
 pub mod Spares
 pub mod StartLaws
+pub mod StatesHold
 pub mod Steady
 pub mod Sums
 pub mod Tags

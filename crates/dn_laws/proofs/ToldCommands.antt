@@ -132,7 +132,7 @@ queue-of n None h = absurd h
 queue-of n (Some (Queue number pipe weight limit loss buckets mask)) h = eq-eqb pipe n h
 queue-of n (Some _) h = absurd h
 
-some-queue : (set : Settings) (queues : List ℕ) (n : ℕ) → has_queues set queues n ≡ true → HasQueue set n
+pub some-queue : (set : Settings) (queues : List ℕ) (n : ℕ) → has_queues set queues n ≡ true → HasQueue set n
 some-queue set [] n h = absurd cc
 some-queue set (q ∷ queues) n h = by (is_queue_of n (set (ToQueue q))) refl h (λ rest. some-queue set queues n rest)
   where
@@ -147,7 +147,7 @@ module _ (calls : List Call) where
   abbrev queues : List ℕ
   queues = queue_numbers calls
 
-  has : (n : ℕ) → HasQueue (settings calls) n → has_queues (settings calls) (queue_numbers calls) n ≡ true
+  pub has : (n : ℕ) → HasQueue (settings calls) n → has_queues (settings calls) (queue_numbers calls) n ≡ true
   has n h =
       let mine = queue-of n (set (ToQueue h.0)) h.1 in
       any-of (λ q. is_queue_of n (settings calls (ToQueue q))) h.0 (queue_numbers calls) mine ((settings-whole calls).listed h.0 n mine)

@@ -141,7 +141,7 @@ module _ (number : ℕ) where
       omega (arith, rest, more)
 
   -- A packet that starts once does so at one place.
-  one-start : (later later' : List Event) (s s' : Start) (earlier earlier' : List Event) → later ++ started s ∷ earlier ≡ later' ++ started s' ∷ earlier' → s.packet.packet ≡ number →
+  pub one-start : (later later' : List Event) (s s' : Start) (earlier earlier' : List Event) → later ++ started s ∷ earlier ≡ later' ++ started s' ∷ earlier' → s.packet.packet ≡ number →
       s'.packet.packet ≡ number → start_count number (later ++ started s ∷ earlier) ≤ 1 → (s ≡ s') × (earlier ≡ earlier')
   one-start [] [] s s' earlier earlier' e is is' once = let first : s ≡ s' = cc in let rest : earlier ≡ earlier' = cc in (first, rest)
   one-start [] (y ∷ later') s s' earlier earlier' e is is' once =
@@ -168,7 +168,7 @@ module _ (number : ℕ) where
       let no' : cond {A = ℕ} (is_packet number d) 1 0 ≡ 0 = ap {B = ℕ} (λ b. cond b 1 0) (All-head (λ x. is_packet number x ≡ false) d ds h) in
       omega (arith, rest, one, no')
 
-one-due : (rule : Rule) (s : Start) (last a b : ℕ) → IsDueBy rule s last a → IsDueBy rule s last b → a ≡ b
+pub one-due : (rule : Rule) (s : Start) (last a b : ℕ) → IsDueBy rule s last a → IsDueBy rule s last b → a ≡ b
 one-due Free s last a b h k = h ∙ sym k
 one-due Ordered s last a b h k = h ∙ sym k
 

@@ -1,6 +1,8 @@
 pub mod ByteShares
 pub mod ConfiguredLaws
+pub mod Determined
 pub mod Divided
+pub mod Emulated
 pub mod Explained
 pub mod FairShare
 pub mod FlowLaws

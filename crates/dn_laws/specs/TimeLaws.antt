@@ -11,11 +11,11 @@ use Rattle.dn_types.specs.Links.{free, transmission_time, last_due}
 use Rattle.dn_types.specs.Replies.{reply}
 use Rattle.dn_types.specs.Trace.{Start, Event, started, pipe_of}
 use Rattle.dn_types.specs.declared.call.Call.{Call}
-use Rattle.dn_types.specs.declared.call.Call.TheVariants.{Submit}
+use Rattle.dn_types.specs.declared.call.Call.TheVariants.{Submit, Collect}
 use Rattle.dn_types.specs.declared.command.Command.{Command}
 use Rattle.dn_types.specs.declared.delivery.Delivery.{Delivery}
 use Rattle.dn_types.specs.declared.packet.Packet.{Packet}
-use Rattle.dn_types.specs.declared.reply.Reply.TheVariants.{Queued}
+use Rattle.dn_types.specs.declared.reply.Reply.TheVariants.{Queued, Delivered}
 use Rattle.dn_types.specs.declared.rule.Rule.{Rule}
 use Rattle.dn_types.specs.declared.rule.Rule.TheVariants.{Free, Ordered}
 use Rattle.dn_types.specs.declared.target.Target.{Target}
@@ -92,6 +92,13 @@ DelaysAddUp = (rule : Rule) (after calls : List Call) (target : Target) (packet 
     reply rule calls (Submit target packet moment) ≡ Queued at flow number →
     All (λ d. d.packet ≡ number →
     IsDelayed rule (after ++ Submit target packet moment ∷ calls) at d) (undelivered rule (trace_of (after ++ Submit target packet moment ∷ calls)))
+
+-- So it is for what a Collect gives.
+abbrev pub DeliveredDelaysAddUp : Type 0
+DeliveredDelaysAddUp = (rule : Rule) (after calls : List Call) (target : Target) (packet : Packet) (moment at flow number collect now : ℕ) (list : List Delivery) →
+    reply rule calls (Submit target packet moment) ≡ Queued at flow number →
+    reply rule (after ++ Submit target packet moment ∷ calls) (Collect collect) ≡ Delivered now list →
+    All (λ d. d.packet ≡ number → IsDelayed rule (Collect collect ∷ after ++ Submit target packet moment ∷ calls) at d) list
 
 -- A Collect gives its packets in this order.
 abbrev pub GivesInOrder : Type 0

@@ -45,7 +45,8 @@ ghost use Rattle.dn_laws.specs.SharingLaws.{PacketsKeepApart, PickIsFair, PickIs
 ghost use Rattle.dn_laws.specs.SharingLaws.{PipeDeleteEmpties, PipeDeleteSpares};
 ghost use Rattle.dn_laws.specs.SharingLaws.{QueueDeleteEmpties, QueueDeleteSpares};
 ghost use Rattle.dn_laws.specs.SharingLaws.{RaisesToTheLeast, StartsThePick, TagsByWeight};
-ghost use Rattle.dn_laws.specs.TimeLaws.{DelaysAddUp, EventsStay, GivesInOrder, NoneStartsEarly};
+ghost use Rattle.dn_laws.specs.TimeLaws.{DelaysAddUp, DeliveredDelaysAddUp, EventsStay};
+ghost use Rattle.dn_laws.specs.TimeLaws.{GivesInOrder, NoneStartsEarly};
 ghost use Rattle.dn_laws.specs.TimeLaws.{StartsBehind, StartsInTime, UnlimitedTakesNoTime, WaitsForItsLink};
 ghost use Rattle.dn_laws.specs.WaitLaws.{KbytesBoundTheDelay, KbytesBoundTheWait};
 ghost use Rattle.dn_laws.specs.WaitLaws.{LinksMakeNoPause, SlotsBoundTheDelay};
@@ -163,6 +164,7 @@ pub fn laws_of_time()
     ensures behind { StartsBehind }
     ensures unlimited { UnlimitedTakesNoTime }
     ensures sum { DelaysAddUp }
+    ensures delivered { DeliveredDelaysAddUp }
     ensures in_order { GivesInOrder }
 {}
 

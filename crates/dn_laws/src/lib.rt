@@ -1,5 +1,6 @@
 //! The laws of the definitions of dn_types, which hold for all lists of calls.
 #![tactic(auto)]
 
+pub mod determined;
 pub mod laws;
 pub mod merging;

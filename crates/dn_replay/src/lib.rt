@@ -8,8 +8,7 @@ mod report;
 
 pub use callers::{Gate, NoGate, replay_callers, replay_callers_with_key};
 pub use dn_audit::{
-    FileAudit, Verdict, audit, audit_file, audit_file_by_threads, audit_file_with_key,
-    audit_file_within, audit_with_key,
+    FileAudit, Verdict, audit, audit_file, audit_file_with_key, audit_file_within, audit_with_key,
 };
 pub use dn_files::{PACKET_LIMIT, ReplayFault, Row, Source, read_config, read_packets};
 pub use dn_history::{HISTORY_LIMIT, read_history, write_history};

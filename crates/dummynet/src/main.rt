@@ -2,14 +2,16 @@
 #![tactic(auto)]
 
 mod audits;
-mod late_file;
+mod fault;
+mod history_file;
 mod replays;
 
 use audits::audit;
 use dn_command::{Refusal, Request, request_of, words_of};
 use dn_live::live;
 use dn_records::{FromReader, FromWriter};
-use dn_replay::{HashKey, Outcome, ReplayFault};
+use dn_replay::{HashKey, ReplayFault};
+use fault::Fault;
 use replays::{replay_files, replay_input};
 use std::io;
 use std::process::ExitCode;
@@ -31,26 +33,19 @@ fn serve<R: Input + Print + AllocGlobal>(rt: &R, key: HashKey) -> Result<u8, Rep
     Ok(live(rt.alloc(), key, &mut input, &mut out)?.status())
 }
 
-/// Tells of a replay in which no row has a target, and returns the status of one that was made.
-fn told<R: Eprint>(rt: &R, outcome: Outcome) -> u8 {
-    if outcome.untargeted {
-        let _ = eprintln!(rt; "no row has a target: nothing went through a link");
-    }
-    DONE
-}
-
 /// Does what is asked for, and answers its status.
-fn run<R: Input + Files + Print + Eprint + AllocGlobal + Threads + Wait + Sync>(
+fn run<R: Input + Files + Print + AllocGlobal + Threads + Wait + Sync>(
     rt: &R,
     key: HashKey,
     request: &Request<'_>,
-) -> Result<u8, ReplayFault> {
+) -> Result<u8, Fault> {
     match request {
-        Request::Joined => Ok(told(rt, replay_input(rt, key)?)),
-        Request::Replay(asked) => Ok(told(rt, replay_files(rt, key, asked)?)),
-        Request::Audit(asked) => audit(rt, key, asked),
-        Request::Live => serve(rt, key),
+        Request::Joined => replay_input(rt, key)?,
+        Request::Replay(asked) => replay_files(rt, key, asked)?,
+        Request::Audit(asked) => return Ok(audit(rt, key, asked)?),
+        Request::Live => return Ok(serve(rt, key)?),
     }
+    Ok(DONE)
 }
 
 /// The secret by which the flow table hashes, drawn anew in each run, so that who writes a packet file can't know it.

@@ -1,8 +1,9 @@
-use crate::late_file::LateFile;
+use crate::fault::Fault;
+use crate::history_file::{HistoryFile, may_take_history};
 use dn_command::Replay;
 use dn_records::{FromReader, FromWriter};
 use dn_replay::{
-    HashKey, Manner, NoGate, Outcome, PACKET_LIMIT, ReplayFault, Source, replay_callers_with_key,
+    HashKey, Manner, NoGate, PACKET_LIMIT, ReplayFault, Source, replay_callers_with_key,
     replay_files_by_threads, write_history,
 };
 use std::rt::Files;
@@ -17,7 +18,7 @@ const MOST: usize = 1 << 40;
 pub fn replay_input<R: Input + Print + AllocGlobal>(
     rt: &R,
     key: HashKey,
-) -> Result<Outcome, ReplayFault> {
+) -> Result<(), ReplayFault> {
     let mut input = FromReader::new(rt.reader());
     let mut out = FromWriter::new(io::writer(rt));
     let manner = Manner {
@@ -25,25 +26,36 @@ pub fn replay_input<R: Input + Print + AllocGlobal>(
         records: false,
         limit: PACKET_LIMIT,
     };
-    let (_, outcome) = dn_replay::replay_input(rt.alloc(), manner, &mut input, &mut out)?;
-    Ok(outcome)
+    dn_replay::replay_input(rt.alloc(), manner, &mut input, &mut out)?;
+    Ok(())
+}
+
+/// Whether no file is lost where the history goes.
+fn spares_files<R: Files>(rt: &R, history: Option<&str>) -> bool {
+    match history {
+        Some(path) => may_take_history(rt, path),
+        None => true,
+    }
 }
 
 /// From two files to standard output.
 ///
-/// Both are opened before either is read. The history goes to a third one after the report, and that file is made, or
-/// emptied if it is there, once the whole text of the history is in memory.
+/// Both are opened before either is read. The history goes to a third one after the report, once its whole text is in
+/// memory. Whether that file may be replaced is seen before the replay, and again after it.
 pub fn replay_files<R: Files + Print + AllocGlobal + Threads + Wait + Sync>(
     rt: &R,
     key: HashKey,
     asked: &Replay<'_>,
-) -> Result<Outcome, ReplayFault> {
+) -> Result<(), Fault> {
     let Ok(config) = fs::open(rt, asked.config) else {
-        return Err(ReplayFault::Read(Source::Config));
+        return Err(Fault::Replay(ReplayFault::Read(Source::Config)));
     };
     let Ok(packets) = fs::open(rt, asked.packets) else {
-        return Err(ReplayFault::Read(Source::Packets));
+        return Err(Fault::Replay(ReplayFault::Read(Source::Packets)));
     };
+    if !spares_files(rt, asked.history) {
+        return Err(Fault::OtherFile);
+    }
     let threads = asked.threads.unwrap_or(1);
     let mut config = FromReader::new(config);
     let mut packets = FromReader::new(packets);
@@ -55,41 +67,43 @@ pub fn replay_files<R: Files + Print + AllocGlobal + Threads + Wait + Sync>(
         records: asked.history.is_some(),
         limit,
     };
-    let (entries, outcome) = match (asked.callers, threads) {
-        (Some(n), _) => {
-            let entries = replay_callers_with_key(
-                rt,
-                alloc,
-                key,
-                n,
-                &mut config,
-                &mut packets,
-                &mut out,
-                &NoGate,
-            )?;
-            let outcome = Outcome::of(&entries);
-            (entries, outcome)
-        }
-        (None, 1) => {
-            dn_replay::replay_files(alloc, manner, &mut config, &mut packets, &mut out)?
-        }
-        (None, _) => replay_files_by_threads(
+    let entries = match (asked.callers, threads) {
+        (Some(n), _) => replay_callers_with_key(
             rt,
             alloc,
-            threads,
-            manner,
+            key,
+            n,
             &mut config,
             &mut packets,
             &mut out,
+            &NoGate,
         )?,
+        (None, 1) => {
+            dn_replay::replay_files(alloc, manner, &mut config, &mut packets, &mut out)?.0
+        }
+        (None, _) => {
+            replay_files_by_threads(
+                rt,
+                alloc,
+                threads,
+                manner,
+                &mut config,
+                &mut packets,
+                &mut out,
+            )?
+            .0
+        }
     };
     let Some(path) = asked.history else {
-        return Ok(outcome);
+        return Ok(());
     };
+    if !may_take_history(rt, path) {
+        return Err(Fault::OtherFile);
+    }
     write_history(
         alloc,
         &entries,
-        &mut FromWriter::new(LateFile::new(rt, path)),
+        &mut FromWriter::new(HistoryFile::new(rt, path)),
     )?;
-    Ok(outcome)
+    Ok(())
 }

@@ -12,8 +12,10 @@
  * Each call answers an enum dn_status. Under DN_OK all that the call tells is written; under every other status what the
  * caller handed in is as it was, but for what that status is said to write, and the handle stands as it stood, but for the
  * three refusals of dn_configure, which count as calls and change nothing else, and for an audit's, which is closed. Where two
- * statuses fit, a call answers that of a number, a line or the room for fates before DN_CLOSED. No pointer may be NULL, also
- * that of a list of no items.
+ * statuses fit, a call answers that of a number, a line or the room for fates before DN_CLOSED.
+ *
+ * No pointer may be NULL, also that of a list of no items. No two pointers of a call may overlap in what they point to: one
+ * variable doesn't take two results, and a result isn't written over what the call reads.
  *
  * Later versions change no function, no struct and no number of this one: what they add has a name of its own, or takes the
  * place of a field `reserved`, which is 0 in what the caller hands in, else DN_BAD_RESERVED, and is written as 0.
@@ -30,7 +32,7 @@ extern "C" {
 #endif
 
 /* The version of this header: its three numbers, as major * 1000000 + minor * 1000 + patch. */
-#define DN_VERSION 1007000u
+#define DN_VERSION 2000000u
 
 /* The last moment of a call: 2^62 ns. */
 #define DN_LAST_MOMENT ((uint64_t)1 << 62)

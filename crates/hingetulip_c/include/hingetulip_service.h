@@ -4,7 +4,8 @@
  *
  * A service is opened with its callers. One thread at a time uses a caller, and one thread at a time the service. A handle may
  * pass to another thread by a lock, by a thread's start or by its end. Handles are closed where they are {0}. An open handle isn't
- * copied, and its fields are the library's alone. A caller and a service are closed in any order.
+ * copied, and its fields are the library's alone. A caller and a service are closed in any order. What hingetulip.h asks of
+ * pointers is asked here too.
  *
  * The calls of all callers are one sequence, and each reply is that of a handle of hingetulip.h after the calls before it. The
  * service takes this sequence out as entries of a history file, which `dummynet audit` checks.

@@ -8,8 +8,6 @@ mod audit_limits;
 #[cfg(test)]
 mod audit_parts;
 #[cfg(test)]
-mod audit_threads;
-#[cfg(test)]
 mod closed;
 #[cfg(test)]
 mod file_audits;

@@ -72,7 +72,7 @@ fn tries_of_two_callers_in_threads(rt: HostRuntime) -> Result<(), Fail> {
     Ok(())
 }
 
-/// What each thread does in the program of docs/THREADS.md.
+/// What each thread does in the program of docs/EMBEDDING.md.
 fn submit<R: Wait>(rt: &R, mut caller: Caller, packet: Call) -> Caller
     ensures { result.service ≡ caller.service }
 {

@@ -3,12 +3,16 @@
 from __future__ import annotations
 
 import csv
+import io
 import ipaddress
 from pathlib import Path
 
-from hinge.command import ROWS, Fault
+from hinge.border.files import read_front, read_text, untrusted
+from hinge.command import FILES, ROWS, Fault
+from hinge.outputs import written
 
 NAMES = ["stand-in", "address"]
+FORM = f"it isn't of the form {','.join(NAMES)}"
 FIRST_OF_240 = 0xF0000001
 
 
@@ -33,16 +37,24 @@ def addresses_file(packets: str) -> Path:
 
 def write_addresses(packets: str, addresses: StandIns) -> None:
     """Writes the file beside a packet file. If there are no such addresses, one of an earlier packet file is taken
-    away."""
-    path = addresses_file(packets)
+    away. Fault: a file of that name is there that has others."""
+    path, head = addresses_file(packets), f"{','.join(NAMES)}\n"
+    is_ours = path.is_file() and read_front(path, len(head)) == head.encode()
     if not addresses.stand_ins:
-        if path.is_file() and path.read_bytes().startswith(f"{','.join(NAMES)}\n".encode()):
+        if is_ours:
             path.unlink()
         return
-    with open(path, "w", encoding="utf-8", newline="") as file:
-        writer = csv.writer(file, lineterminator="\n")
-        writer.writerow(NAMES)
-        writer.writerows((stand_in, address) for address, stand_in in addresses.stand_ins.items())
+    if path.exists() and not is_ours:
+        raise Fault(f"{path}: addresses of IPv6 are to be in it, and it has something else: take it away", FILES)
+    with written(path) as place:
+        place.write_text(head + "".join(f"{own},{address}\n" for address, own in addresses.stand_ins.items()))
+
+
+def address_of_six(text: str) -> str:
+    """An address of IPv6 as it is written; ValueError: it is none, or has a zone, which may be any text."""
+    if "%" in text:
+        raise ValueError(text)
+    return str(ipaddress.IPv6Address(text))
 
 
 def read_addresses(packets: str) -> dict[str, str]:
@@ -50,13 +62,21 @@ def read_addresses(packets: str) -> dict[str, str]:
     path = addresses_file(packets)
     if not path.is_file():
         return {}
-    with open(path, encoding="utf-8", errors="replace", newline="") as file:
-        rows = list(csv.reader(file))
-    if rows[:1] != [NAMES] or any(len(row) != len(NAMES) for row in rows):
-        raise Fault(f"{path}: it isn't of the form {','.join(NAMES)}", ROWS)
-    for _, address in rows[1:]:
-        try:
-            ipaddress.IPv6Address(address)
-        except ipaddress.AddressValueError:
-            raise Fault(f"{path}: {address!r} is no address of IPv6", ROWS) from None
-    return {stand_in: address for stand_in, address in rows[1:]}
+    table: dict[str, str] = {}
+    with untrusted(path):
+        rows = csv.reader(io.StringIO(read_text(path, "replace"), newline=""))
+        if next(rows, []) != NAMES:
+            raise Fault(f"{path}: {FORM}", ROWS)
+        for row in rows:
+            if len(row) != len(NAMES):
+                raise Fault(f"{path}: {FORM}", ROWS)
+            table[row[0]] = checked_address(path, row[1])
+    return table
+
+
+def checked_address(path: Path, address: str) -> str:
+    try:
+        address_of_six(address)
+    except ValueError:
+        raise Fault(f"{path}: {address!r} is no address of IPv6", ROWS) from None
+    return address

@@ -3,14 +3,15 @@
 from __future__ import annotations
 
 import mmap
+import os
 import struct
 import subprocess
-import tempfile
 from contextlib import contextmanager
 from dataclasses import dataclass
-from pathlib import Path
 from typing import IO, BinaryIO, Iterator, NamedTuple
 
+from hinge.border.files import read_again, untrusted
+from hinge.border.scratch import unnamed
 from hinge.command import ROWS, Fault, path_of_program
 
 FILE_HEADER, RECORD = struct.Struct("<IHHiIII"), struct.Struct("<IIII")
@@ -36,38 +37,38 @@ class CaptureFile:
     records: list[Record]
 
 
-def read_frames(path: Path) -> CaptureFile:
-    with open(path, "rb") as file:
-        data = mmap.mmap(file.fileno(), 0, access=mmap.ACCESS_READ)
+def read_frames(file: IO[bytes]) -> CaptureFile:
+    data = mmap.mmap(file.fileno(), 0, access=mmap.ACCESS_READ)
     *_, link_type = FILE_HEADER.unpack_from(data)
     records, at = [], FILE_HEADER.size
     while at + RECORD.size <= len(data):
-        seconds, ns, kept, length = RECORD.unpack_from(data, at)
+        seconds, ns, part, length = RECORD.unpack_from(data, at)
         at += RECORD.size
-        records.append(Record(seconds * NS_PER_S + ns, length, at, at + kept))
-        at += kept
+        records.append(Record(seconds * NS_PER_S + ns, length, at, at + part))
+        at += part
     return CaptureFile(link_type, data, records)
 
 
 @contextmanager
-def capture_file(path: str) -> Iterator[CaptureFile]:
+def capture_file(name: str) -> Iterator[CaptureFile]:
     """A capture of any form, which editcap writes as a classic pcap file with nanoseconds first."""
-    with open(path, "rb"), tempfile.TemporaryDirectory() as folder:
-        plain = Path(folder, "capture.pcap")
-        done = subprocess.run([path_of_program("editcap", "wireshark-common"), "-F", "nsecpcap", path, str(plain)],
+    with read_again(name) as capture, unnamed() as (plain, place):
+        process = subprocess.run([path_of_program("editcap", "wireshark-common"), "-F", "nsecpcap", capture.path, place],
                               capture_output=True, text=True)
-        is_there = plain.exists() and plain.stat().st_size >= FILE_HEADER.size
-        if not is_there or (done.returncode != 0 and "cut short" not in done.stderr):
-            raise Fault(f"{path}: {' '.join(done.stderr.split())[:300]}", ROWS)
-        yield read_frames(plain)
+        is_there = os.fstat(plain.fileno()).st_size >= FILE_HEADER.size
+        if not is_there or (process.returncode != 0 and "cut short" not in process.stderr):
+            raise Fault(f"{capture.name}: {' '.join(process.stderr.split())[:300]}", ROWS)
+        with untrusted(capture.name):
+            frames = read_frames(plain)
+        yield frames
 
 
 def write_header(out: IO[bytes], link_type: int) -> None:
     out.write(FILE_HEADER.pack(NANOSECONDS, 2, 4, 0, 0, 262_144, link_type))
 
 
-def write_frame(out: BinaryIO, time: int, length: int, kept: bytes) -> None:
+def write_frame(out: BinaryIO, time: int, length: int, payload: bytes) -> None:
     seconds, ns = divmod(time, NS_PER_S)
     if seconds >= SECONDS_END:
         raise Fault("a frame arrives after the year 2106, which a pcap file can't say", ROWS)
-    out.write(RECORD.pack(seconds, ns, len(kept), length) + kept)
+    out.write(RECORD.pack(seconds, ns, len(payload), length) + payload)

@@ -2,25 +2,27 @@
 
 from __future__ import annotations
 
-import gzip
 import shutil
 import struct
 import subprocess
-import tempfile
 from contextlib import ExitStack
 from dataclasses import dataclass, field
 from typing import Iterator, NamedTuple, Optional, Protocol
 
+from hinge.border.files import GZIP, Input, Unpacked, opened, untrusted
+from hinge.border.scratch import unnamed
 from hinge.command import ROWS, Fault, say
 
 NS_PER_S = 10**9
-GZIP, SECTION = b"\x1f\x8b", b"\x0a\x0d\x0d\x0a"
+SECTION = b"\x0a\x0d\x0d\x0a"
 BYTE_ORDER = 0x1A2B3C4D
 MICROSECONDS, NANOSECONDS = 0xA1B2C3D4, 0xA1B23C4D
 KUZNETZOV = 0xA1B2CD34  # with 8 bytes more in each record
 INTERFACE, OLD_PACKET, SIMPLE_PACKET, PACKET = 1, 2, 3, 6
 TIME_RESOLUTION, TIME_OFFSET = 9, 14
 LONGEST = 1 << 28  # of a block or a frame that is taken for one
+PART = 1 << 20  # bytes that are read at once
+NOT_VALID = "a block of the capture isn't valid"
 
 
 class RawFrame(NamedTuple):
@@ -36,7 +38,7 @@ class RawFrame(NamedTuple):
 class Readable(Protocol):
     """A file that is read on."""
 
-    def read(self, __size: int) -> bytes:
+    def read(self, size: int, /) -> bytes:
         """At most so many bytes, fewer at its end."""
 
 
@@ -67,7 +69,7 @@ class Blocks:
     interfaces: list[CaptureInterface] = field(default_factory=list)
 
     def bad(self) -> Fault:
-        return Fault(f"{self.name}: a block of the capture isn't valid", ROWS)
+        return Fault(f"{self.name}: {NOT_VALID}", ROWS)
 
     def frames(self) -> Iterator[RawFrame]:
         while head := self.file.read(8):
@@ -78,13 +80,10 @@ class Blocks:
                 continue
             kind, length = struct.unpack(self.order + "II", head)
             body = self.body(length)
-            try:
-                if kind == INTERFACE:
-                    self.interfaces.append(self.interface(body))
-                elif (found := self.frame(kind, body)) is not None:
-                    yield found
-            except (struct.error, IndexError):
-                raise self.bad() from None
+            if kind == INTERFACE:
+                self.interfaces.append(self.interface(body))
+            elif (result := self.frame(kind, body)) is not None:
+                yield result
 
     def begin_section(self, head: bytes) -> None:
         magic = whole(self.file, 4)
@@ -102,17 +101,17 @@ class Blocks:
 
     def interface(self, body: bytes) -> CaptureInterface:
         link_type, _, most = struct.unpack_from(self.order + "HHI", body)
-        found, at = CaptureInterface(link_type, most or LONGEST), 8
+        result, at = CaptureInterface(link_type, most or LONGEST), 8
         while at + 4 <= len(body):
             code, length = struct.unpack_from(self.order + "HH", body, at)
             value, at = body[at + 4:at + 4 + length], at + 4 + length + -length % 4
             if code == 0:
                 break
             if code == TIME_RESOLUTION:
-                found.ticks = 2 ** (value[0] & 0x7F) if value[0] & 0x80 else 10 ** value[0]
+                result.ticks = 2 ** (value[0] & 0x7F) if value[0] & 0x80 else 10 ** value[0]
             elif code == TIME_OFFSET:
-                [found.offset] = struct.unpack(self.order + "q", value)
-        return found
+                [result.offset] = struct.unpack(self.order + "q", value)
+        return result
 
     def frame(self, kind: int, body: bytes) -> Optional[RawFrame]:
         """The frame of a block, None if the block has none."""
@@ -123,16 +122,18 @@ class Blocks:
         if kind not in (PACKET, OLD_PACKET):
             return None
         fields = "IIIII" if kind == PACKET else "HxxIIII"
-        number, high, low, kept, length = struct.unpack_from(self.order + fields, body)
+        number, high, low, part, length = struct.unpack_from(self.order + fields, body)
         one = self.interfaces[number]
-        return RawFrame(one.time(high, low), length, one.link_type, body[20:20 + kept])
+        return RawFrame(one.time(high, low), length, one.link_type, body[20:20 + part])
 
 
 def whole(file: Readable, size: int) -> bytes:
-    """So many bytes."""
-    data = file.read(size)
-    if len(data) < size:
-        raise CutShort
+    """So many bytes, for which memory is taken as they come."""
+    data = file.read(min(size, PART))
+    while len(data) < size:
+        if not (more := file.read(min(size - len(data), PART))):
+            raise CutShort
+        data += more
     return data
 
 
@@ -145,12 +146,12 @@ def frames_of_pcap(name: str, file: Readable, magic: bytes) -> Iterator[RawFrame
     while head := file.read(record.size):
         if len(head) < record.size:
             raise CutShort
-        seconds, fraction, kept, length = record.unpack(head)
-        if kept > LONGEST:
-            raise Fault(f"{name}: a block of the capture isn't valid", ROWS)
+        seconds, fraction, part, length = record.unpack(head)
+        if part > LONGEST:
+            raise Fault(f"{name}: {NOT_VALID}", ROWS)
         if kind == KUZNETZOV:
             whole(file, 8)
-        yield RawFrame(seconds * NS_PER_S + fraction * unit, length, link_type & 0xFFFF, whole(file, kept))
+        yield RawFrame(seconds * NS_PER_S + fraction * unit, length, link_type & 0xFFFF, whole(file, part))
 
 
 def is_pcap(magic: bytes) -> bool:
@@ -158,42 +159,42 @@ def is_pcap(magic: bytes) -> bool:
     return int.from_bytes(magic, "little") in kinds or int.from_bytes(magic, "big") in kinds
 
 
-def as_pcapng(capture: str, files: ExitStack) -> str:
+def as_pcapng(capture: Input, files: ExitStack) -> Input:
     """A capture of another form as pcapng, by Wireshark's editcap."""
     editcap = shutil.which("editcap")
     if editcap is None:
         needs = "and other captures need editcap: apt-get install wireshark-common"
-        raise Fault(f"{capture}: neither pcap nor pcapng, {needs}", ROWS)
-    made = f"{files.enter_context(tempfile.TemporaryDirectory())}/capture.pcapng"
-    done = subprocess.run([editcap, "-F", "pcapng", capture, made], capture_output=True, text=True)
-    if done.returncode != 0:
-        raise Fault(f"{capture}: {' '.join(done.stderr.split())[:300]}", ROWS)
-    return made
+        raise Fault(f"{capture.name}: neither pcap nor pcapng, {needs}", ROWS)
+    _, product = files.enter_context(unnamed())
+    process = subprocess.run([editcap, "-F", "pcapng", capture.path, product], capture_output=True, text=True)
+    if process.returncode != 0:
+        raise Fault(f"{capture.name}: {' '.join(process.stderr.split())[:300]}", ROWS)
+    return Input(product, capture.name)
 
 
-def opened_capture(capture: str, files: ExitStack) -> tuple[Readable, bytes]:
+def opened_capture(capture: Input, files: ExitStack) -> tuple[Readable, bytes]:
     """The bytes of a capture, which may be compressed, behind the first four, and these."""
-    plain = files.enter_context(open(capture, "rb"))
+    plain = files.enter_context(opened(capture.path))
     is_compressed = plain.read(2) == GZIP
     plain.seek(0)
-    file: Readable = files.enter_context(gzip.GzipFile(fileobj=plain)) if is_compressed else plain
+    file: Readable = plain
+    if is_compressed:
+        file = Unpacked(capture.name, plain)
     return file, file.read(4)
 
 
-def raw_frames(capture: str) -> Iterator[RawFrame]:
+def raw_frames(capture: Input) -> Iterator[RawFrame]:
     """The frames of a capture, in its order. One whose last frame is incomplete is read up to it."""
-    with ExitStack() as files:
-        file, magic = opened_capture(capture, files)
-        if magic != SECTION and not is_pcap(magic):
-            file, magic = opened_capture(as_pcapng(capture, files), files)
+    with untrusted(capture.name, what=NOT_VALID), ExitStack() as files:
         try:
+            file, magic = opened_capture(capture, files)
+            if magic != SECTION and not is_pcap(magic):
+                file, magic = opened_capture(as_pcapng(capture, files), files)
             if magic == SECTION:
-                blocks = Blocks(capture, file)
+                blocks = Blocks(capture.name, file)
                 blocks.begin_section(magic + whole(file, 4))
                 yield from blocks.frames()
             else:
-                yield from frames_of_pcap(capture, file, magic)
+                yield from frames_of_pcap(capture.name, file, magic)
         except (CutShort, EOFError):
-            say(f"{capture}: the capture is cut short in the middle of a frame")
-        except (gzip.BadGzipFile, struct.error):
-            raise Fault(f"{capture}: a block of the capture isn't valid", ROWS) from None
+            say(f"{capture.name}: the capture is cut short in the middle of a frame")

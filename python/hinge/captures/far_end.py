@@ -27,12 +27,12 @@ def arrivals(replay: Replay, frames: Integers) -> list[tuple[int, int]]:
     A frame that was split into packets arrives with the last of them, and not at all where one of them doesn't leave.
     """
     count = int(frames.max()) + 1 if len(frames) else 0
-    last, rows, left = np.zeros(count, np.int64), np.bincount(frames, minlength=count), np.zeros(count, np.int64)
+    last, rows, departures = np.zeros(count, np.int64), np.bincount(frames, minlength=count), np.zeros(count, np.int64)
     np.maximum.at(last, frames[replay.is_out], replay.due[replay.is_out])
-    np.add.at(left, frames[replay.is_out], 1)
-    arrived = np.flatnonzero((rows > 0) & (left == rows))
-    order = np.lexsort((arrived, last[arrived]))
-    return list(zip(last[arrived][order].tolist(), arrived[order].tolist()))
+    np.add.at(departures, frames[replay.is_out], 1)
+    whole = np.flatnonzero((rows > 0) & (departures == rows))
+    order = np.lexsort((whole, last[whole]))
+    return list(zip(last[whole][order].tolist(), whole[order].tolist()))
 
 
 def refuse_other(capture: CaptureFile, frames: Integers) -> None:
@@ -45,10 +45,10 @@ def write_arrivals(capture: CaptureFile, replay: Replay, frames: Integers, path:
     """Writes the frames that arrive, and tells how many there are."""
     records = capture.records
     began = records[frames[0] - 1].time - int(replay.packets.moment[0]) if len(frames) else 0
-    arrived = arrivals(replay, frames)
+    arrival = arrivals(replay, frames)
     with written(path) as place, open(place, "wb") as out:
         write_header(out, capture.link_type)
-        for moment, frame in arrived:
+        for moment, frame in arrival:
             record = records[frame - 1]
             write_frame(out, began + moment, record.length, capture.data[record.begin:record.end])
-    return len(arrived)
+    return len(arrival)

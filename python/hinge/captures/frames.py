@@ -89,40 +89,40 @@ def is_jumbo(options: bytes) -> bool:
 def behind_extensions(data: bytes, following: int) -> tuple[int, bytes]:
     """The protocol behind the headers that extend an IPv6 packet, and its bytes, none of a later fragment. It is the
     one behind the first of each kind."""
-    proto, seen, is_later = following, set[int](), False
+    proto, members, is_later = following, set[int](), False
     while following in EXTENSIONS and len(data) >= EXTENSIONS[following]:
         kind, size = following, 8 if following == FRAGMENT else 8 * (data[1] + 1) if len(data) > 1 else 1
         is_later = kind == FRAGMENT and number_at(data, 2) >> 3 > 0
         following, data = data[0], data[size:]
-        if proto == kind and kind not in seen:
+        if proto == kind and kind not in members:
             proto = following
         if is_later:
             break
-        seen.add(kind)
+        members.add(kind)
     return proto, b"" if is_later else data
 
 
-def ports(found: Internet) -> tuple[int, int, int]:
+def ports(packet: Internet) -> tuple[int, int, int]:
     """The two ports, and the length of the transport header."""
-    if found.proto not in PORTED:
+    if packet.proto not in PORTED:
         return 0, 0, 0
-    data, ports_known = found.transport, len(found.transport) >= WHOLE.get(found.proto, 4)
-    header = OTHER_HEADER if found.proto != TCP else data[12] >> 4 << 2 if len(data) >= 14 else TCP_HEADER
-    return (number_at(data, 0), number_at(data, 2), header) if ports_known else (0, 0, header)
+    data, has_ports = packet.transport, len(packet.transport) >= WHOLE.get(packet.proto, 4)
+    header = OTHER_HEADER if packet.proto != TCP else data[12] >> 4 << 2 if len(data) >= 14 else TCP_HEADER
+    return (number_at(data, 0), number_at(data, 2), header) if has_ports else (0, 0, header)
 
 
-def frame_of(place: int, raw: RawFrame) -> Optional[Frame]:
+def frame_of(capture: str, place: int, raw: RawFrame) -> Optional[Frame]:
     """The IP packet in the frame of a number, None where there is none."""
     inner = LINKS[raw.link_type](raw.data)
     if inner is None:
         return None
-    found = (internet6 if inner.is_six else internet4)(raw.data[inner.begin:])
-    if found is None:
+    result = (internet6 if inner.is_six else internet4)(raw.data[inner.begin:])
+    if result is None:
         return None
     if raw.time is None:
-        raise Fault(f"frame {place} of the capture has no time", ROWS)
+        raise Fault(f"{capture}: frame {place} of the capture has no time", ROWS)
     # of more than 65,535 bytes, or one that the card was still to cut
-    length = found.length or raw.length - inner.begin
-    sport, dport, header = ports(found)
-    return Frame(place, raw.time, found.src, found.dst, found.proto, sport, dport, length, found.header + header,
-                 found.dscp)
+    length = result.length or raw.length - inner.begin
+    sport, dport, header = ports(result)
+    return Frame(place, raw.time, result.src, result.dst, result.proto, sport, dport, length, result.header + header,
+                 result.dscp)

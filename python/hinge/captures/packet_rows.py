@@ -4,7 +4,8 @@ from __future__ import annotations
 
 from collections import Counter
 from dataclasses import dataclass, field
-from typing import Iterator, NamedTuple, TextIO
+from heapq import heappop, heappush, heapreplace
+from typing import Iterable, Iterator, NamedTuple, TextIO
 
 from hinge.captures.addresses import StandIns
 from hinge.captures.frames import Frame
@@ -28,13 +29,18 @@ class Card:
     mtu: int = 0
     rate: int = 0
 
-    def lengths(self, frame: Frame) -> list[int]:
+    def is_cut(self, frame: Frame) -> bool:
+        return bool(self.mtu) and frame.length > self.mtu
+
+    def lengths(self, frame: Frame) -> Iterator[int]:
         """The lengths of the packets of a segment: each has the headers, and no more than the MTU in all."""
-        if not self.mtu or frame.length <= self.mtu:
-            return [frame.length]
+        if not self.is_cut(frame):
+            yield frame.length
+            return
         room, payload = self.mtu - frame.headers, frame.length - frame.headers
-        whole, rest = divmod(payload, room)
-        return [self.mtu] * whole + ([rest + frame.headers] if rest else [])
+        while payload > 0:
+            yield min(payload, room) + frame.headers
+            payload -= room
 
     def takes(self, length: int) -> int:
         """The ns that a packet takes on the wire, with what Ethernet adds to it."""
@@ -50,24 +56,56 @@ class Packet(NamedTuple):
 
 
 class Cutter:
-    """Makes the packets of frames, which come in order of time. A card is busy with a segment until its last packet was
-    sent."""
+    """Makes the packets of frames, which come in order of time, one at a time. A card is busy with a segment until its
+    last packet was sent."""
 
     def __init__(self, card: Card, began: int) -> None:
         self.card, self.began, self.split = card, began, 0
         self.busy: dict[str, int] = {}  # until when the card of a sender sends a segment
 
-    def packets(self, frame: Frame) -> list[Packet]:
-        lengths = self.card.lengths(frame)
+    def begin(self, frame: Frame) -> int:
+        """When the first packet of a frame is sent."""
         moment = max(frame.time - self.began, self.busy.get(frame.src, 0))
-        made = []
-        for length in lengths:
-            made.append(Packet(moment, length, frame))
-            moment += self.card.takes(length)
-        if len(lengths) > 1:
+        if self.card.is_cut(frame):
             self.split += 1
-            self.busy[frame.src] = moment
-        return made
+            self.busy[frame.src] = moment + sum(map(self.card.takes, self.card.lengths(frame))) if self.card.rate else moment
+        return moment
+
+    def packets(self, frame: Frame) -> Iterator[Packet]:
+        moment = self.begin(frame)
+        for length in self.card.lengths(frame):
+            yield Packet(moment, length, frame)
+            moment += self.card.takes(length)
+
+
+class Sent(NamedTuple):
+    """What is left of a frame's packets."""
+
+    first: Packet
+    others: Iterator[Packet]
+    target: str
+
+
+def in_order(items: Iterator[Sent], began: int) -> Iterator[tuple[Packet, str]]:
+    """All packets by their moments; those of one moment in the order of their frames, which come in order of time."""
+    waiting: list[tuple[int, int, Sent]] = []
+    for number, packet in enumerate(items):
+        while waiting and waiting[0][0] <= packet.first.frame.time - began:
+            yield next_of(waiting)
+        heappush(waiting, (packet.first.moment, number, packet))
+    while waiting:
+        yield next_of(waiting)
+
+
+def next_of(waiting: list[tuple[int, int, Sent]]) -> tuple[Packet, str]:
+    """Takes the first packet that waits."""
+    _, number, packet = waiting[0]
+    following = next(packet.others, None)
+    if following is None:
+        heappop(waiting)
+    else:
+        heapreplace(waiting, (following.moment, number, packet._replace(first=following)))
+    return packet.first, packet.target
 
 
 @dataclass
@@ -123,26 +161,28 @@ class PacketRows:
     counts: Counter[str] = field(default_factory=Counter)
     row: int = 0
 
-    def packets(self, frames: list[Frame]) -> list[tuple[Packet, str]]:
+    def packets(self, frames: list[Frame]) -> Iterator[tuple[Packet, str]]:
         """The packets of all frames that have a target, in order of time, each with its target."""
         frames.sort(key=lambda frame: (frame.time, frame.number))
         cutter = Cutter(self.card, frames[0].time if frames else 0)
-        found = []
+        for packet, target in in_order(self.sent(frames, cutter), cutter.began):
+            if packet.moment > LAST_MOMENT:
+                raise Fault(f"frame {packet.frame.number} of the capture comes {packet.moment:,} ns after the first packet, "
+                            f"later than 2^62 ns, "
+                            "the last moment of a packet file: its time is wrong, or that of the first", ROWS)
+            yield packet, target
+        self.counts["split"] = cutter.split
+
+    def sent(self, frames: list[Frame], cutter: Cutter) -> Iterator[Sent]:
+        """Those of each frame."""
         for frame in frames:
             target = self.targets.of(frame)
             if target is None:
                 self.counts["unmapped"] += 1
                 continue
             self.meetings.add(target, frame.src, frame.dst)
-            found += [(packet, target) for packet in cutter.packets(frame)]
-        self.counts["split"] = cutter.split
-        if self.card.rate:
-            found.sort(key=lambda packet_to: packet_to[0].moment)
-        if found and (late := found[-1][0]).moment > LAST_MOMENT:
-            raise Fault(f"frame {late.frame.number} of the capture comes {late.moment:,} ns after the first packet, "
-                        f"later than 2^62 ns, "
-                        "the last moment of a packet file: its time is wrong, or that of the first", ROWS)
-        return found
+            packets = cutter.packets(frame)
+            yield Sent(next(packets), packets, target)
 
     def line(self, packet: Packet, target: str) -> str:
         """The next row."""
@@ -154,13 +194,13 @@ class PacketRows:
         return (f"{packet.moment},{target},{src},{dst},{frame.proto},{frame.sport},{frame.dport},"
                 f"{min(on_link, MAX_LEN)},{word}\n")
 
-    def write(self, found: list[tuple[Packet, str]], out: TextIO, index: TextIO | None) -> None:
+    def write(self, items: Iterable[tuple[Packet, str]], out: TextIO, index: TextIO | None) -> None:
         """A row for each packet, and in the index its frame."""
         out.write(f"{HEADER}\n")
         if index is not None:
             index.write("row,frame\n")
         progress = Progress("rows")
-        for packet, target in found:
+        for packet, target in items:
             self.counts["bytes"] += out.write(self.line(packet, target))
             if index is not None:
                 index.write(f"{self.row},{packet.frame.number}\n")

@@ -73,16 +73,16 @@ def address_net(text: str) -> Net:
 
 
 def port_span_of(text: str) -> Span:
-    found = re.fullmatch(r"(\d{1,5})(?:-(\d{1,5}))?", text, re.ASCII)
-    span = Span(int(found[1]), int(found[2] or found[1])) if found else Span(1, 0)
+    match = re.fullmatch(r"(\d{1,5})(?:-(\d{1,5}))?", text, re.ASCII)
+    span = Span(int(match[1]), int(match[2] or match[1])) if match else Span(1, 0)
     if not span.low <= span.high <= MOST_NUMBER:
         raise BadRule(f"'{text}': no port from 0 to 65535 and no range of them, as 5201 or 5201-5210")
     return span
 
 
 def number_of(text: str, most: int, what: str) -> int:
-    found = re.fullmatch(r"0x[\da-f]+|\d+", text.lower(), re.ASCII)
-    number = int(found[0], 16 if found[0][:2] == "0x" else 10) if found else most + 1
+    match = re.fullmatch(r"0x[\da-f]+|\d+", text.lower(), re.ASCII)
+    number = int(match[0], 16 if match[0][:2] == "0x" else 10) if match else most + 1
     if number > most:
         raise BadRule(f"'{text}': {what}")
     return number
@@ -136,11 +136,11 @@ class RuleReader:
 
 def parted(text: str) -> tuple[str, RuleTarget]:
     """A rule's words before the arrow, and its target."""
-    left, arrow, right = text.rpartition("=>")
-    found = TARGET.match(right.strip())
-    if not arrow or found is None or int(found[2]) > MOST_NUMBER:
+    rest, arrow, right = text.rpartition("=>")
+    match = TARGET.match(right.strip())
+    if not arrow or match is None or int(match[2]) > MOST_NUMBER:
         raise BadRule("it doesn't end in `=> pipe N` or `=> queue N`")
-    return left.strip(), RuleTarget(found[1], int(found[2]))
+    return rest.strip(), RuleTarget(match[1], int(match[2]))
 
 
 def is_like_a_filter(text: str) -> bool:

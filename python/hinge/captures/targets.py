@@ -82,10 +82,10 @@ def directions(text: str) -> list[MapRule]:
     """
     kind, colon, name = text.partition(":")
     if kind == "if" and colon and name:
-        quoted = name.replace("\\", "\\\\").replace('"', '\\"')
+        literal = name.replace("\\", "\\\\").replace('"', '\\"')
         one = MapRule("pipe,1",
                       filter=f"frame.interface_id == {name}" if name.isdigit()
-                      else f'frame.interface_name == "{quoted}"')
+                      else f'frame.interface_name == "{literal}"')
     elif text == "first":
         one = MapRule("pipe,1", (first_of_two(),))
     else:

@@ -8,6 +8,7 @@ import tempfile
 from contextlib import ExitStack
 from typing import IO
 
+from hinge.border.scratch import unnamed
 from hinge.captures.capture_file import write_header
 from hinge.command import MISSING, ROWS, USAGE, Fault, path_of_program, say
 
@@ -38,14 +39,14 @@ def refuse_bad(filters: list[str]) -> None:
     """Has tshark read each filter, over a capture without frames."""
     if filters and shutil.which("tshark") is None:
         raise Fault(f"--map {filters[0]!r}: a display filter needs tshark: apt-get install tshark", MISSING)
-    with tempfile.NamedTemporaryFile(suffix=".pcap") as empty:
+    with unnamed() as (empty, path):
         write_header(empty, ETHERNET)
         empty.flush()
-        tries = [subprocess.Popen(tshark(empty.name, "-Y", text), stdout=subprocess.DEVNULL, stderr=subprocess.PIPE,
+        tries = [subprocess.Popen(tshark(path, "-Y", text), stdout=subprocess.DEVNULL, stderr=subprocess.PIPE,
                                   text=True) for text in filters]
-        told = [tried.communicate()[1] for tried in tries]
-    for text, tried, errors in zip(filters, tries, told):
-        if tried.returncode != 0:
+        report = [trial.communicate()[1] for trial in tries]
+    for text, trial, errors in zip(filters, tries, report):
+        if trial.returncode != 0:
             cause = " ".join(line.strip() for line in errors.splitlines() if line.strip(" ^~")
                              and not line.startswith("Running as"))
             raise Fault(f"--map {text!r}: neither the short words of a rule nor a display filter of Wireshark: "
@@ -62,22 +63,22 @@ class Matches:
         self.passes = [self._start(text) for text in filters]
 
     def _start(self, text: str) -> tuple[subprocess.Popen[str], IO[str], IO[str]]:
-        found, errors = (self.files.enter_context(tempfile.TemporaryFile("w+")) for _ in range(2))
+        result, errors = (self.files.enter_context(tempfile.TemporaryFile("w+")) for _ in range(2))
         words = tshark(self.capture, "-Y", text, "-T", "fields", "-e", "frame.number")
-        return subprocess.Popen(words, stdout=found, stderr=errors, text=True), found, errors
+        return subprocess.Popen(words, stdout=result, stderr=errors, text=True), result, errors
 
     def sets(self) -> dict[str, set[int]]:
         """The frame numbers that each filter matches."""
-        found: dict[str, set[int]] = {}
+        table: dict[str, set[int]] = {}
         with self.files:
             for text, (process, numbers, errors) in zip(self.filters, self.passes):
                 status = process.wait()
                 errors.seek(0)
                 judge(status, errors.read(), f"--map {text!r}")
-                found[text] = self._read(numbers)
-        return found
+                table[text] = self._read(numbers)
+        return table
 
     @staticmethod
-    def _read(found: IO[str]) -> set[int]:
-        found.seek(0)
-        return {int(line) for line in found}
+    def _read(file: IO[str]) -> set[int]:
+        file.seek(0)
+        return {int(line) for line in file}

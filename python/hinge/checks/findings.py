@@ -4,7 +4,7 @@ from __future__ import annotations
 
 from dataclasses import dataclass
 
-from hinge.command import printable
+from hinge.border.terminal import show
 
 MOST_FAULTS = 20  # of one file that are told
 
@@ -18,10 +18,10 @@ class Findings:
     status: int = 0
 
     def fault(self, where: str, what: str, status: int) -> None:
-        print(printable(f"{where}: {what}"))
+        show(f"{where}: {what}")
         self.faults += 1
         self.status = self.status or status
 
     def warn(self, where: str, what: str) -> None:
-        print(printable(f"{where}: warning: {what}"))
+        show(f"{where}: warning: {what}")
         self.warnings += 1

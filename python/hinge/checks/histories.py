@@ -33,9 +33,9 @@ class HistoryRecords:
         session is by the rule of version 3."""
         if not re.match(r"dummynet-history,3|dummynet-live,", self.list[0][1]):
             return ""
-        given = "".join(f"{self.list[place][1]}\n" for place in calls)
-        told = subprocess.run([dummynet(), "live"], input=given, capture_output=True, text=True).stdout.splitlines()
-        return next((line for line in reversed(told) if line.startswith("r,")), "")
+        items = "".join(f"{self.list[place][1]}\n" for place in calls)
+        process = subprocess.run([dummynet(), "live"], input=items, capture_output=True, text=True).stdout.splitlines()
+        return next((line for line in reversed(process) if line.startswith("r,")), "")
 
 
 def bad_record(name: str, records: HistoryRecords, number: int) -> tuple[str, str]:
@@ -46,21 +46,21 @@ def bad_record(name: str, records: HistoryRecords, number: int) -> tuple[str, st
         return (where,
                 "the history was cut: behind this record it has no `end`; the session was killed, or still goes on")
     line, text = lines[number - 1]
-    shown = f"record {number} {text[:SHOWN]!r}"
+    line_of_text = f"record {number} {text[:SHOWN]!r}"
     if number > 1 and lines[number - 2][1].startswith("end,"):
-        return f"{name}:{line}", f"{shown} stands behind the end; keep one session a file"
+        return f"{name}:{line}", f"{line_of_text} stands behind the end; keep one session a file"
     if text.startswith("end,"):
         return (f"{name}:{line}",
-                f"{shown}: there are {len(records.calls())} entries, or the last has no reply; records were taken away "
+                f"{line_of_text}: there are {len(records.calls())} entries, or the last has no reply; records were taken away "
                 f"or added")
     if number == len(lines) and not records.is_whole:
         return (f"{name}:{line}",
-                f"{shown}: the history was cut within this record; the session was killed, or still goes on")
+                f"{line_of_text}: the history was cut within this record; the session was killed, or still goes on")
     if text.startswith("#"):
         return (f"{name}:{line}",
-                f"{shown}: a remark, which only the transcript of a live session has; leave it out, or begin the file "
+                f"{line_of_text}: a remark, which only the transcript of a live session has; leave it out, or begin the file "
                 f"with dummynet-live,1")
-    return f"{name}:{line}", f"{shown}: not a record here; the file was edited"
+    return f"{name}:{line}", f"{line_of_text}: not a record here; the file was edited"
 
 
 def other_reply(name: str, records: HistoryRecords, entry: int) -> tuple[str, str]:
@@ -68,18 +68,18 @@ def other_reply(name: str, records: HistoryRecords, entry: int) -> tuple[str, st
     calls = records.calls()[:entry + 1]
     (_, call), (line, reply) = records.list[calls[-1]], records.list[calls[-1] + 1]
     right = records.right_reply(calls)
-    said = f"{reply[:SHOWN]!r} isn't the emulator's reply to {call[:SHOWN]!r} (entry {entry})"
+    text = f"{reply[:SHOWN]!r} isn't the emulator's reply to {call[:SHOWN]!r} (entry {entry})"
     if right == reply:
-        return f"{name}:{line}", f"{said}: an item below it differs"
-    return f"{name}:{line}", f"{said}; that is {right!r}" if right else said
+        return f"{name}:{line}", f"{text}: an item below it differs"
+    return f"{name}:{line}", f"{text}; that is {right!r}" if right else text
 
 
-def check_history(name: str, path: str, data: bytes, found: Findings) -> None:
+def check_history(name: str, path: str, data: bytes, findings: Findings) -> None:
     audit = subprocess.run([dummynet(), "audit", path], capture_output=True, text=True)
     records, fault = HistoryRecords(data), audit.stderr.strip()
     if bad := re.fullmatch(r"history record (\d+): bad", fault):
-        found.fault(*bad_record(name, records, int(bad[1])), ROWS)
+        findings.fault(*bad_record(name, records, int(bad[1])), ROWS)
     elif differs := re.fullmatch(r"differs (\d+)", audit.stdout.strip()):
-        found.fault(*other_reply(name, records, int(differs[1])), DIFFERS)
+        findings.fault(*other_reply(name, records, int(differs[1])), DIFFERS)
     elif audit.returncode:
-        found.fault(name, fault, audit.returncode)
+        findings.fault(name, fault, audit.returncode)

@@ -7,17 +7,21 @@ import subprocess
 from collections import Counter
 from dataclasses import dataclass, field
 from fractions import Fraction
-from typing import Iterator, NamedTuple
+from typing import Iterable, Iterator, NamedTuple, Optional, Sequence
 
+from hinge.arguments import is_number
 from hinge.checks.findings import MOST_FAULTS, Findings
 from hingetulip_words.values import FIELD_BITS
-from hingetulip_words.advice import OPTIONS, advice, words_of
-from hinge.command import CONFIGURATION
+from hingetulip_words.advice import OPTIONS, words_of
+from hingetulip_words.explained import explained, replaced
+from hinge.command import CONFIGURATION, Fault
 from hinge.configurations.configured import InForce
 from hinge.program import dummynet
 
 MOST_LINE_BYTES = 65_000  # of a line that a live session takes
 LONG_DELAY_MS = 10_000
+MOST_CORRECTIONS = 8  # of one line
+BAD = re.compile(rb"^#,bad,(\d+),[^,\n]*,(.*)$", re.M)
 
 
 class Verdict(NamedTuple):
@@ -29,14 +33,17 @@ class Verdict(NamedTuple):
     text: str
 
 
+def session_of(lines: Iterable[bytes]) -> bytes:
+    """What the program says of lines, all of one session, in which each has its effect on the next."""
+    # a file's line may be longer than one of a live session; with a blank before it no line is a call
+    shorter = (re.sub(rb" +", b" ", line) if b"  " in line else line for line in lines)
+    inputs = b"".join([b" " + line[:MOST_LINE_BYTES] + b"\n" for line in shorter])
+    return subprocess.run([dummynet(), "live"], input=inputs, stdout=subprocess.PIPE, stderr=subprocess.DEVNULL).stdout
+
+
 def judged_lines(lines: list[bytes]) -> Iterator[Verdict]:
-    """The verdict of each line that asks for something. All lines are of one session, in which each has its effect on
-    the next."""
-    shorter = (re.sub(rb" +", b" ", line) for line in lines)  # a file's line may be longer than one of a live session
-    # with a blank before it no line is a call
-    given = b"".join(b" " + line[:MOST_LINE_BYTES] + b"\n" for line in shorter)
-    answer = subprocess.run([dummynet(), "live"], input=given, stdout=subprocess.PIPE, stderr=subprocess.DEVNULL).stdout
-    records = answer.decode("utf-8", "replace").splitlines()
+    """The verdict of each line that asks for something."""
+    records = session_of(lines).decode("utf-8", "replace").splitlines()
     bad = {int(fields[2]): fields[4] for fields in (record.split(",", 4) for record in records) if fields[:2]
            == ["#", "bad"]}
     calls = iter([record for record in records if record[:2] in ("c,", "r,")])
@@ -46,6 +53,39 @@ def judged_lines(lines: list[bytes]) -> Iterator[Verdict]:
         elif words_of(line.decode("utf-8", "replace")):
             text, reply = next(calls).split(",", 3)[3], next(calls).split(",")[1]
             yield Verdict(number, "ok" if reply in ("configured", "deleted") else reply, text)
+
+
+class Placed(NamedTuple):
+    """A line, and the file and number, or the option, that it is from."""
+
+    place: str
+    text: str
+
+
+def corrected(line: str) -> Optional[str]:
+    """The line with each wrong word exchanged for the one that its fault says to write, if the program takes it then."""
+    for _ in range(MOST_CORRECTIONS):
+        verdict = next(judged_lines([line.encode()]), None)
+        if verdict is None or verdict.name != "bad":
+            return line
+        other = replaced(line, verdict.text)
+        if other is None or other == line:
+            return None
+        line = other
+    return None
+
+
+def refuse_wrong(lines: Sequence[Placed]) -> None:
+    """Ends with the first line that is no command, and what to write. Without the program the host refuses it later."""
+    texts = list(dict.fromkeys(line.text for line in lines))  # long files say the same again and again
+    try:
+        report = session_of(text.encode("utf-8", "surrogateescape") for text in texts) if texts else b""
+    except Fault:
+        return
+    if b"\n#,bad," in report and (wrong := BAD.search(report)):
+        text = texts[int(wrong[1]) - 1]
+        place = next(line.place for line in lines if line.text == text)
+        raise Fault(f"{place}: {LineCheck.wrong(words_of(text), wrong[2].decode('utf-8', 'replace'))}", CONFIGURATION)
 
 
 @dataclass
@@ -84,13 +124,12 @@ class LineCheck:
             self.warn_of_words(where, own)
             self.last[" ".join(own[:2])] = verdict.line, own
 
-    def wrong(self, words: list[str], text: str) -> str:
+    @staticmethod
+    def wrong(words: list[str], text: str) -> str:
         """What is wrong with a line, and what to write, by the program's text `word W: X`."""
-        cause = re.fullmatch(r"word (\d+): (.+)", text)
-        if not cause or int(cause[1]) > len(words):
-            return "not UTF-8: a file of another kind, or of an older encoding" if text == "not UTF-8" else text
-        said = advice(words, int(cause[1]), cause[2])
-        return f"word {cause[1]} {words[int(cause[1]) - 1]!r}: {said.wrong}; {said.right}"
+        line = " ".join(words)
+        whole = corrected(line)
+        return explained(line, text) + f"; in full: {whole}" * (whole is not None and whole != line)
 
     def refused(self, verdict: Verdict) -> str:
         """Why a command that is well written has no effect."""
@@ -109,16 +148,16 @@ class LineCheck:
         key = " ".join(words[:2])
         if key in self.last and "config" in words[:3] and "config" in self.last[key][1][:3]:
             line, earlier = self.last[key]
-            lost = [word for word in earlier[3:] if word in OPTIONS[words[0]] and word not in words[3:]]
-            also = f": {', '.join(lost)} of line {line} no longer hold{'s' * (len(lost) == 1)}" if lost else ""
+            losses = [word for word in earlier[3:] if word in OPTIONS[words[0]] and word not in words[3:]]
+            also = f": {', '.join(losses)} of line {line} no longer hold{'s' * (len(losses) == 1)}" if losses else ""
             self.found.warn(where, f"a second line for {key}, and each line is its whole configuration{also}")
         if twice := [word for word, count in Counter(words[3:]).items() if count > 1 and word in OPTIONS[words[0]]]:
             self.found.warn(where, f"{twice[0]} stands twice; the last one counts")
 
     def warn_of_words(self, where: str, words: list[str]) -> None:
         for name, word in zip(words[3:], words[4:]):
-            if (said := unlikely(name, word)) is not None:
-                self.found.warn(where, said)
+            if (message := unlikely(name, word)) is not None:
+                self.found.warn(where, message)
 
 
 def unlikely(name: str, word: str) -> str | None:
@@ -129,7 +168,7 @@ def unlikely(name: str, word: str) -> str | None:
         return f"plr {word} loses every packet; 1 % is 0.01"
     if name == "delay" and (ms := int(re.sub(r"\D", "", word) or 0)) > LONG_DELAY_MS:
         return f"delay {word} is {ms / 1000:g} s; delays are in ms"
-    if name in FIELD_BITS and word.isdigit() and int(word) & (int(word) + 1):
+    if name in FIELD_BITS and is_number(word) and int(word) & (int(word) + 1):
         whole = hex((1 << FIELD_BITS[name]) - 1)
         return (f"mask {name} {word} keeps the bits {int(word):#x}, and is neither a prefix length nor a value; all "
                 f"bits are {whole}")

@@ -13,6 +13,7 @@ from dataclasses import dataclass, field
 from fractions import Fraction
 from typing import Iterator, NamedTuple, Optional
 
+from hinge.arguments import is_number
 from hinge.checks.findings import MOST_FAULTS, Findings
 from hinge.command import ROWS
 from hinge.configurations.configured import InForce, Setting
@@ -49,17 +50,17 @@ def records(data: bytes, line: int) -> Iterator[Row]:
     """The records of a text that begins in this line; a field in quotes may go over several."""
     data = data.removeprefix(b"\xef\xbb\xbf") if line == 1 else data
     lines = io.StringIO(data.decode("latin-1"), newline="").readlines()
-    kept: list[str] = []
+    texts: list[str] = []
     is_open = False
     for number, text in enumerate(lines, line):
-        kept.append(text)
+        texts.append(text)
         is_open ^= text.count('"') % 2 == 1
         if not is_open:
-            if whole := "".join(kept).rstrip("\r\n"):
-                yield Row(number - len(kept) + 1, whole.encode("latin-1"))
-            kept = []
-    if kept:
-        yield Row(line + len(lines) - len(kept), "".join(kept).encode("latin-1"))
+            if whole := "".join(texts).rstrip("\r\n"):
+                yield Row(number - len(texts) + 1, whole.encode("latin-1"))
+            texts = []
+    if texts:
+        yield Row(line + len(lines) - len(texts), "".join(texts).encode("latin-1"))
 
 
 def of_moment(text: str) -> Optional[str]:
@@ -69,7 +70,7 @@ def of_moment(text: str) -> Optional[str]:
         return "a moment can't be negative; count from the first packet"
     if re.match(r"\d{4}-\d\d-\d\d|\d+:\d\d", text):
         return "a date; write nanoseconds from the first packet"
-    if text.isdigit() and int(text) > LAST_MOMENT:
+    if text.isascii() and text.isdecimal() and (not is_number(text) or int(text) > LAST_MOMENT):
         return f"beyond the last moment, {LAST_MOMENT}; count from the first packet"
     return None
 
@@ -77,14 +78,14 @@ def of_moment(text: str) -> Optional[str]:
 def of_address(text: str) -> str:
     if text.count(":") > 1:
         return "IPv6, which packet files don't have; `hinge packets` writes an address of 240.0.0.0/4 for each"
-    if found := re.fullmatch(r"(\d+\.\d+\.\d+\.\d+)[:/](\d+)", text):
-        return f"an address alone; write {found[1]}"
+    if match := re.fullmatch(r"(\d+\.\d+\.\d+\.\d+)[:/](\d+)", text):
+        return f"an address alone; write {match[1]}"
     return "not an IPv4 address, or with leading zeros; write it as 10.0.0.1"
 
 
 def of_number(name: str, text: str) -> Optional[str]:
-    if found := re.fullmatch(r"0+(\d+)", text):
-        return f"leading zeros aren't taken; write {found[1]}"
+    if match := re.fullmatch(r"0+(\d+)", text):
+        return f"leading zeros aren't taken; write {match[1]}"
     if re.fullmatch(r"0[xX][0-9a-fA-F]+", text):
         return f"hexadecimal isn't taken; write {int(text, 16)}"
     if name == "word" and re.fullmatch(r"0?\.\d+", text):
@@ -138,9 +139,9 @@ def wrong_header(text: str) -> str:
 def verdict(rows: list[Row]) -> tuple[int, str]:
     """The program's status for these rows below a header, and its fault."""
     text = b"\n".join([",".join(HEADER).encode(), *(row.text for row in rows)])
-    done = subprocess.run([dummynet(), "replay", "/dev/null", "/dev/stdin"], input=text, stdout=subprocess.DEVNULL,
+    process = subprocess.run([dummynet(), "replay", "/dev/null", "/dev/stdin"], input=text, stdout=subprocess.DEVNULL,
                           stderr=subprocess.PIPE)
-    return done.returncode, done.stderr.decode().strip()
+    return process.returncode, process.stderr.decode().strip()
 
 
 @dataclass
@@ -181,11 +182,11 @@ class RowCheck:
     line: int = 1
 
     def check(self) -> None:
-        found = list(records(self.data, self.line))
-        if not found:
+        items = list(records(self.data, self.line))
+        if not items:
             self.found.warn(self.name, "it has no rows")
             return
-        header, *rows = found
+        header, *rows = items
         if header.fields() != HEADER:
             self.found.fault(f"{self.name}:{header.line}", wrong_header(header.text.decode("utf-8", "replace")), ROWS)
             if separator(header.text.decode("utf-8", "replace")) is None:
@@ -195,22 +196,22 @@ class RowCheck:
 
     def judge(self, rows: list[Row]) -> bool:
         """Whether the program takes all rows; those that it doesn't take are told."""
-        begin, told, step = 0, 0, len(rows)
-        while begin < len(rows) and told < MOST_FAULTS:
+        begin, reports, step = 0, 0, len(rows)
+        while begin < len(rows) and reports < MOST_FAULTS:
             status, fault = verdict(rows[begin:begin + step])
             if status == 0:
                 begin += step
                 continue
             place = re.fullmatch(r"packet row (\d+), field (\d+): bad", fault)
             if not place:
-                more = "; `hinge shard` replays packets of any length" if "too long" in fault else ""
+                more = "; `dummynet replay --most-packets BYTES` replays longer ones" if "too long" in fault else ""
                 self.found.fault(self.name, fault + more, status)
                 return False
-            begin, told, step = begin + int(place[1]), told + 1, STRETCH
+            begin, reports, step = begin + int(place[1]), reports + 1, STRETCH
             self.found.fault(f"{self.name}:{rows[begin - 1].line}", wrong(rows[begin - 1], int(place[2])), ROWS)
         if begin < len(rows):
             self.found.warn(self.name, f"{MOST_FAULTS} faults; the rows behind them weren't looked at")
-        return told == 0
+        return reports == 0
 
     def warn(self, rows: list[Row]) -> None:
         sums = Sums()

@@ -32,8 +32,8 @@ def longest_wait_ns(pipe: Pipe, length: int) -> int:
     one = transmission_ns(pipe.bw, length)
     if pipe.limit.slots is not None:
         return pipe.limit.slots * one
-    held = (pipe.limit.kbytes or 0) * 1024
-    return transmission_ns(pipe.bw, held) + (held if pipe.bw else 0) + one
+    room = (pipe.limit.kbytes or 0) * 1024
+    return transmission_ns(pipe.bw, room) + (room if pipe.bw else 0) + one
 
 
 def bound_of(pipe: Pipe, length: int) -> Bound:
@@ -44,13 +44,13 @@ def bound_of(pipe: Pipe, length: int) -> Bound:
 
 def with_bound(pipes: Mapping[int, Pipe], queues: Mapping[int, Queue]) -> list[Pipe]:
     """The pipes that have a bound: those that no queue names, since a queue's packets have none."""
-    shared = {queue.pipe for queue in queues.values()}
-    return [pipe for number, pipe in sorted(pipes.items()) if number not in shared]
+    members = {queue.pipe for queue in queues.values()}
+    return [pipe for number, pipe in sorted(pipes.items()) if number not in members]
 
 
 def told_wait(in_force: InForce) -> Iterator[str]:
     """The bound of each pipe that has one."""
     for pipe in with_bound(in_force.pipes, in_force.queues):
-        bound = bound_of(pipe, LENGTH)
-        yield (f"pipe {pipe.number}: an accepted packet starts within {ms(bound.start_ns)} and is due within "
-               f"{ms(bound.due_ns)}, where none is longer than {LENGTH:,} bytes")
+        limit = bound_of(pipe, LENGTH)
+        yield (f"pipe {pipe.number}: an accepted packet starts within {ms(limit.start_ns)} and is due within "
+               f"{ms(limit.due_ns)}, where none is longer than {LENGTH:,} bytes")

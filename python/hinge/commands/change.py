@@ -4,15 +4,16 @@ from __future__ import annotations
 
 import sys
 
+from hinge.border.asking import ask
+from hinge.border.terminal import show
 from hinge.command import CONFIGURATION, parser
-from hinge.run.control import ask
 from hinge.run.refusals import refusals
-from hinge.run.words import Wrong
+from hingetulip_words.explained import explained
 
 WHAT = """\
 Changes a link of hinge run, hinge udp or hinge net, at once. SOCKET is what --control names there, or a name of hinge up. WORDS are those of a
 timeline without the moment: a configuration line, [up|down] LINK or [up|down] outage LENGTH lossy. In a net they begin with two hosts, or are cut A [from B ..]
-[LENGTH] or heal A [from B ..]. It prints the lines that are obeyed, with their moments."""
+[LENGTH], heal A [from B ..], kill A [LENGTH], stop A [LENGTH], restart A or cont A. It prints the lines that are obeyed, with their moments."""
 
 
 def main() -> None:
@@ -20,18 +21,15 @@ def main() -> None:
         WHAT,
         "hinge run --control link.socket --up 10Mbit/s -- bash\n  hinge change link.socket up 1Mbit/s 50ms\n"
         "  hinge change net.socket cut n1 from n2 n3 5s",
+        "0 done, 2 a wrong word or no such run, 3 a line that the links refuse, 6 the system refuses something",
     )
     line.add_argument("socket", metavar="SOCKET")
     line.add_argument("words", nargs="+", metavar="WORDS")
-    asked = line.parse_args()
+    arguments = line.parse_args()
     with refusals():
-        answer = ask(asked.socket, change=" ".join(asked.words))
-        if "refused" in answer:
-            raise Wrong(str(answer["refused"]))
-    told = answer["told"]
-    assert isinstance(told, list)
-    for one in told:
-        print(f"{one['moment'] / 1e9:.6f} s: {one['line']}" + f": {one['refused']}" * bool(one["refused"]))
-    if any(one["refused"] for one in told):
+        replies = ask(arguments.socket, change=" ".join(arguments.words)).told or []
+    for one in replies:
+        show(f"{one.moment / 1e9:.6f} s: {one.line}" + f": {explained(one.line, one.refused)}" * bool(one.refused))
+    if any(one.refused for one in replies):
         sys.stdout.flush()
         sys.exit(CONFIGURATION)

@@ -3,9 +3,10 @@
 from __future__ import annotations
 
 import sys
-from pathlib import Path
 from typing import Optional
 
+from hinge.border.files import read_bytes
+from hinge.border.terminal import tell
 from hinge.checks.findings import Findings
 from hinge.checks.histories import check_history
 from hinge.checks.lines import LineCheck
@@ -76,19 +77,18 @@ class Check:
         """How long packets wait at most, by the last configuration if it has no fault."""
         if self.lines and not self.found.faults:
             for text in told_wait(self.lines.in_force):
-                print(f"{self.lines.name}: {text}", file=sys.stderr)
+                tell(f"{self.lines.name}: {text}")
 
 
 def main() -> None:
-    line = parser(WHAT, "hinge check link.config packets.csv")
+    line = parser(WHAT, "hinge check link.config packets.csv", "0 no fault, 1 a history that isn't lawful, 3 a configuration, 4 rows")
     line.add_argument("files", metavar="FILE", nargs="+", help="configurations, packet files, joined inputs, histories")
     check = Check()
     for path in line.parse_args().files:
-        check.add(path, Path(path).read_bytes())
+        check.add(path, read_bytes(path))
     check.finish()
     check.tell_waits()
-    found = check.found
-    print(f"{found.faults} faults, {found.warnings} warnings" if found.faults or found.warnings else "nothing to say",
-          file=sys.stderr)
+    findings = check.found
+    tell(f"{findings.faults} faults, {findings.warnings} warnings" if findings.faults or findings.warnings else "nothing to say")
     sys.stdout.flush()
-    sys.exit(found.status)
+    sys.exit(findings.status)

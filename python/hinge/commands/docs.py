@@ -8,6 +8,7 @@ import sys
 from pathlib import Path
 from typing import Iterator, Optional
 
+from hinge.border.terminal import show
 from hinge.command import MISSING, USAGE, Fault, parser
 from hinge.program import PACKAGE, REPOSITORY
 
@@ -15,21 +16,32 @@ WHAT = """\
 Names the pages of the documentation and their folder, or shows one: on a terminal by the pager of the variable PAGER,
 and else as it is."""
 INSTALLED = Path("share", "doc", "hingetulip", "docs")
+INSIDE = "inside"  # the folder of the pages on the code, which a clone has
+MOVED = {  # pages that versions up to 1.7 had, and the page that has their contents
+    **dict.fromkeys(("FORMATS", "HISTORIES", "SESSIONS", "JSON"), "FILES"),
+    "CONFIG": "LINKS",
+    "FAULTS": "NET",
+    "SWEEPS": "CAPTURE",
+    "SHARES": "SPEC",
+    "THREADS": "EMBEDDING",
+    **dict.fromkeys(("CALLERS", "CHOICES"), "DECISIONS"),
+    "RATES": "PERFORMANCE",
+}
 
 
 def folder_of_pages() -> Path:
     """The folder of the clone in which the kit lies, or the one that was installed with it."""
     places = [REPOSITORY / "docs", *(folder / INSTALLED for folder in PACKAGE.parents)]
-    found = next((place for place in places if any(place.glob("*.md"))), None)
-    if found is None:
+    result = next((place for place in places if any(place.glob("*.md"))), None)
+    if result is None:
         raise Fault(f"the pages aren't there: neither in a clone nor in {INSTALLED} of a folder above {PACKAGE}",
                     MISSING)
-    return found
+    return result
 
 
 def page_rows(folder: Path) -> Iterator[str]:
     """A line for each page: its name and its title."""
-    pages = sorted(folder.glob("*.md"))
+    pages = [*sorted(folder.glob("*.md")), *sorted(folder.glob(f"{INSIDE}/*.md"))]
     width = max(len(page.stem) for page in pages)
     for page in pages:
         title = page.read_text(encoding="utf-8").partition("\n")[0].removeprefix("# ")
@@ -37,29 +49,30 @@ def page_rows(folder: Path) -> Iterator[str]:
 
 
 def page_named(folder: Path, name: str) -> str:
-    """The text of the page with this name, in letters of either case, with or without its ending."""
-    pages = {page.stem: page for page in folder.glob("*.md")}
-    asked = name.rpartition("/")[2].upper().removesuffix(".MD")
-    if asked not in pages:
-        near = difflib.get_close_matches(asked, pages, 1)
-        told = f"did you mean `hinge docs {near[0]}`?" if near else "`hinge docs` names them."
-        raise Fault(f"no page {name!r}; {told}", USAGE)
-    return pages[asked].read_text(encoding="utf-8")
+    """The text of the page with this name, today's or an older one, in letters of either case, with or without its ending."""
+    pages = {page.stem: page for page in folder.rglob("*.md")}
+    key = name.rpartition("/")[2].upper().removesuffix(".MD")
+    key = MOVED.get(key, key)
+    if key not in pages:
+        near = difflib.get_close_matches(key, pages, 1)
+        text = f"did you mean `hinge docs {near[0]}`?" if near else "`hinge docs` names them."
+        raise Fault(f"no page {name!r}; {text}", USAGE)
+    return pages[key].read_text(encoding="utf-8")
 
 
 def show_page(text: str) -> None:
     if sys.stdout.isatty():
         pydoc.pager(text)
     else:
-        print(text, end="")
+        show(text, end="")
 
 
 def main() -> None:
-    line = parser(WHAT, "hinge docs\n  hinge docs LIVE")
+    line = parser(WHAT, "hinge docs\n  hinge docs LIVE", "0 done, 2 no such page, 7 there are no pages")
     line.add_argument("page", nargs="?", help="its name, as LIVE")
     page: Optional[str] = line.parse_args().page
     folder = folder_of_pages()
     if page is not None:
         show_page(page_named(folder, page))
     else:
-        print("\n".join([f"pages in {folder}; `hinge docs NAME` shows one:", "", *page_rows(folder)]))
+        show("\n".join([f"pages in {folder}; `hinge docs NAME` shows one:", "", *page_rows(folder)]))

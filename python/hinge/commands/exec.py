@@ -9,9 +9,10 @@ import sys
 import time
 from typing import NoReturn
 
-from hinge.command import NAME, say
-from hinge.run.control import PATIENCE, asked_at, is_answered
-from hinge.run.doors import started_behind
+from hinge.border.asking import asked_at, is_answered
+from hinge.border.messages import Order
+from hinge.command import NAME, parser, say
+from hinge.run.doors import DOORS, started_behind
 from hinge.run.first import BLOCKED, status_of
 from hinge.run.names import socket_of
 from hinge.run.processes import SIGNALLED
@@ -20,36 +21,31 @@ from hinge.run.words import Wrong
 
 WHAT = """\
 Runs COMMAND on HOST of a hinge net or hinge run that goes on: in its network, with its name, in the present folder. SOCKET is what --control
-names there, or a name of hinge up. Without COMMAND it is a shell. A run has the hosts client and server."""
-TELLS = """
-The command is no part of what the run waits for, and ends with it, by SIGKILL.
+names there, or a name of hinge up. Without COMMAND it is a shell. A run has the hosts client and server.
 
-statuses:
-  the command's own; 128 and the signal where one ended it; 126, 127 where it can't be executed
-  2 a wrong word, or no such run or host   6 the system refuses something
-
-examples:
-  hinge exec net.socket n1 -- etcdctl endpoint status
-  hinge exec net.socket n2
-"""
+The command is no part of what the run waits for, and ends with it, by SIGKILL."""
+EXAMPLE = """\
+hinge exec net.socket n1 -- etcdctl endpoint status
+  hinge exec net.socket n2"""
+STATUSES = """\
+the command's own; 128 and the signal if one ended it; 126, 127 if it can't be executed; 2 a wrong word, or no such run or host; 6 the system
+refuses something"""
 SHELL = "sh"
 MOMENT = 1  # s
+VARIABLES = ("HINGE_HOST", "HINGE_NET")  # that a run may set: none by which a program is found or loaded
 
 
 def command_line() -> argparse.Namespace:
     words = sys.argv[2 if sys.argv[1:2] == ["exec"] else 1:]  # `hinge net exec` is the same
-    parser = argparse.ArgumentParser(
-        prog=NAME[0], usage=f"{NAME[0]} SOCKET HOST [-- COMMAND [ARGUMENT ..]]", description=WHAT, epilog=TELLS,
-        formatter_class=argparse.RawDescriptionHelpFormatter
-    )
-    parser.add_argument("socket", metavar="SOCKET")
-    parser.add_argument("host", metavar="HOST")
-    parser.add_argument("command", nargs=argparse.REMAINDER, metavar="COMMAND", help=argparse.SUPPRESS)
-    asked = parser.parse_args(words)
-    if asked.command[:1] == ["--"]:
-        del asked.command[0]
-    asked.command = asked.command or [os.environ.get("SHELL", SHELL)]
-    return asked
+    line = parser(WHAT, EXAMPLE, STATUSES, f"{NAME[0]} SOCKET HOST [-- COMMAND [ARGUMENT ..]]")
+    line.add_argument("socket", metavar="SOCKET")
+    line.add_argument("host", metavar="HOST")
+    line.add_argument("command", nargs=argparse.REMAINDER, metavar="COMMAND", help=argparse.SUPPRESS)
+    arguments = line.parse_args(words)
+    if arguments.command[:1] == ["--"]:
+        del arguments.command[0]
+    arguments.command = arguments.command or [os.environ.get("SHELL", SHELL)]
+    return arguments
 
 
 def ends(socket: str) -> bool:
@@ -63,20 +59,17 @@ def ends(socket: str) -> bool:
 
 
 def main() -> NoReturn:
-    asked = command_line()
+    arguments = command_line()
     with refusals():
-        answer, doors = asked_at(asked.socket, {"enter": asked.host}, 2 * PATIENCE)
-        if "refused" in answer:
-            raise Wrong(str(answer["refused"]))
-        if not doors:
-            raise Wrong(f"{asked.socket}: it opens no hosts")
-    assert isinstance(answer["entered"], dict)
-    os.environ.update(answer["entered"])
-    socket = os.path.abspath(socket_of(asked.socket))
+        answer, doors = asked_at(arguments.socket, Order(enter=arguments.host))
+        if len(doors) != DOORS:
+            raise Wrong(f"{arguments.socket}: it opens no hosts")
+    os.environ.update({name: value for name, value in (answer.entered or {}).items() if name in VARIABLES})
+    socket = os.path.abspath(socket_of(arguments.socket))
     mask = signal.pthread_sigmask(signal.SIG_BLOCK, BLOCKED)
     sys.stdout.flush()
     before = os.open("/", os.O_RDONLY | os.O_DIRECTORY | os.O_CLOEXEC)
-    status = status_of(started_behind(doors, asked.host, asked.command, mask))
+    status = status_of(started_behind(doors, arguments.host, arguments.command, mask))
     if status == SIGNALLED + signal.SIGKILL:
         os.fchdir(before)
         os.chroot(".")

@@ -1,129 +1,195 @@
-"""What a live session or a replay did: its flows, a picture, and what happened to a packet."""
+"""What a live session, a replay or a net did: its flows, pictures, what happened to a packet, and the capture behind a link."""
 
 from __future__ import annotations
 
 import argparse
-import json
 import os
 import sys
+from typing import TextIO
 
-from hinge.arguments import bounded
-from hinge.command import parser, printable, say
-from hinge.outputs import refuse_inputs, writing
+from hinge.arguments import bounded, file_of, rows_between
+from hinge.border.terminal import lines, show, standard_output
+from hinge.captures.through import write_through
+from hinge.command import STATUSES, parser, say
+from hinge.outputs import PICTURES, Format, refuse_inputs, write_json, writing
 from hinge.paths.looked import audit, look_at_net
-from hinge.pictures.drawn import draw_sources, picture_file
+from hinge.pictures.drawn import LookOptions, draw_sources, provenance_of
 from hinge.pictures.figures import MOST_FLOWS as MOST_ROWS
-from hinge.pictures.figures import Figures, table_of
+from hinge.pictures.figures import Figures, table_of, write_csv
+from hinge.pictures.ladder import arrows_of_replay, draw_ladder, ladder_text
 from hinge.pictures.panels import MOST_FLOWS
 from hinge.pictures.text_table import write_bounds, write_text
 from hinge.replays.asked import SOURCE, add_flows, add_source, read_sources
 from hinge.replays.explain import Explainer
 from hinge.replays.parting import parting
+from hinge.replays.record_lines import is_history_file
 from hinge.replays.remarks import KINDS
 from hinge.replays.source import Source
 from hinge.run.summary import FORMAT
 
 WHAT = """\
-Reads a history, or the transcript of a live session, and writes the table of `hinge stats` to standard output. -o draws
-the picture of `hinge picture`, --why tells of packets what `hinge why` does, and --audit asks dummynet whether it is
-lawful. Packets are numbered as rows: the first that was submitted is 1. Where the links were changed under way, no
-parts of the delay are told, nor its proved bound, nor --why. The transcript of a session that was killed is looked at
-up to where it was cut, and a line says so. A packet file and its report are read as well, with --config.
+Reads a history, the transcript of a live session, or a packet file with up to
+four reports, and prints a line for each flow, the largest first, and one for
+all: packets and bytes; Mbit/s offered (from its first to its last packet sent)
+and carried; packets that left (out), were lost by the loss rate, refused by a
+full queue, went to no pipe (none), or were still held; and of those that left
+the delay, its jitter by RFC 3550, and the means of its parts. The parts need
+the configuration, which a history has. Then a second table has the greatest
+wait and delay of each pipe that no queue names, and the proved bounds on them.
 
-Of the folder of a net it tells of each way and each path, hop by hop, and draws what was carried and cut when, as
-letters too.
+-o FILE also writes what the ending of FILE says, and may be repeated: a picture
+of throughput, delays, queues and drops as .png, .svg or .pdf; .html, a page in
+which one zooms and reads over a packet why it took so long; the table as .csv
+or .txt; and with --capture the frames that come through the link, at their
+moments, as .pcap, or all frames, each with what happened to it, as .pcapng.
 
---diff A B tells the first call at which two histories part, by itself or by its reply, with the calls around it: those
-of both, those of A (-) and those of B (+). Remarks don't count. Its exit status is 1 if they differ."""
+Of the folder of a net, or its history with its summary, it tells of each way
+and each path, hop by hop, and whether each packet that a link delivered came to
+the next one, once and in order; the exit status is 1 if one isn't accounted
+for. --diff tells the first call at which two histories part; the exit status is
+1 if they differ."""
+EXAMPLE = """\
+hinge look session.history -o session.png --why 17
+  hinge look packets.csv report.csv --config dsl.config -o dsl.html -o dsl.csv
+  hinge look packets.csv report.csv --capture all.pcap --index i.csv -o far.pcap
+  hinge look session -o net.png                          (the folder of a net)"""
 DIFFERENT = 1
+MOST_REPORTS = 4
+CAPTURES = (Format.ARRIVED, Format.COMMENTED)
+TABLES = (Format.CSV, Format.TEXT)
 
 
-def command_line() -> argparse.Namespace:
-    line = parser(WHAT,
-                  "hinge look session.history -o session.png --why 17\n  hinge look session -o net.png          (the "
-                  "folder of a net)")
-    add_source(line, "(HISTORY | PACKETS REPORT | FOLDER | --diff HISTORY HISTORY)",
-               told=f"{SOURCE}; or the folder of hinge net --transcripts")
+def command_line() -> LookOptions:
+    line = parser(WHAT, EXAMPLE, f"0 done, 1 histories differ or a net isn't lawful between its links, {STATUSES.partition(', ')[2]}")
+    add_source(line, "(HISTORY | PACKETS REPORT .. | FOLDER)",
+               told=f"{SOURCE}; or the folder of hinge net --transcripts, or its history with its summary")
+    line.add_argument("-o", metavar="FILE", type=file_of(*Format), action="append", default=[], help="the file to write, by its ending")
+    line.add_argument("--csv", action="store_true", help="print the table as CSV, with times in whole ns")
+    line.add_argument("--json", metavar="FILE",
+                      help="the table or the difference for a program, with all figures in whole ns")
+    line.add_argument("--why", metavar="ROW", type=bounded(1, 2**62), nargs="+", default=[],
+                      help="tell what happened to packets, numbered from 1, in place of the table")
+    line.add_argument("--ladder", metavar="ROWS", type=rows_between,
+                      help="draw packets, as 1-40, as arrows between their hosts, in place of the table")
+    line.add_argument("--audit", action="store_true", help="ask dummynet first whether the history is lawful")
     line.add_argument("--diff", action="store_true",
                       help="tell the first call at which two histories part, in place of the table")
-    line.add_argument("-o", metavar="FILE", type=picture_file, help="the picture: .png, .svg, .pdf or .html")
-    line.add_argument("--why", metavar="ROW", type=bounded(1, 2**62), nargs="+", default=[],
-                      help="tell what happened to packets, in place of the table")
-    line.add_argument("--audit", action="store_true", help="ask dummynet first whether the history is lawful")
     add_flows(line, 10**6, None, f"{MOST_ROWS}, and {MOST_FLOWS} in a picture")
     line.add_argument("--step", metavar="MS", type=bounded(1, 10**9),
                       help="ms of a step of throughput and drops (default: by the length)")
-    line.add_argument("--title", default="")
-    line.add_argument("--json", metavar="FILE",
-                      help="the table or the difference for a program, with all figures in whole ns")
-    asked = line.parse_intermixed_args()
-    if asked.audit and len(asked.source) > 1:
-        line.error("--audit is of a history alone")
-    if asked.diff and len(asked.source) != 2:
+    line.add_argument("--title", type=lines, default="", help="what stands above a picture")
+    line.add_argument("--capture", metavar="FILE", help="the capture of the packet file, for .pcap and .pcapng")
+    line.add_argument("--index", metavar="FILE", help="the frame of each row, which hinge packets --index wrote")
+    line.add_argument("--end", metavar="MS", type=bounded(0, 10**6), default=100,
+                      help="of a net: what a host got so shortly before the end may still be there (100)")
+    options = LookOptions(**vars(line.parse_intermixed_args()))
+    refuse_mixed(line, options)
+    return options
+
+
+def refuse_mixed(line: argparse.ArgumentParser, options: LookOptions) -> None:
+    """Options that don't go together."""
+    if options.diff and len(options.source) != 2:
         line.error("--diff takes two histories")
-    if asked.diff and (asked.o or asked.why or asked.audit or asked.config):
+    if options.diff and (options.o or options.why or options.audit or options.config or options.csv):
         line.error("--diff goes with --json alone")
-    return asked
+    if options.audit and len(options.source) > 1 and not is_net(options):
+        line.error("--audit is of a history alone")
+    if bool(options.files(*CAPTURES)) != (options.capture is not None) or (options.capture is None) != (options.index is None):
+        line.error("--capture, --index and -o FILE.pcap or FILE.pcapng go together")
+    is_other = options.diff or options.why or options.csv or options.json or len(options.o) > len(options.files(*PICTURES))
+    if options.ladder and (is_other or len(options.source) > 2):
+        line.error("--ladder is of one source, with -o FILE.png, FILE.svg or FILE.pdf alone")
+    several = len(options.source) > 2 and not options.diff
+    if len(options.source) > 1 + MOST_REPORTS:
+        line.error("a packet file has up to four reports")
+    if several and (options.csv or options.json or options.why or options.files(Format.PAGE, *TABLES, *CAPTURES)):
+        line.error("of several reports there are pictures and tables to read: -o FILE.png, FILE.svg or FILE.pdf")
 
 
-def write_json(source: Source, table: list[Figures], path: str) -> None:
-    """The table for a program; docs/JSON.md has its keys."""
+def is_net(options: LookOptions) -> bool:
+    """Whether the source is a net: its folder, or its history and its summary."""
+    first, *more = options.source
+    return os.path.isdir(first) or (len(more) == 1 and not options.diff and more[0].endswith(".json") and is_history_file(first))
+
+
+def write_table_json(source: Source, table: list[Figures], path: str) -> None:
+    """The table for a program; docs/CAPTURE.md has its keys."""
     most = {kind: source.most_late(kind) for kind in KINDS} if source.lateness else None
     flows: list[dict[str, object]] = [{"flow": row.name, **row.value} for row in table]
     pipes = None if source.bounds is None else [one.figures() for one in source.bounds]
-    told = {"format": FORMAT, "history": source.replay.path, "seed": source.seed, "lateness_ms": most, "pipes": pipes,
-            "flows": flows}
-    with writing(path) as out:
-        json.dump(told, out, indent=1)
-        out.write("\n")
+    record = {"format": FORMAT, "history": source.replay.path, "seed": source.seed, "lateness_ms": most, "pipes": pipes,
+              "flows": flows}
+    write_json(path, record)
 
 
 def tell_difference(one: str, other: str, path: str | None) -> None:
     """Where two histories part; it ends with the status of two that differ."""
-    found = parting(one, other)
+    part = parting(one, other)
     if path:
-        with writing(path) as out:
-            told: dict[str, object] = {"format": FORMAT, "histories": [one, other], "equal": found is None}
-            json.dump({**told, **(found.known() if found else {})}, out, indent=1)
-            out.write("\n")
-    if found is None:
-        print(printable(f"{one} and {other} have the same calls and replies"))
+        record: dict[str, object] = {"format": FORMAT, "histories": [one, other], "equal": part is None}
+        write_json(path, {**record, **(part.known() if part else {})})
+    if part is None:
+        show(f"{one} and {other} have the same calls and replies")
     else:
-        print(printable(f"{one} and {other} part in call {found.number}{found.at()}: {found.reason()}"))
-        print(found.text())
+        show(f"{one} and {other} part in call {part.number}{part.at()}: {part.reason()}")
+        show(part.text())
         sys.exit(DIFFERENT)
 
 
 def main() -> None:
-    asked = command_line()
-    if asked.diff:
-        refuse_inputs((asked.json,), asked.source)
-        one, other = asked.source
-        tell_difference(one, other, asked.json)
-    elif os.path.isdir(asked.source[0]):
-        look_at_net(asked, asked.source[0])
+    options = command_line()
+    if options.diff:
+        refuse_inputs((options.json,), options.source)
+        one, other = options.source
+        tell_difference(one, other, options.json)
+    elif is_net(options):
+        look_at_net(options, *options.source)
     else:
-        look(asked)
+        look(options)
 
 
-def look(asked: argparse.Namespace) -> None:
-    """The table of a source, its picture, and what happened to packets."""
-    if asked.audit:
-        refuse_inputs((asked.o, asked.json), asked.source)
-        audit(asked.source)
-    [source] = read_sources(asked.source, asked.config, (asked.o, asked.json))
-    if asked.why:
+def write_table(source: Source, table: list[Figures], is_csv: bool, out: TextIO) -> None:
+    (write_csv if is_csv else write_text)(table, out)
+    write_bounds([] if is_csv else source.bounds or [], out)
+
+
+def tell_of(source: Source, options: LookOptions, head: str) -> None:
+    """The table of a source, or what happened to packets, and the files of one source."""
+    if options.why:
         explainer = Explainer(source.explained())
-        print("\n\n".join(explainer.paragraph(row) for row in asked.why))
-    table = table_of(source.replay, source.parts, asked.by,
-                     asked.top or MOST_ROWS) if asked.json or not asked.why else []
-    if not asked.why:
-        write_text(table, sys.stdout)
-        write_bounds(source.bounds or [], sys.stdout)
-    if asked.json:
-        write_json(source, table, asked.json)
-    if asked.o or not asked.why:
-        for remark in source.remarks():
+        show("\n\n".join(explainer.paragraph(row) for row in options.why))
+    needs_table = options.json or options.files(*TABLES) or not options.why
+    table = table_of(source.replay, source.parts, options.by, options.top or MOST_ROWS) if needs_table else []
+    if not options.why:
+        show(head, end="")
+        write_table(source, table, options.csv, standard_output())
+    if options.json:
+        write_table_json(source, table, options.json)
+    for name in options.files(*TABLES):
+        with writing(name) as out:
+            write_table(source, table, name in options.files(Format.CSV), out)
+    for name in options.files(*CAPTURES):
+        say(write_through(source, options.capture or "", options.index or "", name))
+
+
+def look(options: LookOptions) -> None:
+    """The tables and the files of a history or of reports."""
+    if options.audit:
+        refuse_inputs(options.outputs, options.source)
+        audit(options.source)
+    inputs = [options.capture, options.index] if options.capture else []
+    sources = read_sources(options.source, options.config, options.outputs, MOST_REPORTS, inputs)
+    if options.ladder:
+        arrows = arrows_of_replay(sources[0].replay, options.ladder)
+        show("\n".join(ladder_text(arrows)))
+        draw_ladder(arrows, options, provenance_of(sources))
+        return
+    for number, source in enumerate(sources):
+        head = f"{'' if number == 0 else chr(10)}{source.replay.path}\n" if len(sources) > 1 else ""
+        tell_of(source, options, head)
+    if options.o or not options.why:
+        for remark in sources[0].remarks():
             say(remark)
-    if asked.o:
-        draw_sources([source], asked.o, asked)
+    for name in options.files(*PICTURES, Format.PAGE):
+        draw_sources(sources, name, options)

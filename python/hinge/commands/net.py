@@ -10,15 +10,19 @@ import select
 import signal
 import sys
 from contextlib import contextmanager
-from typing import Iterator, NoReturn, Optional
+from dataclasses import replace
+from typing import Any, Iterator, NoReturn, Optional
 
-from hinge.command import Fault
+from hinge.border.terminal import show
+from hinge.command import Fault, parser, say
 from hinge.commands.exec import main as exec_main
+from hinge.net.clocks import IN_REAL_TIME
 from hinge.net.description import Description, read_description
 from hinge.net.net_inside import NetInside, NetOrder
 from hinge.net.net_plan import NetPlan
 from hinge.net.net_rooms import NETWORK, NetEnds
 from hinge.net.statements import Unobeyed
+from hinge.net.ways import gap
 from hinge.run.first import BLOCKED, live, status_of
 from hinge.run.host import program
 from hinge.run.options import draws, drawn_seed, limit_of, mtu, refuse_lost_summary, seed
@@ -27,6 +31,7 @@ from hinge.run.plan import MOST
 from hinge.run.processes import Mask
 from hinge.run.refusals import refusals
 from hinge.run.rooms import leave_the_system
+from hinge.run.settings import NetOptions
 from hinge.run.system import is_simulated
 from hinge.run.transcripts import refuse_own_input
 from hinge.run.words import Wrong, duration
@@ -34,68 +39,69 @@ from hinge.simulated import start
 from hinge.simulated.time_options import add_simulated, refuse_alone
 
 USAGE = "hinge net FILE [OPTION ..] [-- COMMAND [ARGUMENT ..]]"
-TELLS = """
+WHAT = "Runs the programs of FILE, each on a host with a network of its own, over the emulated links between them."
+WORDS = """\
 words of FILE, one line each (hinge docs NET):
-  host NAME [COMMAND]                 a host, and what runs there by sh, until the end
-  main NAME [COMMAND]                 the command whose end is the end, with its status
+  host NAME [COMMAND]                 a host, and what runs there, by sh
+  main NAME [COMMAND]                 the command whose end is the end
   router NAME [COMMAND]               a host that hands packets on
-  link A B LINK [/ LINK]              as '10Mbit/s 20ms queue 100 loss 1%'; after / the way back; or preset NAME
-  switch NAME A B .. LINK [/ LINK]    a link from each host to a switch
+  link A B LINK [/ LINK]              as '10Mbit/s 20ms queue 100 loss 1%';
+                                      after / the way back; or preset NAME
+  switch NAME A B .. LINK [/ LINK]    an Ethernet switch, and a link to each
+  mtu A B BYTES                       of the interfaces of a link
+  routes none                         none but to direct neighbours
   wait NAME port N [TIME]             before the main command begins
   loss A B MODEL    line A B LINE    map A B RULE    trace A B FILE
   at TIME A B outage LENGTH [lossy]   at TIME A B LINK
   at TIME cut A [from B ..] [LENGTH]  at TIME heal A [from B ..]
+  at TIME kill|stop HOST [LENGTH]     at TIME restart|cont HOST
+  at TIME skew HOST +2s [100ppm]      its clock, in simulated time
+  nemesis KIND every TIME for TIME [until TIME] [of HOST ..]
+                                      faults that the seed draws
 
-statuses:
-  the main command's own; 128 and the signal where one ended it; without a main command that of the first that isn't 0
-  2 a wrong word of the command line or of FILE   3 a configuration line that can't be obeyed
-  6 the system lacks or refuses something         75 the run is void by --late, or the links broke off
-  76 two runs by --twice differ                   124 it was ended by --real-limit
-
-example:
-  hinge net examples/net/etcd.net --transcripts session --late 5ms --control net.socket
-  hinge net exec net.socket n1 -- etcdctl endpoint status     (as hinge exec)
-  hinge net examples/net/etcd.net --simulated --twice --seed 1
 """
+EXAMPLE = """\
+hinge net examples/net/etcd.net --transcripts session --control net.socket
+  hinge net exec net.socket n1 -- etcdctl endpoint status    (as hinge exec)
+  hinge net examples/net/etcd.net --simulated --twice --seed 1"""
+STATUSES = """\
+the main command's own; 128 and the signal if one ended it; without a main command that of the first that isn't 0; 2 a wrong word of the
+command line or of FILE; 3 a configuration line that can't be obeyed; 6 the system lacks or refuses something; 75 the run is void by --late, or
+the links broke off; 76 two runs by --twice differ; 124 it was ended by --real-limit"""
 CONFIGURATION = 3
 
 
 def options() -> argparse.ArgumentParser:
-    parser = argparse.ArgumentParser(
-        prog="hinge net", usage=USAGE, formatter_class=argparse.RawDescriptionHelpFormatter, epilog=TELLS,
-        description=(
-            "Runs the programs of FILE, each on a host with a network of its own, over the emulated links between them."
-        ),
+    line = parser(WHAT, EXAMPLE, STATUSES, USAGE, WORDS)
+    line.add_argument("file", metavar="FILE", help="the net")
+    line.add_argument(
+        "--transcript", metavar="FILE", help="the history of all links, for `dummynet audit` and `hinge look`"
     )
-    parser.add_argument("file", metavar="FILE", help="the net")
-    parser.add_argument(
-        "--transcript", metavar="FILE", help="the history of all links, for `dummynet audit` and `hinge paths`"
-    )
-    parser.add_argument(
+    line.add_argument(
         "--transcripts", metavar="FOLDER", help="a folder for the history, net.history, and the summary, net.json"
     )
-    parser.add_argument("--json", metavar="FILE", help="the summary for a program")
-    parser.add_argument("--logs", metavar="FOLDER", help="what each host prints, in NAME.log")
-    parser.add_argument(
+    line.add_argument("--json", metavar="FILE", help="the summary for a program")
+    line.add_argument("--logs", metavar="FOLDER", help="what each host prints, in NAME.log")
+    line.add_argument(
         "--late", metavar="TIME",
         help="status 75 where more than 1 of 100 packets of a way was late or unread by more, or the system dropped any"
     )
-    parser.add_argument(
+    line.add_argument(
         "--seed", metavar="N", type=seed, help="of what is drawn, for each way by itself (drawn, and told)"
     )
-    parser.add_argument("--mtu", metavar="BYTES", type=mtu, default=1500, help="of all interfaces (1500)")
-    parser.add_argument(
+    line.add_argument("--mtu", metavar="BYTES", type=mtu, default=1500, help="of all interfaces (1500)")
+    line.add_argument(
         "--end-wait", metavar="TIME", default="2s", help="how long commands have to end after SIGTERM (2s)"
     )
-    add_staying(parser)
-    parser.add_argument("--quiet", action="store_true", help="no summary of the links")
-    parser.add_argument(
+    add_staying(line)
+    line.add_argument("--quiet", action="store_true", help="no summary of the links")
+    line.add_argument(
         "--realtime", action=argparse.BooleanOptionalAction, default=True,
         help="the links before all other programs, where the system allows"
     )
-    parser.add_argument("--dry-run", action="store_true", help="prints hosts, addresses and links, and starts nothing")
-    add_simulated(parser)
-    return parser
+    line.add_argument("--dry-run", action="store_true", help="prints hosts, addresses and links, and starts nothing")
+    add_simulated(line)
+    return line
 
 
 def add_staying(parser: argparse.ArgumentParser) -> None:
@@ -124,13 +130,13 @@ def descriptor(text: str) -> int:
         raise argparse.ArgumentTypeError(f"{text!r} is no open descriptor") from None
 
 
-def command_line() -> argparse.Namespace:
+def command_line() -> NetOptions:
     """The options, and `command`, the main command that stands behind --."""
     words = sys.argv[1:]
     if words[:1] == ["exec"]:
         exec_main()
     at = words.index("--") if "--" in words else len(words)
-    return argparse.Namespace(**vars(options().parse_args(words[:at])), command=words[at + 1:])
+    return NetOptions(**vars(options().parse_args(words[:at])), command=words[at + 1:])
 
 
 @contextmanager
@@ -146,15 +152,15 @@ def net_refusals() -> Iterator[None]:
 def with_command(net: Description, command: list[str], path: str, shell: Optional[str]) -> Description:
     """The net with the main command of the command line."""
     if shell is not None:
-        if shell not in net.hosts or command:
+        if not net.is_room(shell) or command:
             raise Wrong(
                 f"--shell {shell}: no host of {path}"
-                if shell not in net.hosts
+                if not net.is_room(shell)
                 else "--shell: the command behind -- is the main one already"
             )
         if net.main:
             net.hosts[net.main].command = ""
-        net.main = None
+        net.main, net.has_shell = None, True
     elif command:
         if net.main is None or net.hosts[net.main].command:
             raise Wrong(f"{path}: a command behind -- takes a line `main NAME` that has none")
@@ -168,105 +174,135 @@ def absolute(path: Optional[str]) -> Optional[str]:
     return os.path.abspath(path) if path else None
 
 
-def name_files(asked: argparse.Namespace) -> None:
-    """The transcript and the summary by the folder for both, and whether they can be written."""
-    for path in (asked.transcripts, asked.logs):
+def with_files(options: NetOptions) -> NetOptions:
+    """With the transcript and the summary in the folder for both, where they can be written."""
+    for path in (options.transcripts, options.logs):
         if path:
             os.makedirs(path, exist_ok=True)
-    if asked.transcripts:
-        asked.transcript = asked.transcript or os.path.join(asked.transcripts, "net.history")
-        asked.json = asked.json or os.path.join(asked.transcripts, "net.json")
-    refuse_own_input("--transcript", asked.transcript, [asked.file])
-    refuse_own_input("--json", asked.json, [asked.file, asked.transcript])
-    refuse_lost_summary(asked.json)
+    if options.transcripts:
+        history, summary = (os.path.join(options.transcripts, name) for name in ("net.history", "net.json"))
+        options = replace(options, transcript=options.transcript or history, json=options.json or summary)
+    refuse_own_input("--transcript", options.transcript, [options.file])
+    refuse_own_input("--json", options.json, [options.file, options.transcript])
+    refuse_lost_summary(options.json)
+    return options
 
 
-def outside_of(asked: argparse.Namespace, net: Description) -> Optional[str]:
+def outside_of(options: NetOptions, net: Description) -> Optional[str]:
     """The host that --outside names."""
-    found: Optional[str] = asked.outside_loopback or asked.outside
-    if found is not None and found not in net.hosts:
-        raise Wrong(f"--outside {found}: no host of {asked.file}")
-    return found
+    result = options.outside_loopback or options.outside
+    if result is not None and not net.is_room(result):
+        raise Wrong(f"--outside {result}: no host of {options.file}")
+    return result
 
 
-def net_order(asked: argparse.Namespace, net: Description, mask: Mask) -> NetOrder:
-    made, drawn = NetPlan(net, asked.mtu), drawn_seed(asked)
-    plan = made.plan
-    text = plan.text(drawn, absolute(asked.transcript), asked.realtime, MOST, is_simulated())
+def net_order(options: NetOptions, net: Description, mask: Mask) -> NetOrder:
+    seed = drawn_seed(options.seed)
+    net_plan = NetPlan(net, net.longest(options.mtu), seed)
+    if not is_simulated() and any(act.word == "skew" for act in net_plan.acts):
+        raise Wrong(f"{options.file}: skew: {IN_REAL_TIME}")
+    plan = net_plan.plan
+    text = plan.text(seed, absolute(options.transcript), options.realtime, MOST, is_simulated())
     return NetOrder(
-        net=net, plan=text, folder=os.path.dirname(os.path.abspath(asked.file)), command=asked.command, mtu=asked.mtu,
-        seed=drawn, draws=draws(plan), limit=limit_of(asked.late), end_wait=duration(asked.end_wait) / 1e9,
-        transcript=asked.transcript, json=asked.json, logs=asked.logs, quiet=asked.quiet, made=made,
-        control=asked.control, stay=asked.stay or asked.while_open is not None, shell=asked.shell,
-        outside=outside_of(asked, net), mask=mask
+        net=net, plan=text, folder=os.path.dirname(os.path.abspath(options.file)), command=options.command, mtu=options.mtu,
+        seed=seed, draws=draws(plan) or bool(net_plan.drawn), limit=limit_of(options.late), end_wait=duration(options.end_wait) / 1e9,
+        transcript=options.transcript, json=options.json, logs=options.logs, quiet=options.quiet, made=net_plan,
+        control=options.control, stay=options.stay or options.while_open is not None, shell=options.shell,
+        outside=outside_of(options, net), mask=mask
     )
 
 
-def show(net: Description) -> None:
+def show_net(net: Description) -> None:
     """Hosts with their addresses and links."""
     ends = NetEnds(net)
     for name, host in net.hosts.items():
-        print(
-            f"{name} {' '.join(ends.own[name])}{' router' * host.forwards}{' main' * (name == net.main)}"
+        show(
+            f"{name} switch"
+            if host.is_switch
+            else f"{name} {' '.join(ends.own[name])}{' router' * host.forwards}{' main' * (name == net.main)}"
             f"{f': {host.command}' if host.command else ''}"
         )
     for number, link in enumerate(net.links):
         for pipe, (one, two, words) in enumerate(
             ((*link.ends, link.ways[0]), (*link.ends[::-1], link.ways[1])), 2 * number + 1
         ):
-            print(
-                f"pipe {pipe}: {one} {ends.at_end(one, number).four} > {two} {ends.at_end(two, number).four}:"
-                f" {words or 'open'}"
-            )
+            at = [f"{name} {ends.at_end(name, number).four}" if name in ends.own else name for name in (one, two)]
+            show(f"pipe {pipe}: {at[0]} > {at[1]}: {words or 'open'}")
 
 
-def net_of(asked: argparse.Namespace) -> Description:
-    return with_command(read_description(asked.file), asked.command, asked.file, asked.shell)
+def show_drawn(net_plan: NetPlan, seed: int) -> None:
+    """The lines `at` of a nemesis, as a file can have them in its place."""
+    for line in [*[f"# by seed {seed}"] * bool(net_plan.drawn), *net_plan.drawn]:
+        show(line)
+
+
+def refuse_gap(net: Description, options: NetOptions) -> None:
+    """With --control a host may have commands later, as that of a proxy; then it is only told."""
+    hole = gap(net)
+    if hole is None or hole.between == options.shell:
+        return
+    text = f"{hole.start} has no way to {hole.end}: {hole.between} hands nothing on; write router {hole.between}"
+    if not options.control:
+        raise Wrong(f"{options.file}: {text}, or give it a command")
+    if not options.quiet:
+        say(text)
+
+
+def net_of(options: NetOptions) -> Description:
+    return with_command(read_description(options.file), options.command, options.file, options.shell)
 
 
 def main() -> None:
-    asked = command_line()
+    arguments = command_line()
     with net_refusals():
-        net = net_of(asked)
-        if asked.dry_run or asked.simulated:
-            NetPlan(net, asked.mtu)  # so that a wrong line is told before anything starts
-        if asked.dry_run:
-            show(net)
+        refuse_gap(read_description(arguments.file), arguments)
+        net = net_of(arguments)
+        if arguments.dry_run or arguments.simulated:
+            seed = drawn_seed(arguments.seed)
+            net_plan = NetPlan(net, net.longest(arguments.mtu), seed)  # so that a wrong line is told before anything starts
+        if arguments.dry_run:
+            show_net(net)
+            show_drawn(net_plan, seed)
             return
-        if not asked.simulated:
-            refuse_alone(asked)
-        name_files(asked)
-        if asked.simulated:
-            refuse_staying(asked)
-            sys.exit(start.run_simulated("net", asked))
-    begin(asked)
+        if not arguments.simulated:
+            refuse_alone(arguments)
+        arguments = with_files(arguments)
+        if arguments.simulated:
+            refuse_staying(arguments)
+            sys.exit(start.run_simulated("net", arguments))
+    begin(arguments)
 
 
-def refuse_staying(asked: argparse.Namespace) -> None:
-    if asked.stay or asked.while_open is not None:
+def refuse_staying(options: NetOptions) -> None:
+    if options.stay or options.while_open is not None:
         raise Wrong("--stay, --while-open: nobody can end a machine of its own; simulated time ends with its commands")
 
 
-def begin(asked: argparse.Namespace) -> NoReturn:
+def begin_inside(options: dict[str, Any]) -> NoReturn:
+    """Runs it in a machine, as its launcher was asked."""
+    begin(NetOptions(**options))
+
+
+def begin(options: NetOptions) -> NoReturn:
     """Runs it here, by the clock of this system."""
     mask = signal.pthread_sigmask(signal.SIG_BLOCK, ())
     with net_refusals():
         program()
-        order = net_order(asked, net_of(asked), mask)
+        order = net_order(options, net_of(options), mask)
         signal.pthread_sigmask(signal.SIG_BLOCK, BLOCKED)  # once all files are read, which a FIFO may put off for ever
         most = resource.getrlimit(resource.RLIMIT_NOFILE)[1]
         resource.setrlimit(resource.RLIMIT_NOFILE, (most, most))  # two descriptors for each link
         sys.stdout.flush()
         # Before this process leaves the network that it joins.
-        outside = Outside(bool(asked.outside_loopback), NETWORK) if order.outside else None
+        outside = Outside(bool(options.outside_loopback), NETWORK) if order.outside else None
         own_users = leave_the_system()
     first = os.fork()
     if first == 0:
         live(lambda: NetInside(order, own_users, outside).run())
     if outside:
         outside.tell(first, own_users)
-    if asked.while_open is not None:
-        end_behind(asked.while_open)
+    if options.while_open is not None:
+        end_behind(options.while_open)
     sys.exit(status_of(first))
 
 

@@ -5,12 +5,11 @@ from __future__ import annotations
 import argparse
 import contextlib
 import re
-import shutil
-import sys
-import tempfile
-from typing import Iterator
+from dataclasses import dataclass
+from typing import Optional
 
 from hinge.arguments import bounded
+from hinge.border.files import Input, read_again
 from hinge.captures.addresses import addresses_file, write_addresses
 from hinge.captures.dissect import frames
 from hinge.captures.packet_rows import Card, PacketRows, TargetWords
@@ -28,7 +27,8 @@ IP packet. What isn't IP is left out and counted; IPv6 addresses get addresses o
 and in FILE.addresses, by which the other commands name the flows."""
 EXAMPLE = """\
 hinge packets capture.pcap -o packets.csv --from 10.0.0.0/8 --mtu 1500 --l2 22
-  hinge packets capture.pcap -o packets.csv --map 'src 10.0.0.0/8 udp => queue 2' --map '=> queue 1'"""
+  hinge packets capture.pcap -o packets.csv --index index.csv \\
+      --map 'src 10.0.0.0/8 udp => queue 2' --map '=> queue 1'"""
 
 
 def map_rule(text: str) -> MapRule:
@@ -48,26 +48,42 @@ def two_directions(text: str) -> list[MapRule]:
 
 def bit_rate(text: str) -> int:
     """bit/s of `1Gbit/s` and the like."""
-    found = re.fullmatch(r"(\d+)([KMG]?)bit/s", text)
-    if not found or not int(found[1]):
+    match = re.fullmatch(r"(\d+)([KMG]?)bit/s", text)
+    if not match or not int(match[1]):
         raise argparse.ArgumentTypeError(f"{text!r} is no rate: write it as 1Gbit/s")
-    unit: int = 1000 ** " KMG".index(found[2] or " ")
-    return int(found[1]) * unit
+    unit: int = 1000 ** " KMG".index(match[2] or " ")
+    return int(match[1]) * unit
 
 
 def loss_model(text: str) -> tuple[str, Maker]:
     """A model and the target that it is for, as `pipe,1`; an empty one where it is for all."""
     target, equals, model = text.rpartition("=")
-    found = TARGET.match(target.strip())
+    match = TARGET.match(target.strip())
     try:
-        if equals and found is None:
+        if equals and match is None:
             raise ValueError(f"{target!r} isn't of the form pipe N or queue N")
-        return (f"{found[1]},{found[2]}" if found else ""), read_model(model)
+        return (f"{match[1]},{match[2]}" if match else ""), read_model(model)
     except ValueError as error:
         raise argparse.ArgumentTypeError(str(error)) from None
 
 
-def command_line() -> argparse.Namespace:
+@dataclass(frozen=True)
+class PacketsOptions:
+    """What the command line says, each field by the name of its option."""
+
+    capture: str
+    o: Optional[str]
+    sender: list[MapRule]  # of --from
+    map: list[MapRule]
+    mtu: int
+    rate: int  # bit/s
+    l2: int
+    seed: int
+    loss: list[tuple[str, Maker]]
+    index: Optional[str]
+
+
+def command_line() -> PacketsOptions:
     line = parser(WHAT, EXAMPLE)
     line.add_argument("capture", help="the capture; `-` is standard input")
     line.add_argument("-o", metavar="FILE", help="the packet file (default: standard output)")
@@ -103,57 +119,45 @@ def command_line() -> argparse.Namespace:
         "list:3,17-20, by the packets' numbers. 'pipe 1=MODEL' is for one pipe or queue. Default: random words, which "
         "its own plr judges",
     )
-    line.add_argument("--index", metavar="FILE", help="write the frame number of each row, for `hinge through`")
-    asked = line.parse_args()
-    if asked.rate and not asked.mtu:
+    line.add_argument("--index", metavar="FILE", help="write the frame number of each row, for `hinge look --capture`")
+    arguments = line.parse_args()
+    if arguments.rate and not arguments.mtu:
         line.error("--rate is of segments that --mtu splits")
-    return asked
-
-
-@contextlib.contextmanager
-def kept_packets(capture: str) -> Iterator[str]:
-    """The capture's name, or that of a file with what standard input has, since it is read more than once."""
-    if capture != "-":
-        yield capture
-        return
-    with tempfile.NamedTemporaryFile(suffix=".pcap") as file:
-        shutil.copyfileobj(sys.stdin.buffer, file)
-        file.flush()
-        yield file.name
+    return PacketsOptions(**vars(arguments))
 
 
 def main() -> None:
-    asked = command_line()
-    with kept_packets(asked.capture) as asked.capture:
-        write_packets(asked)
+    options = command_line()
+    packets = None if options.o == "-" else options.o
+    refuse_inputs((options.o, options.index, packets and addresses_file(packets)), (options.capture,))
+    with read_again(options.capture) as capture:
+        write_packets(options, capture)
 
 
-def write_packets(asked: argparse.Namespace) -> None:
-    beside = None if asked.o in (None, "-") else addresses_file(asked.o)
-    refuse_inputs((asked.o, asked.index, beside), (asked.capture,))
+def write_packets(options: PacketsOptions, capture: Input) -> None:
     try:
-        targets = Targets(asked.capture, asked.map, asked.sender)
+        targets = Targets(capture.path, options.map, options.sender)
     except BadRule as bad:
         raise Fault(f"--map: {bad}", USAGE) from None
-    found = list(frames(asked.capture))
+    items = list(frames(capture))
     targets.resolve()
-    packets = [frame for _, frame in found if frame is not None]
-    rows = PacketRows(targets, Card(asked.mtu, asked.rate), asked.l2, TargetWords(asked.seed, dict(asked.loss)))
-    sent = rows.packets(packets)
-    with writing(asked.o) as out, writing(asked.index) if asked.index else contextlib.nullcontext() as index:
-        rows.write(sent, out, index)
-    if asked.o not in (None, "-"):
-        write_addresses(asked.o, rows.addresses)
+    packets = [frame for _, frame in items if frame is not None]
+    rows = PacketRows(targets, Card(options.mtu, options.rate), options.l2, TargetWords(options.seed, dict(options.loss)))
+    packet = rows.packets(packets)
+    with writing(options.o) as out, writing(options.index) if options.index else contextlib.nullcontext() as index:
+        rows.write(packet, out, index)
+        if options.o is not None and options.o != "-":
+            write_addresses(options.o, rows.addresses)
     for address, stand_in in rows.addresses.stand_ins.items():
         say(f"{stand_in} stands for {address}")
-    for told in rows.meetings.lines():
-        say(told)
+    for text in rows.meetings.lines():
+        say(text)
     counts = rows.counts
-    say(f"{len(found)} frames, {rows.row} rows, seed {asked.seed}; {len(found) - len(packets)} not IP, "
+    say(f"{len(items)} frames, {rows.row} rows, seed {options.seed}; {len(items) - len(packets)} not IP, "
         f"{counts['unmapped']} without a target, {counts['split']} split at the MTU, {counts['cut']} longer than 65535 "
         f"bytes")
     long = sum(frame.length > LONGEST for frame in packets)
-    if long and not asked.mtu:
+    if long and not options.mtu:
         say(f"{long} packets are longer than {LONGEST} bytes, since the card was still to cut them, or had joined "
             f"them: --mtu {LONGEST} cuts them as a link sees them")
     if counts["bytes"] > MOST_BYTES:

@@ -5,12 +5,15 @@ from __future__ import annotations
 import argparse
 import csv
 import os
-import sys
+from dataclasses import dataclass
 from pathlib import Path
+from typing import Optional
 
-from hinge.arguments import bounded
+from hinge.arguments import bounded, file_of
+from hinge.border.terminal import standard_output
 from hinge.command import parser, say
-from hinge.outputs import refuse_inputs, writing, written
+from hinge.outputs import PICTURES, format_of, refuse_inputs, writing, written
+from hinge.pictures.chart import save_figure
 from hinge.sweeps.study import Study
 from hinge.sweeps.study_chart import plot_lines, study_figure
 
@@ -20,10 +23,12 @@ their values. A run is a pure function of the folder that `plan` writes, which h
 may be made anywhere and in any order, and the folder may be moved. `missing` gives their numbers to any engine of jobs.
 The variable DUMMYNET names the program."""
 EXAMPLE = """\
-hinge sweep plan study packets.csv link.config --set bw=1Mbit/s,2Mbit/s --set queue=10,50 --seeds 1-5
-  hinge sweep run study                                          # or, ten runs a job of GNU parallel:
+hinge sweep plan study packets.csv link.config \\
+      --set bw=1Mbit/s,2Mbit/s --set queue=10,50 --seeds 1-5
+  hinge sweep run study      # or, ten runs a job of GNU parallel:
   hinge sweep missing study | parallel -n 10 hinge sweep run study
-  hinge sweep gather study -o table.csv --plot p95_ns --against bw --picture p95.png"""
+  hinge sweep gather study -o table.csv --plot p95_ns --against bw \\
+      --picture p95.png"""
 
 
 def named_values(text: str) -> tuple[str, list[str]]:
@@ -35,14 +40,14 @@ def named_values(text: str) -> tuple[str, list[str]]:
 
 def seeds(text: str) -> list[int]:
     """`7`, `1-5`, and lists of them."""
-    found: list[int] = []
+    numbers: list[int] = []
     for part in text.split(","):
         low, _, high = part.partition("-")
         number = bounded(0, 10**6)
-        found.extend(range(number(low), number(high or low) + 1))
-    if not found:
+        numbers.extend(range(number(low), number(high or low) + 1))
+    if not numbers:
         raise argparse.ArgumentTypeError(f"{text!r} has no seed")
-    return found
+    return numbers
 
 
 def command_line() -> argparse.Namespace:
@@ -68,11 +73,11 @@ def command_line() -> argparse.Namespace:
     gather.add_argument("--plot", metavar="FIGURE", help="a column of the table, as p95_ns")
     gather.add_argument("--against", metavar="NAME", help="the parameter on the axis")
     gather.add_argument("--flow", default="all", help="whose figure (default: all)")
-    gather.add_argument("--picture", metavar="FILE", help="where the plot goes: .png, .svg or .pdf")
-    asked = line.parse_args()
-    if asked.step == "gather" and len({asked.plot is None, asked.against is None, asked.picture is None}) > 1:
+    gather.add_argument("--picture", metavar="FILE", type=file_of(*PICTURES), help="where the plot goes: .png, .svg or .pdf")
+    arguments = line.parse_args()
+    if arguments.step == "gather" and len({arguments.plot is None, arguments.against is None, arguments.picture is None}) > 1:
         gather.error("--plot, --against and --picture go together")
-    return asked
+    return arguments
 
 
 def tell_runs_without_target(rows: list[dict[str, str]]) -> None:
@@ -83,33 +88,43 @@ def tell_runs_without_target(rows: list[dict[str, str]]) -> None:
             f"{some[0]['none']} of {some[0]['packets']} in run {some[0]['run']}")
 
 
-def gather(study: Study, asked: argparse.Namespace) -> None:
+@dataclass(frozen=True)
+class Plot:
+    """A figure of each run, or of one flow of it, against a parameter, and the picture."""
+
+    figure: str
+    against: str
+    flow: str
+    picture: str
+
+
+def gather(study: Study, table: Optional[str], plot: Optional[Plot]) -> None:
     rows = list(study.rows())
     tell_runs_without_target(rows)
-    refuse_inputs((asked.o, asked.picture), study.files())
-    with writing(asked.o) as out:
+    refuse_inputs((table, plot.picture if plot else None), study.files())
+    with writing(table) as out:
         writer = csv.DictWriter(out, list(rows[0]), lineterminator="\n")
         writer.writeheader()
         writer.writerows(rows)
-    if asked.plot:
-        lines = plot_lines(rows, list(study.runs[0]), asked.plot, asked.against, asked.flow)
-        with written(asked.picture) as place:
-            study_figure(lines, asked.plot, asked.against, asked.flow).savefig(place, dpi=100)
+    if plot:
+        lines = plot_lines(rows, list(study.runs[0]), plot.figure, plot.against, plot.flow)
+        with written(plot.picture) as place:
+            save_figure(study_figure(lines, plot.figure, plot.against, plot.flow), str(place), format_of(plot.picture).kind)
 
 
 def main() -> None:
-    asked = command_line()
-    if asked.step == "plan":
-        study = Study.plan(asked.folder, asked.packets, asked.config, dict(asked.set), asked.seeds)
-        say(f"{len(study.runs)} runs in {asked.folder}")
+    arguments = command_line()
+    if arguments.step == "plan":
+        study = Study.plan(arguments.folder, arguments.packets, arguments.config, dict(arguments.set), arguments.seeds)
+        say(f"{len(study.runs)} runs in {arguments.folder}")
         return
-    study = Study.load(asked.folder)
-    if asked.step == "missing":
-        sys.stdout.writelines(f"{number}\n" for number in study.missing())
-    elif asked.step == "gather":
-        gather(study, asked)
-    elif asked.number:
-        for number in asked.number:
+    study = Study.load(arguments.folder)
+    if arguments.step == "missing":
+        standard_output().writelines(f"{number}\n" for number in study.missing())
+    elif arguments.step == "gather":
+        gather(study, arguments.o, Plot(arguments.plot, arguments.against, arguments.flow, arguments.picture) if arguments.plot else None)
+    elif arguments.number:
+        for number in arguments.number:
             study.run(number)
     else:
-        study.run_all(asked.P)
+        study.run_all(arguments.P)

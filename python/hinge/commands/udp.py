@@ -10,6 +10,10 @@ import socket
 import sys
 from typing import NamedTuple
 
+from hinge.arguments import is_number
+from hinge.border.terminal import show
+from hinge.command import parser
+from hinge.checks.lines import Placed, refuse_wrong
 from hinge.run.first import REFUSED
 from hinge.run.host import Link, program
 from hinge.run.options import add_link, add_run
@@ -17,23 +21,24 @@ from hinge.run.order import Order, note_realtime, order_of, report
 from hinge.run.page import Page
 from hinge.run.processes import Processes, Ticker
 from hinge.run.refusals import refusals
+from hinge.run.settings import LiveOptions
 from hinge.run.summary import record
 from hinge.run.system import Missing
 from hinge.run.watch import Watch
+from hinge.replays.units import socket_address
 from hinge.run.words import Wrong, read_lines
 
 LONGEST = 1500  # bytes of a packet, by which outages are reckoned
 SIGNALS = {signal.SIGCHLD, signal.SIGTERM, signal.SIGHUP, signal.SIGINT}
-TELLS = """
-statuses:
-  0 a signal ended it
-  2 a wrong word of the command line     3 a configuration line that can't be obeyed
-  6 the system lacks or refuses something  75 the run is void by --late, or the link broke off
-
-examples:
-  hinge udp 7000 localhost:7001 --up '8Mbit/s 20ms loss 1%' --down 20ms --transcript session.history
-  hinge udp '[::1]:7000' '[::1]:7001' 'pipe 1 config bw 8Mbit/s delay 20' 'pipe 2 config delay 20'
-"""
+WHAT = """\
+Sends what comes to LISTEN through pipe 1 to SERVER, and what SERVER sends back through pipe 2, until ^C. Prints `ready at HOST:PORT` once it
+listens. Each client has a socket of its own towards SERVER."""
+EXAMPLE = """\
+hinge udp 7000 localhost:7001 --up '8Mbit/s 20ms loss 1%' --down 20ms
+  hinge udp '[::1]:7000' '[::1]:7001' 'pipe 1 config bw 8Mbit/s' 'pipe 2 config'"""
+STATUSES = """\
+0 a signal ended it, 2 a wrong word of the command line, 3 a configuration line that can't be obeyed, 6 the system lacks or refuses something,
+75 the run is void by --late, or the link broke off"""
 
 
 class SocketAddress(NamedTuple):
@@ -46,7 +51,7 @@ class SocketAddress(NamedTuple):
     def read(cls, text: str) -> SocketAddress:
         """Of PORT, HOST:PORT or [HOST]:PORT."""
         host, _, port = text.rpartition(":")
-        if not (port.isascii() and port.isdecimal() and int(port) < 65536):
+        if not (is_number(port) and int(port) < 65536):
             raise argparse.ArgumentTypeError(f"{text!r} is neither PORT nor HOST:PORT")
         return cls(host[1:-1] if host.startswith("[") and host.endswith("]") else host, int(port))
 
@@ -61,48 +66,48 @@ def found_address(address: SocketAddress, family: int) -> tuple[int, tuple[str, 
     except socket.gaierror as fault:
         other = " of the family of LISTEN" if family else ""
         raise Wrong(f"{address.host}: no address{other}: {fault.strerror}") from None
-    chosen = min(infos, key=lambda info: info[0] != socket.AF_INET)  # localhost is 127.0.0.1, where the family is open
-    return chosen[0], (str(chosen[4][0]), int(chosen[4][1]))
+    choice = min(infos, key=lambda info: info[0] != socket.AF_INET)  # localhost is 127.0.0.1, where the family is open
+    return choice[0], (str(choice[4][0]), int(choice[4][1]))
 
 
 def links_in_order(words: list[str]) -> list[str]:
     """Configuration lines: a LINK is some where it has a blank, else a file of them."""
-    return [line for word in words for line in (word.splitlines() if " " in word else read_lines(word))]
+    lines = list[Placed]()
+    for word in words:
+        if " " in word:
+            lines += [Placed("LINK", line) for line in word.splitlines()]
+        else:
+            lines += [Placed(f"{word}:{number}", line) for number, line in enumerate(read_lines(word), 1)]
+    refuse_wrong(lines)
+    return [line.text for line in lines]
 
 
 def options() -> argparse.ArgumentParser:
-    parser = argparse.ArgumentParser(
-        prog="hinge udp", formatter_class=argparse.RawDescriptionHelpFormatter, epilog=TELLS,
-        usage="hinge udp [OPTION ..] LISTEN SERVER [LINK ..]",
-        description=(
-            "Sends what comes to LISTEN through pipe 1 to SERVER, and what SERVER sends back through pipe 2, until ^C. "
-            "Prints `ready at HOST:PORT` once it listens. Each client has a socket of its own towards SERVER."
-        ),
-    )
-    parser.add_argument(
+    line = parser(WHAT, EXAMPLE, STATUSES, "hinge udp [OPTION ..] LISTEN SERVER [LINK ..]")
+    line.add_argument(
         "listen", type=SocketAddress.read, metavar="LISTEN",
         help="PORT or HOST:PORT to which the client sends; port 0 takes a free one"
     )
-    parser.add_argument(
+    line.add_argument(
         "server", type=SocketAddress.read, metavar="SERVER", help="PORT or HOST:PORT of the server, of the same family"
     )
-    parser.add_argument(
+    line.add_argument(
         "links", nargs="*", default=[], metavar="LINK",
         help="a configuration line, or a file of such lines, as --line and --config"
     )
-    add_link(parser)
-    add_run(parser.add_argument_group("the run"))
-    return parser
+    add_link(line)
+    add_run(line.add_argument_group("the run"))
+    return line
 
 
 def bound_socket(address: SocketAddress) -> socket.socket:
     family, place = found_address(address, socket.AF_INET if not address.host else 0)
-    made = socket.socket(family, socket.SOCK_DGRAM)
+    sock = socket.socket(family, socket.SOCK_DGRAM)
     try:
-        made.bind(place)
+        sock.bind(place)
     except OSError as error:
         raise Missing(f"{place[0]}:{place[1]}: {os.strerror(error.errno or 0)}") from None
-    return made
+    return sock
 
 
 def what_is_carried(order: Order, front: socket.socket, server: tuple[str, int]) -> int:
@@ -115,15 +120,16 @@ def what_is_carried(order: Order, front: socket.socket, server: tuple[str, int])
         processes, page, ["udp", str(front.fileno()), server[0], str(server[1])], [front.fileno()], order.plan,
         order.mask, control
     )
-    failed = link.failed()
-    if failed is not None:
-        return failed
+    fault = link.failed()
+    if fault is not None:
+        return fault
     note_realtime(page)
     if control:
         control.serve()
     host, port = front.getsockname()[:2]
-    print(f"ready at [{host}]:{port}" if ":" in host else f"ready at {host}:{port}", flush=True)
-    watch = Watch(page, order.changes) if order.asked.watch else None
+    show(f"ready at {socket_address(host, port)}")
+    sys.stdout.flush()
+    watch = Watch(page, order.changes) if order.options.watch else None
     came = processes.wait(link.process, ticker=Ticker(watch.tick) if watch else None)
     if watch:
         watch.end()
@@ -132,18 +138,17 @@ def what_is_carried(order: Order, front: socket.socket, server: tuple[str, int])
 
 
 def main() -> None:
-    parser = options()
-    asked = parser.parse_args()
+    arguments = vars(options().parse_args())
+    listen, server, links = arguments.pop("listen"), arguments.pop("server"), arguments.pop("links")
     mask = signal.pthread_sigmask(signal.SIG_BLOCK, ())
     with refusals():
         program()
-        asked.line += links_in_order(asked.links)
-        asked.inputs = [word for word in asked.links if " " not in word]
-        order = order_of(asked, LONGEST, mask)
+        lines, files = [*arguments.pop("line"), *links_in_order(links)], [word for word in links if " " not in word]
+        order = order_of(LiveOptions(**arguments, line=lines, more_files=files), LONGEST, mask)
         signal.pthread_sigmask(signal.SIG_BLOCK, SIGNALS)  # once all files are read, which a FIFO may put off for ever
-        with bound_socket(asked.listen) as front:
-            if not asked.server.port:
+        with bound_socket(listen) as front:
+            if not server.port:
                 raise Wrong("SERVER: port 0 is none at which a server listens")
-            _, server = found_address(asked.server, front.family)
-            status = what_is_carried(order, front, server)
+            _, place = found_address(server, front.family)
+            status = what_is_carried(order, front, place)
     sys.exit(status)

@@ -9,8 +9,10 @@ import sys
 import time
 from pathlib import Path
 
-from hinge.command import NAME, Fault
-from hinge.run.control import ask, is_answered
+from hinge.border.asking import ask, is_answered
+from hinge.border.files import read_text
+from hinge.border.terminal import show
+from hinge.command import NAME, Fault, parser
 from hinge.run.names import new_socket
 from hinge.run.refusals import refusals
 from hinge.run.words import Wrong
@@ -19,35 +21,31 @@ WHAT = """\
 Starts the net of FILE in the background, and returns when it runs and listens where its file waits for a port. It stays until `hinge down`.
 All options of hinge net but --control and --stay go with it. What it did is in the folder of --transcripts, NAME.session if nothing else is
 asked for, with what each host prints in its folder logs."""
-TELLS = """
-example:
-  hinge up examples/net/etcd.net --name cluster
+EXAMPLE = """\
+hinge up examples/net/etcd.net --name cluster
   hinge change cluster cut n1 from n2 n3
   hinge exec cluster n2 -- etcdctl endpoint status
-  hinge down cluster
-"""
+  hinge down cluster"""
+STATUSES = "0 it runs, 2 a wrong word, or such a net runs already, and else those of hinge net"
 START = Path(__file__).resolve().parents[1] / "__main__.py"
 POLL = 0.02  # s
 PATIENCE = 600.0  # s
 
 
 def command_line() -> argparse.Namespace:
-    parser = argparse.ArgumentParser(
-        prog=NAME[0], usage=f"{NAME[0]} FILE [--name NAME] [OPTION of hinge net ..]", description=WHAT, epilog=TELLS,
-        formatter_class=argparse.RawDescriptionHelpFormatter
-    )
-    parser.add_argument("file", metavar="FILE")
-    parser.add_argument(
+    line = parser(WHAT, EXAMPLE, STATUSES, f"{NAME[0]} FILE [--name NAME] [OPTION of hinge net ..]")
+    line.add_argument("file", metavar="FILE")
+    line.add_argument(
         "--name", metavar="NAME", help="by which change, status, exec and down find it (FILE's name without .net)"
     )
-    parser.add_argument(
+    line.add_argument(
         "--transcripts", metavar="FOLDER", help="for its history, its summary and what hosts print (NAME.session)"
     )
-    asked, more = parser.parse_known_args()
-    asked.more = more
-    asked.name = asked.name or Path(asked.file).stem
-    asked.transcripts = asked.transcripts or f"{asked.name}.session"
-    return asked
+    arguments, more = line.parse_known_args()
+    arguments.more = more
+    arguments.name = arguments.name or Path(arguments.file).stem
+    arguments.transcripts = arguments.transcripts or f"{arguments.name}.session"
+    return arguments
 
 
 def wait_until_ready(process: "subprocess.Popen[bytes]", socket: str, log: Path) -> list[str]:
@@ -55,33 +53,32 @@ def wait_until_ready(process: "subprocess.Popen[bytes]", socket: str, log: Path)
     while not is_answered(socket) and process.poll() is None:
         time.sleep(POLL)
     try:
-        status = ask(socket, PATIENCE, status=True)["status"]
+        status = ask(socket, PATIENCE, status=True).status or {}
     except Wrong:
-        told = log.read_text(errors="replace").strip().replace("hinge net: ", "")
-        raise Fault(told or "the net has ended", process.wait() or 1) from None
-    assert isinstance(status, dict)
+        text = read_text(log, "replace").strip().replace("hinge net: ", "")
+        raise Fault(text or "the net has ended", process.wait() or 1) from None
     return list(status["silent"])
 
 
 def main() -> None:
-    asked = command_line()
+    arguments = command_line()
     with refusals():
-        socket, folder = new_socket(asked.name), Path(asked.transcripts)
+        socket, folder = new_socket(arguments.name), Path(arguments.transcripts)
         if os.path.exists(socket) and is_answered(socket):
-            raise Wrong(f"{asked.name} runs already: hinge down {asked.name} ends it, and --name gives another name")
+            raise Wrong(f"{arguments.name} runs already: hinge down {arguments.name} ends it, and --name gives another name")
         folder.mkdir(parents=True, exist_ok=True)
         log = folder / "net.log"
-        logs = [] if "--logs" in asked.more else ["--logs", str(folder / "logs")]
+        logs = [] if "--logs" in arguments.more else ["--logs", str(folder / "logs")]
         words = [
-            sys.executable, str(START), "net", asked.file, "--transcripts", str(folder), *logs, "--stay", "--control",
-            socket, *asked.more
+            sys.executable, str(START), "net", arguments.file, "--transcripts", str(folder), *logs, "--stay", "--control",
+            socket, *arguments.more
         ]
-        with open(log, "wb") as told:
+        with open(log, "wb") as log_file:
             process = subprocess.Popen(
-                words, stdin=subprocess.DEVNULL, stdout=told, stderr=told, start_new_session=True
+                words, stdin=subprocess.DEVNULL, stdout=log_file, stderr=log_file, start_new_session=True
             )
         silent = wait_until_ready(process, socket, log)
-    print(
+    show(
         "".join(f"{line}\n" for line in silent)
-        + f"{asked.name} runs, and keeps what it does in {folder}: hinge down {asked.name} ends it"
+        + f"{arguments.name} runs, and keeps what it does in {folder}: hinge down {arguments.name} ends it"
     )

@@ -6,6 +6,7 @@ import argparse
 from itertools import takewhile
 
 from hinge.arguments import bounded
+from hinge.border.terminal import show
 from hinge.command import parser
 from hinge.replays.asked import SOURCE, add_source, read_sources
 from hinge.replays.explain import Explainer
@@ -23,11 +24,11 @@ hinge why 17 packets.csv report.csv --config dsl.config
 
 def main() -> None:
     line = parser(WHAT, EXAMPLE)
-    add_source(line, "ROW .. (HISTORY | PACKETS REPORT | CONFIG PACKETS REPORT)", "ROW .. SOURCE",
+    add_source(line, "ROW .. (HISTORY | [CONFIG] PACKETS REPORT)", "ROW .. SOURCE",
                f"{ROWS}, and behind them {SOURCE}")
-    asked = line.parse_intermixed_args()
-    numbers = list(takewhile(str.isdecimal, asked.source))
-    files, config = asked.source[len(numbers):], asked.config
+    arguments = line.parse_intermixed_args()
+    numbers = list(takewhile(str.isdecimal, arguments.source))
+    files, config = arguments.source[len(numbers):], arguments.config
     if not numbers:
         line.error(f"{files[0]!r} is no number of a row")
     if not files:
@@ -38,6 +39,6 @@ def main() -> None:
         rows = list(map(bounded(1, 2**62), numbers))
     except argparse.ArgumentTypeError as wrong:
         line.error(str(wrong))
-    [source] = read_sources(files, config, ())
+    [source] = read_sources(files, config)
     explainer = Explainer(source.explained())
-    print("\n\n".join(explainer.paragraph(row) for row in rows))
+    show("\n\n".join(explainer.paragraph(row) for row in rows))

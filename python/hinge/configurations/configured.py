@@ -1,16 +1,15 @@
-"""Configuration lines as the program reads them: it says what each line asks for, in its own spelling, or what is wrong
+"""Configuration lines as the program reads them: it alone says what a line asks for, in its own spelling, or what is wrong
 with it."""
 
 from __future__ import annotations
 
-import re
 import subprocess
 from dataclasses import dataclass
 from fractions import Fraction
-from functools import lru_cache
-from tempfile import NamedTemporaryFile
 from typing import Iterable, Optional, Union
 
+from hinge.border.files import read_text
+from hinge.border.scratch import scratch
 from hinge.program import dummynet
 
 LOSS_PARTS = 2**31
@@ -47,26 +46,12 @@ class Queue:
 Setting = Union[Pipe, Queue]
 
 
-# A command in the program's spelling, in which numbers have no units but these.
-SPELLED = re.compile(r"(pipe|queue) (delete \d+|\d+ config( (pipe|delay|weight|buckets) \d+| bw \d+bit/s| queue "
-                     r"\d+(Kbytes)?| plr \d(\.\d+)?)*( mask .*)?)")
 RECORD = "c,0,configure,"
 
 
-@lru_cache(maxsize=4096)
-def respelled(text: str) -> str:
-    """A command in the program's spelling, whatever its own: a history may have any that the program reads. A text that
-    is no command is a LineFault."""
-    done = subprocess.run([dummynet(), "live"], input=f"{text}\n", capture_output=True, text=True)
-    records = [record for record in done.stdout.splitlines() if record.startswith(RECORD)]
-    if not records:
-        raise LineFault(f"{text!r} is no command")
-    return records[0][len(RECORD):]
-
-
 def setting_of(text: str) -> tuple[str, int, Optional[Setting]]:
-    """What a command asks for: `pipe` or `queue`, its number, and what is configured; None is a delete."""
-    words = (text if SPELLED.fullmatch(text) else respelled(text)).split()
+    """What a command in the program's spelling asks for: `pipe` or `queue`, its number, and what is configured; None is a delete."""
+    words = text.split()
     if words[1] == "delete":
         return words[0], int(words[2]), None
     number, value = int(words[1]), dict(zip(words[3:], words[4:]))
@@ -82,12 +67,13 @@ def setting_of(text: str) -> tuple[str, int, Optional[Setting]]:
 def spelled_lines(data: bytes) -> list[str]:
     """The lines of a configuration in the program's spelling. What the program says of the first that it doesn't take
     is a LineFault."""
-    with NamedTemporaryFile() as history:
-        words = [dummynet(), "replay", "/dev/stdin", "/dev/null", "--history", history.name]
-        done = subprocess.run(words, input=data, stdout=subprocess.DEVNULL, stderr=subprocess.PIPE)
-        if done.returncode:
-            raise LineFault(done.stderr.decode().strip())
-        records = history.read().decode().splitlines()
+    with scratch() as folder:
+        history = folder / "history"
+        words = [dummynet(), "replay", "/dev/stdin", "/dev/null", "--history", str(history)]
+        process = subprocess.run(words, input=data, stdout=subprocess.DEVNULL, stderr=subprocess.PIPE)
+        if process.returncode:
+            raise LineFault(process.stderr.decode().strip())
+        records = read_text(history).splitlines()
     return [record[len(RECORD):] for record in records if record.startswith(RECORD)]
 
 
@@ -101,8 +87,8 @@ class InForce:
             self.obey(text)
 
     def obey(self, text: str) -> None:
-        kind, number, asked = setting_of(text)
+        kind, number, setting = setting_of(text)
         table: dict[int, Setting] = self.pipes if kind == "pipe" else self.queues  # type: ignore[assignment]
         table.pop(number, None)
-        if asked is not None:
-            table[number] = asked
+        if setting is not None:
+            table[number] = setting

@@ -8,14 +8,12 @@ from decimal import Decimal, InvalidOperation
 from typing import Iterator, NamedTuple, Optional
 
 from hinge.checks.lines import judged_lines
-from hinge.configurations.shell_session import asked_by
 
 ASSIGNMENT = re.compile(r"""(?:export\s+)?([A-Za-z_]\w*)=("[^"]*"|'[^']*'|[^\s;'"]*)""")
 VARIABLE = re.compile(r"\$\{([A-Za-z_]\w*)(?::?-([^}]*))?\}|\$([A-Za-z_]\w*)")
 BETWEEN_COMMANDS = re.compile(r"\s*(?:;|&&|\|\|?|(?<!>)&(?!>))\s*")
 REDIRECTION = re.compile(r"\s*\d?>.*")
 HEAD = re.compile(r"(?:^|\s)((?:pipe|queue)\s+(?:\d+\s+(?:config|delete)\b|delete\s+\d).*|(?:pipe|queue)\s+flush\b.*)")
-SETS = re.compile(r"(\w+)=|\b(?:for|read)\s+(\w+)")
 UNSURE = re.compile(r"(?:^|\s)(?:pipe|queue|sched)\s+\S+\s+config\b")
 BANDWIDTH = re.compile(r"(\d+)([kKmMgG]?)([A-Za-z/]*)\Z")
 LIMIT = re.compile(r"(\d+)(?:([kK])(?:[bB]\w*)?|([bB]\w*))?\Z")
@@ -53,35 +51,9 @@ class Conversion:
         self.notes.append(f"{place}: {text}")
 
     def read(self, name: str, text: str) -> None:
-        """Reads a file. A line that a shell reached counts by what it asked there, each time; the others are read as
-        they are written."""
-        reached: dict[int, list[str]] = {}
-        known = {name for pair in SETS.findall(text) for name in pair} | set(self.variables)
-        for asked in asked_by(text, self.variables):
-            reached.setdefault(asked.line, []).append(asked.words)
-        for number, last, line in joined_lines(text):
-            place = f"{name}:{number}"
-            words = [words for at in range(number, last + 1) for words in reached.get(at, [])]
-            if any(UNSURE.search(f" {one}")
-                   for one in words) and not self.is_plain(line) and not self.unset(line, known):
-                self.read_reached(place, words)
-            else:
-                self.read_line(place, line)
-
-    def is_plain(self, line: str) -> bool:
-        """Whether a line means one thing: each of its commands has no variable that the files don't set."""
-        return not VARIABLE.search(self.expanded(line)) and "$" not in self.expanded(line)
-
-    @staticmethod
-    def unset(line: str, known: set[str]) -> list[str]:
-        """The variables of a line that no file sets, and that have no value of their own there."""
-        return [found[0] for found in VARIABLE.finditer(line) if found[2] is None
-                and (found[1] or found[3]) not in known]
-
-    def read_reached(self, place: str, several: list[str]) -> None:
-        """Takes the commands that a shell reached at a line, those of a scheduler too."""
-        for words in several:
-            self.take(place, f"ipfw {words}")
+        """Reads a file."""
+        for number, line in joined_lines(text):
+            self.read_line(f"{name}:{number}", line)
 
     def take(self, place: str, command: str) -> None:
         """Reads one command; what is left out is told."""
@@ -117,20 +89,20 @@ class Conversion:
     def asked(self, command: str) -> Optional[str]:
         """What a command asks for a pipe or queue, None where it doesn't."""
         text = self.expanded(command)
-        found = HEAD.search(text)
-        if found is None or re.search(r"\s(?:add|show|list)\s", text[: found.start(1)]):
+        match = HEAD.search(text)
+        if match is None or re.search(r"\s(?:add|show|list)\s", text[: match.start(1)]):
             return None
-        return REDIRECTION.sub("", found[1])
+        return REDIRECTION.sub("", match[1])
 
     def read_command(self, place: str, command: str) -> None:
-        if (assigned := ASSIGNMENT.fullmatch(command.strip())) is not None:
-            self.variables[assigned[1]] = self.expanded(assigned[2].strip("\"'"))
+        if (match := ASSIGNMENT.fullmatch(command.strip())) is not None:
+            self.variables[match[1]] = self.expanded(match[2].strip("\"'"))
             return
-        if (asked := self.asked(command)) is None:
+        if (line := self.asked(command)) is None:
             if re.search(r"(?:^|\s)sched\s+\S+\s+config\b", command):
                 raise LeftOut("schedulers other than WF2Q+ are left out")
             return
-        words = asked.split()
+        words = line.split()
         if words[1] == "flush":
             self.settle()
             self.lines.clear()
@@ -144,8 +116,8 @@ class Conversion:
 
     def expanded(self, text: str) -> str:
         """The text with the shell variables that the files set."""
-        def value(found: re.Match[str]) -> str:
-            return self.variables.get(found[1] or found[3], found[0] if found[2] is None else found[2])
+        def value(match: re.Match[str]) -> str:
+            return self.variables.get(match[1] or match[3], match[0] if match[2] is None else match[2])
 
         return VARIABLE.sub(value, text)
 
@@ -161,7 +133,7 @@ class Conversion:
     def settle(self) -> None:
         """Keeps the lines that dummynet takes; one session judges them all."""
         waiting, self.candidates = self.candidates, []
-        refused = []
+        items = []
         for verdict in judged_lines([one.line.encode() for one in waiting]) if waiting else ():
             one = waiting[verdict.line - 1]
             if verdict.name == "ok":
@@ -171,9 +143,9 @@ class Conversion:
                                                                                           verdict.name.replace("-",
                                                                                                                " "))
             reason = f"{place} of '{one.line}': {fault}" if place else fault
-            refused.append((one.note, f"{one.place}: left out: {one.command} ({reason})"))
-        self.left_out += len(refused)
-        for at, note in reversed(refused):
+            items.append((one.note, f"{one.place}: left out: {one.command} ({reason})"))
+        self.left_out += len(items)
+        for at, note in reversed(items):
             self.notes.insert(at, note)
 
 
@@ -215,12 +187,12 @@ class Options:
 
     def limit(self, text: str) -> str:
         """A queue's limit; ipfw takes bytes where K or B stands behind the number."""
-        found = LIMIT.match(text)
-        if found is None or (found[2] is None and found[3] is None):
+        match = LIMIT.match(text)
+        if match is None or (match[2] is None and match[3] is None):
             return text
-        if found[2] is not None:
-            return f"{found[1]}Kbytes"
-        whole, rest = divmod(int(found[1]), BYTES_PER_KBYTE)
+        if match[2] is not None:
+            return f"{match[1]}Kbytes"
+        whole, rest = divmod(int(match[1]), BYTES_PER_KBYTE)
         if rest:
             self.conversion.say(self.place, f"queue {text} is rounded up to {whole + 1}Kbytes")
         return f"{whole + bool(rest)}Kbytes"
@@ -234,12 +206,12 @@ class Options:
 
 def ipfw_bandwidth(text: str) -> str:
     """As ipfw reads it: bytes where the unit begins with B (and not Bi) or by, else bits."""
-    found = BANDWIDTH.match(text)
-    if found is None:
+    match = BANDWIDTH.match(text)
+    if match is None:
         return text
-    unit = found[3]
+    unit = match[3]
     is_bytes = (unit.startswith("B") and not unit.startswith("Bi")) or unit.startswith("by")
-    return f"{found[1]}{found[2]}{'Byte/s' if is_bytes else 'bit/s'}"
+    return f"{match[1]}{match[2]}{'Byte/s' if is_bytes else 'bit/s'}"
 
 
 def loss_rate(text: str) -> str:
@@ -251,18 +223,17 @@ def loss_rate(text: str) -> str:
     return text if "e" not in text.lower() else f"{value:.18f}".rstrip("0").rstrip(".")
 
 
-def joined_lines(text: str) -> Iterator[tuple[int, int, str]]:
-    """The lines without comments and blank ones, those joined that end in a backslash, with the numbers of the first
-    and the last."""
-    pending, began = "", 0
+def joined_lines(text: str) -> Iterator[tuple[int, str]]:
+    """The lines without comments and blank ones, with their numbers; those that end in a backslash are one with the next."""
+    pending, first = "", 0
     for number, line in enumerate(text.splitlines(), 1):
-        began = began if pending else number
+        first = first if pending else number
         pending += re.sub(r"(^|\s)#.*", "", line).rstrip()
         if pending.endswith("\\"):
             pending = pending[:-1] + " "
             continue
         if pending.strip():
-            yield began, number, pending
+            yield first, pending
         pending = ""
     if pending.strip():
-        yield began, number, pending
+        yield first, pending

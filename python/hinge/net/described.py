@@ -6,8 +6,8 @@ import shlex
 from pathlib import Path
 from typing import Optional, Sequence, Union
 
-from hinge.run.extras import without_extras
-from hinge.run.words import Wrong, link_line
+from hinge.run.words import Wrong, link_of
+from hingetulip_words.link import Place
 from hingetulip_words.presets import either_way
 
 __tracebackhide__ = True  # of a test that fails, pytest shows its own line
@@ -63,7 +63,7 @@ class Described:
         ways = [link or ""] if back is None else [link or "", back]
         for way in ways:
             try:
-                link_line(1, without_extras(way, "the link")[0], "the link")
+                link_of(way, "the link", Place.RUN)
             except Wrong as wrong:
                 raise NetError(str(wrong)) from None
         return " / ".join(ways) if any(ways) else ""

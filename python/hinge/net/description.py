@@ -3,24 +3,29 @@
 from __future__ import annotations
 
 import re
-from dataclasses import dataclass, field
-from typing import Callable, Optional
+from dataclasses import dataclass, field, replace
+from typing import Callable, NamedTuple, Optional
 
+from hinge.arguments import is_number
 from hinge.net.statements import Statement, statements
-from hinge.run.words import Wrong
+from hinge.run.words import Wrong, bytes_of_mtu
 
 NAME = re.compile(r"[A-Za-z][A-Za-z0-9-]{0,62}", re.ASCII)
-TAKEN = {"localhost", "cut", "heal", "from"}
+ACTS = ("kill", "stop", "cont", "restart", "skew")  # of hosts
+TAKEN = {"localhost", "cut", "heal", "from", *ACTS}
 HOST, MAIN, ROUTER = "host NAME [COMMAND]", "main NAME [COMMAND]", "router NAME [COMMAND]"
+MTU, ROUTES = "mtu A B [N] BYTES", "routes none"
 LINK, SWITCH, WAIT = "link A B LINK [/ LINK]", "switch NAME A B .. LINK [/ LINK]", "wait NAME port N [TIME]"
 PATIENCE = 30.0  # s for which a port is waited for
 MOST_LINKS = 32767  # each has two pipes of 65,535
+MOST_PORTS = 254  # hosts at switches that are joined, as addresses of IPv4 end in 1 to 254
 
 
 @dataclass
 class Host:
     name: str
     forwards: bool = False
+    is_switch: bool = False
     command: str = ""  # of the shell
 
 
@@ -31,9 +36,17 @@ class NetLink:
     ends: tuple[str, str]
     ways: tuple[str, str]
     statement: Statement
+    mtu: Optional[int] = None  # of its interfaces
 
     def other(self, name: str) -> str:
         return self.ends[name == self.ends[0]]
+
+
+class Port(NamedTuple):
+    """An end of a link at which a host is at a switch."""
+
+    segment: int  # the first link of the switches that are joined, by its place from 0
+    number: int  # of the host's end among those of the segment, from 1
 
 
 @dataclass(frozen=True)
@@ -50,23 +63,35 @@ class Description:
     waits: list[Wait] = field(default_factory=list)
     of_links: list[Statement] = field(default_factory=list)  # what is said of links, for plan.py
     main: Optional[str] = None
+    has_shell: bool = False  # which is the main command
+    has_routes: bool = True  # to hosts that aren't neighbours
 
     def between(self, statement: Statement, form: str) -> tuple[int, bool]:
         """The link that the next words of a statement name, `A B` or `A B N` for the N-th between the two, and whether
         A is its second end."""
         one, two = self.host(statement, form), self.host(statement, form)
-        found = [number for number, link in enumerate(self.links) if set(link.ends) == {one, two} and one != two]
-        place = int(statement.take(form)) if statement.peek().isdecimal() else 1
-        if not 1 <= place <= len(found):
+        result = [number for number, link in enumerate(self.links) if set(link.ends) == {one, two} and one != two]
+        place = int(statement.take(form)) if is_number(statement.peek()) else 1
+        if not 1 <= place <= len(result):
             raise statement.wrong(
-                f"{one} {two}", f"there is no link {place} between them" if found else "there is no link between them"
+                f"{one} {two}", f"there is no link {place} between them" if result else "there is no link between them"
             )
-        return found[place - 1], self.links[found[place - 1]].ends[0] != one
+        return result[place - 1], self.links[result[place - 1]].ends[0] != one
 
     def host(self, statement: Statement, form: str) -> str:
         name = statement.take(form)
         if name not in self.hosts:
             raise statement.unknown(name, self.hosts, "no host of this net")
+        return name
+
+    def is_room(self, name: str) -> bool:
+        """Whether it is a host on which something can run."""
+        return name in self.hosts and not self.hosts[name].is_switch
+
+    def room(self, statement: Statement, form: str) -> str:
+        name = self.host(statement, form)
+        if not self.is_room(name):
+            raise statement.wrong(name, "a switch, on which nothing runs")
         return name
 
     def declare(self, statement: Statement, form: str, forwards: bool = False) -> Host:
@@ -79,14 +104,14 @@ class Description:
             )
         if name in self.hosts:
             raise statement.wrong(name, "a second host of this name")
-        self.hosts[name] = Host(name, forwards, statement.rest)
+        self.hosts[name] = Host(name, forwards, command=statement.rest)
         return self.hosts[name]
 
     def main_of(self, statement: Statement) -> None:
         if self.main is not None:
             raise statement.wrong("main", f"a second one; the first is of {self.main}")
         if statement.peek() in self.hosts:
-            host = self.hosts[statement.take(MAIN)]
+            host = self.hosts[self.room(statement, MAIN)]
             if host.command and statement.rest:
                 raise statement.wrong(host.name, "it has a command already; a host has one")
             host.command = host.command or statement.rest
@@ -114,10 +139,32 @@ class Description:
         for member in members:
             self.add_link(statement, member, name, statement.rest)
 
+    def mtu(self, statement: Statement) -> None:
+        words = statement.rest.split()
+        if len(words) == 3:  # without the place among several links
+            statement.rest = " ".join([*words[:2], "1", words[2]])
+        number, _ = self.between(statement, MTU)
+        word = statement.take(MTU)
+        statement.done(MTU)
+        try:
+            self.links[number] = replace(self.links[number], mtu=bytes_of_mtu(word))
+        except Wrong as wrong:
+            raise Wrong(f"{statement.place}: {wrong}") from None
+
+    def longest(self, otherwise: int) -> int:
+        """Bytes of the longest packet, where interfaces have an MTU of `otherwise` of which nothing else is said."""
+        return max(otherwise if link.mtu is None else link.mtu for link in self.links)
+
+    def routes(self, statement: Statement) -> None:
+        if statement.take(ROUTES) != "none":
+            raise statement.wrong(statement.text, f"the one such line is `{ROUTES}`")
+        statement.done(ROUTES)
+        self.has_routes = False
+
     def wait(self, statement: Statement) -> None:
-        host, word = self.host(statement, WAIT), statement.take(WAIT)
+        host, word = self.room(statement, WAIT), statement.take(WAIT)
         port = statement.take(WAIT)
-        if word != "port" or not port.isdecimal() or not 1 <= int(port) <= 65535:
+        if word != "port" or not is_number(port) or not 1 <= int(port) <= 65535:
             raise statement.wrong(f"{word} {port}", f"no port from 1 to 65535: {WAIT}")
         lasting = statement.take_time(WAIT) / 1e9 if statement.peek() else PATIENCE
         statement.done(WAIT)
@@ -125,8 +172,43 @@ class Description:
 
     def declare_switch(self, statement: Statement) -> None:
         rest = statement.rest
-        self.declare(statement, SWITCH, forwards=True).command = ""
+        host = self.declare(statement, SWITCH, forwards=True)
+        host.command, host.is_switch = "", True
         statement.rest = rest
+
+    def ways_into_switches(self) -> dict[str, list[int]]:
+        """The ways that end at each switch, by their places from 0."""
+        table: dict[str, list[int]] = {name: [] for name, host in self.hosts.items() if host.is_switch}
+        for number, link in enumerate(self.links):
+            for end in (0, 1):
+                if link.ends[1 - end] in table:
+                    table[link.ends[1 - end]].append(2 * number + end)
+        return table
+
+    def joined_switches(self) -> dict[str, set[str]]:
+        """The switches that are one segment with each. In a circle of them a broadcast would go round for ever."""
+        union = {name: {name} for name, host in self.hosts.items() if host.is_switch}
+        for link in self.links:
+            one, two = link.ends
+            if one in union and two in union:
+                if union[one] is union[two]:
+                    raise link.statement.wrong(two, "switches in a circle, in which a broadcast would go round for ever")
+                union[one] |= union[two]
+                union.update(dict.fromkeys(union[one], union[one]))
+        return union
+
+    def ports(self) -> dict[tuple[int, str], Port]:
+        """The ends of links, by places from 0 and hosts, at which hosts are at switches."""
+        union, table, last = self.joined_switches(), dict[tuple[int, str], Port](), dict[str, Port]()
+        for number, link in enumerate(self.links):
+            for name in link.ends:
+                switch = link.other(name)
+                if switch in union and name not in union:
+                    before = last.get(min(union[switch]), Port(number, 0))
+                    if before.number == MOST_PORTS:
+                        raise link.statement.wrong(name, f"switches that are joined have {MOST_PORTS} hosts at most")
+                    table[number, name] = last[min(union[switch])] = before._replace(number=before.number + 1)
+        return table
 
 
 Does = Callable[[Description, Statement], object]
@@ -138,10 +220,10 @@ DECLARES: dict[str, Does] = {
 FOLLOWS: tuple[dict[str, Does], ...] = (
     DECLARES, {"main": Description.main_of}, {"link": Description.link, "switch": Description.switch},
     {
-        "wait": Description.wait,
+        "wait": Description.wait, "mtu": Description.mtu, "routes": Description.routes,
         **{
             word: lambda net, statement: net.of_links.append(statement)
-            for word in ("loss", "line", "map", "trace", "at")
+            for word in ("loss", "line", "map", "trace", "at", "nemesis")
         },
     },
 )
@@ -160,4 +242,5 @@ def read_description(path: str) -> Description:
                 kinds[statement.word](net, statement)
     if not net.links:
         raise Wrong(f"{path}: no link: {LINK}")
+    net.ports()  # where there can be none, that is told
     return net

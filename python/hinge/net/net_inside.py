@@ -10,29 +10,32 @@ from functools import partial
 from typing import NamedTuple, Optional, Sequence
 
 from hinge.command import say
+from hinge.net.acts import Acts, GroupProcesses, HostProcesses, sees_own_processes
+from hinge.net.cgroups import Cgroups
+from hinge.net.clocks import number_of, set_clock, take_clock
 from hinge.net.description import Description
+from hinge.net.moments import Act
+from hinge.net.net_control import opened_control
 from hinge.net.net_plan import NetPlan
 from hinge.net.net_rooms import NetRooms
-from hinge.net.net_summary import net_lines, of_hosts, net_record, net_void
-from hinge.net.statements import Statement
-from hinge.run.control import Control, HostRoom, opened
-from hinge.run.doors import Doors
-from hinge.run.extras import Extra
+from hinge.net.net_summary import act_records, net_lines, net_record, of_hosts, of_plan, way_names
 from hinge.run.host import Link
+from hinge.run.host_lines import HostLines
 from hinge.run.interfaces import something_listens
 from hinge.run.order import status_with_json
 from hinge.run.outside import Outside
 from hinge.run.page import NOT_ALLOWED, Page
 from hinge.run.processes import SIGNALLED, Ended, Mask, Processes
-from hinge.run.rooms import start
-from hinge.run.summary import VOID
-from hinge.run.system import enter
+from hinge.run.rooms import start, this_network
+from hinge.run.summary import VOID, cautions, void
+from hinge.run.system import enter, is_simulated
 from hinge.run.transcripts import told
 from hinge.run.users import make_terminals
-from hinge.run.words import Wrong
+from hingetulip_words.link import Extra
 
 WATCHED = {signal.SIGCHLD, signal.SIGTERM, signal.SIGHUP}
 LISTEN_POLL = 0.01  # s
+NOBODY = 0  # no process
 NO_PRIORITY = (
     "the links don't come before other programs, as the system doesn't allow it (as root, or with `ulimit -r 10`)"
 )
@@ -67,25 +70,41 @@ class NetInside:
         self.order, self.net, self.own_users = order, order.net, own_users
         self.page = Page(2 * len(self.net.links))
         self.processes = Processes(WATCHED if self.net.main or order.shell else WATCHED | {signal.SIGINT})
+        self.network = this_network()  # of no host
         self.rooms = NetRooms(self.net, order.mtu)
         if outside and order.outside:
             self.rooms.lead_out(outside, order.outside)
         self.started: dict[str, int] = {}
         self.silent: list[str] = []  # of the ports that were waited for in vain
         self.begun = time.monotonic()
-        self.status = 0
+        self.lines = HostLines()
+        self.acts, self.cgroups = Acts(order.made.acts, self.lines, self.act), Cgroups()
+        self.main_moment: Optional[int] = None  # ns, of the links
 
     def plan(self) -> str:
         """The plan, with what an audit along the paths needs behind the line that opens the transcript."""
+        into = self.net.ways_into_switches()
+        plan = self.order.plan + "".join(f"switch {' '.join(map(str, ways))}\n" for ways in into.values() if ways)
         if self.order.transcript is None:
-            return self.order.plan
-        first, _, rest = self.order.plan.partition("\n")
-        hosts = [f"remark host,{name},{','.join(self.rooms.ends.all_of(name))}" for name in self.net.hosts]
+            return plan
+        first, _, rest = plan.partition("\n")
+        hosts = [f"remark host,{name},{','.join(self.rooms.ends.all_of(name))}" for name in self.rooms.network]
         pipes = [
             line for number, link in enumerate(self.net.links) for way in (0, 1) for line in self.pipes_of(number, way)
         ]
+        hosts += [f"remark switch,{name}" for name in into]
         outside = [f"remark outside,{self.order.outside}"] * bool(self.order.outside)
-        return "\n".join([first, *hosts, *outside, *pipes, "contents", rest])
+        draw_lines = [f"remark drawn,{line}" for line in self.order.made.drawn]
+        remarks = [*hosts, *outside, *pipes, *draw_lines]
+        return "\n".join([first, *remarks, "contents", rest.rstrip("\n"), *self.act_remarks(), ""])
+
+    def act_remarks(self) -> list[str]:
+        """Remarks at the moments of the plan's cuts and heals; the other acts are told as they are done."""
+        return [
+            f"{'main ' * message.moment.of_main}at {message.moment.ns} remark act,{message.words}"
+            for message in self.order.made.told
+            if message.words.split()[0] in ("cut", "heal")
+        ]
 
     def pipes_of(self, number: int, way: int) -> list[str]:
         """Between which hosts the pipes of a link's way are. Between its first pass and its second one is `START~END`,
@@ -98,46 +117,42 @@ class NetInside:
                 *[f"remark copies,{pipe}"] * bool(extra.duplicate)]
 
     def started_links(self) -> tuple[Link, Optional[int]]:
-        """The host of all links, and its status where it ended at once."""
+        """The host of all links, and its status where it ended at once. What happens to hosts doesn't happen to it."""
+        enter(self.network)
         link = Link(
-            self.processes, self.page, ["tun", *map(str, self.rooms.interfaces)], self.rooms.interfaces, self.plan(),
-            self.order.mask, self.control()
+            self.processes, self.page, ["tun", *map(str, self.rooms.interfaces)],
+            self.rooms.descriptors(), self.plan(), self.order.mask, opened_control(self), self.lines
         )
         return link, link.failed()
 
-    def control(self) -> Optional[Control]:
-        """The socket that --control names. Words that change a link are those of a line `at`, without its moment."""
-        def event(moment: str, words: str) -> None:
-            self.order.made.said(Statement("change", 1, f"at {moment} {words}"), self.order.made.at)
-
-        def status() -> dict[str, object]:
-            ended = {
-                name: self.processes.ended[pid] for name, pid in self.started.items() if pid in self.processes.ended
-            }
-            return {
-                **net_record(self.net, self.page.read(), self.rooms.dropped(), {}), "ended": ended,
-                "silent": self.silent
-            }
-
-        doors = Doors()
-
-        def enter_host(name: str) -> HostRoom:
-            if name not in self.net.hosts:
-                raise Wrong(f"{name!r}: no host of this net, which are {', '.join(self.net.hosts)}")
-            return HostRoom(doors.to(self.rooms.network[name]), self.variables(name))
-
-        return opened(self.order.control, self.order.made.plan, self.page, event, status, enter_host)
+    def act(self, act: Act) -> None:
+        """What happens to all that runs on a host, or to its clock."""
+        if act.word == "skew":
+            set_clock(number_of(act.host, self.net.hosts), act.more)
+            return
+        process = self.started.get(act.host)
+        on_host = (
+            HostProcesses(self.rooms.network[act.host], self.cgroups.of(act.host))
+            if sees_own_processes() or process is None
+            else GroupProcesses(process)
+        )
+        does = {"kill": on_host.kill, "restart": on_host.kill, "stop": on_host.stop, "cont": on_host.cont}
+        does[act.word]()
+        self.processes.reap()
+        if act.word == "restart":
+            self.begin(act.host)
 
     def variables(self, name: str) -> dict[str, str]:
         return {"HINGE_HOST": name, "HINGE_NET": self.order.folder}
 
     def enter(self, name: str) -> None:
         self.rooms.enter(name)
+        take_clock(number_of(name, self.net.hosts))
         os.environ.update(self.variables(name))
 
     def begin(self, name: str) -> None:
         """Starts a host's command, in a process group of its own where it isn't the main one."""
-        is_main = name == self.net.main
+        is_main, is_first = name == self.net.main, name not in self.started
 
         def enter_host() -> None:
             if not is_main:
@@ -147,7 +162,8 @@ class NetInside:
                     make_terminals()
             if self.order.logs:
                 log = os.open(
-                    os.path.join(self.order.logs, f"{name}.log"), os.O_WRONLY | os.O_CREAT | os.O_TRUNC, 0o666
+                    os.path.join(self.order.logs, f"{name}.log"),
+                    os.O_WRONLY | os.O_CREAT | (os.O_TRUNC if is_first else os.O_APPEND), 0o666
                 )
                 os.dup2(log, 1), os.dup2(log, 2)
             self.enter(name)
@@ -161,21 +177,29 @@ class NetInside:
         """Waits for the ports that the net waits for; a signal that came before."""
         for wait in self.net.waits:
             enter(self.rooms.network[wait.host])
-            pid = self.started.get(wait.host)
-            came = self.processes.poll(
-                lambda: something_listens(wait.port) or pid in self.processes.ended, wait.lasting, LISTEN_POLL
-            )
+
+            def is_over() -> bool:
+                self.acts.tick()
+                return something_listens(wait.port) or self.has_ended(wait.host)
+
+            came = self.processes.poll(is_over, wait.lasting, LISTEN_POLL)
             if came:
                 return came
+            pid = self.started.get(wait.host)
             if not something_listens(wait.port):
-                ended = (
+                endings = (
                     f"; its command ended with {self.processes.ended[pid]}"
                     if pid in self.processes.ended
                     else f" after {wait.lasting:g} s"
                 )
-                self.silent.append(f"{wait.host} doesn't listen at port {wait.port}{ended}")
+                self.silent.append(f"{wait.host} doesn't listen at port {wait.port}{endings}")
                 say(self.silent[-1])
         return None
+
+    def has_ended(self, host: str) -> bool:
+        """Whether a host's command has ended for good."""
+        is_awaited = any(act.host == host and act.word == "restart" for _, act in self.acts.pending)
+        return self.started.get(host) in self.processes.ended and not is_awaited
 
     @staticmethod
     def serve(link: Link) -> None:
@@ -185,6 +209,9 @@ class NetInside:
 
     def begin_main(self) -> Optional[int]:
         """The process of the main command, if there is one."""
+        if self.order.shell or self.net.main:
+            self.main_moment = self.lines.ask("main").moment
+            self.acts.begin(True, 0)
         if self.order.shell:
             return start(
                 [os.environ.get("SHELL", "sh")], self.order.mask, partial(self.enter, self.order.shell), self.own_users
@@ -200,37 +227,68 @@ class NetInside:
             return SIGNALLED + came
         main = self.begin_main()
         self.serve(link)
-        for process in self.started.values() if main is None else [main]:
-            came = came or self.processes.wait(process, needed=link.process)
+        while not came and link.process not in self.processes.ended and (rest := self.waited_for(main)):
+            came = self.processes.wait(rest[0], self.acts.left(), self.acts, link.process)
+            self.acts.tick()
         if self.order.stay and not came:
-            came = self.processes.wait(link.process)
+            came = self.processes.wait(link.process, ticker=self.acts)
         if main in self.processes.ended:
             return self.processes.ended[main]
         if came or main is not None:
             return SIGNALLED + (came or signal.SIGTERM)
-        return next((status for status in map(self.processes.ended.get, self.started.values()) if status), 0)
+        statuses = (self.processes.ended.get(pid) for name, pid in self.started.items() if not self.was_killed(name))
+        return next((status for status in statuses if status), 0)
+
+    def waited_for(self, main: Optional[int]) -> list[int]:
+        """The processes at whose end the net ends; nobody's where a command only begins again later."""
+        processes = [*self.started.values()] if main is None else [main]
+        rest = [process for process in processes if process not in self.processes.ended]
+        return rest or [NOBODY] * (main is None and self.acts.awaited())
+
+    def was_killed(self, name: str) -> bool:
+        """Whether a host's command is one that an act has ended."""
+        return self.acts.last(name) == "kill"
 
     def run(self) -> int:
-        link, failed = self.started_links()
-        if failed is not None:
-            return failed
+        link, fault = self.started_links()
+        if fault is not None:
+            return fault
         if self.page.read()["realtime"] == NOT_ALLOWED:
             say(NO_PRIORITY)
+        self.acts.begin(False, self.lines.ask("moment").moment)
         for name, host in self.net.hosts.items():
             if host.command and name != self.net.main:
                 self.begin(name)
         status = self.lasted(link)
-        ended = self.processes.endings(self.started, self.begun, self.order.end_wait)
+        endings = self.ended()
         link.end()
-        return self.report(status, self.rooms.dropped(), ended)
+        return self.report(status, self.rooms.dropped(), endings)
 
-    def report(self, status: int, drops: Sequence[int], ended: dict[str, Ended]) -> int:
+    def ended(self) -> dict[str, Ended]:
+        """How the hosts' commands ended; stopped ones go on for that."""
+        self.acts.pending.clear()
+        for name in self.acts.stopped():
+            self.act(Act(self.order.made.moment("0s"), "cont", name))
+        endings = self.processes.endings(self.started, self.begun, self.order.end_wait)
+        self.cgroups.remove()
+        return {
+            name: one._replace(by="kill") if one.by == "itself" and self.was_killed(name) else one
+            for name, one in endings.items()
+        }
+
+    def report(self, status: int, drops: Sequence[int], endings: dict[str, Ended]) -> int:
         """Tells how it went, on standard error and in the file that --json names; the status, or that of a void run."""
         order, counts = self.order, self.page.read()
-        others = {name: one for name, one in ended.items() if name != self.net.main}
-        faults = net_void(self.net, counts, drops, order.limit)
+        others = {name: one for name, one in endings.items() if name != self.net.main}
+        names = way_names(self.net)
+        faults = void(counts, drops, order.limit, names)
+        acts = act_records(order.made.told, self.acts.done, self.main_moment, counts["moment"])
         if not order.quiet:
-            for line in [*net_lines(self.net, counts, drops), *[f"seed {order.seed}"] * order.draws]:
+            for line in [
+                *net_lines(self.net, counts, drops), *[f"seed {order.seed}"] * order.draws,
+                *of_plan(order.made.told, self.main_moment, counts["moment"]),
+                *([] if order.limit is not None or is_simulated() else cautions(counts, drops, order.plan, names))
+            ]:
                 say(line)
         for line in [
             *of_hosts(others), *(told(order.transcript, counts["parts"]) if order.transcript else []),
@@ -239,7 +297,8 @@ class NetInside:
             say(line)
         if order.json:
             told_all = {
-                "status": status, "seed": order.seed, "void": faults, **net_record(self.net, counts, drops, ended)
+                "status": status, "seed": order.seed, "void": faults, **net_record(self.net, counts, drops, endings),
+                "main": self.main_moment, "acts": acts
             }
             status = status_with_json(order.json, told_all, status)
         return VOID if faults else status

@@ -1,23 +1,28 @@
 """The rooms of a net's hosts: a network namespace each, with an interface for each link, names, addresses and ways.
 
 A host has an address of each family that is its own, on `lo`, and one for each end of a link. Its name leads to the
-first."""
+first. A switch is no room: the links end there in their own process. Hosts at switches that are joined are in one
+network of Ethernet."""
 
 from __future__ import annotations
 
 import socket
 from functools import partial
-from typing import Callable, NamedTuple
+from typing import Callable, Iterator, NamedTuple, Optional
 
 from hinge.net.description import Description
-from hinge.net.ways import first_links, links_by_host
-from hinge.run.interfaces import add_address, add_interface_route, add_tun, all_dropped, hand_on
+from hinge.net.ways import Hop, first_hops, links_by_host
+from hinge.run.interfaces import add_address, add_interface_route, add_tun, all_dropped, hand_on, interface_route, know_groups
 from hinge.run.outside import Outside
 from hinge.run.rooms import add_names, furnish, see_own_processes
+from hinge.run.rtnetlink import Request, ask_many, index_of, one_socket
 from hinge.run.system import NEWNET, NEWUTS, enter, try_to_write, unshare
 
 LONGEST_INTERFACE = 15  # letters
 NETWORK = "10.8.0.0/16"  # of the hosts' own addresses
+GROUPS = ("224.0.0.0", 4)  # all groups of IPv4, and their bits
+WORST = 1 << 24  # the metric of a route that each daemon's are better than
+AT_NO_HOST = -1  # in the place of an interface's descriptor
 
 
 class Addresses(NamedTuple):
@@ -31,9 +36,15 @@ def own_addresses(place: int) -> Addresses:
 
 
 def end_addresses(link: int, end: int) -> Addresses:
-    """Those of an end, 0 or 1, of the link with this place, from 0."""
+    """Those of an end, from 0, of the link with this place, from 0."""
     place = link + 1
     return Addresses(f"10.{9 + (place >> 8)}.{place & 255}.{end + 1}", f"fd09:{place:x}::{end + 1}")
+
+
+def mac_of(link: int) -> bytes:
+    """The hardware address of a host on the link with this place, from 0, to a switch: 02:00:00:00:00:01 on the first
+    of a net."""
+    return bytes([2, 0, 0, 0]) + (link + 1).to_bytes(2, "big")
 
 
 class NetEnds:
@@ -41,8 +52,10 @@ class NetEnds:
 
     def __init__(self, net: Description) -> None:
         self.net = net
-        self.own = {name: own_addresses(place) for place, name in enumerate(net.hosts, 1)}
-        self.links = links_by_host(net)
+        self.own = {
+            name: own_addresses(place) for place, name in enumerate(net.hosts, 1) if not net.hosts[name].is_switch
+        }
+        self.links, self.ports = links_by_host(net), net.ports()
 
     def label(self, name: str, link: int) -> str:
         """The end of a link at a host: `b.a` is that of b on its link to a, and `b.a.2` on its second one."""
@@ -54,21 +67,44 @@ class NetEnds:
         label = "to-" + self.label(name, link).partition(".")[2]
         return label if len(label) <= LONGEST_INTERFACE else f"link{link + 1}"
 
+    def place_of_end(self, name: str, link: int) -> tuple[int, int]:
+        """The link or the segment of an end, and the end's place there, both from 0."""
+        if (link, name) in self.ports:
+            port = self.ports[link, name]
+            return port.segment, port.number - 1
+        return link, int(name == self.net.links[link].ends[1])
+
     def at_end(self, name: str, link: int) -> Addresses:
-        return end_addresses(link, int(name == self.net.links[link].ends[1]))
+        return end_addresses(*self.place_of_end(name, link))
+
+    def of_link(self, name: str, link: int) -> str:
+        """The address of an end that is of its link alone."""
+        return f"fe80::{self.place_of_end(name, link)[1] + 1:x}"
+
+    def gateways(self, to: str, hop: Hop) -> tuple[Optional[str], Optional[str]]:
+        """The addresses of IPv4 and IPv6 of the router at a switch by which a way to another host leads, if any."""
+        if hop.host == to or (hop.host_link, hop.host) not in self.ports:
+            return None, None
+        return self.at_end(hop.host, hop.host_link).four, self.of_link(hop.host, hop.host_link)
 
     def all_of(self, name: str) -> list[str]:
         return [*self.own[name], *(text for link, _ in self.links[name] for text in self.at_end(name, link))]
 
     def names(self) -> str:
-        """The lines of /etc/hosts. A name leads to IPv4, as not every program listens in both families."""
+        """Lines of /etc/hosts: of IPv4, and names of their own of IPv6."""
         lines = [f"{addresses.four} {name}\n{addresses.six} ip6-{name}\n" for name, addresses in self.own.items()]
-        lines += [
-            f"{self.at_end(name, link).four} {self.label(name, link)}\n"
-            for name in self.net.hosts
-            for link, _ in self.links[name]
-        ]
-        return "".join(lines)
+        return "".join([*lines, *(f"{at.four} {label}\n" for at, label in self.labels())])
+
+    def names_of_six(self) -> str:
+        """Lines by which the names of IPv4 lead to IPv6 as well."""
+        lines = [f"{addresses.six} {name}\n" for name, addresses in self.own.items()]
+        return "".join([*lines, *(f"{at.six} {label}\n" for at, label in self.labels())])
+
+    def labels(self) -> Iterator[tuple[Addresses, str]]:
+        """The addresses and names of the links' ends."""
+        for name in self.own:
+            for link, _ in self.links[name]:
+                yield self.at_end(name, link), self.label(name, link)
 
 
 def in_ipv6(do: Callable[[], None]) -> None:
@@ -87,18 +123,28 @@ class NetRooms:
         self.network: dict[str, int] = {}
         tuns: dict[tuple[int, str], int] = {}
         see_own_processes()
-        for name in net.hosts:
+        for name in self.ends.own:
             unshare(NEWNET)
-            self.network[name] = furnish()
-            self.add_own(name)
-            for link, _ in self.ends.links[name]:
-                tuns[link, name] = add_tun(*self.ends.at_end(name, link), mtu, self.ends.interface(name, link))
-            self.add_ways(name)
-            if net.hosts[name].forwards:
-                self.let_forward(name)
-        self.interfaces = [tuns[number, name] for number, link in enumerate(net.links) for name in link.ends]
-        first = next(iter(net.hosts))
-        add_names(self.ends.names() + "127.0.0.1 localhost\n", first, self.ends.own[first].four)
+            with one_socket():
+                self.network[name] = furnish()
+                self.add_own(name)
+                for link, _ in self.ends.links[name]:
+                    tuns[link, name] = self.add_end(name, link, mtu)
+                ask_many(self.ways_of(name))
+                if net.hosts[name].forwards:
+                    self.let_forward(name)
+                self.know_groups(name, True)
+        self.interfaces = [
+            tuns.get((number, name), AT_NO_HOST) for number, link in enumerate(net.links) for name in link.ends
+        ]
+        first = next(iter(self.ends.own))
+        add_names(
+            self.ends.names() + "127.0.0.1 localhost\n", self.ends.names_of_six(), first, self.ends.own[first].four
+        )
+
+    def descriptors(self) -> list[int]:
+        """Those of the interfaces that there are."""
+        return [interface for interface in self.interfaces if interface != AT_NO_HOST]
 
     def add_own(self, name: str) -> None:
         """Gives the present network its host's own addresses."""
@@ -107,18 +153,48 @@ class NetRooms:
         add_address("lo", self.ends.own[name].four, 32)
         in_ipv6(lambda: add_address("lo", self.ends.own[name].six, 128))
 
+    def add_end(self, name: str, link: int, mtu: int) -> int:
+        """Gives the present network an end of a link; its descriptor."""
+        interface, is_port = self.ends.interface(name, link), (link, name) in self.ends.ports
+        descriptor = add_tun(
+            *self.ends.at_end(name, link), self.ends.net.links[link].mtu or mtu, interface,
+            mac=mac_of(link) if is_port else b""
+        )
+        in_ipv6(lambda: add_address(interface, self.ends.of_link(name, link), 64))
+        if is_port:  # neighbours ask for an address of IPv6 at the interface that has it
+            in_ipv6(lambda: add_address(interface, self.ends.own[name].six, 128))
+        return descriptor
+
     def let_forward(self, name: str) -> None:
-        """Lets the present network hand packets on. Its interfaces are there already, without multicast: else the
-        kernel would ask routers to a group there."""
+        """Lets the present network hand packets on. Its interfaces don't know groups yet: else the kernel would ask
+        routers to one there."""
         for link, _ in self.ends.links[name]:
-            hand_on(self.ends.interface(name, link))
+            hand_on(self.ends.interface(name, link), is_asked=False)
         try_to_write("/proc/sys/net/ipv6/conf/all/forwarding", "1")
 
-    def add_ways(self, name: str) -> None:
-        own = self.ends.own[name]
-        for to, link in first_links(name, self.ends.net, self.ends.links).items():
-            add_interface_route(self.ends.own[to].four, self.ends.interface(name, link), own.four)
-            in_ipv6(partial(add_interface_route, self.ends.own[to].six, self.ends.interface(name, link), own.six))
+    def ways_of(self, name: str) -> Iterator[Request]:
+        """The routes to all hosts that the present one, of this name, reaches, and to groups. Without routes those to
+        its neighbours are worse than each that a daemon sets."""
+        own, numbers = self.ends.own[name], dict[int, int]()
+        for link, _ in self.ends.links[name]:
+            numbers[link] = index_of(self.ends.interface(name, link))
+        is_plain = self.ends.net.has_routes
+        for to, hop in first_hops(name, self.ends.net, self.ends.links).items():
+            for address, source, gateway in zip(self.ends.own.get(to, ()), own, self.ends.gateways(to, hop)):
+                if is_plain or to == hop.host:
+                    yield interface_route(
+                        address, numbers[hop.link], source, metric=None if is_plain else WORST,
+                        may_fail=source == own.six, gateway=gateway
+                    )
+        if is_plain and numbers:
+            # By the metric it has a next hop of its own: the kernel keeps with that whether a packet is for a group, and
+            # would give the next one for a host the time to live of groups.
+            yield interface_route(GROUPS[0], next(iter(numbers.values())), own.four, GROUPS[1], metric=1)
+
+    def know_groups(self, name: str, does: bool) -> None:
+        enter(self.network[name])
+        for link, _ in self.ends.links[name]:
+            know_groups(self.ends.interface(name, link), does)
 
     def lead_out(self, outside: Outside, by: str) -> None:
         """Joins a host to the rest of the system's network. Where it hands packets on, the others reach that by it."""
@@ -132,15 +208,19 @@ class NetRooms:
             if interfaces
             else []
         )
+        self.know_groups(by, False)  # as it begins to hand packets of IPv6 on
         ipv6 = outside.join(self.network[by], interfaces, others)
+        self.know_groups(by, True)
         for name in self.network if interfaces else ():
             enter(self.network[name])
-            link = first_links(name, self.ends.net, self.ends.links).get(by)
-            if name != by and link is not None:
-                own = self.ends.own[name]
-                add_interface_route("0.0.0.0", self.ends.interface(name, link), own.four, 0)
+            hop = first_hops(name, self.ends.net, self.ends.links).get(by)
+            if name != by and hop is not None:
+                # A gateway that is a neighbour of Ethernet is named.
+                four, six = self.ends.gateways("", hop)
+                own, interface = self.ends.own[name], self.ends.interface(name, hop.link)
+                add_interface_route("0.0.0.0", interface, own.four, 0, gateway=four)
                 if ipv6:
-                    in_ipv6(partial(add_interface_route, "::", self.ends.interface(name, link), own.six, 0))
+                    in_ipv6(partial(add_interface_route, "::", interface, own.six, 0, gateway=six))
 
     def enter(self, name: str) -> None:
         """Makes this process one of the host: its network and its name."""
@@ -150,12 +230,12 @@ class NetRooms:
 
     def dropped(self) -> list[int]:
         """What the system dropped before the links, by their ways."""
-        by_host = {}
+        by_host = dict[str, dict[str, int]]()
         for name, network in self.network.items():
             enter(network)
             by_host[name] = all_dropped()
         return [
-            by_host[name].get(self.ends.interface(name, number), 0)
+            by_host[name].get(self.ends.interface(name, number), 0) if name in by_host else 0
             for number, link in enumerate(self.ends.net.links)
             for name in link.ends
         ]

@@ -5,16 +5,23 @@ from __future__ import annotations
 
 from typing import Iterator, Optional, Sequence
 
-from hinge.net.description import Description
-from hinge.run.page import ENDED_WELL, Counts, Times
+from hinge.net.acts import Done
+from hinge.net.description import ACTS, Description
+from hinge.net.moments import Said
+from hinge.run.page import Counts, Times
 from hinge.run.processes import Ended, name_of
-from hinge.run.summary import SELDOM, judged, times, way_record
+from hinge.run.summary import SELDOM, times, way_record
 
 
-def of_hosts(ended: dict[str, Ended]) -> Iterator[str]:
-    for name, one in ended.items():
+MOST_SHOWN, MOST_DRAWN = 3, 50  # changes in a line, and lines of what was drawn
+
+
+def of_hosts(endings: dict[str, Ended]) -> Iterator[str]:
+    for name, one in endings.items():
         if one.by == "itself":
             yield f"{name}: ended with {name_of(one.status)} after {one.after:.1f} s"
+        elif one.by == "kill":
+            yield f"{name}: killed by an act after {one.after:.1f} s, and not begun again"
         elif one.by == "SIGKILL":
             yield f"{name}: killed, since SIGTERM didn't end it"
 
@@ -33,15 +40,58 @@ def all_ways(counts: Counts) -> tuple[Times, Times]:
     return one, two
 
 
+def moment_of(message: Said, main: Optional[int]) -> Optional[int]:
+    """When a line `at` is obeyed, by the links' clock in ns; nothing where the main command didn't begin."""
+    if not message.moment.of_main:
+        return message.moment.ns
+    return None if main is None else main + message.moment.ns
+
+
+def act_records(message: Sequence[Said], result: Sequence[Done], main: Optional[int], end: int) -> list[dict[str, object]]:
+    """What happened by lines `at` and by `hinge change`, for JSON, each with its moment."""
+    hosts = [
+        {"moment": one.moment, "at": str(one.act.moment), "words": f"{one.act.word} {one.act.host}"} for one in result
+    ]
+    links = [
+        {"moment": moment, "at": str(one.moment), "words": one.words}
+        for one in message
+        if one.words.split()[0] not in ACTS
+        for moment in [moment_of(one, main)]
+        if moment is not None and moment <= end
+    ]
+    return sorted([*links, *hosts], key=lambda one: one["moment"])  # type: ignore[arg-type, return-value]
+
+
+def some(message: Sequence[Said]) -> str:
+    view = [f"`at {one.moment} {one.words}`" for one in message[:MOST_SHOWN]]
+    return ", ".join(view) + f" and {len(message) - MOST_SHOWN} more" * (len(message) > MOST_SHOWN)
+
+
+def of_plan(message: Sequence[Said], main: Optional[int], end: int) -> Iterator[str]:
+    """What a seed has drawn, and the changes that the main command hasn't seen as they came."""
+    draw_lines = [one for one in message if one.is_drawn and (moment_of(one, main) or 0) <= end]
+    yield from (f"drawn: at {one.moment} {one.words}" for one in draw_lines[:MOST_DRAWN])
+    if len(draw_lines) > MOST_DRAWN:
+        yield f"and {len(draw_lines) - MOST_DRAWN} more, which --json has"
+    if main is None:
+        return
+    early = [one for one in message if not one.moment.of_main and one.moment.ns < main]
+    if early:
+        yield f"before the main command, which began at {main / 1e9:.3f} s: {some(early)}"
+    late = [one for one in message if not one.is_drawn and (moment_of(one, main) or 0) > end]
+    if late:
+        yield f"CAUTION, not yet when the run ended: {some(late)}"
+
+
 def net_lines(net: Description, counts: Counts, drops: Sequence[int]) -> Iterator[str]:
-    for name, way, dropped in zip(way_names(net), counts.ways, drops):
-        if way["came"] or dropped:
+    for name, way, losses in zip(way_names(net), counts.ways, drops):
+        if way["came"] or losses:
             seldom = "".join(
                 f", {way[key]} {words}" for key, words in (*SELDOM, ("refused", "refused by the system")) if way[key]
             )
             yield (
                 f"{name}: {way['came']} came, {way['sent']} delivered, {way['lost']} lost, {way['full']} met a full"
-                f" queue, {way.underway} under way{seldom}{f', {dropped} dropped by the system' * (dropped > 0)}, late"
+                f" queue, {way.underway} under way{seldom}{f', {losses} dropped by the system' * (losses > 0)}, late"
                 f" p99 {times(way)['late_p99_ms']:.3f} ms"
             )
     late, unread = (
@@ -56,22 +106,14 @@ def net_lines(net: Description, counts: Counts, drops: Sequence[int]) -> Iterato
     )
 
 
-def net_void(net: Description, counts: Counts, drops: Sequence[int], limit: Optional[float]) -> list[str]:
-    """Why a run can't be relied on: nothing where it can. Without a limit that is where the host broke off alone."""
-    found: list[str] = []
-    for name, way, dropped in zip(way_names(net), counts.ways, drops):
-        found += [] if limit is None else judged(name, way, dropped, limit)
-    return found + ["the links broke off before the end"] * (counts["state"] != ENDED_WELL)
-
-
-def net_record(net: Description, counts: Counts, drops: Sequence[int], ended: dict[str, Ended]) -> dict[str, object]:
+def net_record(net: Description, counts: Counts, drops: Sequence[int], endings: dict[str, Ended]) -> dict[str, object]:
     """The same, as JSON takes it."""
     ends = [one for link in net.links for one in (link.ends, link.ends[::-1])]
     ways: list[dict[str, object]] = [
-        {"from": one, "to": two, "pipe": pipe, **way_record(way, dropped)}
-        for pipe, ((one, two), way, dropped) in enumerate(zip(ends, counts.ways, drops), 1)
+        {"from": one, "to": two, "pipe": pipe, **way_record(way, losses)}
+        for pipe, ((one, two), way, losses) in enumerate(zip(ends, counts.ways, drops), 1)
     ]
     return {
         "moment": counts["moment"], "wakeups": counts["wakes"], "turns": counts["turns"],
-        "hosts": {name: one._asdict() for name, one in ended.items()}, "ways": ways
+        "hosts": {name: one._asdict() for name, one in endings.items()}, "ways": ways
     }

@@ -11,7 +11,6 @@ It is a process of `hinge net`, which ends with this one, however that ends. Tim
 
 from __future__ import annotations
 
-import json
 import os
 import shlex
 import subprocess
@@ -22,12 +21,15 @@ from pathlib import Path
 from types import TracebackType
 from typing import IO, Any, Mapping, NamedTuple, Optional, Sequence, Union
 
+from hinge.border.asking import ask, is_answered
+from hinge.border.files import read_object, read_text
+from hinge.border.messages import Reply
 from hinge.net.described import Command, Described, NetError, Time, spelled_time
 from hinge.net.description import Description, read_description
 from hinge.net.net_rooms import NetEnds
 from hinge.program import dummynet
-from hinge.run.control import ask, is_answered
 from hinge.run.words import Wrong
+from hingetulip_words.explained import explained
 
 START = Path(__file__).resolve().parents[1] / "__main__.py"
 __tracebackhide__ = True  # of a test that fails, pytest shows its own line
@@ -41,17 +43,21 @@ class CommandFailed(subprocess.CalledProcessError):
     """A command whose status isn't 0, with what it printed."""
 
     def __str__(self) -> str:
-        printed = "\n".join(
+        output = "\n".join(
             text.rstrip() for text in (self.stdout, self.stderr) if isinstance(text, str) and text.strip()
         )
-        return f"{self.cmd}: status {self.returncode}" + f"\n{printed}" * bool(printed)
+        return f"{self.cmd}: status {self.returncode}" + f"\n{output}" * bool(output)
 
 
 class Obeyed(NamedTuple):
-    """A configuration line that the links obey, and when, by their clock."""
+    """A configuration line that the links obey, or what happened to a host, and when, by the links' clock."""
 
     seconds: float
     line: str
+
+
+def with_length(lasting: Optional[Time]) -> str:
+    return "" if lasting is None else f" {spelled_time(lasting)}"
 
 
 def shell_words(command: Command) -> list[str]:
@@ -79,7 +85,7 @@ class Net(Described):
 
     @property
     def history(self) -> Path:
-        """The transcript of all links, for `dummynet audit`, `hinge look` and `hinge paths`."""
+        """The transcript of all links, for `dummynet audit` and `hinge look`."""
         return self.folder / "net.history"
 
     @property
@@ -95,13 +101,12 @@ class Net(Described):
             self.describe(f"at {spelled_time(at)} {words}")
             return []
         self.start()
-        answer = self.asked(change=words)
-        told = [(Obeyed(one["moment"] / 1e9, one["line"]), one["refused"]) for one in answer["told"]]
-        for obeyed, refused in told:
-            if refused:
-                raise NetError(f"{words}: {obeyed.line}: {refused}")
-        self.obeyed += [obeyed for obeyed, _ in told]
-        return [obeyed for obeyed, _ in told]
+        replies = [(Obeyed(one.moment / 1e9, one.line), one.refused) for one in self.asked(change=words).told or []]
+        for orders, refusal in replies:
+            if refusal:
+                raise NetError(f"{words}: {orders.line}: {explained(orders.line, refusal)}")
+        self.obeyed += [orders for orders, _ in replies]
+        return [orders for orders, _ in replies]
 
     def change(
         self, one: str, two: str, link: Optional[str] = None, back: Optional[str] = None, *,
@@ -114,14 +119,27 @@ class Net(Described):
         self, host: str, lasting: Optional[Time] = None, *, off: Sequence[str] = (), at: Optional[Time] = None
     ) -> list[Obeyed]:
         """The links of a host, or those to some others, lose all packets, for so long or until they are healed."""
-        return self.obey(
-            " ".join(["cut", host, *["from"] * bool(off), *off, *([] if lasting is None else [spelled_time(lasting)])]),
-            at=at,
-        )
+        return self.obey(" ".join(["cut", host, *["from"] * bool(off), *off]) + with_length(lasting), at=at)
 
     def heal(self, host: str, *, off: Sequence[str] = (), at: Optional[Time] = None) -> list[Obeyed]:
         """Those links lose nothing any more."""
         return self.obey(" ".join(["heal", host, *["from"] * bool(off), *off]), at=at)
+
+    def kill(self, host: str, lasting: Optional[Time] = None, *, at: Optional[Time] = None) -> list[Obeyed]:
+        """All that runs on a host is gone at once. Its command begins again after so long, or by `restart`."""
+        return self.obey(f"kill {host}{with_length(lasting)}", at=at)
+
+    def restart(self, host: str, *, at: Optional[Time] = None) -> list[Obeyed]:
+        """A host's command begins again, after a kill or at once."""
+        return self.obey(f"restart {host}", at=at)
+
+    def stop(self, host: str, lasting: Optional[Time] = None, *, at: Optional[Time] = None) -> list[Obeyed]:
+        """All that runs on a host stands still, for so long or until `cont`."""
+        return self.obey(f"stop {host}{with_length(lasting)}", at=at)
+
+    def cont(self, host: str, *, at: Optional[Time] = None) -> list[Obeyed]:
+        """It goes on."""
+        return self.obey(f"cont {host}", at=at)
 
     # What runs there.
 
@@ -138,20 +156,20 @@ class Net(Described):
             self.description = read_description(str(file))
         except Wrong as wrong:
             raise NetError(str(wrong)) from None
-        given = {
+        inputs = {
             "seed": self.seed, "mtu": self.mtu, "late": None if self.late is None else spelled_time(self.late),
             "outside": self.outside
         }
-        more = [word for name, value in given.items() if value is not None for word in (f"--{name}", str(value))]
+        more = [word for name, value in inputs.items() if value is not None for word in (f"--{name}", str(value))]
         read_end, self.leash = os.pipe()
         words = [
             sys.executable, str(START), "net", str(file), "--transcripts", str(self.folder), "--logs",
             str(self.folder / "logs"), *more, "--control", str(self.socket), "--while-open", str(read_end)
         ]
-        with open(self.folder / "net.log", "wb") as told:
+        with open(self.folder / "net.log", "wb") as log_file:
             self.is_running = True
             self.process = subprocess.Popen(
-                words, stdin=subprocess.DEVNULL, stdout=told, stderr=told, pass_fds=[read_end], start_new_session=True
+                words, stdin=subprocess.DEVNULL, stdout=log_file, stderr=log_file, pass_fds=[read_end], start_new_session=True
             )
         os.close(read_end)
         self.wait_until_ready()
@@ -162,7 +180,7 @@ class Net(Described):
         while not is_answered(str(self.socket)) and self.process.poll() is None:
             time.sleep(POLL)
         try:
-            silent = self.asked(status=True)["status"]["silent"]
+            silent = (self.asked(status=True).status or {})["silent"]
         except NetError:
             self.end()
             raise NetError(self.told() or "the net has ended") from None
@@ -170,14 +188,11 @@ class Net(Described):
             self.end()
             raise NetError("\n".join(f"{line}\n{self.last_lines(line.split()[0])}".rstrip() for line in silent))
 
-    def asked(self, **words: object) -> dict[str, Any]:
+    def asked(self, change: Optional[str] = None, status: bool = False) -> Reply:
         try:
-            answer = ask(str(self.socket), PATIENCE, **words)
+            return ask(str(self.socket), PATIENCE, change=change, status=status)
         except Wrong as wrong:
             raise NetError(str(wrong)) from None
-        if "refused" in answer:
-            raise NetError(str(answer["refused"]))
-        return answer
 
     def popen(self, host: str, command: Command, **how: Any) -> "subprocess.Popen[Any]":
         """A command on a host, which begins now. It ends with the net. What else is given is that of
@@ -221,7 +236,7 @@ class Net(Described):
     def output(self, host: str) -> str:
         """What a host's command has printed."""
         log = self.folder / "logs" / f"{host}.log"
-        return log.read_text(errors="replace") if log.exists() else ""
+        return read_text(log, "replace") if log.exists() else ""
 
     def last_lines(self, host: str) -> str:
         return "\n".join(f"  {line}" for line in self.output(host).splitlines()[-LAST_LINES:])
@@ -229,10 +244,8 @@ class Net(Described):
     def status(self) -> dict[str, Any]:
         """The counts up to now, or of the whole run where it has ended."""
         if self.process is not None and self.process.poll() is None:
-            found: dict[str, Any] = self.asked(status=True)["status"]
-            return found
-        summary: dict[str, Any] = json.loads((self.folder / "net.json").read_text())
-        return summary
+            return self.asked(status=True).status or {}
+        return read_object(self.folder / "net.json", "no summary of hinge net")
 
     def drawn_seed(self) -> int:
         """The seed of the losses, which `hinge net` draws where none is given."""
@@ -255,7 +268,7 @@ class Net(Described):
     def told(self) -> str:
         """What `hinge net` told, as the summary of each way."""
         log = self.folder / "net.log"
-        text = log.read_text(errors="replace") if log.exists() else ""
+        text = read_text(log, "replace") if log.exists() else ""
         return "\n".join(line.replace("hinge net: ", "", 1) for line in text.splitlines())
 
     def audit(self) -> str:
@@ -263,13 +276,13 @@ class Net(Described):
         return self.judged([dummynet(), "audit", str(self.history)])
 
     def paths(self) -> str:
-        """Ends it; what `hinge paths` says of what is between the links: `lawful between links`, or that it isn't."""
-        return self.judged([sys.executable, str(START), "paths", str(self.folder)]).rpartition("\n")[2]
+        """Ends it; what `hinge look` says of what is between the links: `lawful between links`, or that it isn't."""
+        return self.judged([sys.executable, str(START), "look", str(self.folder)]).rpartition("\n")[2]
 
     def judged(self, words: list[str]) -> str:
         self.end()
-        done = subprocess.run(words, capture_output=True, text=True)
-        return (done.stdout or done.stderr).strip()
+        process = subprocess.run(words, capture_output=True, text=True)
+        return (process.stdout or process.stderr).strip()
 
     def __enter__(self) -> Net:
         return self

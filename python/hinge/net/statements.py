@@ -5,7 +5,7 @@ from __future__ import annotations
 import difflib
 from typing import Iterable, Iterator
 
-from hinge.run.words import Wrong, bare, duration, read_lines
+from hinge.run.words import Wrong, bare, duration, first_word, read_lines
 from hingetulip_words.presets import preset
 
 
@@ -18,7 +18,7 @@ class Statement:
 
     def __init__(self, path: str, number: int, text: str) -> None:
         self.path, self.number, self.text = path, number, text
-        self.word, _, self.rest = text.partition(" ")
+        self.word, self.rest = first_word(text)
 
     @property
     def place(self) -> str:
@@ -27,20 +27,20 @@ class Statement:
     def wrong(self, word: str, why: str) -> Wrong:
         return Wrong(f"{self.place}: {word!r}: {why}" if word else f"{self.place}: {why}")
 
-    def unknown(self, word: str, known: Iterable[str], what: str) -> Wrong:
-        near = difflib.get_close_matches(word, known, 1)
+    def unknown(self, word: str, items: Iterable[str], what: str) -> Wrong:
+        near = difflib.get_close_matches(word, items, 1)
         return self.wrong(word, f"{what}{f'; did you mean {near[0]!r}?' if near else ''}")
 
     def peek(self) -> str:
         """The next word, or nothing."""
-        return (self.rest.split(None, 1) or [""])[0]
+        return first_word(self.rest)[0]
 
     def take(self, form: str) -> str:
         """The next word, which `form` shows in the place where it belongs."""
-        word, _, rest = self.rest.strip().partition(" ")
+        word, rest = first_word(self.rest)
         if not word:
             raise self.wrong("", f"a word is missing: {form}")
-        self.rest = rest.strip()
+        self.rest = rest
         return word
 
     def take_time(self, form: str) -> int:
@@ -56,10 +56,10 @@ class Statement:
         words = text.split()
         if words[:1] == ["preset"]:
             try:
-                found = preset(" ".join(words[1:]))
+                links = preset(" ".join(words[1:]))
             except ValueError as unknown:
                 raise self.wrong("preset", str(unknown)) from None
-            return found.up, found.down
+            return links.up, links.down
         up, slash, down = text.partition(" / ")
         return up, down if slash else up
 
@@ -73,17 +73,13 @@ TAKES_A_COMMAND = ("host", "main", "router")
 
 def statements(path: str) -> Iterator[Statement]:
     """Those of a file. A command is the shell's, with its comments; the other lines end where a comment begins."""
-    before, begun = "", 0
+    before, first = "", 0
     for number, line in enumerate([*read_lines(path), ""], 1):
-        begun = begun if before else number
+        first = first if before else number
         line = before + line.strip()
         before = line[:-1].rstrip() + " " if line.endswith("\\") else ""
         if before or line.startswith("#"):
             continue
-        text = (
-            " ".join(line.split(None, 1))
-            if line.split(None, 1)[:1] and line.split(None, 1)[0] in TAKES_A_COMMAND
-            else bare(line)
-        )
+        text = line if first_word(line)[0] in TAKES_A_COMMAND else bare(line)
         if text:
-            yield Statement(path, begun, text)
+            yield Statement(path, first, text)

@@ -3,15 +3,16 @@ run."""
 
 from __future__ import annotations
 
-import json
 import os
 from typing import NamedTuple, Optional
 
+from hinge.border.files import read_object, untrusted
 from hinge.command import ROWS, Fault
 from hinge.paths.passages import Topology
 from hinge.run.transcripts import files_of
 
 HISTORY, SUMMARY = "net.history", "net.json"
+NO_SUMMARY = "no summary of hinge net"
 
 
 class Session(NamedTuple):
@@ -31,15 +32,11 @@ def session_of(path: str, summary: Optional[str] = None) -> Session:
 
 def told_drops(path: Optional[str], topology: Topology) -> dict[int, int]:
     """What the system dropped before the links, by hosts, as the summary of the run has it."""
-    found: dict[int, int] = {}
+    table: dict[int, int] = {}
     if path is None:
-        return found
-    try:
-        with open(path, encoding="utf-8") as file:
-            ways = json.load(file)["ways"]
-        for way in ways:
-            host = topology.number(way["from"])
-            found[host] = found.get(host, 0) + int(way["system_drops"])
-    except (ValueError, KeyError, TypeError):
-        raise Fault(f"{path}: no summary of hinge net", ROWS) from None
-    return found
+        return table
+    with untrusted(path, what=NO_SUMMARY):
+        for way in read_object(path, NO_SUMMARY)["ways"]:
+            host = topology.number(str(way["from"]))
+            table[host] = table.get(host, 0) + int(way["system_drops"])
+    return table

@@ -7,7 +7,8 @@ from collections import deque
 from dataclasses import dataclass
 
 from hinge.lazy import Integers, Mask, np
-from hinge.paths.passages import Passages
+from hinge.paths.passages import NO_HOST, Passages
+from hinge.paths.scopes import Scope
 from hinge.replays.columns import numbered
 
 NONE = -1
@@ -21,10 +22,11 @@ class Matched:
 
     passages: Passages
     before: Integers
-    is_own: Mask  # sent by the host at the link's beginning
-    is_there: Mask  # delivered to its destination
+    is_there: Mask  # delivered to the host at which its path ends
     at_the_end: int  # packets that a host may still have had
     told: int  # of those that were lost in a host, as many as the system told of
+    expired: int  # packets whose time to live ended on the way
+    back: int  # packets that came back to their senders
     faults: dict[str, Integers]
 
     @property
@@ -59,42 +61,91 @@ class Handings:
     sent_key: Integers
 
 
-def handings(passages: Passages, is_own: Mask, is_there: Mask) -> Handings:
-    got = np.flatnonzero((passages.handed >= 0) & ~is_there)
-    sent = np.flatnonzero(~is_own)
-    both, host = np.concatenate((got, sent)), np.concatenate((passages.end[got], passages.start[sent]))
+@dataclass(frozen=True)
+class Ends:
+    """Which passages are the first of a packet's path, and which are the last, or may be."""
+
+    is_own: Mask  # sent by the host at the link's beginning
+    is_there: Mask  # it came to its destination
+    is_back: Mask  # it came back to its sender, whose system drops it, as while routes change
+    ends: Mask  # no host may hand it on: it is there or back, or its time to live ends
+    may_end: Mask  # its frame may have been for another host, or for an address that the host gave itself
+    got_for_many: Mask  # it may be handed on by each other link
+    sent_for_many: Mask  # it is one of those
+
+
+def is_new(passages: Passages, choice: Mask) -> Mask:
+    """Of these passages those whose host hadn't got such a packet."""
+    receipts = np.flatnonzero(passages.handed >= 0)
+    both, packet = np.concatenate((receipts, np.flatnonzero(choice))), np.flatnonzero(choice)
+    host = np.concatenate((passages.end[receipts], passages.start[packet]))
     key, _ = numbered(host, *passages.flow[:, both], passages.length[both], passages.content[both])
-    return Handings(got, sent, key[:len(got)], key[len(got):])
+    places: Mask = np.zeros(len(passages), bool)
+    places[packet] = ~np.isin(key[len(receipts):], key[:len(receipts)])
+    return places
 
 
-def matched_by_places(passages: Passages, found: Handings) -> tuple[Integers, Integers]:
+def ends_of(passages: Passages) -> Ends:
+    """A switch, and the jitter of a way, hand all on, whatever its addresses and its time to live are. At the ports of
+    a switch hosts may have addresses that they gave themselves, as by DHCP."""
+    topology, switches = passages.topology, sorted(passages.topology.switches)
+    goes_on, came_so = (np.isin(of, [*switches, *topology.middles()]) for of in (passages.end, passages.start))
+    source, destination = (topology.scopes_of(passages.flow[at]) for at in (0, 1))
+    sender, receiver = (topology.hosts_of(passages.flow[at]) for at in (0, 1))
+    is_strange, is_for_strange = (np.isin(of, (NO_HOST, topology.outside)) for of in (sender, receiver))
+    is_own = ~came_so & ((sender == passages.start) | (source == Scope.LINK))
+    is_own |= is_new(passages, ~came_so & ~is_own & is_strange & np.isin(passages.end, topology.to_switches()))
+    is_there = ~goes_on & ((receiver == passages.end) | (destination == Scope.LINK) | (source == Scope.LINK))
+    is_back = ~goes_on & ~is_there & (sender == passages.end) & (sender != topology.outside)
+    ends = is_there | is_back | (passages.last == 1) & ~goes_on
+    of_group = destination == Scope.GROUP
+    is_for_strange &= np.isin(passages.start, topology.from_switches())
+    may_end = ~ends & ~goes_on & (of_group | (passages.flooded == 1) | is_for_strange)
+    got_for_many, sent_for_many = (np.isin(of, switches) | of_group for of in (passages.end, passages.start))
+    return Ends(is_own, is_there, is_back, ends, may_end, got_for_many, sent_for_many)
+
+
+def handings(passages: Passages, ends: Ends) -> Handings:
+    """A packet that may be handed on by each other link is one for each of them."""
+    receipts, packet = np.flatnonzero((passages.handed >= 0) & ~ends.ends), np.flatnonzero(~ends.is_own)
+    for_many, plain = receipts[ends.got_for_many[receipts]], receipts[~ends.got_for_many[receipts]]
+    by_way = {pipe: for_many[passages.end[for_many] == start] for pipe, (start, _) in passages.topology.pipes.items()}
+    receipts = np.concatenate((plain, *by_way.values()))
+    ways = [np.zeros(len(plain), np.int64), *(np.full(len(rows), pipe) for pipe, rows in by_way.items())]
+    way = np.concatenate((*ways, np.where(ends.sent_for_many[packet], passages.pipe[packet], 0)))
+    both, host = np.concatenate((receipts, packet)), np.concatenate((passages.end[receipts], passages.start[packet]))
+    key, _ = numbered(host, way, *passages.flow[:, both], passages.length[both], passages.content[both])
+    return Handings(receipts, packet, key[:len(receipts)], key[len(receipts):])
+
+
+def matched_by_places(passages: Passages, handings_on: Handings) -> tuple[Integers, Integers]:
     """For each that was sent the place in `got` of what it continues, where the N-th that was sent came behind the N-th
     that was got; and the keys of which that isn't so for some."""
-    got_order = in_order_of(found.got_key, passages.handed[found.got])
-    sent_order = in_order_of(found.sent_key, passages.submitted[found.sent])
-    got_place, sent_place = place_in_group(found.got_key, got_order), place_in_group(found.sent_key, sent_order)
+    got_order = in_order_of(handings_on.got_key, passages.handed[handings_on.got])
+    sent_order = in_order_of(handings_on.sent_key, passages.submitted[handings_on.sent])
+    got_place, sent_place = place_in_group(handings_on.got_key, got_order), place_in_group(handings_on.sent_key, sent_order)
     many = int(max(got_place.max(initial=0), sent_place.max(initial=0))) + 1
-    got_pair, sent_pair = found.got_key * many + got_place, found.sent_key * many + sent_place
+    got_pair, sent_pair = handings_on.got_key * many + got_place, handings_on.sent_key * many + sent_place
     by_pair = np.argsort(got_pair)
     at = np.minimum(np.searchsorted(got_pair[by_pair], sent_pair), max(len(by_pair) - 1, 0))
     if not len(by_pair):
-        return np.full(len(sent_pair), NONE), np.unique(found.sent_key)
+        return np.full(len(sent_pair), NONE), np.unique(handings_on.sent_key)
     is_found = got_pair[by_pair][at] == sent_pair
     match = np.where(is_found, by_pair[at], NONE)
-    behind = is_found & (passages.handed[found.got][match] < passages.submitted[found.sent])
-    return match, np.unique(found.sent_key[~behind])
+    behind = is_found & (passages.handed[handings_on.got][match] < passages.submitted[handings_on.sent])
+    return match, np.unique(handings_on.sent_key[~behind])
 
 
 def matched_one_by_one(
-    passages: Passages, found: Handings, match: Integers, keys: Integers
+    passages: Passages, handings_on: Handings, match: Integers, keys: Integers
 ) -> tuple[list[int], list[int]]:
     """Mends the matches of these keys: what is sent continues the first that was got and isn't continued. The places in
     `sent` of what continues nothing: what came from nowhere, and what had been sent before."""
-    got, sent = np.flatnonzero(np.isin(found.got_key, keys)), np.flatnonzero(np.isin(found.sent_key, keys))
-    moments = [(int(passages.handed[found.got[at]]), int(found.got_key[at]), at, True) for at in got.tolist()]
-    moments += [(int(passages.submitted[found.sent[at]]), int(found.sent_key[at]), at, False) for at in sent.tolist()]
+    receipts, packet = np.flatnonzero(np.isin(handings_on.got_key, keys)), np.flatnonzero(np.isin(handings_on.sent_key, keys))
+    moments = [(int(passages.handed[handings_on.got[at]]), int(handings_on.got_key[at]), at, True) for at in receipts.tolist()]
+    moments += [(int(passages.submitted[handings_on.sent[at]]), int(handings_on.sent_key[at]), at, False) for at in packet.tolist()]
     waiting: dict[int, deque[int]] = {key: deque() for key in keys.tolist()}
-    passed: set[int] = set()
+    members: set[int] = set()
     nowhere: list[int] = []
     twice: list[int] = []
     for _, key, at, is_got in sorted(moments):
@@ -102,64 +153,67 @@ def matched_one_by_one(
             waiting[key].append(at)
         elif waiting[key]:
             match[at] = waiting[key].popleft()
-            passed.add(key)
+            members.add(key)
         else:
             match[at] = NONE
-            (twice if key in passed else nowhere).append(at)
+            (twice if key in members else nowhere).append(at)
     return nowhere, twice
 
 
-def out_of_order(passages: Passages, sent: Integers, before: Integers) -> Integers:
+def out_of_order(passages: Passages, packet: Integers, before: Integers) -> Integers:
     """Those sent behind a packet of their flow that had come later to the host."""
-    chosen = sent[before[sent] != NONE]
-    flow, _ = numbered(passages.start[chosen], *passages.flow[:, chosen])
-    order = in_order_of(flow, passages.submitted[chosen])
-    came = passages.handed[before[chosen]][order]
+    choice = packet[before[packet] != NONE]
+    flow, _ = numbered(passages.start[choice], *passages.flow[:, choice])
+    order = in_order_of(flow, passages.submitted[choice])
+    came = passages.handed[before[choice]][order]
     base = flow[order] * (int(came.max(initial=0)) + 1)
     highest = np.maximum.accumulate(base + came) if len(order) else base
-    return np.sort(chosen[order][base + came < highest])
+    return np.sort(choice[order][base + came < highest])
 
 
-def last_sent(passages: Passages, before: Integers, sent: Integers, got: Integers) -> Mask:
+def last_sent(passages: Passages, before: Integers, packet: Integers, receipts: Integers) -> Mask:
     """For each packet that a host got: whether a later one of its flow was sent on."""
-    chosen = sent[before[sent] != NONE]
-    host = np.concatenate((passages.end[got], passages.start[chosen]))
-    flow, _ = numbered(host, *passages.flow[:, np.concatenate((got, chosen))])
+    choice = packet[before[packet] != NONE]
+    host = np.concatenate((passages.end[receipts], passages.start[choice]))
+    flow, _ = numbered(host, *passages.flow[:, np.concatenate((receipts, choice))])
     last = np.full(int(flow.max(initial=0)) + 1, NONE)
-    np.maximum.at(last, flow[len(got):], passages.handed[before[chosen]])
-    is_later: Mask = last[flow[:len(got)]] > passages.handed[got]
+    np.maximum.at(last, flow[len(receipts):], passages.handed[before[choice]])
+    is_later: Mask = last[flow[:len(receipts)]] > passages.handed[receipts]
     return is_later
 
 
-def match(passages: Passages, end: int, told: dict[int, int]) -> Matched:
+def match(passages: Passages, end: int, table: dict[int, int]) -> Matched:
     """What came to a host less than `end` ns before the last call, and behind which nothing of its flow was sent, may
     be there still. `told` has the packets that the system dropped before the links, by hosts."""
-    topology = passages.topology
-    is_own = topology.hosts_of(passages.flow[0]) == passages.start
-    is_there = topology.hosts_of(passages.flow[1]) == passages.end
-    found = handings(passages, is_own, is_there)
-    matches, keys = matched_by_places(passages, found)
-    nowhere, twice = matched_one_by_one(passages, found, matches, keys)
+    topology, ends = passages.topology, ends_of(passages)
+    result = handings(passages, ends)
+    matches, keys = matched_by_places(passages, result)
+    nowhere, twice = matched_one_by_one(passages, result, matches, keys)
     before = np.full(len(passages), NONE)
-    before[found.sent] = np.where(matches != NONE, found.got[matches] if len(found.got) else NONE, NONE)
-    is_continued = np.isin(np.arange(len(found.got)), matches)
-    left = found.got[~is_continued]
+    before[result.sent] = np.where(matches != NONE, result.got[matches] if len(result.got) else NONE, NONE)
+    is_handed_on = np.isin(np.arange(len(passages)), before)  # once at least
+    rest = np.unique(result.got)
+    rest = rest[~is_handed_on[rest] & ~ends.may_end[rest]]
     last = max(int(passages.came.max(initial=0)), int(passages.due.max(initial=0)))
-    may_be_there = (passages.due[left] > last - end) & ~last_sent(passages, before, found.sent, left)
-    lost = left[~may_be_there]
-    hosts = passages.end[lost]
-    told_of = np.array([min(int((hosts == host).sum()), count) for host, count in told.items()], np.int64)
-    unexplained = np.array([(hosts == host).sum() > told.get(host, 0) for host in range(len(topology.hosts))], bool)
-    early = found.sent[(matches != NONE)]
+    may_be_there = (passages.due[rest] > last - end) & ~last_sent(passages, before, result.sent, rest)
+    losses = rest[~may_be_there]
+    hosts = passages.end[losses]
+    told_of = np.array([min(int((hosts == host).sum()), count) for host, count in table.items()], np.int64)
+    excess = np.array([(hosts == host).sum() > table.get(host, 0) for host in range(len(topology.hosts))], bool)
+    early = result.sent[(matches != NONE)]
     early = early[passages.came[early] < passages.due[before[early]]]
-    again = found.sent[twice]
+    again = result.sent[twice]
     again = again[~np.isin(passages.pipe[again], sorted(topology.copied))]
     faults = dict(
         zip(
             KINDS,
-            (found.sent[nowhere], again, early, out_of_order(passages, found.sent, before), lost[unexplained[hosts]]),
+            (result.sent[nowhere], again, early, out_of_order(passages, result.sent, before), losses[excess[hosts]]),
         )
     )
+    hand_over = passages.handed >= 0
+    is_last = ends.ends | ends.may_end & ~is_handed_on
+    is_expired = hand_over & ends.ends & ~ends.is_there & ~ends.is_back & ~ends.got_for_many
     return Matched(
-        passages, before, is_own, is_there & (passages.handed >= 0), int(may_be_there.sum()), int(told_of.sum()), faults
+        passages, before, hand_over & is_last, int(may_be_there.sum()), int(told_of.sum()), int(is_expired.sum()),
+        int((hand_over & ends.is_back).sum()), faults
     )

@@ -1,20 +1,22 @@
-"""The picture of a net: what each way carried, how long packets took on ways and on paths hop by hop, drops, and
-cuts."""
+"""The picture of a net: its hosts and links, what each way carried, how long packets took on ways and on paths hop by
+hop, drops, cuts, and by how much the links were late."""
 
 from __future__ import annotations
 
 from typing import Optional
 
 from hinge.lazy import np
-from hinge.paths.matching import Matched
+from hinge.paths.net_graph import NetGraph
 from hinge.paths.report import MS, Path, WayFigures, hosts_of, paths, ways
-from hinge.paths.timeline import SECOND, Timeline, carried_by_way
-from hinge.pictures.drawing import Bars, Drawing, Item, Key, Line, Panel, Points
-from hinge.pictures.panels import CAUSE_COLORS, COLORS, PIPES, RESTS, time_of
+from hinge.paths.timeline import SECOND, Looked, carried_by_way
+from hinge.pictures.drawing import DOTTED, SOLID, Bars, Drawing, Item, Key, Line, Panel, Points
+from hinge.pictures.panels import CAUSE_COLORS, COLORS, MOST_ABOVE, PIPES, RESTS, time_of
 from hinge.pictures.series import round_step, spread
+from hinge.pictures.settings import capacities
 from hinge.replays.replay import EVENT_NAMES, FULL, LOST, OUT
 
-MOST_WAYS, MOST_PATHS = len(COLORS), 4
+PATH_COLORS = ("#332288", "#117733", "#aa4499", "#661100")  # none of them is a way's
+MOST_WAYS, MOST_PATHS = len(COLORS), len(PATH_COLORS)
 MOST_DOTS = 3_000  # of a way or a path
 CUT_WIDTH = 6.0
 NS_PER_MS = 10**6
@@ -23,32 +25,44 @@ NS_PER_MS = 10**6
 class NetPicture:
     """Makes the panels of a net. The ways with most packets have a color each; the others aren't drawn."""
 
-    def __init__(self, found: Matched, line: Timeline, step_ms: Optional[int]) -> None:
-        self.found, self.passages, self.timeline = found, found.passages, line
+    def __init__(self, looked: Looked, step_ms: Optional[int]) -> None:
+        result, line = looked.found, looked.timeline
+        self.looked, self.found, self.passages, self.timeline = looked, result, result.passages, line
         self.step = step_ms * NS_PER_MS if step_ms else round_step(line.span)
         self.count = line.span // self.step + 1
         self.edges = np.arange(self.count + 1) * self.step / SECOND
-        every = sorted(ways(found), key=lambda way: -way.packets)
+        every = sorted(ways(result), key=lambda way: -way.packets)
         self.left_out = len(every[MOST_WAYS:])
         self.ways: list[tuple[WayFigures, str]] = list(zip(every[:MOST_WAYS], COLORS))
 
     def throughput(self) -> Panel:
-        items: list[Item] = []
+        load = [carried_by_way(self.found, way.pipe, self.step, self.count) for way, _ in self.ways]
+        most = max((float(rates.max(initial=0)) for rates in load), default=0)
+        vocabulary = capacities(self.looked.obeyed, self.timeline.span)
+        items, above = list[Item](), 0
         for number, (way, color) in enumerate(self.ways):
-            rates = carried_by_way(self.found, way.pipe, self.step, self.count)
-            items.append(Line(way.name, self.edges, np.append(rates, rates[-1]), color, number))
+            moments, rates = vocabulary.get(f"pipe {way.pipe}", (self.edges[:0], self.edges[:0]))
+            if not len(rates) or np.nanmax(rates) > MOST_ABOVE * most:
+                above += bool(len(rates))
+                continue
+            items.append(Line(way.name, moments, rates, color, number, width=1, dash=DOTTED, is_behind=True))
         notes = [f"{self.left_out} other ways, which carried fewer packets, aren't drawn"] * bool(self.left_out)
+        notes += ["dotted: a way's capacity"] * bool(items) + [f"{above} capacities are above this panel"] * bool(above)
+        items += [
+            Line(way.name, self.edges, np.append(rates, rates[-1]), color, number)
+            for number, ((way, color), rates) in enumerate(zip(self.ways, load))
+        ]
         return Panel(f"Throughput of each way, per {time_of(self.step)}", "s", "Mbit/s", items, notes)
 
     def delays(self) -> Optional[Panel]:
         passages, items = self.passages, list[Item]()
         for number, (way, color) in enumerate(self.ways):
             out = np.flatnonzero((passages.pipe == way.pipe) & (passages.event == OUT))
-            kept = out[spread(np.arange(len(out)), MOST_DOTS)]
-            if len(kept):
+            places = out[spread(np.arange(len(out)), MOST_DOTS)]
+            if len(places):
                 items.append(
                     Points(
-                        way.name, kept, passages.came[kept] / SECOND, (passages.due - passages.came)[kept] / MS, color,
+                        way.name, places, passages.came[places] / SECOND, (passages.due - passages.came)[places] / MS, color,
                         number
                     )
                 )
@@ -97,11 +111,11 @@ class NetPicture:
     def of_paths(self) -> Optional[Panel]:
         """From the first host to the last, of the paths over more than one link that had most packets."""
         items: list[Item] = []
-        for path, (color, _) in zip(self.over_links(), PIPES):
-            kept = spread(np.arange(len(path.sent)), MOST_DOTS)
-            total = (path.links.sum(axis=1) + path.hosts.sum(axis=1))[kept]
+        for path, color in zip(self.over_links(), PATH_COLORS):
+            places = spread(np.arange(len(path.sent)), MOST_DOTS)
+            total = (path.links.sum(axis=1) + path.hosts.sum(axis=1))[places]
             items.append(
-                Points(" - ".join(hosts_of(self.found, path)), kept, path.sent[kept] / SECOND, total / MS, color)
+                Points(" - ".join(hosts_of(self.found, path)), places, path.sent[places] / SECOND, total / MS, color)
             )
         return Panel("Delay of paths", "sent at, s", "ms", items) if items else None
 
@@ -127,8 +141,26 @@ class NetPicture:
                 items.append(Bars(name, self.edges[:-1], self.step / SECOND, mean, color))
         return Panel(f"{' - '.join(hosts)}, hop by hop: mean per {time_of(self.step)}", "sent at, s", "ms", items)
 
+    def lateness(self) -> Optional[Panel]:
+        """The most of all ways in each second, late and unread: what no link did."""
+        items: list[Item] = []
+        for kind, dash in (("late", SOLID), ("unread", DOTTED)):
+            columns = [way[kind] for way in self.looked.lateness.values()]
+            if columns:
+                moments, most = columns[0][0], np.max([values for _, values in columns], axis=0)
+                items.append(
+                    Line(
+                        f"{kind}, at most {most.max(initial=0):,.4g} ms", np.append(0, moments),
+                        np.append(most, most[-1:]), PIPES[0][0], width=1, dash=dash
+                    )
+                )
+        return Panel("The links' lateness, the most of each second", "s", "ms", items) if items else None
+
     def drawing(self, below: list[str]) -> Drawing:
-        panels = [self.throughput(), self.delays(), self.of_paths(), self.hops(), self.drops(), self.cuts()]
+        panels = [
+            NetGraph(self.found, self.timeline, self.looked.words).panel(), self.throughput(), self.delays(),
+            self.of_paths(), self.hops(), self.drops(), self.cuts(), self.lateness()
+        ]
         keys = [
             Key(
                 way.name, color,
@@ -139,5 +171,5 @@ class NetPicture:
         return Drawing(panels, keys, "", self.timeline.span / SECOND, below, "Ways, those with most packets first")
 
 
-def net_drawing(found: Matched, line: Timeline, step_ms: Optional[int], below: list[str]) -> Drawing:
-    return NetPicture(found, line, step_ms).drawing(below)
+def net_drawing(looked: Looked, step_ms: Optional[int], below: list[str]) -> Drawing:
+    return NetPicture(looked, step_ms).drawing(below)

@@ -5,19 +5,26 @@ from __future__ import annotations
 import ipaddress
 import re
 from dataclasses import dataclass, field
-from typing import Iterable
+from typing import Iterable, NamedTuple
 
+from hinge.border.files import untrusted
+from hinge.captures.addresses import address_of_six
 from hinge.command import ROWS, Fault
 from hinge.lazy import Integers, np
-from hinge.replays.columns import Address, Bad
+from hinge.paths.scopes import scopes_of
+from hinge.replays.columns import Bad
 from hinge.replays.history import Entries, with_fates
 from hinge.replays.record_lines import HistoryFile, Records, is_history, read_records
+from hinge.replays.remarks import Lateness, lateness_in
 from hinge.replays.replay import OUT
 
 CONTENT, DIGITS = b"#,content,", 16  # a remark, and how many hexadecimal digits it has, before a line feed
+LAST = b"#,last\n"  # before that: no host may hand the packet on
+FLOODED = b"#,flooded\n"  # or this: a switch sends it by each other link
 OUTAGE_PROTOCOL = 255  # of a packet that nobody sent
 QUEUE_OF_PIPE = re.compile(r"c,0,configure,queue (\d+) config .*?\bpipe (\d+)")
 NO_HOST = -1
+LABEL = re.compile(r"[A-Za-z0-9][A-Za-z0-9._~-]{0,199}", re.ASCII)  # of a host, and of where the jitter of a way begins
 BETWEEN = "~"  # in the name of where the jitter of a way begins
 
 
@@ -31,16 +38,24 @@ class Topology:
     pipes: dict[int, tuple[int, int]] = field(default_factory=dict)
     same: dict[int, int] = field(default_factory=dict)  # the pipe by which each is told
     copied: set[int] = field(default_factory=set)  # pipes that a packet may enter twice
+    switches: set[int] = field(default_factory=set)
     outside: int = NO_HOST  # the host behind which all other addresses are
+    stand_ins: dict[int, str] = field(default_factory=dict)  # the addresses of IPv6 that they stand for
 
     def number(self, name: str) -> int:
         if name not in self.hosts:
+            if not LABEL.fullmatch(name):
+                raise ValueError(f"{name!r} is no name of a host")
             self.hosts.append(name)
         return self.hosts.index(name)
 
     def read(self, text: str) -> None:
-        """Takes a remark `#,host,NAME,ADDRESS,..`, `#,pipe,N,FROM,TO`, `#,copies,N` or `#,outside,NAME`."""
+        """Takes a remark `#,host,NAME,ADDRESS,..`, `#,pipe,N,FROM,TO`, `#,copies,N`, `#,switch,NAME` or
+        `#,outside,NAME`."""
         _, kind, *words = text.split(",")
+        if kind == "switch":
+            self.switches.add(self.number(words[0]))
+            return
         if kind == "outside":
             self.outside = self.number(words[0])
             return
@@ -51,11 +66,25 @@ class Topology:
             self.add_pipe(int(words[0]), (self.number(words[1]), self.number(words[2])))
             return
         host = self.number(words[0])
-        for address in map(ipaddress.ip_address, words[1:]):
-            if address.version == 4:
-                self.host_of[int(address)] = host
+        for text in words[1:]:
+            if ":" in text:
+                self.six[address_of_six(text)] = host
             else:
-                self.six[str(address)] = host
+                self.host_of[int(ipaddress.IPv4Address(text))] = host
+
+    def middles(self) -> list[int]:
+        """Where the jitter of ways begins."""
+        return [number for number, name in enumerate(self.hosts) if BETWEEN in name]
+
+    def from_switches(self) -> list[int]:
+        """Switches, and where the jitter begins of the ways that begin at one."""
+        names = {self.hosts[switch] for switch in self.switches}
+        return [number for number, name in enumerate(self.hosts) if name.partition(BETWEEN)[0] in names]
+
+    def to_switches(self) -> list[int]:
+        """Switches, and where the jitter begins of the ways that end at one."""
+        middles = self.middles()
+        return [*self.switches, *(start for start, end in self.pipes.values() if end in self.switches and start in middles)]
 
     def add_pipe(self, pipe: int, ends: tuple[int, int]) -> None:
         """The pipes of a second pass, from where the jitter of a way begins, are told together: as the first of
@@ -70,18 +99,23 @@ class Topology:
             self.pipes[pipe] = ends
 
     def read_stand_ins(self, addresses: dict[str, str]) -> None:
-        for stand_in, address in addresses.items():
+        for text, address in addresses.items():
+            stand_in = int(ipaddress.IPv4Address(text))
+            self.stand_ins[stand_in] = address
             if address in self.six:
-                self.host_of[int(ipaddress.IPv4Address(stand_in))] = self.six[address]
+                self.host_of[stand_in] = self.six[address]
+
+    def scopes_of(self, addresses: Integers) -> Integers:
+        return scopes_of(addresses, set(self.host_of), self.stand_ins)
 
     def hosts_of(self, addresses: Integers) -> Integers:
         """The host of each address; for those of none the one that leads outside, or NO_HOST."""
-        known = np.array(sorted(self.host_of), np.int64)
-        hosts = np.array([self.host_of[address] for address in known.tolist()], np.int64)
-        at = np.minimum(np.searchsorted(known, addresses), max(len(known) - 1, 0))
+        vocabulary = np.array(sorted(self.host_of), np.int64)
+        hosts = np.array([self.host_of[address] for address in vocabulary.tolist()], np.int64)
+        at = np.minimum(np.searchsorted(vocabulary, addresses), max(len(vocabulary) - 1, 0))
         return (
-            np.where(known[at] == addresses, hosts[at], self.outside)
-            if len(known)
+            np.where(vocabulary[at] == addresses, hosts[at], self.outside)
+            if len(vocabulary)
             else np.full(len(addresses), self.outside)
         )
 
@@ -95,6 +129,8 @@ class Passages:
     flow: Integers  # five columns: addresses, protocol, ports
     length: Integers
     content: Integers
+    last: Integers  # 1 where no host may hand it on, else 0
+    flooded: Integers  # 1 where a switch sends it by each other link, else 0
     pipe: Integers
     start: Integers  # hosts
     end: Integers
@@ -124,6 +160,15 @@ def content_before(records: Records) -> Integers:
     return np.where(has, value, np.uint64(0)).view(np.int64)
 
 
+def has_before(records: Records, remark: bytes) -> Integers:
+    """Whether a remark is the one before that on a packet's content."""
+    data, begin = records.data, records.begin - len(CONTENT) - DIGITS - 1 - len(remark)
+    has = begin >= 0
+    for place, letter in enumerate(remark):
+        has &= data[np.maximum(begin, 0) + place] == letter
+    return has.astype(np.int64)
+
+
 def remarks(data: bytes, kinds: Iterable[bytes]) -> list[str]:
     """The remarks of these kinds."""
     return [line.decode() for kind in kinds for line in re.findall(b"^#," + kind + b",.*$", data, re.M)]
@@ -137,10 +182,10 @@ def refused_in(data: bytes) -> Integers:
 def places_of_deliveries(records: Records, packet: Integers) -> Integers:
     """The place of the delivery of each packet, -1 for those without."""
     at = np.flatnonzero(records.starts(b"d,"))
-    gone = Entries.deliveries_of(records.of(at))[0]
-    order = np.argsort(gone, kind="stable")
-    found = np.minimum(np.searchsorted(gone[order], packet), max(len(gone) - 1, 0))
-    return np.where(gone[order][found] == packet, at[order][found], -1) if len(gone) else np.full(len(packet), -1)
+    departures = Entries.deliveries_of(records.of(at))[0]
+    order = np.argsort(departures, kind="stable")
+    places = np.minimum(np.searchsorted(departures[order], packet), max(len(departures) - 1, 0))
+    return np.where(departures[order][places] == packet, at[order][places], -1) if len(departures) else np.full(len(packet), -1)
 
 
 class Reader:
@@ -151,12 +196,13 @@ class Reader:
         self.pipe_of_queue: dict[int, int] = {}
         self.changes: list[tuple[int, str]] = []
         self.columns: list[list[Integers]] = []
-        self.records = 0
+        self.records, self.late = 0, b""
 
     def note_remarks(self, file: HistoryFile, data: bytes) -> None:
-        for text in remarks(data, [b"host", b"outside", b"pipe", b"copies"]):
+        for text in remarks(data, [b"host", b"switch", b"outside", b"pipe", b"copies"]):
             self.topology.read(text)
         self.topology.read_stand_ins(file.addresses)
+        self.late += b"".join(f"\n{text}".encode() for text in remarks(data, [b"late"]))
         for queue, pipe in QUEUE_OF_PIPE.findall(data.decode("utf-8", "replace")):
             self.pipe_of_queue[int(queue)] = int(pipe)
 
@@ -172,21 +218,21 @@ class Reader:
             calls = entries.records.of(places)
             rows, replies = entries.submits_of(calls), entries.replies(places)
             event, _, packet, _, due = with_fates(entries, replies.copy())
-            handed = places_of_deliveries(entries.records, packet)
+            hand_over = places_of_deliveries(entries.records, packet)
             self.changes += [(moment, text) for _, moment, text in entries.changes()]
         except Bad:
             every = entries.records
             raise entries.bad(
                 every.of(np.union1d(np.union1d(places, places + 1), np.flatnonzero(every.starts(b"d,"))))
             ) from None
-        handed = np.where((event == OUT) & ~np.isin(packet, refused_in(data)), handed, -1)
+        hand_over = np.where((event == OUT) & ~np.isin(packet, refused_in(data)), hand_over, -1)
         self.add(
             path, calls, rows,
-            [event, replies[1], due, self.records + places, np.where(handed < 0, -1, self.records + handed)]
+            [event, replies[1], due, self.records + places, np.where(hand_over < 0, -1, self.records + hand_over)]
         )
         self.records += len(entries.records)
 
-    def add(self, path: str, calls: Records, rows: Integers, told: list[Integers]) -> None:
+    def add(self, path: str, calls: Records, rows: Integers, items: list[Integers]) -> None:
         """Takes the submits of a file, without those of packets that nobody sent."""
         kind, number, *flow, length, _ = rows
         content = content_before(calls)
@@ -204,24 +250,35 @@ class Reader:
             )
         pipe = np.array([self.topology.same[number] for number in used.tolist()], np.int64)[place.ravel()]
         file = np.full(len(pipe), len(self.columns))
-        self.columns.append([column[~is_own] for column in (*flow, length, content, pipe, *told, calls.line, file)])
+        remarked = (has_before(calls, remark) for remark in (LAST, FLOODED))
+        columns = (*flow, length, content, *remarked, pipe, *items, calls.line, file)
+        self.columns.append([column[~is_own] for column in columns])
 
     def passages(self) -> Passages:
-        *flow, length, content, pipe, event, came, due, submitted, handed, line, file = (
+        *flow, length, content, last, flooded, pipe, event, came, due, submits_so_far, hand_over, line, file = (
             np.concatenate(column) for column in zip(*self.columns)
         )
         most = max(self.topology.pipes, default=0) + 1
         ends = np.array([self.topology.pipes.get(number, (NO_HOST, NO_HOST)) for number in range(most)], np.int64)
         return Passages(
-            self.topology, np.stack(flow), length, content, pipe, ends[pipe, 0], ends[pipe, 1], event, came, due,
-            submitted, handed, line, file
+            self.topology, np.stack(flow), length, content, last, flooded, pipe, ends[pipe, 0], ends[pipe, 1], event,
+            came, due, submits_so_far, hand_over, line, file
         )
 
 
-def read_transcript(paths: list[str]) -> tuple[Passages, list[tuple[int, str]]]:
-    """The passages of a transcript, whose files are in their order, and the lines that were obeyed, with their
-    moments."""
+class Transcript(NamedTuple):
+    """What is read of a net's transcript: its passages, the lines that were obeyed with their moments in ns, and by how
+    much the links were late."""
+
+    passages: Passages
+    obeyed: list[tuple[int, str]]
+    lateness: Lateness
+
+
+def read_transcript(paths: list[str]) -> Transcript:
+    """The transcript whose files are in their order."""
     reader = Reader()
     for path in paths:
-        reader.read(path)
-    return reader.passages(), reader.changes
+        with untrusted(path):
+            reader.read(path)
+    return Transcript(reader.passages(), reader.changes, lateness_in(reader.late))

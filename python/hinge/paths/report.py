@@ -51,62 +51,62 @@ class WayFigures:
         return self.sent_bytes * 8000 / self.span if self.span else None
 
 
-def chains(found: Matched) -> Iterator[Integers]:
+def chains(matching: Matched) -> Iterator[Integers]:
     """The passages of packets that arrived: a row for each packet, a column for each passage; all of one array are as
     long."""
-    last = np.flatnonzero(found.is_there)
+    last = np.flatnonzero(matching.is_there)
     chain = last[:, None]
     while len(chain):
-        before = found.before[chain[:, 0]]
+        before = matching.before[chain[:, 0]]
         yield chain[before == NONE]
         chain = np.column_stack((before, chain))[before != NONE]
 
 
-def paths(found: Matched) -> list[Path]:
+def paths(matching: Matched) -> list[Path]:
     """Those of packets that arrived, with most packets first."""
-    passages, told = found.passages, []
-    for chain in chains(found):
+    passages, items = matching.passages, []
+    for chain in chains(matching):
         ways, number = np.unique(passages.pipe[chain], axis=0, return_inverse=True)
         in_links = passages.due[chain] - passages.came[chain]
         in_hosts = passages.came[chain[:, 1:]] - passages.due[chain[:, :-1]]
         for place, pipes in enumerate(ways.tolist()):
             of_path = number.ravel() == place
-            told.append(Path(tuple(pipes), passages.came[chain[of_path, 0]], in_links[of_path], in_hosts[of_path]))
-    return sorted(told, key=lambda path: -len(path.sent))
+            items.append(Path(tuple(pipes), passages.came[chain[of_path, 0]], in_links[of_path], in_hosts[of_path]))
+    return sorted(items, key=lambda path: -len(path.sent))
 
 
-def hosts_of(found: Matched, path: Path) -> list[str]:
-    topology = found.passages.topology
+def hosts_of(matching: Matched, path: Path) -> list[str]:
+    topology = matching.passages.topology
     return [
         topology.hosts[host]
         for host in [*(topology.pipes[pipe][0] for pipe in path.pipes), topology.pipes[path.pipes[-1]][1]]
     ]
 
 
-def ways(found: Matched) -> list[WayFigures]:
+def ways(matching: Matched) -> list[WayFigures]:
     """The ways that had packets."""
-    passages, topology, told = found.passages, found.passages.topology, []
+    passages, topology, items = matching.passages, matching.passages.topology, []
     for pipe, (start, end) in sorted(topology.pipes.items()):
         own = passages.pipe == pipe
         out = own & (passages.event == OUT)
         delay = (passages.due - passages.came)[out]
         mean, p99 = (int(delay.mean()), int(np.quantile(delay, 0.99, method="higher"))) if len(delay) else (None, None)
         if own.any():
-            lost, full = (int((own & (passages.event == event)).sum()) for event in (LOST, FULL))
+            losses, full = (int((own & (passages.event == event)).sum()) for event in (LOST, FULL))
             span = int(np.ptp(passages.due[out])) if len(delay) else 0
-            told.append(WayFigures(pipe, (topology.hosts[start], topology.hosts[end]), int(own.sum()), lost, full,
+            items.append(WayFigures(pipe, (topology.hosts[start], topology.hosts[end]), int(own.sum()), losses, full,
                                    int(passages.length[out].sum()), span, mean, p99))
-    return told
+    return items
 
 
 def told_or_none(value: Optional[float]) -> str:
     return "-" if value is None else f"{value:.3f}"
 
 
-def of_ways(found: Matched) -> Iterator[str]:
+def of_ways(matching: Matched) -> Iterator[str]:
     """A table of the ways that had packets."""
     rows: list[tuple[str, ...]] = [("way", "packets", "lost", "full", "Mbit/s", "mean ms", "p99 ms")]
-    for way in ways(found):
+    for way in ways(matching):
         times = (None if time is None else time / MS for time in (way.mean, way.p99))
         rows.append(
             (way.name, f"{way.packets:,}", f"{way.lost:,}", f"{way.full:,}", *map(told_or_none, (way.mbit_s, *times)))
@@ -116,50 +116,55 @@ def of_ways(found: Matched) -> Iterator[str]:
         yield "  ".join([name.ljust(widths[0]), *(field.rjust(width) for field, width in zip(fields, widths[1:]))])
 
 
-def of_paths(found: Matched, top: int) -> Iterator[str]:
+def of_paths(matching: Matched, top: int) -> Iterator[str]:
     """A line for each path over more than one link."""
-    told = [path for path in paths(found) if len(path.pipes) > 1]
-    for path in told[:top]:
+    text = [path for path in paths(matching) if len(path.pipes) > 1]
+    for path in text[:top]:
         in_links, in_hosts = path.links.mean(axis=0), path.hosts.mean(axis=0)
         links, hosts = (" + ".join(f"{time / MS:.3f}" for time in times) for times in (in_links, in_hosts))
         yield (
-            f"{' - '.join(hosts_of(found, path))}: {len(path.sent):,} packets,"
+            f"{' - '.join(hosts_of(matching, path))}: {len(path.sent):,} packets,"
             f" {(in_links.sum() + in_hosts.sum()) / MS:.3f} ms: links {links}, hosts {hosts}, at most"
             f" {path.most_in_hosts / MS:.3f}"
         )
-    if len(told) > top:
-        yield f"{len(told) - top} other paths"
+    if len(text) > top:
+        yield f"{len(text) - top} other paths"
 
 
-def of_faults(found: Matched, files: list[str]) -> Iterator[str]:
+def of_faults(matching: Matched, files: list[str]) -> Iterator[str]:
     """Each kind of fault with its count and the first of its packets."""
-    passages, topology = found.passages, found.passages.topology
-    for kind, rows in found.faults.items():
+    passages, topology = matching.passages, matching.passages.topology
+    for kind, rows in matching.faults.items():
         if not len(rows):
             continue
         yield f"{kind}: {len(rows):,}"
         for row in rows[:SHOWN].tolist():
-            lost = kind == "lost in a host"
-            host = topology.hosts[passages.end[row] if lost else passages.start[row]]
-            moment = passages.due[row] if lost else passages.came[row]
+            is_lost = kind == "lost in a host"
+            host = topology.hosts[passages.end[row] if is_lost else passages.start[row]]
+            moment = passages.due[row] if is_lost else passages.came[row]
             content = int(passages.content[row]) % 2**64  # which is read as signed
             yield (
-                f"  {files[passages.file[row]]} line {passages.line[row]}: {host} {'got' if lost else 'sent'} a packet"
+                f"  {files[passages.file[row]]} line {passages.line[row]}: {host} {'got' if is_lost else 'sent'} a packet"
                 f" of {passages.length[row]} bytes at "
                 f"{moment / MS:.6f} ms, content {content:016x}"
             )
 
 
-def summary(found: Matched) -> str:
-    handed_on = int((found.before != NONE).sum())
-    more = [f"{found.at_the_end:,} at hosts at the end"] * (found.at_the_end > 0) + [
-        f"{found.told:,} dropped by the system, as it told"
-    ] * (found.told > 0)
+def summary(matching: Matched) -> str:
+    handed_on = int((matching.before != NONE).sum())
+    more = [
+        f"{count:,} {what}"
+        for count, what in (
+            (matching.expired, "with an expired time to live"), (matching.back, "back at their senders"),
+            (matching.at_the_end, "at hosts at the end"), (matching.told, "dropped by the system, as it told")
+        )
+        if count
+    ]
     return ", ".join(
         [
             (
-                f"{len(found.passages):,} packets on links, {handed_on:,} handed on by hosts,"
-                f" {int(found.is_there.sum()):,} arrived"
+                f"{len(matching.passages):,} packets on links, {handed_on:,} handed on by hosts,"
+                f" {int(matching.is_there.sum()) - matching.expired - matching.back:,} arrived"
             ),
             *more,
         ]

@@ -12,6 +12,7 @@ from typing import Iterator, NamedTuple
 from hinge.lazy import Reals, np
 from hinge.paths.matching import Matched
 from hinge.paths.report import WayFigures
+from hinge.replays.remarks import KINDS, Lateness, late_remark
 from hinge.replays.replay import OUT
 
 SECOND = 1e9  # ns
@@ -21,6 +22,7 @@ NOTHING, CUT = " ", "x"
 FEWEST_STEPS, MOST_STEPS = 20, 100
 CONFIGURES = re.compile(r"(?:ipfw )?pipe (\d+) config ?(.*)")
 LOSES = re.compile(r"\bplr (\S+)")
+ALL = re.compile(r"0*1(\.0*)?", re.ASCII)
 
 
 class WayChange(NamedTuple):
@@ -42,18 +44,38 @@ class Timeline:
     span: int
 
 
+class Looked(NamedTuple):
+    """What is read of a net's folder."""
+
+    found: Matched
+    timeline: Timeline
+    obeyed: list[tuple[int, str]]
+    lateness: Lateness
+
+    @property
+    def words(self) -> dict[int, str]:
+        """What each pipe was at first, in the words of a configuration."""
+        changes = [change for moment, text in self.obeyed if (change := read_change(moment, text))]
+        return {change.pipe: change.words for change in reversed(changes)}
+
+    def remarks(self) -> Iterator[str]:
+        if self.lateness:
+            most = [max(float(way[kind][1].max(initial=0)) for way in self.lateness.values()) for kind in KINDS]
+            yield late_remark(*most)
+
+
 def read_change(moment: int, text: str) -> WayChange | None:
-    found = CONFIGURES.fullmatch(text)
-    if not found:
+    match = CONFIGURES.fullmatch(text)
+    if not match:
         return None
-    rates = LOSES.findall(found[2])
-    is_cut = bool(rates) and float(rates[-1]) == 1
-    return WayChange(moment, int(found[1]), found[2].removesuffix(" plr 1") if is_cut else found[2], is_cut)
+    rates = LOSES.findall(match[2])
+    is_cut = bool(rates) and ALL.fullmatch(rates[-1]) is not None
+    return WayChange(moment, int(match[1]), match[2].removesuffix(" plr 1") if is_cut else match[2], is_cut)
 
 
-def timeline(found: Matched, obeyed: list[tuple[int, str]]) -> Timeline:
-    passages = found.passages
-    changes = [change for moment, text in obeyed if (change := read_change(moment, text))]
+def timeline(matching: Matched, items: list[tuple[int, str]]) -> Timeline:
+    passages = matching.passages
+    changes = [change for moment, text in items if (change := read_change(moment, text))]
     span = max(
         [int(passages.came.max(initial=0)), int(passages.due.max(initial=0)), *(change.moment for change in changes)]
     )
@@ -73,13 +95,13 @@ def timeline(found: Matched, obeyed: list[tuple[int, str]]) -> Timeline:
     return Timeline(new, cuts, span)
 
 
-def name_of_way(found: Matched, pipe: int) -> str:
-    topology = found.passages.topology
+def name_of_way(matching: Matched, pipe: int) -> str:
+    topology = matching.passages.topology
     start, end = topology.pipes.get(pipe, (-1, -1))
     return f"{topology.hosts[start]} > {topology.hosts[end]}" if start >= 0 else f"pipe {pipe}"
 
 
-def told_changes(found: Matched, line: Timeline) -> Iterator[str]:
+def told_changes(matching: Matched, line: Timeline) -> Iterator[str]:
     """A line for the changes of one kind that were made at once."""
     groups: list[list[WayChange]] = []
     for change in line.changes:
@@ -90,7 +112,7 @@ def told_changes(found: Matched, line: Timeline) -> Iterator[str]:
         ]
         like[-1].append(change) if like else groups.append([change])
     for group in groups:
-        names = ", ".join(dict.fromkeys(name_of_way(found, change.pipe) for change in group))
+        names = ", ".join(dict.fromkeys(name_of_way(matching, change.pipe) for change in group))
         yield f"{group[0].moment / SECOND:10.3f} s  {names}: {'cut' if group[0].is_cut else group[0].words or 'open'}"
 
 
@@ -106,9 +128,9 @@ def letters() -> str:
         return ASCII_BLOCKS
 
 
-def carried_by_way(found: Matched, pipe: int, step: int, count: int) -> Reals:
+def carried_by_way(matching: Matched, pipe: int, step: int, count: int) -> Reals:
     """Mbit/s of a way in each step of so many ns."""
-    passages = found.passages
+    passages = matching.passages
     out = (passages.pipe == pipe) & (passages.event == OUT)
     bits = np.bincount(passages.due[out] // step, weights=passages.length[out] * 8, minlength=count)[:count]
     rates: Reals = bits * 1000 / step
@@ -127,17 +149,17 @@ def row_of(rates: Reals, cuts: list[tuple[int, int]], step: int, blocks: str) ->
     return "".join(row)
 
 
-def chart(found: Matched, line: Timeline, told: list[WayFigures]) -> Iterator[str]:
+def chart(matching: Matched, line: Timeline, busiest: list[WayFigures]) -> Iterator[str]:
     """The rows of the ways, each by its own most, with x where it was cut."""
-    if not told or not line.span:
+    if not busiest or not line.span:
         return
-    width = max(len(way.name) for way in told)
+    width = max(len(way.name) for way in busiest)
     count = min(max(shutil.get_terminal_size((80, 24)).columns - width - 22, FEWEST_STEPS), MOST_STEPS)
     step = line.span // count + 1
     end = f"{line.span / SECOND:.3f} s"
     yield f"{'way'.ljust(width)}  0 s{end.rjust(count - 3)}  most, Mbit/s"
-    for way in told:
-        rates = carried_by_way(found, way.pipe, step, count)
+    for way in busiest:
+        rates = carried_by_way(matching, way.pipe, step, count)
         yield (
             f"{way.name.ljust(width)}  {row_of(rates, line.cuts.get(way.pipe, []), step, letters())}  {rates.max():.3f}"
         )

@@ -8,7 +8,7 @@ from typing import TYPE_CHECKING, Optional, Sequence
 
 from hinge.command import module, working
 from hinge.lazy import Reals, np
-from hinge.pictures.drawing import DASHED, DENSE, DOTTED, MIXED, SOLID, Band, Bars, Drawing, Line, Panel, Points
+from hinge.pictures.drawing import DASHED, DENSE, DOTTED, MIXED, SOLID, Band, Bars, Drawing, Graph, Line, Panel, Points
 
 if TYPE_CHECKING:
     from matplotlib.axes import Axes
@@ -20,6 +20,8 @@ BEHIND = 1.5  # matplotlib's order of a line that those of flows cover
 DASHES = {SOLID: "-", DASHED: "--", DOTTED: ":", MIXED: "-.", DENSE: (0, (8, 2))}
 NAME_ROOM = 0.078  # of a panel's height that a row of names takes
 LINE_INCHES = 0.19
+LABEL_BOX = {"boxstyle": "round,pad=0.15", "facecolor": "#ffffff", "edgecolor": "none", "alpha": 0.75}
+TIMES: dict[str, dict[str, None]] = {"svg": {"Date": None}, "pdf": {"CreationDate": None}}  # which aren't written
 
 
 def title_lines(title: str, width: int = TITLE_WIDTH) -> list[str]:
@@ -74,6 +76,23 @@ def draw_bars(item: Bars, axes: Axes, base: Reals) -> Reals:
     return base + item.counts
 
 
+@draw.register(Graph)
+def draw_graph(item: Graph, axes: Axes, base: Reals) -> Reals:
+    for edge in item.edges:
+        ends = (item.nodes[edge.begin], item.nodes[edge.end])
+        axes.plot([node.x for node in ends], [node.y for node in ends], color=edge.color, lw=edge.width,
+                  ls=DASHES[edge.dash], zorder=BEHIND)
+        axes.text(sum(node.x for node in ends) / 2, sum(node.y for node in ends) / 2, as_written(edge.label),
+                  fontsize=7, ha="center", va="center", bbox=LABEL_BOX)
+    for node in item.nodes:
+        shape = "square" if node.is_switch else "round"
+        axes.text(node.x, node.y, as_written(node.name), fontsize=9, ha="center", va="center",
+                  bbox={"boxstyle": shape, "facecolor": "#ffffff", "edgecolor": "#000000"})
+    axes.set_axis_off()
+    axes.margins(0.15)
+    return base
+
+
 def draw_panel(axes: Axes, panel: Panel) -> None:
     base = np.zeros(0)
     for item in panel.items:
@@ -92,6 +111,10 @@ def finish_panel(axes: Axes, panel: Panel, drawing: Drawing) -> int:
         axes.set_ylim(bottom=0)
     if panel.most is not None:
         axes.set_ylim(0, panel.most)
+    if panel.is_down:
+        axes.invert_yaxis()
+    if panel.names:
+        axes.set_xticks(range(len(panel.names)), [as_written(name) for name in panel.names])
     if panel.has_time and drawing.seconds:
         margin = 0.02 * drawing.seconds
         axes.set_xlim(-margin, drawing.seconds + margin)
@@ -112,32 +135,32 @@ def make_room(axes: Axes, rows: int) -> None:
         axes.set_ylim(low, low + (high - low) / (1 - NAME_ROOM * rows - 0.03))
 
 
-def name_flows(fig: Figure, cell: Optional[Axes], axes: Axes, drawing: Drawing) -> float:
+def name_flows(fig: Figure, cell: Optional[Axes], column: Sequence[Axes], drawing: Drawing) -> float:
     """The names of the flows with their colors, in a cell of their own or below all panels; returns the inches that
     they take below."""
-    handles = dict(zip(*reversed(axes.get_legend_handles_labels())))
-    shown = [handles[key.name] for key in drawing.keys]
+    handles = {label: handle for axes in reversed(column) for handle, label in zip(*axes.get_legend_handles_labels())}
+    view = [handles[key.name] for key in drawing.keys]
     if cell is not None:
         cell.axis("off")
-        cell.legend(shown, [as_written(key.told) for key in drawing.keys], loc="center", fontsize=9, frameon=False,
+        cell.legend(view, [as_written(key.told) for key in drawing.keys], loc="center", fontsize=9, frameon=False,
                     title=drawing.of_keys)
         return 0
-    fig.legend(shown, [as_written(key.name) for key in drawing.keys], loc="lower center", ncol=min(len(shown), 3) or 1,
+    fig.legend(view, [as_written(key.name) for key in drawing.keys], loc="lower center", ncol=min(len(view), 3) or 1,
                fontsize=8, frameon=False)
-    return 0.2 * -(-len(shown) // 3) + 0.1
+    return 0.2 * -(-len(view) // 3) + 0.1
 
 
 def draw_columns(drawings: list[Drawing], rows: list[int], cells: list[Sequence[Axes]]) -> None:
     """A column of the panels with these numbers for each replay. The limits come when all are drawn, since panels of a
     row share them."""
-    placed = [(axis, drawing, drawing.panels[row]) for drawing, column in zip(drawings, cells) for row,
+    lines_with_places = [(axis, drawing, drawing.panels[row]) for drawing, column in zip(drawings, cells) for row,
               axis in zip(rows, column)]
-    for axis, drawing, panel in placed:
+    for axis, drawing, panel in lines_with_places:
         if panel is None:
             axis.set_axis_off()
         else:
             draw_panel(axis, panel)
-    names = [0 if panel is None else finish_panel(axis, panel, drawing) for axis, drawing, panel in placed]
+    names = [0 if panel is None else finish_panel(axis, panel, drawing) for axis, drawing, panel in lines_with_places]
     for place, row in enumerate(rows):
         make_room(cells[0][place], max(names[place::len(rows)]))  # the others of the row share its limits
 
@@ -153,14 +176,14 @@ def figure(drawings: list[Drawing], title: str) -> Figure:
         cells = list(axes.T)
     else:
         height = len(rows) // 2 + 1  # with a cell for the names
-        fig, axes = pyplot.subplots(height, 2, figsize=(13, 3.75 * height))
+        fig, axes = pyplot.subplots(height, 2, figsize=(13, drawings[0].row_inches * height))
         cells = [list(axes.flat)]
     draw_columns(drawings, rows, cells)
     for drawing, column in zip(drawings, cells):
         if several:
             column[0].set_title(f"{as_written(drawing.name)}\n{column[0].get_title()}")
     spare = [] if several else cells[0][len(rows):]
-    names = name_flows(fig, spare[0] if spare else None, cells[0][0], drawings[0])
+    names = name_flows(fig, spare[0] if spare else None, cells[0], drawings[0])
     for cell in spare[1:]:
         cell.set_axis_off()
     frame(fig, names, title_lines(title), below_lines(drawings[0].below))
@@ -178,7 +201,14 @@ def frame(fig: Figure, names: float, title: list[str], below: list[str]) -> None
     fig.tight_layout(rect=(0, (foot + 0.1 * bool(below)) / height, 1, 1 - 0.25 * len(title) / height))
 
 
-def save(drawings: list[Drawing], path: str, title: str) -> None:
+def save(drawings: list[Drawing], path: str, kind: str, title: str) -> None:
+    """Draws into a file, whose kind is the ending of a name."""
     module("matplotlib", "python3-matplotlib").use("Agg")
     with working("drawing"):
-        figure(drawings, title).savefig(path, dpi=100)
+        save_figure(figure(drawings, title), path, kind)
+
+
+def save_figure(fig: Figure, path: str, kind: str) -> None:
+    """Without the time and without names that are drawn, so that the same picture has the same bytes."""
+    with module("matplotlib", "python3-matplotlib").rc_context({"svg.hashsalt": "hinge"}):
+        fig.savefig(path, format=kind, dpi=100, metadata=TIMES.get(kind))

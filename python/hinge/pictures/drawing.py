@@ -66,7 +66,37 @@ class Bars:
     flow: Optional[int] = None
 
 
-Item = Union[Line, Band, Points, Bars]
+@dataclass(frozen=True)
+class Node:
+    """A host of a net, at a place from 0 to 1."""
+
+    name: str
+    x: float
+    y: float
+    is_switch: bool
+
+
+@dataclass(frozen=True)
+class Edge:
+    """A link between two nodes, by their numbers."""
+
+    begin: int
+    end: int
+    label: str
+    color: str
+    width: float
+    dash: str
+
+
+@dataclass(frozen=True)
+class Graph:
+    """Nodes and edges, without axes."""
+
+    nodes: list[Node]
+    edges: list[Edge]
+
+
+Item = Union[Line, Band, Points, Bars, Graph]
 
 
 @dataclass(frozen=True)
@@ -82,6 +112,8 @@ class Panel:
     has_time: bool = True
     is_whole: bool = False  # its values are whole numbers
     most: Optional[float] = None  # of the axis up, where that isn't by the values
+    is_down: bool = False  # its axis up goes down
+    names: list[str] = field(default_factory=list)  # of 0, 1, 2 .. of the axis across
 
 
 @dataclass(frozen=True)
@@ -103,3 +135,4 @@ class Drawing:
     seconds: float
     below: list[str] = field(default_factory=list)
     of_keys: str = "Flows, the largest first"
+    row_inches: float = 3.75

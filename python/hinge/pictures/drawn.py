@@ -2,11 +2,10 @@
 
 from __future__ import annotations
 
-import argparse
-from pathlib import Path
+from dataclasses import dataclass
 from typing import Optional
 
-from hinge.outputs import written
+from hinge.outputs import Format, format_of, written
 from hinge.pictures.chart import save
 from hinge.pictures.html_page import save_page
 from hinge.pictures.panels import MOST_FLOWS, drawing
@@ -16,19 +15,35 @@ from hinge.replays.explain import Explainer
 from hinge.replays.groups import group
 from hinge.replays.source import Source
 
-PAGE = ".html"
-ENDINGS = (".png", ".svg", ".pdf", PAGE)
+@dataclass(frozen=True)
+class LookOptions:
+    """What `hinge look` is told, each field by the name of its option."""
 
+    source: list[str]
+    config: Optional[str]
+    o: list[str]
+    by: str
+    top: Optional[int]
+    step: Optional[int]  # ms
+    title: str
+    csv: bool
+    diff: bool
+    why: list[int]
+    audit: bool
+    json: Optional[str]
+    capture: Optional[str]
+    index: Optional[str]
+    end: int  # ms
+    ladder: Optional[range]
 
-def picture_file(text: str) -> str:
-    """The name of a picture, for argparse."""
-    if Path(text).suffix.lower() not in ENDINGS:
-        raise argparse.ArgumentTypeError(f"{text!r} doesn't end in {', '.join(ENDINGS)}")
-    return text
+    @property
+    def outputs(self) -> list[str]:
+        """The files that are written."""
+        return [*self.o, *([self.json] if self.json else [])]
 
-
-def is_page(path: str) -> bool:
-    return path.lower().endswith(PAGE)
+    def files(self, *formats: Format) -> list[str]:
+        """Those of -o in some formats."""
+        return [name for name in self.o if format_of(name) in formats]
 
 
 def series_of(sources: list[Source], by: str, top: Optional[int], step_ms: Optional[int]) -> list[Series]:
@@ -41,8 +56,8 @@ def series_of(sources: list[Source], by: str, top: Optional[int], step_ms: Optio
     flows = [group(replay, by).largest(replay.packets.length, most)
              for replay in (replays if by == "flow" else replays[:1])]
     each = zip(sources, flows * (len(sources) // len(flows)))
-    return [series(source.replay, found, step_ns, span, source.changes, source.lateness, source.bounds or ())
-            for source, found in each]
+    return [series(source.replay, result, step_ns, span, source.changes, source.lateness, source.bounds or ())
+            for source, result in each]
 
 
 def provenance_of(sources: list[Source]) -> list[str]:
@@ -51,13 +66,14 @@ def provenance_of(sources: list[Source]) -> list[str]:
     return provenance([text for _, text in sources[0].changes], list(dict.fromkeys(names)), sources[0].seed)
 
 
-def draw_sources(sources: list[Source], path: str, asked: argparse.Namespace) -> None:
+def draw_sources(sources: list[Source], path: str, options: LookOptions) -> None:
     """The picture that the command line asks for; a page is of one source."""
-    found = series_of(sources, asked.by, asked.top, asked.step)
-    drawings = [drawing(one, provenance_of(sources)) for one in found]
-    explainer = Explainer(sources[0].parts) if is_page(path) and sources[0].parts else None
+    result = series_of(sources, options.by, options.top, options.step)
+    drawings = [drawing(one, provenance_of(sources)) for one in result]
+    is_page = format_of(path) is Format.PAGE
+    explainer = Explainer(sources[0].parts) if is_page and sources[0].parts else None
     with written(path) as place:
-        if is_page(path):
-            save_page(found[0], explainer, drawings[0], str(place), asked.title)
+        if is_page:
+            save_page(result[0], explainer, drawings[0], str(place), options.title)
         else:
-            save(drawings, str(place), asked.title)
+            save(drawings, str(place), format_of(path).kind, options.title)

@@ -36,9 +36,9 @@ def mean(column: Integers) -> Optional[int]:
     return exact_sum(column) // len(column) if len(column) else None
 
 
-def percentile(ordered: Integers, part: int) -> Optional[int]:
+def percentile(sequence: Integers, part: int) -> Optional[int]:
     """The nearest rank: the least delay that so many of a hundred don't exceed."""
-    return int(ordered[-(-part * len(ordered) // 100) - 1]) if len(ordered) else None
+    return int(sequence[-(-part * len(sequence) // 100) - 1]) if len(sequence) else None
 
 
 def rate(lengths: Integers, moments: Integers) -> Optional[float]:
@@ -49,20 +49,20 @@ def rate(lengths: Integers, moments: Integers) -> Optional[float]:
 
 def jitter(took: Integers) -> Optional[int]:
     """RFC 3550's interarrival jitter after the last of these packets, in order of arrival (its appendix A.8), in ns."""
-    scaled = 0  # sixteen times the jitter
+    sixteenfold = 0  # sixteen times the jitter
     delays = took.tolist()
     for before, now in zip(delays, delays[1:]):
-        scaled += abs(now - before) - (scaled + 8 >> 4)
-    return scaled >> 4 if len(delays) > 1 else None
+        sixteenfold += abs(now - before) - (sixteenfold + 8 >> 4)
+    return sixteenfold >> 4 if len(delays) > 1 else None
 
 
 def figures(name: str, replay: Replay, parts: Optional[Parts], places: Integers) -> Figures:
     """The figures of the rows at these places. The parts of the delay are there where the configuration is."""
     event, length = replay.event[places], replay.packets.length[places]
     out = places[event == OUT]
-    arrived = out[np.lexsort((replay.packet[out], replay.due[out]))]
-    took = replay.took[arrived]
-    ordered = np.sort(took)
+    column = out[np.lexsort((replay.packet[out], replay.due[out]))]
+    took = replay.took[column]
+    sequence = np.sort(took)
     value: dict[str, Optional[int | float]] = {
         "packets": len(places), "bytes": int(length.sum()),
         "offered_mbit_s": rate(length, replay.at[places]),
@@ -70,9 +70,9 @@ def figures(name: str, replay: Replay, parts: Optional[Parts], places: Integers)
     }
     for kind in (OUT, LOST, FULL, NONE, HELD):
         value[EVENT_NAMES[kind]] = int(np.count_nonzero(event == kind))
-    value["min_ns"], value["mean_ns"] = (int(ordered[0]) if len(ordered) else None), mean(took)
-    value |= {f"p{part}_ns": percentile(ordered, part) for part in PERCENTILES}
-    value["max_ns"], value["jitter_ns"] = (int(ordered[-1]) if len(ordered) else None), jitter(took)
+    value["min_ns"], value["mean_ns"] = (int(sequence[0]) if len(sequence) else None), mean(took)
+    value |= {f"p{part}_ns": percentile(sequence, part) for part in PERCENTILES}
+    value["max_ns"], value["jitter_ns"] = (int(sequence[-1]) if len(sequence) else None), jitter(took)
     value["queueing_ns"] = mean(replay.start[out] - replay.at[out])
     if parts is None:
         value["sending_and_delay_ns"] = mean(replay.due[out] - replay.start[out])
@@ -83,8 +83,8 @@ def figures(name: str, replay: Replay, parts: Optional[Parts], places: Integers)
 
 def figures_of_all(replay: Replay, parts: Optional[Parts]) -> Figures:
     """The figures of all rows; jitter is one flow's, so they have none."""
-    found = figures("all", replay, parts, np.arange(len(replay.packets)))
-    return Figures(found.name, {**found.value, "jitter_ns": None})
+    places = figures("all", replay, parts, np.arange(len(replay.packets)))
+    return Figures(places.name, {**places.value, "jitter_ns": None})
 
 
 def table_of(replay: Replay, parts: Optional[Parts], by: str = "tuple", top: int = MOST_FLOWS) -> list[Figures]:

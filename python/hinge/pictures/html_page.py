@@ -2,14 +2,16 @@
 
 from __future__ import annotations
 
+import gzip
 import html
 import textwrap
+from base64 import b64encode
 from functools import singledispatchmethod
 from pathlib import Path
 from typing import Callable, Optional
 
 from hinge.command import Progress, module
-from hinge.lazy import Integers, np
+from hinge.lazy import Integers, Reals, np
 from hinge.pictures.chart import below_lines, title_lines
 from hinge.pictures.drawing import Band, Bars, Drawing, Line, Panel, Points
 from hinge.pictures.panels import DELAYS, Panels
@@ -18,6 +20,23 @@ from hinge.replays.explain import Explainer
 from hinge.replays.replay import EVENT_NAMES, HELD
 from hinge.replays.units import ms
 
+PAGE = """\
+<!DOCTYPE html>
+<html lang="en">
+<head><title>NAME</title><meta charset="utf-8"><link rel="icon" href="data:,"></head>
+<body><div id="picture">A browser of 2023 or later draws this page, with JavaScript.</div>
+<script>
+fetch("data:application/gzip;base64,PACKED")
+  .then(packed => new Response(packed.body.pipeThrough(new DecompressionStream("gzip"))).text())
+  .then(program => {
+    document.getElementById("picture").textContent = "";
+    document.body.append(Object.assign(document.createElement("script"), {textContent: program}));
+  });
+</script></body>
+</html>
+"""
+SETTINGS = '{"scrollZoom": true, "displaylogo": false, "responsive": true}'
+PACKING = 6  # gzip's level
 MOST_TOLD = 6_000  # packets that left and are told of on a page
 TEXT_WIDTH, TITLE_WIDTH, BELOW_WIDTH = 90, 140, 200
 ROW_PIXELS, LINE_PIXELS = 400, 16
@@ -28,9 +47,9 @@ def page_text(text: str) -> str:
     return html.escape(text, quote=False)
 
 
-def teller(found: Series, explainer: Explainer | None) -> Callable[[int], str]:
+def teller(flows_in_time: Series, explainer: Explainer | None) -> Callable[[int], str]:
     """What is read over a packet: the paragraph of `why`, or without a configuration the parts that the report has."""
-    replay = found.replay
+    replay = flows_in_time.replay
     if explainer is not None:
         paragraph = explainer.paragraph
         return lambda place: paragraph(place + 1)
@@ -45,6 +64,20 @@ def teller(found: Series, explainer: Explainer | None) -> Callable[[int], str]:
     return parts
 
 
+def outline(band: Band) -> tuple[Reals, Reals]:
+    """The outline of a band, step by step: for each run of steps with values along the top and back below it, and then
+    a gap. So nothing is filled in a pause."""
+    has_value = np.zeros(len(band.middle) + 2, np.int8)
+    has_value[1:-1] = np.isfinite(band.middle)
+    turns = np.flatnonzero(np.diff(has_value))
+    xs, ys = list[Reals](), list[Reals]()
+    for begin, end in turns.reshape(-1, 2).tolist():
+        across = np.repeat(band.x[begin:end + 1], 2)[1:-1]
+        xs += [across, across[::-1], np.array([np.nan])]
+        ys += [np.repeat(band.high[begin:end], 2), np.repeat(band.low[begin:end], 2)[::-1], np.array([np.nan])]
+    return np.concatenate(xs or [np.zeros(0)]), np.concatenate(ys or [np.zeros(0)])
+
+
 def wrapped(text: str) -> str:
     return "<br>".join(page_text(line) for line in textwrap.wrap(text, TEXT_WIDTH))
 
@@ -52,8 +85,8 @@ def wrapped(text: str) -> str:
 class HtmlPage:
     """Draws a replay on a page."""
 
-    def __init__(self, found: Series, explainer: Explainer | None, drawing: Drawing) -> None:
-        self.found, self.drawing, self.tell = found, drawing, teller(found, explainer)
+    def __init__(self, flows_in_time: Series, explainer: Explainer | None, drawing: Drawing) -> None:
+        self.found, self.drawing, self.tell = flows_in_time, drawing, teller(flows_in_time, explainer)
         self.graphs = module("plotly.graph_objects", "python3-plotly")
         self.shown = [(number, panel) for number, panel in enumerate(drawing.panels) if panel is not None]
         self.rows = len(self.shown) // 2 + 1  # with a cell for the names
@@ -62,18 +95,18 @@ class HtmlPage:
         self.figure = make(rows=self.rows, cols=2, subplot_titles=titles, horizontal_spacing=0.07,
                            vertical_spacing=0.28 / self.rows)
         self.progress, self.told, self.cell = Progress("packets told of"), 0, (1, 1)
-        self.named: set[int] = set()
+        self.named: set[str] = set()
 
     def add(self, trace: object) -> None:
         self.figure.add_trace(trace, row=self.cell[0], col=self.cell[1])
 
     def naming(self, name: str, flow: Optional[int]) -> dict[str, object]:
-        """Under which name a trace is hidden. A flow is named once, and what isn't a flow's in each panel."""
-        if flow is None:
-            return {"name": page_text(name), "legendgroup": page_text(name), "showlegend": True}
-        first = flow not in self.named
-        self.named.add(flow)
-        return {"name": page_text(name), "legendgroup": str(flow), "legendrank": flow, "showlegend": first}
+        """Under which name a trace is hidden. Each name is once in the legend, and hides what has it in all panels."""
+        group = page_text(name) if flow is None else f"flow {flow}"
+        first = group not in self.named
+        self.named.add(group)
+        rank: dict[str, object] = {} if flow is None else {"legendrank": flow}
+        return {"name": page_text(name), "legendgroup": group, "showlegend": first, **rank}
 
     @singledispatchmethod
     def draw(self, item: object) -> None:
@@ -88,13 +121,14 @@ class HtmlPage:
     @draw.register
     def _(self, item: Band) -> None:
         """The packets' points are on the band, with what is told of them."""
-        low, middle, high = (np.append(row, row[-1]) for row in (item.low, item.middle, item.high))
-        shape: dict[str, object] = {"shape": "hv", "width": 0, "color": item.color}
         naming = self.naming(item.name, item.flow)
         hidden: dict[str, object] = {**naming, "showlegend": False, "hoverinfo": "skip"}
-        self.add(self.graphs.Scatter(x=item.x, y=low, mode="lines", line=shape, **hidden))
-        self.add(self.graphs.Scatter(x=item.x, y=high, mode="lines", line=shape, fill="tonexty", opacity=0.3, **hidden))
-        self.add(self.graphs.Scatter(x=item.x, y=middle, mode="lines", line=dict(shape, width=1.5), **naming))
+        x, y = outline(item)
+        self.add(self.graphs.Scatter(x=x, y=y, mode="lines", line={"width": 0, "color": item.color}, fill="toself",
+                                     opacity=0.3, **hidden))
+        middle = {"shape": "hv", "width": 1.5, "color": item.color}
+        self.add(self.graphs.Scatter(x=item.x, y=np.append(item.middle, item.middle[-1]), mode="lines", line=middle,
+                                     **naming))
         self.points(item.name, self.found.flows[item.flow].out_places, item.color, item.flow)
 
     @draw.register
@@ -115,8 +149,8 @@ class HtmlPage:
 
     def points(self, name: str, places: Integers, color: str, flow: Optional[int]) -> None:
         """Some of a flow's packets, the fastest and the slowest of each stretch of time among them."""
-        drawn = sum(len(one.out_places) for one in self.found.flows) or 1
-        places = thinned(places, self.found.replay, max(MOST_TOLD * len(places) // drawn, 100))
+        draw_lines = sum(len(one.out_places) for one in self.found.flows) or 1
+        places = thinned(places, self.found.replay, max(MOST_TOLD * len(places) // draw_lines, 100))
         self.add(self.graphs.Scattergl(x=self.found.sent_at(places), y=self.found.took_ms(places),
                                        text=self.texts(places), hoverinfo="text",
                                        mode="markers", marker={"size": 4, "color": color}, **self.naming(name, flow)))
@@ -153,10 +187,10 @@ class HtmlPage:
     def notes(self) -> list[str]:
         """What the panels say beside their names, and what the page leaves out, so that nobody counts points."""
         notes = list(dict.fromkeys(note for _, panel in self.shown for note in panel.notes))
-        left = int(np.count_nonzero(self.found.replay.event != HELD)) - self.told
-        if left > 0:
+        rest = int(np.count_nonzero(self.found.replay.event != HELD)) - self.told
+        if rest > 0:
             which = "the fastest and the slowest of a stretch of time, and some between"
-            notes.append(f"{self.told:,} of {self.told + left:,} packets have a point: {which}")
+            notes.append(f"{self.told:,} of {self.told + rest:,} packets have a point: {which}")
         return notes
 
     def draw_all(self, title: str) -> None:
@@ -167,10 +201,16 @@ class HtmlPage:
         self.lay_out("<br>".join(map(page_text, title_lines(title, TITLE_WIDTH))))
 
 
-def save_page(found: Series, explainer: Explainer | None, drawing: Drawing, path: str, title: str) -> None:
-    page = HtmlPage(found, explainer, drawing)
+def script_of(page: HtmlPage) -> str:
+    """A page's program: plotly's, and the call that draws."""
+    plotly = module("plotly.offline", "python3-plotly").get_plotlyjs()
+    return f"{plotly}\nconst drawn = {page.figure.to_json()};\nPlotly.newPlot('picture', drawn.data, drawn.layout, {SETTINGS});"
+
+
+def save_page(flows_in_time: Series, explainer: Explainer | None, drawing: Drawing, path: str, title: str) -> None:
+    """Writes a page of one file. Most of it is plotly, so a quarter is left of it when it is packed."""
+    page = HtmlPage(flows_in_time, explainer, drawing)
     page.draw_all(title)
-    text = page.figure.to_html(include_plotlyjs=True, full_html=True, config={"scrollZoom": True, "displaylogo": False})
+    archive = b64encode(gzip.compress(script_of(page).encode(), PACKING, mtime=0)).decode("ascii")
     name = page_text(" ".join(title.split()) or drawing.name)
-    head = f'<!DOCTYPE html>\n<html lang="en">\n<head><title>{name}</title><link rel="icon" href="data:,">'
-    Path(path).write_text(text.replace("<html>\n<head>", head, 1), encoding="utf-8")
+    Path(path).write_text(PAGE.replace("PACKED", archive).replace("NAME", name, 1), encoding="utf-8")

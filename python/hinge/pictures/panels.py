@@ -40,29 +40,29 @@ def percentiles(moments: Integers, values: Reals, steps: Steps) -> Reals:
     order = np.lexsort((values, of))
     begins = np.searchsorted(of[order], np.arange(steps.rated))
     counts = np.diff(np.append(begins, len(order)))
-    found = np.full((3, steps.rated), np.nan)
+    places = np.full((3, steps.rated), np.nan)
     there = counts > 0
     for row, part in enumerate((LOW, MIDDLE, HIGH)):
-        found[row, there] = values[order[begins[there] - (-part * counts[there] // 100) - 1]]
-    return found
+        places[row, there] = values[order[begins[there] - (-part * counts[there] // 100) - 1]]
+    return places
 
 
 class Panels:
     """Makes the panels of one replay."""
 
-    def __init__(self, found: Series) -> None:
-        self.found, self.step = found, time_of(found.steps.length)
-        rests = [number for number, flow in enumerate(found.flows) if flow.is_rest]
+    def __init__(self, flows_in_time: Series) -> None:
+        self.found, self.step = flows_in_time, time_of(flows_in_time.steps.length)
+        rests = [number for number, flow in enumerate(flows_in_time.flows) if flow.is_rest]
         self.colors = [RESTS[rests.index(number) % len(RESTS)] if flow.is_rest else COLORS[number] for number,
-                       flow in enumerate(found.flows)]
-        pipes = sorted({*found.carried, *found.capacities, *found.waiting},
+                       flow in enumerate(flows_in_time.flows)]
+        pipes = sorted({*flows_in_time.carried, *flows_in_time.capacities, *flows_in_time.waiting},
                        key=lambda name: (name.split()[0], int(name.split()[1].rstrip(","))))
         self.pipes = {name: PIPES[number % len(PIPES)] for number,
                       name in enumerate(dict.fromkeys(name.partition(",")[0] for name in pipes))}
 
     def flows(self) -> Iterator[tuple[int, Flow, str]]:
         """The flows with their numbers and colors, the largest on top and what stands for others at the bottom."""
-        order = sorted(enumerate(self.found.flows), key=lambda numbered: (not numbered[1].is_rest, -numbered[0]))
+        order = sorted(enumerate(self.found.flows), key=lambda numbering: (not numbering[1].is_rest, -numbering[0]))
         for number, flow in order:
             yield number, flow, self.colors[number]
 
@@ -73,20 +73,20 @@ class Panels:
 
     def rates(self, which: str, title: str) -> Panel:
         """The rates, `carried` or `offered`, of each flow, of all flows of a pipe, and the capacities."""
-        found, notes = self.found, []
-        edges, most = found.steps.edges, self.greatest(which)
+        result, notes = self.found, []
+        edges, most = result.steps.edges, self.greatest(which)
         items: list[Item] = []
-        for name, total in getattr(found, which).items():
+        for name, total in getattr(result, which).items():
             color, dash = self.pipes[name]
             items.append(Line(f"all of {name}", edges, np.append(total, total[-1]), color, width=2.2, dash=dash,
                               is_behind=True))
-        for name, (moments, rates) in found.capacities.items():
-            told = f"{name}: {range_of(rates, 'Mbit/s')}"
+        for name, (moments, rates) in result.capacities.items():
+            text = f"{name}: {range_of(rates, 'Mbit/s')}"
             if np.nanmax(rates) <= MOST_ABOVE * most:
-                items.append(Line(f"capacity of {told}", moments, rates, self.pipes[name.partition(",")[0]][0],
+                items.append(Line(f"capacity of {text}", moments, rates, self.pipes[name.partition(",")[0]][0],
                                   width=1.2, dash=DOTTED, is_behind=True))
             else:
-                notes.append(f"capacity of {told}, above this panel")
+                notes.append(f"capacity of {text}, above this panel")
         items += [Line(flow.name, edges, np.append(getattr(flow, which), getattr(flow, which)[-1]), color, number)
                   for number, flow, color in self.flows()]
         return Panel(f"{title}, per {self.step}", "s", "Mbit/s", items, notes)
@@ -98,21 +98,21 @@ class Panels:
         return self.rates("offered", "Offered load")
 
     def band(self, number: int, flow: Flow, color: str) -> Band:
-        found, out = self.found, flow.out_places
-        low, middle, high = percentiles(found.replay.at[out], found.replay.took[out] / NS_PER_MS, found.steps)
-        return Band(flow.name, found.steps.edges, low, middle, high, color, number)
+        result, out = self.found, flow.out_places
+        low, middle, high = percentiles(result.replay.at[out], result.replay.took[out] / NS_PER_MS, result.steps)
+        return Band(flow.name, result.steps.edges, low, middle, high, color, number)
 
     def delays(self) -> Optional[Panel]:
         """A point for each packet, or a band where there are too many."""
-        found, items, has_band = self.found, list[Item](), False
-        is_crowded = sum(len(flow.out_places) for flow in found.flows) > MOST_DOTS_IN_ALL
+        result, items, has_band = self.found, list[Item](), False
+        is_crowded = sum(len(flow.out_places) for flow in result.flows) > MOST_DOTS_IN_ALL
         for number, flow, color in self.flows():
             if len(flow.out_places) > (FEWEST_OF_BAND if is_crowded else MOST_DOTS):
                 items.append(self.band(number, flow, color))
                 has_band = True
             elif len(flow.out_places):
                 places = flow.out_places
-                items.append(Points(flow.name, places, found.sent_at(places), found.took_ms(places), color, number))
+                items.append(Points(flow.name, places, result.sent_at(places), result.took_ms(places), color, number))
         if not items:
             return None
         notes = [f"band: {LOW} to {HIGH} of 100 packets sent in {self.step}; line: the median"] if has_band else []
@@ -123,14 +123,14 @@ class Panels:
         """The proved bound on the delay of each pipe that has one: a line, or a note if it is far above its delays."""
         lines, notes = list[Item](), list[str]()
         for one in self.found.bounds:
-            bound, most = one.bound.due_ns / NS_PER_MS, (one.delay_ns or 0) / NS_PER_MS
-            told = f"bound on the delay of {one.name}: {bound:,.6g} ms"
-            if bound <= MOST_ABOVE * most:
+            limit, most = one.bound.due_ns / NS_PER_MS, (one.delay_ns or 0) / NS_PER_MS
+            text = f"bound on the delay of {one.name}: {limit:,.6g} ms"
+            if limit <= MOST_ABOVE * most:
                 ends = np.array([0, self.found.steps.span]) / NS_PER_S
-                lines.append(Line(told, ends, np.array([bound, bound]), self.pipes[one.name][0], width=0.9,
+                lines.append(Line(text, ends, np.array([limit, limit]), self.pipes[one.name][0], width=0.9,
                                   dash=DASHED, is_behind=True))
             else:
-                notes.append(f"{told}; the greatest is {most:,.6g} ms" if most else told)
+                notes.append(f"{text}; the greatest is {most:,.6g} ms" if most else text)
         return lines, notes
 
     def distribution(self) -> Optional[Panel]:
@@ -143,9 +143,9 @@ class Panels:
         """The packets that wait for each pipe or queue, and its limit."""
         items, notes = list[Item](), list[str]()
         for name, (moments, lengths) in self.found.waiting.items():
-            kept, most = spread(np.arange(len(moments)), MOST_COUNTS), int(lengths.max(initial=0))
+            places, most = spread(np.arange(len(moments)), MOST_COUNTS), int(lengths.max(initial=0))
             color, _ = self.pipes[name]
-            items.append(Line(f"{name}, at most {most:,}", moments[kept], lengths[kept], color, width=0.8))
+            items.append(Line(f"{name}, at most {most:,}", moments[places], lengths[places], color, width=0.8))
             limit = self.found.limits.get(name)
             if limit is None or not most:
                 continue
@@ -187,11 +187,11 @@ class Panels:
 
     def drop_points(self) -> list[Points]:
         """A mark for each packet that was dropped, at a delay of 0."""
-        found, marks = self.found, []
+        items, marks = self.found, []
         for cause in CAUSES:
-            places = spread(np.flatnonzero(found.replay.event == cause), MOST_DROPS_TOLD)
+            places = spread(np.flatnonzero(items.replay.event == cause), MOST_DROPS_TOLD)
             if len(places):
-                marks.append(Points(f"dropped: {EVENT_NAMES[cause]}", places, found.sent_at(places),
+                marks.append(Points(f"dropped: {EVENT_NAMES[cause]}", places, items.sent_at(places),
                                     np.zeros(len(places)),
                                     CAUSE_COLORS[EVENT_NAMES[cause]], is_cross=True))
         return marks
@@ -207,9 +207,9 @@ ORDER: tuple[Callable[[Panels], Optional[Panel]], ...] = (
 DELAYS = ORDER.index(Panels.delays)
 
 
-def drawing(found: Series, below: Optional[list[str]] = None) -> Drawing:
+def drawing(flows_in_time: Series, below: Optional[list[str]] = None) -> Drawing:
     """The picture of a replay; `below` is written under it."""
-    panels = Panels(found)
-    keys = [panels.key(number, flow) for number, flow in enumerate(found.flows)]
-    return Drawing([make(panels) for make in ORDER], keys, Path(found.replay.path).name, found.steps.span / NS_PER_S,
+    panels = Panels(flows_in_time)
+    keys = [panels.key(number, flow) for number, flow in enumerate(flows_in_time.flows)]
+    return Drawing([make(panels) for make in ORDER], keys, Path(flows_in_time.replay.path).name, flows_in_time.steps.span / NS_PER_S,
                    below or [])

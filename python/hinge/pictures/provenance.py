@@ -5,6 +5,7 @@ from __future__ import annotations
 from pathlib import Path
 from typing import Optional, Sequence
 
+from hinge.border.terminal import printable
 from hinge.version import version
 
 MOST_LINES = 12  # of a configuration
@@ -12,7 +13,7 @@ MOST_LINES = 12  # of a configuration
 
 def provenance(lines: Sequence[str], files: Sequence[str], seed: Optional[str] = None) -> list[str]:
     """The lines of the configuration, the names of the files, the seed if it is known, and the version."""
-    shown = list(lines[:MOST_LINES]) + [f"and {len(lines) - MOST_LINES} lines more"] * (len(lines) > MOST_LINES)
-    names = ", ".join(Path(name).name for name in files)
-    made = "; ".join([f"of {names}", *([f"seed {seed}"] if seed else []), f"hinge {version()}"])
-    return ["; ".join(shown), made] if shown else [made]
+    view = list(lines[:MOST_LINES]) + [f"and {len(lines) - MOST_LINES} lines more"] * (len(lines) > MOST_LINES)
+    names = printable(", ".join(Path(name).name for name in files))
+    product = "; ".join([f"of {names}", *([f"seed {seed}"] if seed else []), f"hinge {version()}"])
+    return ["; ".join(view), product] if view else [product]

@@ -123,8 +123,8 @@ def round_step(span: int) -> int:
 def places_of_main_target(replay: Replay) -> Integers:
     """The places of the packets that left by the pipe or queue that carried the most bytes."""
     out = np.flatnonzero(replay.is_out)
-    carried = np.bincount(replay.packets.target[out], weights=replay.packets.length[out], minlength=1)
-    places: Integers = out[replay.packets.target[out] == int(np.argmax(carried))]
+    load = np.bincount(replay.packets.target[out], weights=replay.packets.length[out], minlength=1)
+    places: Integers = out[replay.packets.target[out] == int(np.argmax(load))]
     return places
 
 
@@ -139,8 +139,8 @@ def fitting_step(replays: list[Replay], span: int) -> int:
                   places in zip(replays, main))
     if not busy:
         return step
-    wanted = max(step * PACKETS_A_STEP * busy // sum(map(len, main)), step * PACKETS_OF_LARGEST * busy // largest)
-    return max(step, min(rounded_up(wanted), rounded_down(span // FEWEST_STEPS)))
+    names = max(step * PACKETS_A_STEP * busy // sum(map(len, main)), step * PACKETS_OF_LARGEST * busy // largest)
+    return max(step, min(rounded_up(names), rounded_down(span // FEWEST_STEPS)))
 
 
 def span_of(replays: list[Replay]) -> int:
@@ -168,19 +168,19 @@ def thinned(places: Integers, replay: Replay, most: int) -> Integers:
 
 def distribution(took: Integers) -> tuple[Reals, Reals]:
     """Parts of the packets, and the delays in ms that so many don't exceed."""
-    ordered = np.sort(took)
-    if not len(ordered):
+    sequence = np.sort(took)
+    if not len(sequence):
         return np.zeros(0), np.zeros(0)
-    ranks = np.unique(np.linspace(0, len(ordered), min(len(ordered) + 1, MOST_RANKS)).astype(np.int64))
-    return ranks / len(ordered), ordered[np.maximum(ranks - 1, 0)] / NS_PER_MS
+    ranks = np.unique(np.linspace(0, len(sequence), min(len(sequence) + 1, MOST_RANKS)).astype(np.int64))
+    return ranks / len(sequence), sequence[np.maximum(ranks - 1, 0)] / NS_PER_MS
 
 
 def waiting(replay: Replay, places: Integers) -> tuple[Reals, Reals]:
     """How many of these packets wait for their transmission, each time that the count changes."""
-    accepted = places[(replay.event[places] == OUT) | (replay.event[places] == HELD)]
-    begun = accepted[replay.event[accepted] == OUT]
-    moments = np.concatenate((replay.at[accepted], replay.start[begun]))
-    ups = np.concatenate((np.ones(len(accepted), np.int64), np.full(len(begun), -1)))
+    connection = places[(replay.event[places] == OUT) | (replay.event[places] == HELD)]
+    start = connection[replay.event[connection] == OUT]
+    moments = np.concatenate((replay.at[connection], replay.start[start]))
+    ups = np.concatenate((np.ones(len(connection), np.int64), np.full(len(start), -1)))
     moments, of = np.unique(moments, return_inverse=True)
     return moments / NS_PER_S, np.cumsum(np.bincount(of, weights=ups, minlength=len(moments)))
 
@@ -190,15 +190,15 @@ def shared_pipes(replay: Replay, groups: Groups, pipes: dict[str, str]) -> dict[
     has."""
     rest = len(groups.names) - 1 if groups.has_rest else -1  # which stands for several
     return {name: places for name, places in by_pipe(replay, pipes).items()
-            if len(found := np.unique(groups.of[places])) > 1 or rest in found and replay.is_out[places].any()}
+            if len(column := np.unique(groups.of[places])) > 1 or rest in column and replay.is_out[places].any()}
 
 
 def by_pipe(replay: Replay, pipes: dict[str, str]) -> dict[str, Integers]:
     """The places of the packets to each pipe, or queue whose pipe isn't known."""
-    found: dict[str, list[Integers]] = {}
+    table: dict[str, list[Integers]] = {}
     for name, places in group(replay, "target").places():
-        found.setdefault(pipes.get(name, name), []).append(places)
-    return {name: np.sort(np.concatenate(several)) for name, several in found.items()}
+        table.setdefault(pipes.get(name, name), []).append(places)
+    return {name: np.sort(np.concatenate(several)) for name, several in table.items()}
 
 
 def named_places(replay: Replay, groups: Groups, pipes: dict[str, str]) -> Iterator[tuple[str, Integers, bool]]:
@@ -227,9 +227,9 @@ def carried(replay: Replay, places: Integers, steps: Steps) -> Reals:
 
 def flow_series(replay: Replay, name: str, places: Integers, is_rest: bool, steps: Steps) -> Flow:
     out = places[replay.is_out[places]]
-    dropped = places[np.isin(replay.event[places], CAUSES)]
+    drops = places[np.isin(replay.event[places], CAUSES)]
     return Flow(name, is_rest, len(places), offered(replay, places, steps), carried(replay, places, steps), out,
-                *distribution(replay.took[out]), steps.counts(replay.at[dropped]))
+                *distribution(replay.took[out]), steps.counts(replay.at[drops]))
 
 
 def series(replay: Replay, groups: Groups, step_ns: int, span: int, changes: Iterable[tuple[int, str]] = (),
@@ -240,8 +240,8 @@ def series(replay: Replay, groups: Groups, step_ns: int, span: int, changes: Ite
              is_rest in named_places(replay, groups, pipes)]
     drops = {EVENT_NAMES[cause]: steps.counts(replay.at[replay.event == cause]) for cause in CAUSES}
     queues = {name: waiting(replay, places) for name, places in group(replay, "target").places()}
-    shared = shared_pipes(replay, groups, pipes)
+    common = shared_pipes(replay, groups, pipes)
     return Series(replay, steps, flows, drops, queues,
-                  {name: carried(replay, places, steps) for name, places in shared.items()},
-                  {name: offered(replay, places, steps) for name, places in shared.items()}, capacities(changes, span),
+                  {name: carried(replay, places, steps) for name, places in common.items()},
+                  {name: offered(replay, places, steps) for name, places in common.items()}, capacities(changes, span),
                   limits(changes, span), lateness or {}, list(bounds))

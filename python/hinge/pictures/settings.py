@@ -24,13 +24,13 @@ class Limits:
 def capacities(changes: Iterable[tuple[int, str]], span: int) -> dict[str, tuple[Reals, Reals]]:
     """The bandwidth of each pipe that has one, as the commands with their moments set it. A pipe with a mask gives it
     to each flow."""
-    found: dict[str, list[tuple[int, float]]] = {}
+    table: dict[str, list[tuple[int, float]]] = {}
     for moment, text in changes:
-        kind, number, asked = setting_of(text)
+        kind, number, setting = setting_of(text)
         if kind == "pipe":
-            rate = asked.bw / 10**6 if isinstance(asked, Pipe) and asked.bw else np.nan
-            found.setdefault(f"pipe {number}{', a flow' * ('mask' in text.split())}", []).append((moment, rate))
-    steps = {name: [*points, (max(span, points[-1][0]), points[-1][1])] for name, points in found.items()}
+            rate = setting.bw / 10**6 if isinstance(setting, Pipe) and setting.bw else np.nan
+            table.setdefault(f"pipe {number}{', a flow' * ('mask' in text.split())}", []).append((moment, rate))
+    steps = {name: [*points, (max(span, points[-1][0]), points[-1][1])] for name, points in table.items()}
     return {name: (np.array([at for at, _ in points]) / NS_PER_S, np.array([rate for _, rate in points]))
             for name, points in steps.items() if not np.isnan([rate for _, rate in points]).all()}
 
@@ -38,12 +38,12 @@ def capacities(changes: Iterable[tuple[int, str]], span: int) -> dict[str, tuple
 def limits(changes: Iterable[tuple[int, str]], span: int) -> dict[str, Limits]:
     """How much may wait in each pipe and queue, as the commands with their moments set it. A mask gives each flow a
     queue of its own."""
-    found: dict[str, list[tuple[int, Limit, bool]]] = {}
+    table: dict[str, list[tuple[int, Limit, bool]]] = {}
     for moment, text in changes:
-        kind, number, asked = setting_of(text)
-        if asked is not None:
-            found.setdefault(f"{kind} {number}", []).append((moment, asked.limit, "mask" in text.split()))
-    return {name: limits_of(points, span) for name, points in found.items()}
+        kind, number, setting = setting_of(text)
+        if setting is not None:
+            table.setdefault(f"{kind} {number}", []).append((moment, setting.limit, "mask" in text.split()))
+    return {name: limits_of(points, span) for name, points in table.items()}
 
 
 def limits_of(points: list[tuple[int, Limit, bool]], span: int) -> Limits:
@@ -54,11 +54,11 @@ def limits_of(points: list[tuple[int, Limit, bool]], span: int) -> Limits:
         return Limits(moments, None,
                       f"{limit.kbytes} Kbytes{each}" if limit.kbytes else f"{limit.slots:,} packets{each}")
     numbers = np.array([*(limit.slots for _, limit, _ in points), limit.slots])
-    told = f"{numbers.min():,}" if numbers.min() == numbers.max() else f"{numbers.min():,} to {numbers.max():,}"
-    return Limits(moments, numbers, f"{told} packets{each}")
+    text = f"{numbers.min():,}" if numbers.min() == numbers.max() else f"{numbers.min():,} to {numbers.max():,}"
+    return Limits(moments, numbers, f"{text} packets{each}")
 
 
 def pipe_names(changes: Iterable[tuple[int, str]]) -> dict[str, str]:
     """The pipe of each queue, by their names, where the commands name it."""
     settings = (setting_of(text) for _, text in changes)
-    return {f"queue {number}": f"pipe {asked.pipe}" for _, number, asked in settings if isinstance(asked, Queue)}
+    return {f"queue {number}": f"pipe {options.pipe}" for _, number, options in settings if isinstance(options, Queue)}

@@ -31,23 +31,23 @@ def head(name: str) -> tuple[str, str]:
 def blocks(columns: list[list[str]], width: int) -> Iterator[list[list[str]]]:
     """The columns in blocks that are no wider than this, if they can be; the first column begins each."""
     first, *rest = columns
-    block, taken = [first], len(first[0])
+    block, occupants = [first], len(first[0])
     for column in rest:
-        if len(block) > 1 and taken + len(GAP) + len(column[0]) > width:
+        if len(block) > 1 and occupants + len(GAP) + len(column[0]) > width:
             yield block
-            block, taken = [first], len(first[0])
+            block, occupants = [first], len(first[0])
         block.append(column)
-        taken += len(GAP) + len(column[0])
+        occupants += len(GAP) + len(column[0])
     yield block
 
 
 def write_columns(columns: list[list[str]], texts: int, out: TextIO) -> None:
     """The columns in blocks as wide as the terminal, or as 80 columns. The first so many are of text."""
-    shown = [[text.ljust(max(map(len, column))) if place < texts else text.rjust(max(map(len, column)))
+    view = [[text.ljust(max(map(len, column))) if place < texts else text.rjust(max(map(len, column)))
               for text in column] for place, column in enumerate(columns)]
     width = shutil.get_terminal_size((WIDTH, 0)).columns if out.isatty() else WIDTH
     parts = ("\n".join(GAP.join(row).rstrip() for row in zip(*block) if any(text.strip() for text in row))
-             for block in blocks(shown, width))
+             for block in blocks(view, width))
     out.write("\n\n".join(parts) + "\n")
 
 
@@ -63,8 +63,8 @@ def write_text(table: list[Figures], out: TextIO) -> None:
     write_columns(columns + figure_columns([row.value for row in table]), 2, out)
 
 
-def write_bounds(found: list[Bounded], out: TextIO) -> None:
+def write_bounds(bounds_of_pipes: list[Bounded], out: TextIO) -> None:
     """The table of pipes, each with the greatest wait and delay that were seen, and the bounds on them."""
-    if found:
+    if bounds_of_pipes:
         out.write("\n")
-        write_columns(figure_columns([one.figures() for one in found]), 1, out)
+        write_columns(figure_columns([one.figures() for one in bounds_of_pipes]), 1, out)

@@ -38,9 +38,9 @@ def greatest(column: Integers) -> Optional[int]:
 def bounds(replay: Replay, configuration: Configuration) -> Iterator[Bounded]:
     """The bound of each pipe that has one and accepted a packet, if the configuration holds for every packet."""
     numbers = {target: number for number, target in enumerate(replay.packets.targets)}
-    accepted = replay.is_out | (replay.event == HELD)
+    connection = replay.is_out | (replay.event == HELD)
     for pipe in with_bound(configuration.pipes, configuration.queues):
-        places = np.flatnonzero(accepted & (replay.packets.target == numbers.get(("pipe", pipe.number), -1)))
+        places = np.flatnonzero(connection & (replay.packets.target == numbers.get(("pipe", pipe.number), -1)))
         if len(places):
             out = places[replay.is_out[places]]
             yield Bounded(bound_of(pipe, int(replay.packets.length[places].max())),

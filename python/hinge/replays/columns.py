@@ -70,15 +70,15 @@ class OneOf:
     words: tuple[str, ...]
 
     def read(self, fields: Fields) -> Integers:
-        found = np.full(len(fields.length), -1, np.int64)
+        places = np.full(len(fields.length), -1, np.int64)
         for number, word in enumerate(self.words):
             is_word = fields.length == len(word)
             for place, letter in enumerate(word.encode()):
                 is_word &= fields.byte(place) == letter
-            found[is_word] = number
-        if (found < 0).any():
+            places[is_word] = number
+        if (places < 0).any():
             raise Bad
-        return found
+        return places
 
 
 @dataclass(frozen=True)

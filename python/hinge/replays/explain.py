@@ -84,11 +84,11 @@ class Explainer:
     def delivered(self, place: int) -> str:
         """Waiting, transmission and delay, and their sum."""
         parts = self.parts
-        waited, sending, delay = (int(column[place]) for column in (parts.waited, parts.transmission, parts.delay))
+        wait, sending, delay = (int(column[place]) for column in (parts.waited, parts.transmission, parts.delay))
         took, due = int(self.replay.took[place]), int(self.replay.due[place])
         return (
-            f"{self.waiting(place, waited)} {self.sending(place)} The link's delay was {ms(delay)}. "
-            f"In all it took {ms(took)} = {ms(waited)} waiting + {ms(sending)} transmission + {ms(delay)} delay, "
+            f"{self.waiting(place, wait)} {self.sending(place)} The link's delay was {ms(delay)}. "
+            f"In all it took {ms(took)} = {ms(wait)} waiting + {ms(sending)} transmission + {ms(delay)} delay, "
             f"and it left at {seconds(due)}."
         )
 
@@ -97,31 +97,31 @@ class Explainer:
         if bandwidth == 0:
             return "Its transmission took no time, since the bandwidth is unlimited."
         length, took = int(self.packets.length[place]), int(self.parts.transmission[place])
-        rounded = "" if length * BITS_NS % bandwidth == 0 else ", rounded up to whole ns"
-        return f"Its transmission took {ms(took)} ({length:,} bytes at {bandwidth:,} bit/s{rounded})."
+        round_value = "" if length * BITS_NS % bandwidth == 0 else ", rounded up to whole ns"
+        return f"Its transmission took {ms(took)} ({length:,} bytes at {bandwidth:,} bit/s{round_value})."
 
-    def waiting(self, place: int, waited: int) -> str:
-        if waited == 0:
+    def waiting(self, place: int, delay: int) -> str:
+        if delay == 0:
             return "The link was free, so its transmission began at once."
         wait = self.order.wait(place)
-        if int(wait.costs.sum()) != waited:
+        if int(wait.costs.sum()) != delay:
             raise self.another_configuration(f"row {place + 1} would have waited {ms(int(wait.costs.sum()))}")
-        return f"It waited {ms(waited)} for {self.link_name(place)}: {'; '.join(self.waited_for(place, wait))}."
+        return f"It waited {ms(delay)} for {self.link_name(place)}: {'; '.join(self.waited_for(place, wait))}."
 
     def waited_for(self, place: int, wait: WaitedFor) -> list[str]:
         """The packets for which it waited, by flow, with what each group cost it."""
-        told: list[str] = []
+        lines: list[str] = []
         if wait.first_was_sending:
             first = int(wait.places[0])
             whose = f" of {self.flow_name(first)}" if self.parts.is_shared[place] else ""
-            told.append(f"{ms(int(wait.costs[0]))} until row {first + 1}{whose}, which was under transmission, had "
+            lines.append(f"{ms(int(wait.costs[0]))} until row {first + 1}{whose}, which was under transmission, had "
                         f"been sent")
         places, costs = wait.places[int(wait.first_was_sending):], wait.costs[int(wait.first_was_sending):]
         flows = self.replay.flow[places]
         for flow in sorted(set(flows.tolist()), key=lambda flow: (flow != self.replay.flow[place], flow)):
-            chosen = flows == flow
-            told.append(self.group(place, places[chosen], int(costs[chosen].sum())))
-        return told
+            choice = flows == flow
+            lines.append(self.group(place, places[choice], int(costs[choice].sum())))
+        return lines
 
     def group(self, place: int, places: Integers, cost: int) -> str:
         """Packets of one flow that went before a packet."""
@@ -154,18 +154,18 @@ class Explainer:
         bytes_up_to = np.cumsum(self.packets.length[backlog])
         total = int(bytes_up_to[-1]) if len(backlog) else 0
         if limit.slots is not None:
-            too_many, asked = len(backlog) - limit.slots, f"and its limit is {packets(limit.slots)}"
+            too_many, options = len(backlog) - limit.slots, f"and its limit is {packets(limit.slots)}"
             leaver = too_many  # with it gone one fewer wait than the limit
         else:
             most = (limit.kbytes or 0) * BYTES_PER_KBYTE
-            too_many, asked = total - most - 1, f"which is more than its limit of {most:,} bytes"
+            too_many, options = total - most - 1, f"which is more than its limit of {most:,} bytes"
             leaver = int(np.searchsorted(bytes_up_to, total - most))
         if too_many < 0:
             raise self.another_configuration(f"row {place + 1} would have found room")
         return (
             f"The queue of its flow {self.replay.flow[place]} was full, so it was dropped: {packets(len(backlog))} "
             f"waited there "
-            f"({rows(backlog + 1)}), {total:,} bytes in all, {asked}. {self.room_again(place, int(backlog[leaver]))}"
+            f"({rows(backlog + 1)}), {total:,} bytes in all, {options}. {self.room_again(place, int(backlog[leaver]))}"
         )
 
     def another_configuration(self, what: str) -> Fault:
@@ -187,13 +187,13 @@ class Explainer:
 
     def held(self, place: int) -> str:
         """Accepted, and on its way at the last moment of a replay."""
-        accepted = f"It was accepted as packet {self.replay.packet[place]}"
+        connection = f"It was accepted as packet {self.replay.packet[place]}"
         if self.parts.is_shared[place]:
-            return f"{accepted}, and had not left {self.link_name(place)} when the replay ended at 2^62 ns."
-        waited, sending, delay = self.held_parts(place)
-        due = int(self.replay.at[place]) + waited + sending + delay
+            return f"{connection}, and had not left {self.link_name(place)} when the replay ended at 2^62 ns."
+        wait, sending, delay = self.held_parts(place)
+        due = int(self.replay.at[place]) + wait + sending + delay
         return (
-            f"{accepted}, and would take {ms(waited + sending + delay)} = {ms(waited)} waiting + {ms(sending)} "
+            f"{connection}, and would take {ms(wait + sending + delay)} = {ms(wait)} waiting + {ms(sending)} "
             f"transmission + "
             f"{ms(delay)} delay. It would leave at {seconds(due)}, and the replay ended at {seconds(LAST_MOMENT)} "
             f"(2^62 ns)."

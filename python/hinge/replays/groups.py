@@ -31,10 +31,10 @@ class Groups:
         """At most so many groups, those of the largest sums of sizes first, and the rest as one."""
         sums = np.bincount(self.of, weights=sizes, minlength=len(self.names))
         order = np.argsort(-sums, kind="stable")
-        kept, rest = order[:most], order[most:]
-        number = np.full(len(self.names), len(kept))
-        number[kept] = np.arange(len(kept))
-        names = [self.names[i] for i in kept]
+        part, rest = order[:most], order[most:]
+        number = np.full(len(self.names), len(part))
+        number[part] = np.arange(len(part))
+        names = [self.names[i] for i in part]
         return Groups(number[self.of], names + ([f"{len(rest):,} others"] if len(rest) else []), len(rest) > 0, self.of)
 
 
@@ -44,5 +44,5 @@ def group(replay: Replay, way: str) -> Groups:
         return Groups(packets.five_tuple, [packets.tuple_name(i) for i in range(len(packets.tuples))])
     if way == "target":
         return Groups(packets.target, [f"{kind} {number}" for kind, number in packets.targets])
-    found, of = np.unique(replay.flow, return_inverse=True)
-    return Groups(of, [f"flow {flow}" if flow >= 0 else "no flow" for flow in found.tolist()])
+    places, of = np.unique(replay.flow, return_inverse=True)
+    return Groups(of, [f"flow {flow}" if flow >= 0 else "no flow" for flow in places.tolist()])

@@ -87,15 +87,15 @@ class Entries:
     def replies(self, places: Integers) -> Integers:
         """Event, moment, flow and packet of the replies to these submits, -1 for what a reply doesn't have."""
         replies = self.records.of(places + 1)
-        found = np.full((4, len(places)), -1, np.int64)
+        column = np.full((4, len(places)), -1, np.int64)
         for begin, fate in FATES.items():
-            chosen = np.flatnonzero(replies.starts(begin))
-            numbers = [one_number(field) for field in replies.of(chosen).fields(REPLY_FIELDS[fate])[2:]]
-            found[0, chosen] = fate
-            found[1:1 + len(numbers), chosen] = numbers
-        if (found[0] < 0).any():
+            choice = np.flatnonzero(replies.starts(begin))
+            numbers = [one_number(field) for field in replies.of(choice).fields(REPLY_FIELDS[fate])[2:]]
+            column[0, choice] = fate
+            column[1:1 + len(numbers), choice] = numbers
+        if (column[0] < 0).any():
             raise Bad
-        return found
+        return column
 
     def clock_before(self, places: Integers) -> list[int]:
         """The clock's moment before each of these places, in ns."""
@@ -103,22 +103,22 @@ class Entries:
         tells = np.zeros(len(front), bool)
         for reply in MOVING:
             tells |= front.starts(reply)
-        told = np.flatnonzero(tells)
-        last = np.searchsorted(told, places) - 1
-        chosen = front.of(told[last[last >= 0]])
-        begin, following = chosen.field_begin(2), chosen.field_begin(3)
-        end = np.where(following < chosen.end, following - 1, chosen.end)
+        places_of_clock = np.flatnonzero(tells)
+        last = np.searchsorted(places_of_clock, places) - 1
+        choice = front.of(places_of_clock[last[last >= 0]])
+        begin, following = choice.field_begin(2), choice.field_begin(3)
+        end = np.where(following < choice.end, following - 1, choice.end)
         moments = np.zeros(len(places), np.int64)
-        moments[last >= 0] = one_number(Fields(chosen.data, begin, end - begin))
+        moments[last >= 0] = one_number(Fields(choice.data, begin, end - begin))
         return list(map(int, moments))
 
     def changes(self) -> list[tuple[int, int, str]]:
         """The commands that were obeyed: each with its place and the clock's moment."""
-        asked = np.flatnonzero(self.records.starts(b"c,") & self.records.starts(b"configure,", 2))
-        replies = self.records.of(asked + 1)
-        obeyed = asked[replies.starts(b"r,configured") | replies.starts(b"r,deleted")]
-        texts = (self.records.text(place).split(",", 3)[3] for place in obeyed.tolist())
-        return list(zip(obeyed.tolist(), self.clock_before(obeyed), texts))
+        places = np.flatnonzero(self.records.starts(b"c,") & self.records.starts(b"configure,", 2))
+        replies = self.records.of(places + 1)
+        orders = places[replies.starts(b"r,configured") | replies.starts(b"r,deleted")]
+        texts = (self.records.text(place).split(",", 3)[3] for place in orders.tolist())
+        return list(zip(orders.tolist(), self.clock_before(orders), texts))
 
 
 def with_fates(entries: Entries, replies: Integers) -> Integers:
@@ -126,15 +126,15 @@ def with_fates(entries: Entries, replies: Integers) -> Integers:
     event, _, flow, packet = replies
     start, due = np.full(len(event), -1, np.int64), np.full(len(event), -1, np.int64)
     deliveries = entries.records.of(entries.records.starts(b"d,"))
-    gone, began, left = entries.deliveries_of(deliveries)
+    packets_out, began, ends = entries.deliveries_of(deliveries)
     order = np.argsort(packet, kind="stable")
-    found = np.searchsorted(packet[order], gone)
-    rows = order[np.minimum(found, max(len(order) - 1, 0))] if len(order) else found
-    unknown = (packet[rows] != gone) if len(order) else np.ones(len(gone), bool)
+    places = np.searchsorted(packet[order], packets_out)
+    rows = order[np.minimum(places, max(len(order) - 1, 0))] if len(order) else places
+    unknown = (packet[rows] != packets_out) if len(order) else np.ones(len(packets_out), bool)
     if unknown.any():
         raise Fault(f"{entries.path} line {deliveries.line[int(np.argmax(unknown))]}: no packet "
-                    f"{gone[int(np.argmax(unknown))]} was queued", ROWS)
-    event[rows], start[rows], due[rows] = OUT, began, left
+                    f"{packets_out[int(np.argmax(unknown))]} was queued", ROWS)
+    event[rows], start[rows], due[rows] = OUT, began, ends
     return np.stack([event, flow, packet, start, due])
 
 
@@ -188,5 +188,5 @@ def read_history(path: str) -> Source:
     configuration = Configuration.of(path, [text for _, _, text in changes]) if is_steady else None
     cut = None if has_end else int(records.line[-1])
     data = file.records.data.tobytes()
-    told = [(moment, text) for _, moment, text in changes]
-    return Source(replay, (path,), told, configuration, True, cut, seed_in(data), lateness_in(data))
+    report = [(moment, text) for _, moment, text in changes]
+    return Source(replay, (path,), report, configuration, True, cut, seed_in(data), lateness_in(data))

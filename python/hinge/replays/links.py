@@ -8,9 +8,9 @@ from __future__ import annotations
 
 from dataclasses import dataclass
 from functools import cached_property
-from pathlib import Path
 from typing import Callable, Optional
 
+from hinge.border.files import read_bytes, untrusted
 from hinge.command import CONFIGURATION, ROWS, Fault
 from hinge.configurations.configured import InForce, LineFault, Pipe, Queue, spelled_lines
 from hinge.lazy import Integers, Mask, np
@@ -30,8 +30,8 @@ class Configuration:
 
     @staticmethod
     def of(path: str, lines: list[str]) -> Configuration:
-        found = InForce(lines)
-        return Configuration(path, lines, found.pipes, found.queues)
+        result = InForce(lines)
+        return Configuration(path, lines, result.pipes, result.queues)
 
     def own(self, target: tuple[str, int]) -> Optional[Pipe | Queue]:
         """What judges a packet to this target."""
@@ -46,7 +46,8 @@ class Configuration:
 
 def read_configuration(path: str) -> Configuration:
     try:
-        return Configuration.of(path, spelled_lines(Path(path).read_bytes()))
+        with untrusted(path, CONFIGURATION):
+            return Configuration.of(path, spelled_lines(read_bytes(path)))
     except LineFault as fault:
         raise Fault(f"{path}: {fault}", CONFIGURATION) from None
 
@@ -92,7 +93,7 @@ class Parts:
     @cached_property
     def link(self) -> Integers:
         """A number of the link that carries the row: of its flow, or below 0 of the pipe that queues share."""
-        pipe = by_target(self.replay.packets, self.configuration, lambda found: found.number)
+        pipe = by_target(self.replay.packets, self.configuration, lambda result: result.number)
         return np.where(self.is_shared, -1 - pipe, self.replay.flow)
 
     def check(self) -> Parts:

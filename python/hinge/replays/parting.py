@@ -2,12 +2,15 @@
 
 from __future__ import annotations
 
+import io
 from collections import deque
 from itertools import islice, zip_longest
 from pathlib import Path
 from typing import Any, Iterator, NamedTuple, Optional, Union
 
-from hinge.command import ROWS, Fault, printable
+from hinge.arguments import is_number
+from hinge.border.files import opened, untrusted
+from hinge.command import ROWS, Fault
 
 AROUND = 3  # calls before the first that differs, and from it on
 NS_PER_S = 10**9
@@ -28,7 +31,7 @@ class Entry(NamedTuple):
     def moment(self) -> Optional[int]:
         """The ns at which it was made, if it says so."""
         fields = self.call.split(",")
-        return int(fields[-1]) if fields[2:] and fields[2] in TIMED and fields[-1].isdecimal() else None
+        return int(fields[-1]) if fields[2:] and fields[2] in TIMED and is_number(fields[-1]) else None
 
     def known(self) -> dict[str, Any]:
         """The same for a program."""
@@ -38,22 +41,22 @@ class Entry(NamedTuple):
 
 def entries(path: Union[str, Path]) -> Iterator[Entry]:
     """The calls of a history, or of a transcript, without its remarks. Fault: it is neither."""
-    number = row = begun = 0
+    number = row = start = 0
     call, reply = "", list[str]()
-    with open(path, encoding="utf-8", errors="replace") as file:
+    with untrusted(path), io.TextIOWrapper(opened(path), "utf-8", "replace") as file:
         if not file.readline().startswith(FORMATS):
             raise Fault(f"{path}: neither a history nor a transcript", ROWS)
         for line, text in enumerate(file, 2):
             record = text.rstrip("\r\n")
             if record[:2] == "c," or record[:4] == "end,":
                 if call:
-                    yield Entry(number, begun, row if is_packet(call) else None, call, tuple(reply))
-                call, reply, begun = record if record[0] == "c" else "", [], line
+                    yield Entry(number, start, row if is_packet(call) else None, call, tuple(reply))
+                call, reply, start = record if record[0] == "c" else "", [], line
                 number, row = number + bool(call), row + is_packet(call)
             elif record and record[0] != "#":
                 reply.append(record)
     if call:
-        yield Entry(number, begun, row if is_packet(call) else None, call, tuple(reply))
+        yield Entry(number, start, row if is_packet(call) else None, call, tuple(reply))
 
 
 def is_packet(call: str) -> bool:
@@ -69,7 +72,7 @@ class Parting(NamedTuple):
     @property
     def number(self) -> int:
         """The first call that differs."""
-        return next(found[0].number for found in self.after if found)
+        return next(result[0].number for result in self.after if result)
 
     def reason(self) -> str:
         """What differs in it."""
@@ -80,25 +83,25 @@ class Parting(NamedTuple):
 
     def at(self) -> str:
         """When it was made, if a call says so."""
-        moment = next((found[0].moment for found in self.after if found and found[0].moment is not None), None)
+        moment = next((result[0].moment for result in self.after if result and result[0].moment is not None), None)
         return "" if moment is None else f", at {moment / NS_PER_S:.9f} s"
 
     def text(self) -> str:
         """The calls around it: of both, of the first (-), and of the second (+)."""
         groups = ((" ", self.before), ("-", self.after[0]), ("+", self.after[1]))
-        width = max(len(str(it.number)) for _, found in groups for it in found)
+        width = max(len(str(it.number)) for _, result in groups for it in result)
         lines = []
-        for sign, found in groups:
-            for it in found:
+        for sign, result in groups:
+            for it in result:
                 row = "" if it.row is None else f"  (row: {it.row})"
                 lines += [f"{sign} {it.number:>{width}}  {it.call}{row}",
                           *(f"{sign} {'':{width}}  {record}" for record in it.reply)]
-        return "\n".join(map(printable, lines))
+        return "\n".join(lines)
 
     def known(self) -> dict[str, Any]:
-        """The same for a program; docs/JSON.md has its keys."""
+        """The same for a program; docs/CAPTURE.md has its keys."""
         return {"call": self.number, "reason": self.reason(), "before": [it.known() for it in self.before],
-                "after": [[it.known() for it in found] for found in self.after]}
+                "after": [[it.known() for it in result] for result in self.after]}
 
 
 def same(one: Optional[Entry], other: Optional[Entry]) -> bool:

@@ -5,6 +5,7 @@ from __future__ import annotations
 from dataclasses import dataclass
 from typing import NamedTuple, Union
 
+from hinge.border.files import read_front, untrusted
 from hinge.lazy import Integers, Mask, Octets, np
 from hinge.replays.columns import Bad, Fields
 from hinge.replays.remarks import addresses_in
@@ -27,9 +28,9 @@ class Records:
     def __len__(self) -> int:
         return len(self.begin)
 
-    def of(self, chosen: Union[Integers, Mask]) -> Records:
+    def of(self, choice: Union[Integers, Mask]) -> Records:
         """Those that a mask or places choose."""
-        return Records(self.data, self.begin[chosen], self.end[chosen], self.line[chosen], self.commas)
+        return Records(self.data, self.begin[choice], self.end[choice], self.line[choice], self.commas)
 
     def text(self, place: int) -> str:
         return self.data[self.begin[place]:self.end[place]].tobytes().decode("utf-8", "replace")
@@ -37,20 +38,20 @@ class Records:
     def starts(self, word: bytes, field: int = 0) -> Mask:
         """Whether each has a field, from 0, that begins with this word; the word may go on over commas."""
         begin = self.field_begin(field)
-        left = np.flatnonzero(begin + len(word) <= self.end)
+        rest = np.flatnonzero(begin + len(word) <= self.end)
         for place, letter in enumerate(word):
-            left = left[self.data[begin[left] + place] == letter]
-        found = np.zeros(len(self), bool)
-        found[left] = True
-        return found
+            rest = rest[self.data[begin[rest] + place] == letter]
+        places = np.zeros(len(self), bool)
+        places[rest] = True
+        return places
 
     def field_begin(self, field: int) -> Integers:
         """Where the field begins; the end of a record that has no such field."""
         if field == 0:
             return self.begin
         comma = np.searchsorted(self.commas, self.begin) + field - 1
-        found = self.commas[np.minimum(comma, len(self.commas) - 1)] if len(self.commas) else self.end
-        return np.where((comma < len(self.commas)) & (found < self.end), found + 1, self.end)
+        places = self.commas[np.minimum(comma, len(self.commas) - 1)] if len(self.commas) else self.end
+        return np.where((comma < len(self.commas)) & (places < self.end), places + 1, self.end)
 
     def fields(self, count: int) -> list[Fields]:
         """The fields of each; Bad is raised where one has another count."""
@@ -72,7 +73,8 @@ class HistoryFile(NamedTuple):
 
 
 def read_records(path: str) -> HistoryFile:
-    data = plain(path, keeps_lines=True)
+    with untrusted(path):
+        data = plain(path, keeps_lines=True)
     array = np.frombuffer(data, np.uint8)
     end = np.flatnonzero(array == LINE_FEED)
     begin = np.concatenate((np.zeros(1, np.int64), end[:-1] + 1)) if len(end) else end
@@ -87,8 +89,7 @@ def is_history_file(path: str) -> bool:
     """Whether a file that isn't standard input begins as a history or a live session."""
     if path == "-":
         return False
-    with open(path, "rb") as file:
-        return file.read(max(map(len, BEGINNINGS))).startswith(BEGINNINGS)
+    return read_front(path, max(map(len, BEGINNINGS))).startswith(BEGINNINGS)
 
 
 def is_history(records: Records) -> bool:

@@ -4,16 +4,16 @@ lateness."""
 from __future__ import annotations
 
 import contextlib
-import ipaddress
 from typing import Iterator, Optional
 
+from hinge.arguments import is_number
+from hinge.captures.addresses import address_of_six
 from hinge.lazy import Reals, np
-
 
 NS_PER_S, NS_PER_MS = 10**9, 10**6
 KINDS = ("late", "unread")
 # of each way, `late` and `unread`: moments in s, and the most until then in ms
-Lateness = dict[str, dict[str, "tuple[Reals, Reals]"]]
+Lateness = dict[str, dict[str, tuple[Reals, Reals]]]
 
 
 def remarks_of(data: bytes, kind: bytes) -> Iterator[list[str]]:
@@ -28,11 +28,11 @@ def remarks_of(data: bytes, kind: bytes) -> Iterator[list[str]]:
 
 def addresses_in(data: bytes) -> dict[str, str]:
     """The IPv6 address of each stand-in, by the remarks `#,address,STAND-IN,ADDRESS`."""
-    found: dict[str, str] = {}
+    table: dict[str, str] = {}
     for fields in remarks_of(data, b"address"):
         with contextlib.suppress(ValueError):
-            found[fields[0]] = str(ipaddress.IPv6Address(fields[-1]))
-    return found
+            table[fields[0]] = address_of_six(fields[-1])
+    return table
 
 
 def seed_in(data: bytes) -> Optional[str]:
@@ -44,7 +44,7 @@ def lateness_in(data: bytes) -> Lateness:
     """By how much the host was late, by the remarks `#,late,MOMENT` with LATE and UNREAD of each way behind them, in
     ns."""
     rows = [list(map(int, fields)) for fields in remarks_of(data, b"late")
-            if all(field.isdecimal() for field in fields)]
+            if all(map(is_number, fields))]
     rows = [row for row in rows if len(row) == len(rows[0]) and len(row) % 2]
     if not rows:
         return {}
@@ -53,6 +53,11 @@ def lateness_in(data: bytes) -> Lateness:
                      len(columns) // 2): {kind: (moments / NS_PER_S, columns[2 * number + place] / NS_PER_MS) for place,
                                           kind in enumerate(KINDS)}
             for number in range(len(columns) // 2)}
+
+
+def late_remark(late: float, unread: float) -> str:
+    """What is told of a live host that was late by at most so many ms, and let packets lie unread for at most so many."""
+    return f"the host was late by {late:,.4g} ms and packets lay unread for {unread:,.4g} ms at most: the picture has each second"
 
 
 def way_name(number: int, count: int) -> str:

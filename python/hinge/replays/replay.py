@@ -14,6 +14,7 @@ from hinge.command import ROWS, Fault
 from hinge.lazy import Integers, Mask, np
 from hinge.replays.columns import Address, Number, OneOf, numbered
 from hinge.replays.tables import read_table
+from hinge.replays.units import socket_address
 
 EVENTS = NONE, FULL, LOST, HELD, OUT = range(5)
 KINDS = ("pipe", "queue")
@@ -43,8 +44,7 @@ class Packets:
         name = PROTOCOLS.get(proto, f"proto {proto}")
         if not (sport or dport):
             return f"{name} {src} > {dst}"
-        first, second = (f"[{address}]" if ":" in address else address for address in (src, dst))
-        return f"{name} {first}:{sport} > {second}:{dport}"
+        return f"{name} {socket_address(src, sport)} > {socket_address(dst, dport)}"
 
 
 @dataclass(frozen=True)
@@ -87,18 +87,18 @@ def named_tuples(rows: Iterable[tuple[int, ...]], addresses: dict[str, str]) -> 
 
 
 def read_packets(path: str) -> Packets:
-    found = read_table(path, {
+    table = read_table(path, {
         "moment": Number(), "target": OneOf(KINDS), "number": Number(), "src": Address(), "dst": Address(),
         "proto": Number(),
         "sport": Number(), "dport": Number(), "len": Number(), "word": Number(),
     })
-    target, first_of_target = numbered(found["target"], found["number"])
-    five = [found[name] for name in ("src", "dst", "proto", "sport", "dport")]
+    target, first_of_target = numbered(table["target"], table["number"])
+    five = [table[name] for name in ("src", "dst", "proto", "sport", "dport")]
     five_tuple, first_of_tuple = numbered(*five)
-    targets = [(KINDS[found["target"][row]], int(found["number"][row])) for row in first_of_target]
+    targets = [(KINDS[table["target"][row]], int(table["number"][row])) for row in first_of_target]
     rows = zip(*(column[first_of_tuple].tolist() for column in five))
     tuples = named_tuples(rows, read_addresses(path))
-    return Packets(path, found["moment"], target, five_tuple, found["len"], found["word"], targets, tuples)
+    return Packets(path, table["moment"], target, five_tuple, table["len"], table["word"], targets, tuples)
 
 
 def read_report(path: str, packets: Packets) -> Replay:
@@ -112,11 +112,11 @@ def read_report(path: str, packets: Packets) -> Replay:
                         minlength=len(packets)) if len(place) and place.min() >= 0 else np.zeros(len(packets), int)
     if len(place) != len(packets) or len(count) != len(packets) or (count != 1).any():
         raise Fault(f"{path}: its {len(place)} lines aren't those of the {len(packets)} rows of {packets.path}", ROWS)
-    joined = {name: np.empty_like(column) for name, column in columns.items()}
+    union = {name: np.empty_like(column) for name, column in columns.items()}
     for name, column in columns.items():
-        joined[name][place] = column
-    if (joined["at"] < packets.moment).any():
-        row = int(np.argmax(joined["at"] < packets.moment)) + 1
+        union[name][place] = column
+    if (union["at"] < packets.moment).any():
+        row = int(np.argmax(union["at"] < packets.moment)) + 1
         why = "it is the report of other packets"
         raise Fault(f"{path}: row {row} was sent before its moment in {packets.path}: {why}", ROWS)
-    return Replay(path, packets, **joined)
+    return Replay(path, packets, **union)

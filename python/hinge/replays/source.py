@@ -11,7 +11,7 @@ from hinge.command import ROWS, USAGE, Fault
 from hinge.lazy import np
 from hinge.replays.bounds import Bounded, bounds
 from hinge.replays.links import Configuration, Parts, read_configuration
-from hinge.replays.remarks import Lateness
+from hinge.replays.remarks import Lateness, late_remark
 from hinge.replays.replay import NONE, Replay, read_packets, read_report
 
 
@@ -55,9 +55,7 @@ class Source:
         if self.is_history and self.configuration is None:
             yield "the links were changed while packets came: no parts of the delay"
         if self.lateness:
-            late, unread = self.most_late("late"), self.most_late("unread")
-            yield (f"the host was late by {late:.3g} ms and packets lay unread for {unread:.3g} ms at most: the "
-                   f"picture has each second")
+            yield late_remark(self.most_late("late"), self.most_late("unread"))
 
     def most_late(self, kind: str) -> float:
         """The most that a live host was late in either way, in ms."""
@@ -74,10 +72,10 @@ def untargeted(replay: Replay) -> dict[str, int]:
 def untargeted_lines(replay: Replay) -> Iterator[str]:
     """A line for each target that isn't configured, so that a wrong number is noticed, and one if no row has a
     target."""
-    found = untargeted(replay)
-    for target, count in found.items():
+    table = untargeted(replay)
+    for target, count in table.items():
         yield f"{count:,} rows went to {target}, which isn't configured"
-    if found and sum(found.values()) == len(replay.packets):
+    if table and sum(table.values()) == len(replay.packets):
         yield "no row has a target: nothing went through a link"
 
 

@@ -15,6 +15,11 @@ def seconds(ns: int) -> str:
     return f"{ns // 10**9:,}.{ns % 10**9:09d} s"
 
 
+def socket_address(address: str, port: int) -> str:
+    """An address and a port, in which one of IPv6 has brackets."""
+    return f"[{address}]:{port}" if ":" in address else f"{address}:{port}"
+
+
 def packets(count: int) -> str:
     return f"{count:,} packet{'' if count == 1 else 's'}"
 
@@ -27,7 +32,7 @@ def rows(numbers: Iterable[int], most: int = 8) -> str:
             runs[-1][1] = number
         else:
             runs.append([number, number])
-    shown = ", ".join(str(low) if low == high else f"{low}-{high}" for low, high in runs[:most])
-    left = sum(high - low + 1 for low, high in runs[most:])
+    view = ", ".join(str(low) if low == high else f"{low}-{high}" for low, high in runs[:most])
+    rest = sum(high - low + 1 for low, high in runs[most:])
     plural = "row" if len(runs) == 1 and runs[0][0] == runs[0][1] else "rows"
-    return f"{plural} {shown}" + (f" and {left:,} more" if left else "")
+    return f"{plural} {view}" + (f" and {rest:,} more" if rest else "")

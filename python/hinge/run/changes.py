@@ -3,32 +3,50 @@
 from __future__ import annotations
 
 from bisect import bisect_right
+from operator import itemgetter
 from typing import Iterator, NamedTuple
 
+from hinge.arguments import is_number
 from hinge.run.traces import outage_rate
 from hinge.run.words import LAST_MOMENT, Target, configures, target_of, with_bandwidth
 
 
 class Change(NamedTuple):
     moment: int  # ns
-    line: str  # a configuration line, or `outage PIPE LENGTH` as an outage begins
+    line: str  # that the host follows, of a configuration or of cuts.h, or `outage PIPE LENGTH` as an outage begins
+
+    @property
+    def told(self) -> str:
+        """As people read it."""
+        kind, _, rest = self.line.partition(" ")
+        return f"pipe {rest.split()[0]} {kind}" if kind in ("cut", "open", "heal") else self.line
 
 
 class Outage(NamedTuple):
+    """One in which packets wait, and none is lost."""
+
     moment: int
     length: int  # ns
     pipe: int
-    lossy: bool
 
 
 class Changes:
     """All that happens, each kind in the order in which it was given."""
 
-    def __init__(self, begun: dict[Target, str], longest: int) -> None:
-        """`begun` has the lines that hold from the beginning; a longest packet has so many bytes."""
-        self.begun, self.longest = begun, longest
+    def __init__(self, table: dict[Target, str], longest: int, first: int = 1) -> None:
+        """`begun` has the lines that hold from the beginning; a longest packet has so many bytes. Cuts are numbered
+        from the first on, and no two of a run have the same number."""
+        self.begun, self.longest, self.latest = table, longest, first - 1
         self.lines: list[Change] = []
         self.outages: list[Outage] = []
+
+    def lose(self, moment: int, length: int, pipe: int) -> None:
+        """A cut: a pipe loses all packets. The host counts cuts by their numbers, and opens a pipe as its last one
+        ends."""
+        self.latest += 1
+        self.lines.append(Change(moment, f"cut {pipe} {self.latest}"))
+        if moment + length < LAST_MOMENT:
+            self.lines.append(Change(moment + length, f"open {pipe} {self.latest}"))
 
     def lines_of(self, pipe: int) -> list[Change]:
         """The lines of a pipe by their moments, as if there were no outages; the first holds from the beginning."""
@@ -36,43 +54,35 @@ class Changes:
         first = [Change(0, self.begun[target])] if target in self.begun else []
         return first + sorted((one for one in self.lines if target_of(one.line) == target), key=lambda one: one.moment)
 
-    def ends_of(self, change: Change) -> list[int]:
-        """When outages end that go on at a change of their pipe."""
-        target = target_of(change.line)
-        return [
-            one.moment + one.length
-            for one in self.outages
-            if Target("pipe", one.pipe) == target
-            and one.moment <= change.moment < one.moment + one.length < LAST_MOMENT
-        ]
-
     def shared(self) -> set[int]:
         """The pipes with queues of their own or with masks, whose packets don't begin in the order in which they
         came."""
-        found = set()
+        members = set()
         for line in [*self.begun.values(), *(change.line for change in self.lines)]:
+            if "mask" not in line and "queue" not in line[:len("ipfw queue")]:
+                continue
             words, target = line.split(), target_of(line)
             if target.kind == "queue" and "pipe" in words[:-1]:
                 number = words[words.index("pipe") + 1]
-                found |= {int(number)} if number.isdecimal() else set()
+                members |= {int(number)} if is_number(number) else set()
             elif target.kind == "pipe" and "mask" in words:
-                found.add(target.number)
-        return found
+                members.add(target.number)
+        return members
 
     def holds(self) -> list[tuple[int, int, int]]:
         """The outages of pipes of one queue, each with its pipe, beginning and end: those that meet are one."""
-        found: list[tuple[int, int, int]] = []
-        shared = self.shared()
+        items: list[tuple[int, int, int]] = []
+        common = self.shared() if self.outages else ()
         for pipe, begin, end in sorted(
             (one.pipe, one.moment, one.moment + one.length)
             for one in self.outages
-            if not one.lossy and one.pipe not in shared
+            if one.pipe not in common
         ):
-            if found and found[-1][0] == pipe and begin <= found[-1][2]:
-                found[-1] = (pipe, found[-1][1], max(end, found[-1][2]))
+            if items and items[-1][0] == pipe and begin <= items[-1][2]:
+                items[-1] = (pipe, items[-1][1], max(end, items[-1][2]))
             else:
-                found.append((pipe, begin, end))
-        return found
+                items.append((pipe, begin, end))
+        return items
 
     def of_outage(self, outage: Outage, lines: list[Change], moments: list[int]) -> list[Change]:
         """What an outage does to a pipe of these lines, which have these moments."""
@@ -82,22 +92,22 @@ class Changes:
         if not configures(before):
             return []  # it was deleted before
         end = [Change(outage.moment + outage.length, after)] * configures(after)
-        if outage.lossy:
-            return [Change(outage.moment, before + " plr 1"), *end]
         slow = with_bandwidth(before, outage_rate(outage.length, self.longest))
         return [Change(outage.moment, slow), Change(outage.moment, f"outage {outage.pipe} {self.longest}"), *end]
 
     def of_outages(self) -> Iterator[Change]:
-        shared = self.shared()
+        if not self.outages:
+            return
+        common = self.shared()
         for pipe, begin, _ in self.holds():
             yield Change(begin, f"outage {pipe} {self.longest}")
-        for pipe in sorted({outage.pipe for outage in self.outages}):
+        for pipe in sorted({outage.pipe for outage in self.outages} & common):
             lines = self.lines_of(pipe)
             moments = [line.moment for line in lines]
             for outage in self.outages:
-                if outage.pipe == pipe and (outage.lossy or pipe in shared):
+                if outage.pipe == pipe:
                     yield from self.of_outage(outage, lines, moments)
 
     def all(self) -> list[Change]:
-        """All changes by their moments; at one moment an outage's come last."""
-        return sorted([*self.lines, *self.of_outages()], key=lambda change: change.moment)
+        """All changes by their moments, and by their order at one moment, at which an outage's come last."""
+        return sorted([*self.lines, *self.of_outages()], key=itemgetter(0))

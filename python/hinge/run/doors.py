@@ -12,6 +12,7 @@ from hinge.run.rooms import start
 from hinge.run.system import NEWNET, NEWNS, NEWPID, NEWUSER, NEWUTS, die_with_parent, join, unshare
 
 KINDS = (("user", NEWUSER), ("mnt", NEWNS), ("pid", NEWPID))  # in the order in which they are entered
+DOORS = len(KINDS) + 2  # with the root and a room's network
 
 
 class Doors:

@@ -32,14 +32,14 @@ def live(run: Callable[[], int]) -> NoReturn:
 def status_of(first: int) -> int:
     """Waits for the first process, and hands signals on. A ^C of the terminal came to the command too, and is its
     affair."""
-    interrupted = False
+    is_interrupted = False
     while True:
         came = signal.sigwaitinfo(BLOCKED)
         if came.si_signo == signal.SIGCHLD:
             process, status = os.waitpid(first, os.WNOHANG)
             if process:
                 status = os.WEXITSTATUS(status) if os.WIFEXITED(status) else 128 + os.WTERMSIG(status)
-                return INTERRUPTED if interrupted and status == 128 + signal.SIGTERM else status
+                return INTERRUPTED if is_interrupted and status == 128 + signal.SIGTERM else status
         elif came.si_signo != signal.SIGINT or came.si_code == 0:
-            interrupted = came.si_signo == signal.SIGINT
+            is_interrupted = came.si_signo == signal.SIGINT
             os.kill(first, signal.SIGTERM)

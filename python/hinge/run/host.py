@@ -10,6 +10,7 @@ from pathlib import Path
 from typing import Iterable, Optional, Sequence
 
 from hinge.run.control import Control
+from hinge.run.host_lines import HostLines
 from hinge.run.page import STARTING, Page
 from hinge.run.processes import SIGNALLED, Mask, Processes
 from hinge.run.system import Missing
@@ -38,11 +39,11 @@ def program() -> str:
 
 def plan_file(text: str) -> int:
     """A descriptor from which a plan can be read."""
-    made = os.memfd_create("plan")
-    with os.fdopen(os.dup(made), "w") as file:
+    descriptor = os.memfd_create("plan")
+    with os.fdopen(os.dup(descriptor), "w") as file:
         file.write(text)
-    os.lseek(made, 0, os.SEEK_SET)
-    return made
+    os.lseek(descriptor, 0, os.SEEK_SET)
+    return descriptor
 
 
 class Link:
@@ -50,17 +51,19 @@ class Link:
 
     def __init__(
         self, processes: Processes, page: Page, words: Sequence[str], descriptors: Iterable[int], plan: str, mask: Mask,
-        control: Optional[Control] = None
+        control: Optional[Control] = None, lines: Optional[HostLines] = None
     ) -> None:
+        """`lines` go to it while packets pass; a socket for commands has some of its own."""
         self.processes, self.page, self.control = processes, page, control
-        plan_read = plan_file(plan + control.line() if control else plan)
-        passed = [*descriptors, page.descriptor, *([control.descriptor()] if control else [])]
+        lines = control.lines if control else lines
+        plan_read = plan_file(plan + lines.line() if lines else plan)
+        total = [*descriptors, page.descriptor, *([lines.descriptor()] if lines else [])]
         words = [program(), *words, str(page.descriptor)]
         self.process = os.fork()
         if self.process == 0:
             try:
                 os.dup2(plan_read, 0)
-                for descriptor in passed:
+                for descriptor in total:
                     os.set_inheritable(descriptor, True)
                 signal.pthread_sigmask(signal.SIG_SETMASK, mask)
                 os.execv(words[0], words)

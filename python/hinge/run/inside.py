@@ -17,11 +17,12 @@ from hinge.run.outside import Outside
 from hinge.run.page import Page
 from hinge.run.processes import SIGNALLED, Ended, Processes, Ticker, name_of
 from hinge.run.rooms import Rooms
+from hinge.run.settings import RunOptions
 from hinge.run.summary import record
 from hinge.run.system import enter
 from hinge.run.two_hosts import ends_of
 from hinge.run.watch import Watch
-from hinge.run.words import Wrong
+from hinge.run.words import Wrong, duration
 
 HOSTS = ("client", "server")
 WATCHED = {signal.SIGCHLD, signal.SIGTERM, signal.SIGHUP}
@@ -31,22 +32,22 @@ LISTEN_POLL, QUIET_POLL = 0.01, 0.02  # s
 
 class Inside:
     def __init__(
-        self, order: Order, server_wait: float, own_users: bool, outside: Optional[Outside], network: Optional[int]
+        self, options: RunOptions, order: Order, own_users: bool, outside: Optional[Outside], network: Optional[int]
     ) -> None:
-        """The command waits for its server at most so many seconds. `network` is one that is there already."""
-        self.server_wait = server_wait
+        """`network` is one that is there already."""
+        self.options, self.server_wait = options, duration(options.server_wait) / 1e9
         self.order, self.outside, self.page = order, outside, Page()
-        self.processes = Processes(WATCHED if order.asked.command else WATCHED | {signal.SIGINT})
-        self.joined = None if network is None else Joined(network, order.asked.mtu, own_users)
-        self.rooms = self.joined or Rooms(order.asked.mtu, own_users, ends_of(order.asked.net))
+        self.processes = Processes(WATCHED if options.command else WATCHED | {signal.SIGINT})
+        self.joined = None if network is None else Joined(network, options.mtu, own_users)
+        self.rooms = self.joined or Rooms(options.mtu, own_users, ends_of(options.net))
         self.begun = time.monotonic()
 
     def started_server(self) -> tuple[Optional[int], Optional[int]]:
         """The server's process, once something listens in its room, or its time is over; and a signal that came
         before."""
-        if not self.order.asked.server:
+        if not self.options.server:
             return None, None
-        server = self.rooms.start_server(self.order.asked.server, self.order.mask)
+        server = self.rooms.start_server(self.options.server, self.order.mask)
         enter(self.rooms.server)
         came = self.processes.poll(
             lambda: something_listens() or server in self.processes.ended, self.server_wait, LISTEN_POLL
@@ -59,8 +60,8 @@ class Inside:
 
     def commanded(self, link: Link) -> tuple[int, bool]:
         """Runs the command, as long as the link is there; its status, and whether it was ended from outside."""
-        watch = Watch(self.page, self.order.changes) if self.order.asked.watch else None
-        words = self.order.asked.command
+        watch = Watch(self.page, self.order.changes) if self.options.watch else None
+        words = self.options.command
         command = self.rooms.start(self.rooms.client, words, self.order.mask) if words else link.process
         if link.control:
             link.control.serve()
@@ -80,24 +81,24 @@ class Inside:
 
         def is_over() -> bool:
             nonlocal seen, since
-            passed = sum(way["came"] + way["sent"] + way["held"] for way in self.page.read().ways)
-            if passed != seen:
-                seen, since = passed, time.monotonic()
+            total = sum(way["came"] + way["sent"] + way["held"] for way in self.page.read().ways)
+            if total != seen:
+                seen, since = total, time.monotonic()
             return server in self.processes.ended or time.monotonic() - since > QUIET
 
         self.processes.poll(is_over, LAST_PACKETS, QUIET_POLL)
 
-    def ended_server(self, server: int, was_interrupted: bool) -> Ended:
+    def ended_server(self, server: int, is_interrupted: bool) -> Ended:
         """Ends the server, and tells where it had crashed or had to be killed."""
         self.processes.reap()
         if server in self.processes.ended and self.processes.ended[server]:
             say(f"the server ended with {name_of(self.processes.ended[server])} before the command did")
-        elif not was_interrupted:
+        elif not is_interrupted:
             self.let_last_packets_pass(server)
-        ended = self.processes.endings({"server": server}, self.begun, self.order.server_end)["server"]
-        if ended.by == "SIGKILL":
+        endings = self.processes.endings({"server": server}, self.begun, self.order.server_end)["server"]
+        if endings.by == "SIGKILL":
             say(f"the server was killed, since SIGTERM didn't end it in {self.order.server_end:g} s")
-        return ended
+        return endings
 
     def doors(self) -> Enter:
         """What opens the rooms to `hinge exec`."""
@@ -123,14 +124,14 @@ class Inside:
             self.processes, self.page, ["tun", *map(str, self.rooms.interfaces)], self.rooms.interfaces,
             self.order.plan, self.order.mask, control
         )
-        failed = link.failed()
-        if failed is not None:
-            return failed
+        fault = link.failed()
+        if fault is not None:
+            return fault
         note_realtime(self.page)
-        status, was_interrupted = self.commanded(link)
-        ended = None if server is None else self.ended_server(server, was_interrupted)
+        status, is_interrupted = self.commanded(link)
+        endings = None if server is None else self.ended_server(server, is_interrupted)
         link.end()
         drops = self.rooms.dropped()
         if self.joined:
             self.joined.end()
-        return report(self.order, self.page, drops, status, ended)
+        return report(self.order, self.page, drops, status, endings)

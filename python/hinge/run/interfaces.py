@@ -9,13 +9,14 @@ import socket
 import struct
 from typing import Iterable, Optional
 
+from hinge.border.files import read_system
+from hinge.run.rtnetlink import Request, ask_kernel, ask_many, index_of, packed
 from hinge.run.system import Missing, try_to_write
 
 NAME = "link"  # of the tun interface in each namespace
 QUEUE = 10000  # packets that wait for the host; unread.h has the same
 SETLINK, NEWADDR, NEWROUTE = 16, 20, 24  # RTM_NEWLINK, RTM_NEWADDR, RTM_NEWROUTE
-REQUEST = 0x405  # NLM_F_REQUEST, ACK and CREATE
-MTU, QUEUE_LENGTH = 4, 13  # IFLA_MTU, IFLA_TXQLEN
+HARDWARE_ADDRESS, MTU, QUEUE_LENGTH = 1, 4, 13  # IFLA_ADDRESS, IFLA_MTU, IFLA_TXQLEN
 UP, MULTICAST = 1, 0x1000  # IFF_UP, IFF_MULTICAST
 NODAD = 2  # IFA_F_NODAD
 LOCAL, ADDRESS = 1, 2  # IFA_ADDRESS, IFA_LOCAL
@@ -23,9 +24,9 @@ FREEBIND = 78  # IPV6_FREEBIND
 ADVERTISEMENT, OVERRIDE = 136, 0x20000000  # ND_NEIGHBOR_ADVERT, ND_NA_FLAG_OVERRIDE
 REJECTS = 0x200  # RTF_REJECT, in /proc/net/ipv6_route
 MAIN_TABLE, BY_BOOT, UNICAST, GATEWAY = 254, 3, 1, 5  # RT_TABLE_MAIN, RTPROT_BOOT, RTN_UNICAST, RTA_GATEWAY
-# RTA_DST, RTA_OIF, RTA_PREFSRC, RTA_TABLE, RT_SCOPE_LINK
-DESTINATION, OUT_BY, PREFERRED, ROUTE_TABLE, LINK_SCOPE = 1, 4, 7, 15, 253
-TUNSETIFF, TUN_WITH_NOTE = 0x400454CA, 0x5001  # IFF_TUN | IFF_NO_PI | IFF_VNET_HDR
+# RTA_DST, RTA_OIF, RTA_PRIORITY, RTA_PREFSRC, RTA_TABLE, RT_SCOPE_LINK
+DESTINATION, OUT_BY, METRIC, PREFERRED, ROUTE_TABLE, LINK_SCOPE = 1, 4, 6, 7, 15, 253
+TUNSETIFF, TUN, TAP, WITH_NOTE = 0x400454CA, 1, 2, 0x5000  # IFF_TUN, IFF_TAP, IFF_NO_PI | IFF_VNET_HDR
 TUNSETOFFLOAD, LEFT_TO_A_CARD = 0x400454D0, 7  # TUN_F_CSUM | TUN_F_TSO4 | TUN_F_TSO6
 TUNSETPERSIST = 0x400454CB
 DROPPED_OUT = 11  # the column of /proc/net/dev
@@ -38,39 +39,28 @@ TUN_ADVICE = {errno.ENOENT: "in a container give it --device /dev/net/tun; elsew
               errno.EACCES: "let users open it, as most systems do: sudo chmod 666 /dev/net/tun"}
 
 
-def packed(attributes: Iterable[tuple[int, bytes]]) -> bytes:
-    return b"".join(
-        struct.pack("HH", 4 + len(data), number) + data + bytes(-len(data) % 4) for number, data in attributes
-    )
-
-
-def ask_kernel(kind: int, body: bytes, attributes: Iterable[tuple[int, bytes]]) -> None:
-    """Asks the kernel for a change. An ioctl would take root for some."""
-    body += packed(attributes)
-    with socket.socket(socket.AF_NETLINK, socket.SOCK_RAW, 0) as asked:
-        asked.send(struct.pack("IHHII", 16 + len(body), kind, REQUEST, 1, 0) + body)
-        error = -struct.unpack_from("i", asked.recv(4096), 16)[0]
-    if error:
-        raise OSError(error, os.strerror(error))
-
-
-def change(name: str, flags: int, changed: int, attributes: Iterable[tuple[int, bytes]]) -> None:
+def change(name: str, flags: int, mask: int, attributes: Iterable[tuple[int, bytes]]) -> None:
     """Changes an interface: which flags it has of those that are to change, and its attributes."""
-    ask_kernel(SETLINK, struct.pack("BxHiII", 0, 0, socket.if_nametoindex(name), flags, changed), attributes)
+    ask_kernel(SETLINK, struct.pack("BxHiII", 0, 0, index_of(name), flags, mask), attributes)
 
 
-def set_up(name: str, changed: int = UP, attributes: tuple[tuple[int, int], ...] = ()) -> None:
-    change(name, UP, changed, [(key, struct.pack("I", value)) for key, value in attributes])
+def set_up(name: str, mask: int = UP, attributes: tuple[tuple[int, int], ...] = ()) -> None:
+    change(name, UP, mask, [(key, struct.pack("I", value)) for key, value in attributes])
+
+
+def know_groups(name: str, does: bool = True) -> None:
+    """Lets programs be members of groups at an interface, or not."""
+    change(name, MULTICAST * does, MULTICAST, ())
 
 
 def of_family(family: int, settings: bytes) -> list[tuple[int, bytes]]:
     return [(OF_FAMILIES, packed([(family, settings)]))]
 
 
-def hand_on(name: str, does: bool = True) -> None:
+def hand_on(name: str, does: bool = True, is_asked: bool = True) -> None:
     """Lets an interface take packets of IPv4 for others, and be asked for their addresses, or not. It asks as /proc/sys
     would, which a container may not let write."""
-    settings = packed([(FORWARDING, struct.pack("I", does)), (PROXY_ARP, struct.pack("I", does))])
+    settings = packed([(FORWARDING, struct.pack("I", does)), (PROXY_ARP, struct.pack("I", does and is_asked))])
     change(name, 0, 0, of_family(socket.AF_INET, packed([(INET_CONF, settings)])))
 
 
@@ -92,7 +82,7 @@ def family_and_bytes(text: str) -> tuple[int, bytes]:
 def add_address(name: str, text: str, bits: int) -> None:
     family, data = family_and_bytes(text)
     ask_kernel(
-        NEWADDR, struct.pack("BBBBi", family, bits, NODAD, 0, socket.if_nametoindex(name)),
+        NEWADDR, struct.pack("BBBBi", family, bits, NODAD, 0, index_of(name)),
         [(LOCAL, data), (ADDRESS, data)]
     )
 
@@ -105,27 +95,36 @@ def add_route(gateway: str) -> None:
     )
 
 
-def add_interface_route(text: str, name: str, source: str, bits: Optional[int] = None, table: int = MAIN_TABLE) -> None:
-    """The way to one address, or to all with so many bits of it, by an interface without a gateway, for packets that
-    have the source where they have no other."""
+def interface_route(
+    text: str, index: int, source: str, bits: Optional[int] = None, table: int = MAIN_TABLE,
+    metric: Optional[int] = None, may_fail: bool = False, gateway: Optional[str] = None
+) -> Request:
+    """The way to one address, or to all with so many bits of it, by an interface, for packets that have the source
+    where they have no other. A lower metric goes first."""
     family, data = family_and_bytes(text)
-    index, bits = struct.pack("I", socket.if_nametoindex(name)), 8 * len(data) if bits is None else bits
-    ask_kernel(
-        NEWROUTE,
-        struct.pack(
-            "BBBBBBBBI", family, bits, 0, 0, 0, BY_BOOT, LINK_SCOPE if family == socket.AF_INET else 0, UNICAST, 0
-        ),
-        [
-            (DESTINATION, data), (OUT_BY, index), (PREFERRED, family_and_bytes(source)[1]),
-            (ROUTE_TABLE, struct.pack("I", table))
-        ],
+    bits, scope = 8 * len(data) if bits is None else bits, 0 if gateway or family == socket.AF_INET6 else LINK_SCOPE
+    attributes = [
+        (DESTINATION, data), (OUT_BY, struct.pack("I", index)), (PREFERRED, family_and_bytes(source)[1]),
+        (ROUTE_TABLE, struct.pack("I", table)), *([] if metric is None else [(METRIC, struct.pack("I", metric))]),
+        *([(GATEWAY, family_and_bytes(gateway)[1])] if gateway else [])
+    ]
+    return Request(
+        NEWROUTE, struct.pack("BBBBBBBBI", family, bits, 0, 0, 0, BY_BOOT, scope, UNICAST, 0) + packed(attributes),
+        may_fail
     )
+
+
+def add_interface_route(
+    text: str, name: str, source: str, bits: Optional[int] = None, table: int = MAIN_TABLE,
+    gateway: Optional[str] = None
+) -> None:
+    ask_many([interface_route(text, index_of(name), source, bits, table, gateway=gateway)])
 
 
 def announce(name: str, text: str) -> None:
     """Tells those at an interface that an IPv6 address, which lies behind another one, is reached by it: a neighbour
     advertisement from there."""
-    index = socket.if_nametoindex(name)
+    index = index_of(name)
     with socket.socket(socket.AF_INET6, socket.SOCK_RAW, socket.IPPROTO_ICMPV6) as teller:
         teller.setsockopt(socket.IPPROTO_IPV6, FREEBIND, 1)
         teller.setsockopt(socket.IPPROTO_IPV6, socket.IPV6_MULTICAST_HOPS, 255)
@@ -139,40 +138,44 @@ def announce(name: str, text: str) -> None:
 def leads_out_in_ipv6() -> bool:
     """Whether the present namespace has a way to all other networks of IPv6."""
     try:
-        with open("/proc/thread-self/net/ipv6_route") as file:
-            return any(int(line.split()[1], 16) == 0 and not int(line.split()[8], 16) & REJECTS for line in file)
+        rows = [line.split() for line in read_system("/proc/thread-self/net/ipv6_route").splitlines()]
+        return any(int(row[1], 16) == 0 and not int(row[8], 16) & REJECTS for row in rows)
     except OSError:
         return False
 
 
-def add_tun(address: str, address6: str, mtu: int, name: str = NAME, bits: int = 24, persists: bool = True) -> int:
+def add_tun(
+    address: str, address6: str, mtu: int, name: str = NAME, bits: int = 24, persists: bool = True, mac: bytes = b""
+) -> int:
     """Makes an interface of this namespace, and returns its descriptor. It has no multicast, so the kernel says nothing
-    by itself on it, and packet 1 is the command's."""
+    by itself on it, and packet 1 is the command's. With a hardware address it is one of Ethernet (tap), whose frames
+    are whole, with their checksums."""
     try:
-        made = os.open("/dev/net/tun", os.O_RDWR | os.O_CLOEXEC)
+        descriptor = os.open("/dev/net/tun", os.O_RDWR | os.O_CLOEXEC)
     except OSError as error:
         advice = TUN_ADVICE.get(error.errno or 0, "the container or the system keeps this user from it")
         raise Missing(f"/dev/net/tun: {error.strerror}: {advice}") from None
-    fcntl.ioctl(made, TUNSETIFF, struct.pack("16sH22x", name.encode(), TUN_WITH_NOTE))
-    fcntl.ioctl(made, TUNSETOFFLOAD, LEFT_TO_A_CARD)
+    fcntl.ioctl(descriptor, TUNSETIFF, struct.pack("16sH22x", name.encode(), WITH_NOTE | (TAP if mac else TUN)))
+    fcntl.ioctl(descriptor, TUNSETOFFLOAD, 0 if mac else LEFT_TO_A_CARD)
     # One that persists goes with its namespace: the kernel takes all of one away at once, and each closed one by
     # itself.
-    fcntl.ioctl(made, TUNSETPERSIST, int(persists))
+    fcntl.ioctl(descriptor, TUNSETPERSIST, int(persists))
     be_silent(name)
+    if mac:
+        change(name, 0, 0, [(HARDWARE_ADDRESS, mac)])
     set_up(name, UP | MULTICAST, ((MTU, mtu), (QUEUE_LENGTH, QUEUE)))
     add_address(name, address, bits)
     try:
         add_address(name, address6, 64)
     except OSError:
         pass  # a system without IPv6
-    return made
+    return descriptor
 
 
 def all_dropped() -> dict[str, int]:
     """Packets that the system dropped on the way into the host, since its queue was full, by the interfaces of this
     namespace."""
-    with open("/proc/thread-self/net/dev") as file:
-        rows = [line.partition(":") for line in list(file)[2:]]
+    rows = [line.partition(":") for line in read_system("/proc/thread-self/net/dev").splitlines()[2:]]
     return {name.strip(): int(counts.split()[DROPPED_OUT]) for name, _, counts in rows}
 
 
@@ -184,8 +187,7 @@ def something_listens(port: Optional[int] = None) -> bool:
     """Whether a socket in this namespace waits for a connection or a datagram, at that port where one is named."""
     for name, state in LISTENS:
         try:
-            with open("/proc/thread-self/net/" + name) as file:
-                rows = [line.split() for line in list(file)[1:]]
+            rows = [line.split() for line in read_system("/proc/thread-self/net/" + name).splitlines()[1:]]
         except OSError:
             continue
         if any(row[3] == state and port in (None, int(row[1].rpartition(":")[2], 16)) for row in rows):

@@ -13,8 +13,10 @@ import socket
 import struct
 from typing import NamedTuple
 
-from hinge.run.interfaces import add_interface_route, add_tun, ask_kernel, dropped, hand_on
+from hinge.border.files import read_system
+from hinge.run.interfaces import add_interface_route, add_tun, dropped, hand_on
 from hinge.run.rooms import Rooms, see_own_processes
+from hinge.run.rtnetlink import ask_kernel
 from hinge.run.system import Missing, enter, try_to_write
 from hinge.run.two_hosts import OWN
 from hinge.run.words import Wrong
@@ -47,8 +49,7 @@ def network_of(text: str) -> int:
 
 
 def read_setting(name: str) -> str:
-    with open(SETTINGS + name) as file:
-        return file.read().strip()
+    return read_system(SETTINGS + name).strip()
 
 
 class WayOut(NamedTuple):
@@ -58,20 +59,19 @@ class WayOut(NamedTuple):
 
 def way_out() -> WayOut:
     """The interface of the way to all other networks, and the address that packets have there."""
-    with open("/proc/thread-self/net/route") as file:
-        rows = [line.split() for line in list(file)[1:]]
-    found = [row for row in rows if row[1] == row[7] == "00000000"]
-    if not found:
+    rows = [line.split() for line in read_system("/proc/thread-self/net/route").splitlines()[1:]]
+    result = [row for row in rows if row[1] == row[7] == "00000000"]
+    if not result:
         raise Missing("--netns: this network has no way out, which a link could be on")
-    with socket.socket(socket.AF_INET, socket.SOCK_DGRAM) as asked:
-        asked.connect((socket.inet_ntoa(struct.pack("<I", int(found[0][2], 16))), 9))
-        return WayOut(found[0][0], str(asked.getsockname()[0]))
+    with socket.socket(socket.AF_INET, socket.SOCK_DGRAM) as sock:
+        sock.connect((socket.inet_ntoa(struct.pack("<I", int(result[0][2], 16))), 9))
+        return WayOut(result[0][0], str(sock.getsockname()[0]))
 
 
 def rule(kind: int, priority: int, table: int, comes_by: str = "") -> None:
-    given = [(COMES_BY, comes_by.encode() + b"\0")] if comes_by else []
+    inputs = [(COMES_BY, comes_by.encode() + b"\0")] if comes_by else []
     ask_kernel(kind, struct.pack("BBBBBBBBI", socket.AF_INET, 0, 0, 0, 0, 0, 0, TO_TABLE, 0),
-               [*given, (PRIORITY, struct.pack("I", priority)), (TABLE, struct.pack("I", table))])
+               [*inputs, (PRIORITY, struct.pack("I", priority)), (TABLE, struct.pack("I", table))])
 
 
 def rules(by: str) -> list[tuple[int, str]]:
@@ -112,7 +112,7 @@ class Joined(Rooms):
         self.out = way_out()
         without_rules(self.out.interface)
         self.interfaces = (add_tun(*ENDS[UP], mtu, UP, persists=False), add_tun(*ENDS[DOWN], mtu, DOWN, persists=False))
-        needed = {
+        need = {
             **{
                 f"conf/{name}/{key}": value
                 for name in ("all", self.out.interface, UP, DOWN)
@@ -120,9 +120,9 @@ class Joined(Rooms):
             },
             **OF_ALL,
         }
-        self.before = {name: read_setting(name) for name in needed}
+        self.before = {name: read_setting(name) for name in need}
         self.handed_on = read_setting(f"conf/{self.out.interface}/forwarding") == "1"
-        for name, value in needed.items():
+        for name, value in need.items():
             try_to_write(SETTINGS + name, value)
         for name in (DOWN, self.out.interface):
             hand_on(name)

@@ -21,17 +21,24 @@ def folder_of_names() -> str:
 
 def socket_of(text: str) -> str:
     """A path as it is, and the socket of a name."""
-    named = os.path.join(folder_of_names(), text)
-    return named if NAME.fullmatch(text) and not os.path.exists(text) and os.path.exists(named) else text
+    if not NAME.fullmatch(text) or os.path.exists(text) or not os.path.lexists(folder_of_names()):
+        return text
+    path = os.path.join(own_folder(), text)
+    return path if os.path.exists(path) else text
+
+
+def own_folder() -> str:
+    """The folder of names, which is there. Wrong: it isn't this user's alone, so that another one could answer."""
+    place = folder_of_names()
+    result = os.lstat(place)
+    if not stat.S_ISDIR(result.st_mode) or result.st_uid != os.geteuid():
+        raise Wrong(f"{place}: it is another user's")
+    return place
 
 
 def new_socket(name: str) -> str:
     """Where a run gets a socket by name. Its folder is made, and must be this user's alone."""
     if not NAME.fullmatch(name):
         raise Wrong(f"--name {name}: a name has letters, digits, dots and hyphens")
-    place = folder_of_names()
-    os.makedirs(place, 0o700, exist_ok=True)
-    found = os.lstat(place)
-    if not stat.S_ISDIR(found.st_mode) or found.st_uid != os.geteuid():
-        raise Wrong(f"{place}: it is another user's")
-    return os.path.join(place, name)
+    os.makedirs(folder_of_names(), 0o700, exist_ok=True)
+    return os.path.join(own_folder(), name)

@@ -5,28 +5,32 @@ from __future__ import annotations
 import argparse
 import os
 import random
-from typing import Iterable, NoReturn, Optional
+from typing import NoReturn, Optional
 
+from hinge.arguments import is_number
+from hinge.border.terminal import show
 from hinge.captures.rule_words import HELP
-from hinge.run.extras import without_extras
+from hinge.checks.lines import Placed, refuse_wrong
 from hinge.run.plan import MOST, Plan
+from hinge.run.settings import LinkOptions, LiveOptions
 from hinge.run.transcripts import refuse_own_input
-from hinge.run.words import WAYS, Target, Wrong, bare, duration, link_line, read_lines, target_of
+from hinge.run.words import Target, Wrong, bare, bytes_of_mtu, duration, link_of, read_lines, target_of
+from hingetulip_words.link import Place, corrected
 from hingetulip_words.presets import Preset, preset, table
 
 BIN_LEAST = 10**6  # ns
 TRACE_LASTING = 3600 * 10**9  # ns
-MTU_LEAST, MTU_MOST = 576, 65535
 
 
 def mtu(text: str) -> int:
-    if not (text.isascii() and text.isdecimal() and MTU_LEAST <= int(text) <= MTU_MOST):
-        raise argparse.ArgumentTypeError(f"{text!r} is no number from {MTU_LEAST} to {MTU_MOST}")
-    return int(text)
+    try:
+        return bytes_of_mtu(text)
+    except Wrong as wrong:
+        raise argparse.ArgumentTypeError(str(wrong)) from None
 
 
 def seed(text: str) -> int:
-    if not (text.isascii() and text.isdecimal() and int(text) < 2**62):
+    if not (is_number(text) and int(text) < 2**62):
         raise argparse.ArgumentTypeError(f"{text!r} is no number below 2^62")
     return int(text)
 
@@ -38,28 +42,60 @@ class ListPresets(argparse.Action):
         self, parser: argparse.ArgumentParser, namespace: argparse.Namespace, values: object,
         option: Optional[str] = None
     ) -> NoReturn:
-        print(table())
+        show(table())
         parser.exit()
 
 
-# Options of other tools for one property of a link, each with the words of a link that say the same.
+class BothWays(argparse.Action):
+    """The link of each way of which --up and --down say nothing."""
+
+    def __call__(self, parser: argparse.ArgumentParser, namespace: argparse.Namespace, values: object,
+                 option: Optional[str] = None) -> None:
+        for way in ("up", "down"):
+            if getattr(namespace, way, None) is None:
+                setattr(namespace, way, values)
+
+
+# Options of other tools for a property of a link, with the words of a link that say the same of a value.
 ELSEWHERE = {
-    "--rate": "", "--bandwidth": "", "--bw": "", "--delay": "", "--latency": "", "--jitter": "jitter ", "--plr": "plr "
+    **dict.fromkeys(("--rate", "--bandwidth", "--bw", "--delay", "--latency", "--both", "--speed"), "{}"),
+    "--jitter": "jitter {}", "--plr": "plr {}", "--packet-loss": "loss {}", "--drop": "loss {}", "--limit": "queue {}",
+    "--queue": "queue {}", "--target-bw": "{}Kbit/s", "--duplicate": "duplicate {}",
+}
+UNITS = {**dict.fromkeys(("--delay", "--latency", "--jitter"), "ms"), **dict.fromkeys(("--packet-loss", "--drop", "--duplicate"), "%")}
+# Options that people try, with what to write, and whether a value comes with them.
+OTHERS = {
+    "--uplink": ("--up '{}'", True), "--upload": ("--up '{}'", True), "--downlink": ("--down '{}'", True),
+    "--download": ("--down '{}'", True), "--rtt": ("--link with half of {} each way", True),
+    "--profile": ("--preset '{}'", True), "--conditions": ("--preset '{}'", True),
+    "--uplink-queue": ("--up '10Mbit/s queue 100'", True), "--downlink-queue": ("--down '10Mbit/s queue 100'", True),
+    "--pcap": ("--transcript FILE, which `hinge look` draws", True), "--log": ("--transcript FILE", True),
+    "--output": ("--transcript FILE", True), "--report": ("--json FILE", True),
+    "--timeout": ("timeout {} before COMMAND, or --real-limit {} of simulated time", True),
+    "--meter-all": ("--watch", False), "--verbose": ("--watch", False), "-v": ("--watch", False),
+    "--simulate": ("--simulated", False), "--internet": ("--outside", False), "--network": ("--outside", False),
 }
 
 
 class WordOfLink(argparse.Action):
-    """Refuses another tool's option, and says which words of a link to write in its place."""
+    """Refuses another tool's option, and says what to write in its place."""
 
     def __call__(self, parser: argparse.ArgumentParser, namespace: argparse.Namespace, values: object,
                  option: Optional[str] = None) -> NoReturn:
-        words = f"{ELSEWHERE[option or '--rate']}{values}"
-        parser.error(f"{option}: the words of a link are in --up and --down; write --up '{words}' --down '{words}'")
+        if option in OTHERS:
+            parser.error(f"{option}: write {OTHERS[option][0].format(values, values)}")
+        unit = UNITS.get(option or "", "") * str(values).isdigit()
+        text = ELSEWHERE[option or "--rate"].format(f"{values}{unit}")
+        words = corrected(text) or text
+        parser.error(f"{option}: the words of a link are in --link; write --link '{words}'")
 
 
 def add_elsewhere(parser: argparse.ArgumentParser) -> None:
     for option in ELSEWHERE:
-        parser.add_argument(option, action=WordOfLink, help=argparse.SUPPRESS)
+        parser.add_argument(option, action=WordOfLink, default=argparse.SUPPRESS, help=argparse.SUPPRESS)
+    for option, (_, has_value) in OTHERS.items():
+        others = parser.add_argument(option, action=WordOfLink, default=argparse.SUPPRESS, help=argparse.SUPPRESS)
+        others.nargs = None if has_value else 0
 
 
 def add_link(parser: argparse.ArgumentParser) -> None:
@@ -70,12 +106,16 @@ def add_link(parser: argparse.ArgumentParser) -> None:
         help="towards the server, as '2Mbit/s 20ms queue 100 loss 1%% jitter 5ms duplicate 1%%': pipe 1"
     )
     link.add_argument("--down", metavar="LINK", help="from the server: pipe 2")
+    link.add_argument("--link", metavar="LINK", action=BothWays, default=argparse.SUPPRESS, help="both ways")
     link.add_argument(
         "--preset", metavar="NAME", help="the link of a name, as lte, in each direction of which nothing else is said"
     )
-    link.add_argument("--list-presets", action=ListPresets, nargs=0, help="print the presets and their figures")
     link.add_argument(
-        "--config", metavar="FILE", help="configuration lines, of any pipes and queues (hinge docs CONFIG)"
+        "--list-presets", action=ListPresets, nargs=0, default=argparse.SUPPRESS,
+        help="print the presets and their figures"
+    )
+    link.add_argument(
+        "--config", metavar="FILE", help="configuration lines, of any pipes and queues (hinge docs LINKS)"
     )
     link.add_argument(
         "--line", metavar="LINE", action="append", default=[], help="one more configuration line; may be repeated"
@@ -138,41 +178,38 @@ def add_run(group: argparse._ArgumentGroup) -> None:
     )
 
 
-def inputs(asked: argparse.Namespace) -> Iterable[Optional[str]]:
-    """The files that are read."""
-    return asked.config, asked.timeline, asked.up_trace, asked.down_trace, *getattr(asked, "inputs", [])
-
-
-def preset_of(asked: argparse.Namespace) -> Optional[Preset]:
+def preset_of(name: Optional[str]) -> Optional[Preset]:
     try:
-        return None if asked.preset is None else preset(asked.preset)
+        return None if name is None else preset(name)
     except ValueError as unknown:
         raise Wrong(f"--preset: {unknown}") from None
 
 
-def lines_of(asked: argparse.Namespace) -> list[str]:
+def lines_of(options: LinkOptions) -> list[str]:
     """The configuration lines, in their order. Those of --up and --down are behind lines that configure the same pipe,
     and else before all lines, since queues may be of it. A direction of which nothing is said is the preset's, and else
     open."""
-    named = preset_of(asked)
-    given = [
-        *(read_lines(asked.config) if asked.config else []),
-        *(part for text in asked.line for part in text.splitlines()),
+    path = preset_of(options.preset)
+    lines_with_places = [
+        *(Placed(f"{options.config}:{number}", line)
+          for number, line in enumerate(read_lines(options.config) if options.config else [], 1)),
+        *(Placed("--line", part) for text in options.line for part in text.splitlines()),
     ]
-    configured = {target_of(bare(line)) for line in given}
+    refuse_wrong(lines_with_places)
+    inputs = [line.text for line in lines_with_places]
+    targets = {target_of(bare(line)) for line in inputs}
     first, last = list[str](), list[str]()
-    for number, option in ((1, "up"), (2, "down")):
-        is_given = Target("pipe", number) in configured
-        text = getattr(asked, option)
-        if text is None and named and not is_given:
-            text = getattr(named, option)
-        if text is not None:
-            text, _ = without_extras(text, f"--{option}")
-        if text is not None and not (is_given and not text.strip()):
-            (last if is_given else first).append(link_line(number, text, f"--{option}"))
+    ways = (("up", options.up, path and path.up), ("down", options.down, path and path.down))
+    for number, (option, text, preset_text) in enumerate(ways, 1):
+        is_given = Target("pipe", number) in targets
+        if text is None and not is_given:
+            text = preset_text
+        link = None if text is None else link_of(text, f"--{option}", Place.RUN)
+        if link is not None and (link.options or not is_given):
+            (last if is_given else first).append(link.line(number))
         elif not is_given:
             last.append(f"pipe {number} config")
-    return [*first, *given, *last]
+    return [*first, *inputs, *last]
 
 
 def refuse_lost_summary(path: Optional[str]) -> None:
@@ -192,33 +229,34 @@ def limit_of(late: Optional[str]) -> Optional[float]:
     return duration(late) / 1e6
 
 
-def plan_of(asked: argparse.Namespace, longest: int) -> Plan:
+def plan_of(options: LiveOptions, longest: int) -> Plan:
     """What the link shall do, for packets of at most so many bytes."""
-    refuse_own_input("--transcript", asked.transcript, inputs(asked))
-    refuse_own_input("--json", asked.json, [*inputs(asked), asked.transcript])
-    refuse_lost_summary(asked.json)
+    refuse_own_input("--transcript", options.transcript, options.files())
+    refuse_own_input("--json", options.json, [*options.files(), options.transcript])
+    refuse_lost_summary(options.json)
     plan = Plan(longest)
-    for line in lines_of(asked):
+    for line in lines_of(options):
         plan.link(line)
-    for way, option in enumerate(WAYS):
-        plan.extra(way, without_extras(getattr(asked, option) or "", f"--{option}")[1])
-    for rule in asked.map:
+    for way, (option, text) in enumerate((("up", options.up), ("down", options.down))):
+        plan.extra(way, link_of(text or "", f"--{option}", Place.RUN).extra)
+    for rule in options.map:
         plan.rule(rule)
-    for model in asked.loss:
+    for model in options.loss:
         plan.loss(model)
-    if asked.timeline:
-        plan.timeline(asked.timeline)
-    for way, path in enumerate((asked.up_trace, asked.down_trace)):
+    if options.timeline:
+        plan.timeline(options.timeline)
+    for way, path in enumerate((options.up_trace, options.down_trace)):
         if path:
-            plan.trace(way, path, max(BIN_LEAST, duration(asked.bin)) if asked.bin else None, duration(asked.trace_for))
+            bin_ns = max(BIN_LEAST, duration(options.bin)) if options.bin else None
+            plan.trace(way, path, bin_ns, duration(options.trace_for))
     return plan
 
 
-def drawn_seed(asked: argparse.Namespace) -> int:
-    return random.SystemRandom().getrandbits(32) if asked.seed is None else int(asked.seed)
+def drawn_seed(inputs: Optional[int]) -> int:
+    return random.SystemRandom().getrandbits(32) if inputs is None else inputs
 
 
 def draws(plan: Plan) -> bool:
     """Whether the seed decides anything."""
-    lines = [*plan.configured, *(change.line for change in plan.changes.all())]
-    return bool(plan.decided or plan.extras) or any("plr" in line.split() for line in lines)
+    lines = [*plan.configured, *(change.line for change in plan.changes.lines)]
+    return bool(plan.decided or plan.extras) or any("plr" in line for line in lines)

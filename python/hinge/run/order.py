@@ -2,17 +2,17 @@
 
 from __future__ import annotations
 
-import argparse
-import json
 import os
 from typing import Callable, NamedTuple, Optional, Sequence
 
 from hinge.command import FILES, say
+from hinge.outputs import write_json
 from hinge.run.control import Control, Enter, Record, nobody, opened
 from hinge.run.options import draws, drawn_seed, limit_of, plan_of
 from hinge.run.page import NOT_ALLOWED, Page
 from hinge.run.plan import Plan
 from hinge.run.processes import Ended, Mask
+from hinge.run.settings import LiveOptions
 from hinge.run.summary import VOID, cautions, lines, record, void
 from hinge.run.system import is_simulated
 from hinge.run.transcripts import told
@@ -20,7 +20,7 @@ from hinge.run.words import duration
 
 
 class Order(NamedTuple):
-    asked: argparse.Namespace
+    options: LiveOptions
     plan: str
     changes: list[tuple[int, str]]  # for --watch: moments in ns, and what happens then
     limit: Optional[float]  # ms
@@ -35,19 +35,17 @@ class Order(NamedTuple):
         def event(moment: str, words: str) -> None:
             self.made.event([moment, *words.split()])
 
-        return opened(self.asked.control, self.made, page, event, status, enter)
+        return opened(self.options.control, self.made, page, event, status, enter)
 
 
-def order_of(asked: argparse.Namespace, longest: int, mask: Mask) -> Order:
+def order_of(options: LiveOptions, longest: int, mask: Mask, server_end: str = "0") -> Order:
     """For packets of at most so many bytes."""
-    plan, seed = plan_of(asked, longest), drawn_seed(asked)
-    transcript = os.path.abspath(asked.transcript) if asked.transcript else None
-    text = plan.text(seed, transcript, asked.realtime, asked.most, is_simulated())
-    changes = [(change.moment, change.line) for change in plan.changes.all()]
-    return Order(
-        asked, text, changes, limit_of(asked.late), seed, draws(plan), mask,
-        duration(getattr(asked, "server_end", "0")) / 1e9, plan
-    )
+    plan, seed = plan_of(options, longest), drawn_seed(options.seed)
+    transcript = os.path.abspath(options.transcript) if options.transcript else None
+    text = plan.text(seed, transcript, options.realtime, options.most, is_simulated())
+    changes = [(change.moment, change.told) for change in plan.changes.all()] if options.watch else []
+    limit, patience = limit_of(options.late), duration(server_end) / 1e9
+    return Order(options, text, changes, limit, seed, draws(plan), mask, patience, plan)
 
 
 def note_realtime(page: Page) -> None:
@@ -57,34 +55,32 @@ def note_realtime(page: Page) -> None:
 
 def report(order: Order, page: Page, drops: Sequence[int], status: int, server: Optional[Ended] = None) -> int:
     """Tells how it went, on standard error and in the file that --json names; the status, or that of a void run."""
-    asked, counts = order.asked, page.read()
+    options, counts = order.options, page.read()
     faults = void(counts, drops, order.limit)
-    if not asked.quiet:
+    if not options.quiet:
         for line in [*lines(counts, drops), *[f"seed {order.seed}"] * order.draws]:
             say(line)
-        is_real = not getattr(asked, "simulated", False)
+        is_real = not is_simulated()
         for line in cautions(counts, drops, order.plan) if order.limit is None and is_real and status != 127 else ():
             say(line)
     for line in [
-        *(told(asked.transcript, counts["parts"]) if asked.transcript else []),
+        *(told(options.transcript, counts["parts"]) if options.transcript else []),
         *(f"void: {fault}" for fault in faults),
     ]:
         say(line)
-    if asked.json:
+    if options.json:
         told_all = {
             **record(counts, drops, status, order.seed, faults),
             **({"server": server._asdict()} if server else {}),
         }
-        status = status_with_json(asked.json, told_all, status)
+        status = status_with_json(options.json, told_all, status)
     return VOID if faults else status
 
 
 def status_with_json(path: str, record: dict[str, object], status: int) -> int:
     """Writes the file that --json names; the status, or where all was well that of a file that can't be written."""
     try:
-        with open(path, "w") as file:
-            json.dump(record, file, indent=1)
-            file.write("\n")
+        write_json(path, record)
     except OSError as error:
         say(f"--json {path}: {error.strerror}")
         return status or FILES

@@ -12,6 +12,7 @@ import socket
 import time
 from typing import Callable, NamedTuple, Sequence
 
+from hinge.border.files import read_system
 from hinge.run.interfaces import add_address, add_route, announce, hand_on, leads_out_in_ipv6
 from hinge.run.rooms import put_over
 from hinge.run.system import Missing, die_with_parent, enter, try_to_write, write
@@ -94,13 +95,13 @@ class Outside:
 
     def join_what_is_told(self, read_end: int) -> None:
         """`PROCESS OWN!`: that of the first process of the rooms, once it is in the host's."""
-        told = b""
-        while not told.endswith(b"!"):
+        text = b""
+        while not text.endswith(b"!"):
             more = os.read(read_end, 100)
             if not more:
                 os._exit(0)
-            told += more
-        process, own_users = told[:-1].decode().split()
+            text += more
+        process, own_users = text[:-1].decode().split()
         words = words_for(process, own_users == "True", self.ipv6, self.loopback, self.outer)
         os.dup2(self.said, 1)
         os.dup2(self.said, 2)
@@ -114,8 +115,8 @@ class Outside:
         """Whether the present room has a way out."""
         try:
             socket.if_nametoindex(INTERFACE)
-            with open("/proc/thread-self/net/route") as file:
-                return any(line.split()[:2] == [INTERFACE, "00000000"] for line in file)
+            rows = read_system("/proc/thread-self/net/route").splitlines()
+            return any(line.split()[:2] == [INTERFACE, "00000000"] for line in rows)
         except OSError:
             return False
 
@@ -136,7 +137,7 @@ class Outside:
                 )
             time.sleep(0.01)
         for name in (*interfaces, INTERFACE) if interfaces else ():
-            hand_on(name)
+            hand_on(name, is_asked=name == INTERFACE)
         put_over("/etc/resolv.conf", f"nameserver {self.outer.resolver}\n")
         return self.ipv6 and self.hands_on_ipv6(others)
 

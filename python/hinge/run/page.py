@@ -13,19 +13,21 @@ COUNTS = (
     "came", "came_bytes", "sent", "sent_bytes", "lost", "full", "no_target", "refused", "not_ip", "turned_away",
     "dropped", "held", "discarded", "stayed", "late_most", "unread_most"
 )
-WAY = len(COUNTS) + 2 * BINS
+KINDS = 4  # of bins: packets late and unread, and the time in which some were
+WAY = len(COUNTS) + KINDS * BINS
 STARTING, RUNNING, ENDED_WELL = range(3)  # the states
 NOT_ALLOWED = 2  # of `realtime`
 
 
 class Times:
-    """How many packets had which time, and the longest."""
+    """How many packets had which time, or how many ns; and the longest."""
 
     def __init__(self, bins: tuple[int, ...], most: int) -> None:
         self.bins, self.most = bins, most
 
     def within(self, share: float) -> float:
-        """The ms within which that share of the packets came: the upper end of its bin, and at most what was seen."""
+        """The ms within which that share of the packets or the time was: the upper end of its bin, and at most what was
+        seen."""
         total, below = sum(self.bins), 0
         for index, count in enumerate(self.bins):
             below += count
@@ -38,11 +40,14 @@ class Times:
 class Way:
     """The counts of a direction."""
 
-    def __init__(self, numbers: tuple[int, ...]) -> None:
+    def __init__(self, numbers: tuple[int, ...], moment: int) -> None:
+        """Up to a moment of the links. In the time that isn't counted nothing was late."""
         self.counts = dict(zip(COUNTS, numbers))
-        bins = numbers[len(COUNTS):]
-        self.late, self.unread = Times(bins[:BINS], self.counts["late_most"]), Times(
-            bins[BINS:], self.counts["unread_most"]
+        late, unread, *times = (numbers[at:at + BINS] for at in range(len(COUNTS), WAY, BINS))
+        self.late, self.unread = Times(late, self["late_most"]), Times(unread, self["unread_most"])
+        self.late_time, self.unread_time = (
+            Times((bins[0] + max(0, moment - sum(bins)), *bins[1:]), packets.most)
+            for bins, packets in zip(times, (self.late, self.unread))
         )
 
     def __getitem__(self, name: str) -> int:
@@ -58,7 +63,7 @@ class Counts:
 
     def __init__(self, numbers: tuple[int, ...]) -> None:
         self.head = dict(zip(HEAD, numbers))
-        self.ways = [Way(numbers[at:at + WAY]) for at in range(len(HEAD), len(numbers), WAY)]
+        self.ways = [Way(numbers[at:at + WAY], self["moment"]) for at in range(len(HEAD), len(numbers), WAY)]
 
     def __getitem__(self, name: str) -> int:
         return self.head[name]

@@ -8,9 +8,11 @@ here asks the system for more than files to read.
     map WAY KIND NUMBER PROTO DSCP SRC MASK DST MASK SPORT SPORT DPORT DPORT
                                        KIND 0 pipe, 1 queue; -1 any; addresses of IPv6 in hex
     line LINE                          a configuration line, before the first packet
-    at NS LINE                         one at a moment
+    at NS LINE                         one at a moment, or a line of cuts.h: `cut PIPE N`, `open PIPE N`, `heal PIPE`,
+                                       `remark WORDS`
     outage NS PIPE LENGTH              where nothing waits for a pipe, a packet of so many bytes that nobody sent
     hold PIPE FROM TO                  what would begin between these moments leaves at the second
+    main LINE                          such a line, whose moments begin with the main command
     slots PIPE MS ..                   moments at each of which 1,500 bytes may leave; the last is the period
     realtime                           before all other programs, where the system allows
     simulated                          time passes only while all wait: behind `realtime` the clock is read once a turn
@@ -18,6 +20,7 @@ here asks the system for more than files to read.
     jitter WAY FIRST COUNT SEED        what has left its pipe goes through one of so many pipes from FIRST on, drawn by
                                        the seed
     copies WAY CHANCE SEED             the chance of 2^31 that a packet enters twice
+    switch WAY WAY ..                  the ways that end at a switch, which carry frames (switches.h)
     control DESCRIPTOR                 a socket from which lines come while packets pass (control.h)
     epoch NS                           the time of the monotonic clock at which moments begin; else the beginning of the
                                        host
@@ -29,22 +32,54 @@ and 3 and pipes 3 and 4, and so on. What a link is given names its own pipes 1 a
 
 from __future__ import annotations
 
-from typing import Optional
+import gc
+from contextlib import contextmanager
+from typing import Iterator, Optional
 
+from hinge.arguments import is_number
+from hinge.border.files import untrusted
+from hinge.checks.lines import Placed, refuse_wrong
 from hinge.run.changes import Change, Changes, Outage
-from hinge.run.extras import Extra, refuse_extras
 from hinge.run.losses import loss_lines
 from hinge.run.rules import Rule
-from hinge.run.spelling import spelled
 from hinge.run.traces import MAHIMAHI_BYTES, MOST_BINS, MS, Rate, counted, read_trace
 from hinge.run.words import (
-    LAST_MOMENT, WAYS, Target, Wrong, bare, configures, duration, link_line, of_link, read_lines, target_of,
+    LAST_MOMENT, WAYS, Target, Wrong, bare, configures, duration, is_line, link_of, of_link, read_lines, target_of,
     with_bandwidth
 )
+from hingetulip_words.link import NO_WORDS, Extra
 
 TRACE_BIN = 100 * 10**6  # ns
 LAST_PIPE = 65535
+FIRST_BEHIND_MAIN = 2**31  # the number of the first cut by a moment of the main command
 MOST = 250_000_000  # bytes of a part of a transcript: an audit reads at most 268,435,456
+
+
+def ways_and_rest(text: str) -> tuple[list[int], str]:
+    """Whether one way is meant, and what of it, of words with single blanks."""
+    word, _, rest = text.partition(" ")
+    return ([WAYS[word]], rest) if word in WAYS else ([0, 1], text)
+
+
+def lines_meant(text: str, link: int, option: str) -> list[str]:
+    """The lines of `[up|down] LINK`; the option tells where it was said."""
+    ways, rest = ways_and_rest(text)
+    if not rest:
+        raise Wrong(NO_WORDS)
+    words = link_of(rest, option)
+    return [words.line(2 * link + way + 1) for way in ways]
+
+
+@contextmanager
+def uncollected() -> Iterator[None]:
+    """Long lists of events have no circles, and the collector would go through all of them again and again."""
+    was_enabled = gc.isenabled()
+    gc.disable()
+    try:
+        yield
+    finally:
+        if was_enabled:
+            gc.enable()
 
 
 class Plan:
@@ -57,6 +92,7 @@ class Plan:
         self.current: dict[Target, str] = {}  # the lines at the beginning
         self.longest = longest
         self.changes = Changes(self.current, longest)
+        self.behind_main = Changes(self.current, longest, FIRST_BEHIND_MAIN)  # by moments of the main command
         self.extras: dict[int, tuple[Extra, range]] = {}  # by ways, with the pipes of the second pass
         self.last_free = LAST_PIPE
 
@@ -65,20 +101,20 @@ class Plan:
         if extra == Extra():
             return
         pipes = range(self.last_free - extra.pipes + 1, self.last_free + 1)
-        taken = {target.number for target in self.current if target.kind == "pipe"}
-        if pipes and (pipes[0] <= self.ways or taken & set(pipes)):
-            raise Wrong(f"jitter: pipe {max(taken & set(pipes), default=pipes[0])} is needed for it, and is another's")
+        width = {target.number for target in self.current if target.kind == "pipe"}
+        if pipes and (pipes[0] <= self.ways or width & set(pipes)):
+            raise Wrong(f"jitter: pipe {max(width & set(pipes), default=pipes[0])} is needed for it, and is another's")
         self.last_free -= len(pipes)
         self.extras[way] = extra, pipes
         for delay, pipe in enumerate(pipes):
             self.link(f"pipe {pipe} config delay {delay}" if delay else f"pipe {pipe} config")
 
     def extra_lines(self, seed: int) -> list[str]:
-        found = []
+        items = []
         for way, (extra, pipes) in self.extras.items():
-            found += [f"jitter {way} {pipes[0]} {len(pipes)} {seed}"] if pipes else []
-            found += [f"copies {way} {extra.duplicate} {seed}"] if extra.duplicate else []
-        return found
+            items += [f"jitter {way} {pipes[0]} {len(pipes)} {seed}"] if pipes else []
+            items += [f"copies {way} {extra.duplicate} {seed}"] if extra.duplicate else []
+        return items
 
     def link(self, line: str, link: int = 0) -> None:
         line = of_link(bare(line), link)
@@ -91,8 +127,8 @@ class Plan:
         number = target.number
         if target.kind == "queue":
             words = self.current.get(target, "").split()
-            found = words[words.index("pipe") + 1] if "pipe" in words[:-1] else ""
-            number = int(found) if found.isdecimal() else 0
+            result = words[words.index("pipe") + 1] if "pipe" in words[:-1] else ""
+            number = int(result) if is_number(result) else 0
         return number - 1 if 1 <= number <= self.ways else None
 
     def rule(self, text: str, link: int = 0) -> None:
@@ -113,54 +149,70 @@ class Plan:
 
     def lossy(self, line: str) -> str:
         """A line by which words decide about losses, where a model draws them."""
-        decided = configures(line) and self.way_of(target_of(line)) in self.decided
-        return f"{line} plr 0.5" if decided and "plr" not in line.split() else line
+        is_decided = self.decided and configures(line) and self.way_of(target_of(line)) in self.decided
+        return f"{line} plr 0.5" if is_decided and "plr" not in line.split() else line
 
-    def outage(self, moment: int, ways: list[int], words: list[str]) -> None:
+    def outage(self, moment: int, ways: list[int], words: list[str], changes: Changes) -> None:
         if not words or words[1:] not in ([], ["lossy"]):
             raise Wrong("`[up|down] outage LENGTH [lossy]`, LENGTH as 600ms")
         length = duration(words[0])
         for pipe in (way + 1 for way in ways):
             if Target("pipe", pipe) not in self.current:
                 raise Wrong(f"pipe {pipe} isn't configured")
-            self.changes.outages.append(Outage(moment, length, pipe, words[1:] == ["lossy"]))
+            if words[1:]:
+                changes.lose(moment, length, pipe)
+            else:
+                changes.outages.append(Outage(moment, length, pipe))
 
-    def event(self, words: list[str], link: int = 0) -> None:
+    def event(self, words: list[str], link: int = 0, changes: Optional[Changes] = None) -> None:
         """`MOMENT LINE`, `MOMENT [up|down] LINK` or `MOMENT [up|down] outage LENGTH [lossy]`, MOMENT as 5s."""
-        moment, rest = duration(words[0]), words[1:]
-        ways = [2 * link + way for way in ([WAYS[rest.pop(0)]] if rest and rest[0] in WAYS else [0, 1])]
-        if rest[:1] == ["outage"]:
-            self.outage(moment, ways, rest[1:])
-        elif words[1:2] and words[1] in ("pipe", "queue", "ipfw"):
-            self.changes.lines.append(Change(moment, of_link(" ".join(words[1:]), link)))
-        else:
-            refuse_extras(" ".join(rest), words[0])
-            self.changes.lines += [Change(moment, link_line(way + 1, " ".join(rest), words[0])) for way in ways]
+        words = bare(" ".join(words)).split()
+        self.happens(words[0], " ".join(words[1:]), link, changes or self.changes, {})
 
+    def happens(self, word: str, text: str, link: int, changes: Changes, meant: dict[str, list[str]]) -> None:
+        """An event, whose lines are meant already where the same was said of the link before."""
+        moment = duration(word)
+        if is_line(text):
+            changes.lines.append(Change(moment, of_link(text, link)))
+            return
+        if text not in meant:
+            ways, rest = ways_and_rest(text)
+            if rest == "outage" or rest.startswith("outage "):
+                self.outage(moment, [2 * link + way for way in ways], rest.split()[1:], changes)
+                return
+            meant[text] = lines_meant(text, link, word)
+        changes.lines += [Change(moment, line) for line in meant[text]]
+
+    @uncollected()
     def timeline(self, path: str) -> None:
-        for number, line in enumerate(read_lines(path), 1):
-            words = bare(line).split()
-            try:
-                if words:
-                    self.event(words)
-            except Wrong as wrong:
-                raise Wrong(f"{path} line {number}: {wrong}") from None
+        meant: dict[str, list[str]] = {}  # long files say the same again and again
+        with untrusted(path):
+            lines = [bare(line).partition(" ") for line in read_lines(path)]
+            plain = {text for text in {text for _, _, text in lines} if is_line(text)}
+            refuse_wrong([Placed(f"{path}:{number}", text) for number, (_, _, text) in enumerate(lines, 1) if text in plain])
+            for number, (word, _, text) in enumerate(lines, 1):
+                try:
+                    if word:
+                        self.happens(word, text, 0, self.changes, meant)
+                except Wrong as wrong:
+                    raise Wrong(f"{path} line {number}: {wrong}") from None
 
+    @uncollected()
     def trace(self, way: int, path: str, bin_ns: Optional[int], lasting: int) -> None:
         """The bandwidth of a way by a file. mahimahi's moments are obeyed each, where no bin is given and the pipe is
         one queue; else they are counted over bins, which begin anew for so many ns."""
         line = self.current.get(Target("pipe", way + 1))
         if line is None:
             raise Wrong(f"{path}: pipe {way + 1} isn't configured")
-        found = read_trace(path)
-        if found.moments and bin_ns is None and way + 1 not in self.changes.shared():
-            self.rest.append(f"slots {way + 1} {' '.join(map(str, found.moments))}")
-        elif found.moments:
+        result = read_trace(path)
+        if result.moments and bin_ns is None and way + 1 not in self.changes.shared():
+            self.rest.append(f"slots {way + 1} {' '.join(map(str, result.moments))}")
+        elif result.moments:
             self.bins(
-                line, path, found.moments, min(TRACE_BIN, found.moments[-1] * MS) if bin_ns is None else bin_ns, lasting
+                line, path, result.moments, min(TRACE_BIN, result.moments[-1] * MS) if bin_ns is None else bin_ns, lasting
             )
         else:
-            self.rates(way, line, found.rates)
+            self.rates(way, line, result.rates)
 
     def bins(self, line: str, path: str, moments: list[int], bin_ns: int, lasting: int) -> None:
         rates, period = counted(path, moments, bin_ns, self.longest), moments[-1] * MS
@@ -178,21 +230,30 @@ class Plan:
             if rate:
                 self.changes.lines.append(Change(moment, with_bandwidth(line, rate)))
             elif end > moment:
-                self.changes.outages.append(Outage(moment, end - moment, way + 1, False))
+                self.changes.outages.append(Outage(moment, end - moment, way + 1))
 
+    @staticmethod
+    def hold_lines(changes: Changes) -> list[str]:
+        return [f"hold {pipe} {begin} {end}" for pipe, begin, end in changes.holds()]
+
+    def change_lines(self, changes: Changes) -> list[str]:
+        return [
+            f"outage {moment} {line.partition(' ')[2]}"
+            if line.startswith("outage ")
+            else f"at {moment} {self.lossy(line)}"
+            for moment, line in changes.all()
+        ]
+
+    @uncollected()
     def text(
         self, seed: int, transcript: Optional[str] = None, realtime: bool = False, most: int = MOST,
-        simulated: bool = False
+        in_simulated_time: bool = False
     ) -> str:
         out = [f"transcript {most} {transcript}"] if transcript else []
         out += [f"seed {way} {seed}" for way in range(self.ways)] + self.rest + self.extra_lines(seed)
-        out += [f"hold {pipe} {begin} {end}" for pipe, begin, end in self.changes.holds()]
-        out += [f"line {spelled(self.lossy(line))}" for line in self.configured]
-        for change in self.changes.all():
-            kind, _, rest = change.line.partition(" ")
-            out.append(
-                f"outage {change.moment} {rest}"
-                if kind == "outage"
-                else f"at {change.moment} {spelled(self.lossy(change.line))}"
-            )
-        return "\n".join([*out, *["realtime"] * realtime, *["simulated"] * simulated, ""])
+        out += self.hold_lines(self.changes)
+        out += [f"main {line}" for line in self.hold_lines(self.behind_main)]
+        out += [f"line {self.lossy(line)}" for line in self.configured]
+        out += self.change_lines(self.changes)
+        out += [f"main {line}" for line in self.change_lines(self.behind_main)]
+        return "\n".join([*out, *["realtime"] * realtime, *["simulated"] * in_simulated_time, ""])

@@ -17,7 +17,7 @@ class Ended(NamedTuple):
 
     status: int
     after: float  # s
-    by: str  # itself, SIGTERM or SIGKILL
+    by: str  # itself, SIGTERM or SIGKILL; kill, where an act of a net did
 
 
 def name_of(status: int) -> str:
@@ -87,8 +87,8 @@ class Processes:
             now = time.monotonic()
             if until is not None and now >= until:
                 return None
-            left = [3600.0] if until is None else [until - now]
-            came = signal.sigtimedwait(self.signals, min([*left, *([ticker.left()] if ticker else [])]))
+            remainder = [3600.0] if until is None else [until - now]
+            came = signal.sigtimedwait(self.signals, min([*remainder, *([ticker.left()] if ticker else [])]))
             if came and came.si_signo != signal.SIGCHLD:
                 return came.si_signo
             self.reap()
@@ -111,30 +111,30 @@ class Processes:
         """Has processes end with their groups, where they have some of their own, and kills those that are there after
         so many seconds; which these are."""
         self.reap()
-        left = [process for process in processes if process not in self.ended]
-        for process in left:
+        rest = [process for process in processes if process not in self.ended]
+        for process in rest:
             signal_group(process, signal.SIGTERM)
         until = time.monotonic() + patience
-        while (killed := {process for process in left if self.is_there(process)}) and time.monotonic() < until:
+        while (victims := {process for process in rest if self.is_there(process)}) and time.monotonic() < until:
             signal.sigtimedwait({signal.SIGCHLD}, max(0.0, until - time.monotonic()))
-        for process in killed:
+        for process in victims:
             signal_group(process, signal.SIGKILL)
             self.wait(process, patience)
-        return killed
+        return victims
 
-    def endings(self, started: dict[str, int], begun: float, patience: float) -> dict[str, Ended]:
+    def endings(self, processes: dict[str, int], start: float, patience: float) -> dict[str, Ended]:
         """How commands ended, which are all ended now: those by names and processes that didn't end by themselves.
         `begun` is when they began, by the monotonic clock."""
         self.reap()
-        themselves = {name for name, process in started.items() if process in self.ended}
-        killed = self.end_all([process for name, process in started.items() if name not in themselves], patience)
+        themselves = {name for name, process in processes.items() if process in self.ended}
+        victims = self.end_all([process for name, process in processes.items() if name not in themselves], patience)
         return {
             name: Ended(
                 self.ended.get(process, SIGNALLED + signal.SIGKILL),
-                round(self.ended_at.get(process, time.monotonic()) - begun, 3),
-                "itself" if name in themselves else "SIGKILL" if process in killed else "SIGTERM"
+                round(self.ended_at.get(process, time.monotonic()) - start, 3),
+                "itself" if name in themselves else "SIGKILL" if process in victims else "SIGTERM"
             )
-            for name, process in started.items()
+            for name, process in processes.items()
         }
 
     def is_there(self, process: int) -> bool:

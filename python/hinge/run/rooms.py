@@ -10,11 +10,14 @@ from __future__ import annotations
 
 import errno
 import os
+import shutil
 import signal
 import sys
+from contextlib import suppress
 from tempfile import gettempdir
 from typing import Callable, Optional, Sequence
 
+from hinge.border.files import read_system
 from hinge.command import say
 from hinge.run.interfaces import add_route, add_tun, dropped, set_up
 from hinge.run.processes import Mask
@@ -26,13 +29,20 @@ from hinge.run.two_hosts import Ends
 from hinge.run.users import Users, make_terminals
 
 CANNOT_EXECUTE, NOT_FOUND = 126, 127
+PAUSES = "/proc/pauses"  # there is one in a simulated machine alone
+ELF32 = b"\x7fELF\x01"  # the front of a program
+ORDER_OF_ADDRESSES = "/etc/gai.conf"
+DEFAULT_ORDER = "".join(
+    f"precedence {network} {place}\n"
+    for network, place in (("::1/128", 50), ("::/0", 40), ("2002::/16", 30), ("::/96", 20), ("::ffff:0:0/96", 10))
+)  # of the C library, which forgets it where the file has any
+OWN_LAST = "precedence fd08::/15 1\n"
 
 
 def is_chrooted() -> bool:
     """As far as a user can see: the root of a chroot is seldom that of a file system."""
     try:
-        with open("/proc/self/mountinfo") as file:
-            return all(line.split()[4] != "/" for line in file)
+        return all(line.split()[4] != "/" for line in read_system("/proc/self/mountinfo").splitlines())
     except OSError:
         return False
 
@@ -111,29 +121,51 @@ def put_over(path: str, text: str) -> None:
     """Puts a text in the place of a file, in these namespaces alone. Its file system is in no folder, so that nothing
     outlives the run; and its file has a name there, so that a run inside this one can do the same."""
     folder = gettempdir()
-    made = os.path.join(folder, "made")
+    product = os.path.join(folder, "made")
     mount("none", folder, "tmpfs", 0)
     try:
-        write(made, text)
-        os.chmod(made, 0o644)
-        mount(made, path, "none", BIND)
+        write(product, text)
+        os.chmod(product, 0o644)
+        mount(product, path, "none", BIND)
     finally:
         unmount(folder)
 
 
-def add_names(names: str, example: str, address: str) -> None:
-    """Lets hosts be found by name, in these namespaces alone: `names` has lines of /etc/hosts, one of them for the
-    example."""
+def prefer_ipv4() -> bool:
+    """Has the C library give a host's address of IPv4 first, as not every program listens in both families. Whether
+    the system has a file that can say so."""
     try:
-        with open("/etc/hosts") as file:
-            all_names = names + file.read()
+        rules = read_system(ORDER_OF_ADDRESSES)
+        is_default = not any(line.split()[:1] == ["precedence"] for line in rules.splitlines())
+        put_over(ORDER_OF_ADDRESSES, rules + "\n" + DEFAULT_ORDER * is_default + OWN_LAST)
+        return True
+    except OSError:
+        return False
+
+
+def add_names(names: str, of_six: str, example: str, address: str) -> None:
+    """Lets hosts be found by name, in these namespaces alone: `names` has lines of /etc/hosts, one of them for the
+    example. With those of `of_six` names lead to IPv6 as well, where IPv4 goes first."""
+    names += of_six * prefer_ipv4()
+    try:
+        all_names = names + read_system("/etc/hosts")
     except OSError:
         all_names = names
     try:
         put_over("/etc/hosts", all_names)
     except OSError as error:
-        made = "make an empty one, or take" if error.errno == errno.ENOENT else "take"
-        say(f"/etc/hosts: {error.strerror}: the name `{example}` isn't known: {made} {address}")
+        product = "make an empty one, or take" if error.errno == errno.ENOENT else "take"
+        say(f"/etc/hosts: {error.strerror}: the name `{example}` isn't known: {product} {address}")
+
+
+def why_not(name: str, error: OSError) -> str:
+    """Why a command isn't started."""
+    path = shutil.which(name)
+    if error.errno == errno.ENOEXEC and path and os.path.exists(PAUSES):
+        with suppress(OSError):
+            if os.read(os.open(path, os.O_RDONLY), len(ELF32)) == ELF32:
+                return "it is a 32-bit program, and the simulated machine runs 64-bit programs only"
+    return str(error.strerror)
 
 
 def start(words: Sequence[str], mask: Mask, enter_room: Callable[[], None], own_users: bool) -> int:
@@ -149,9 +181,10 @@ def start(words: Sequence[str], mask: Mask, enter_room: Callable[[], None], own_
         signal.signal(signal.SIGPIPE, signal.SIG_DFL)
         signal.signal(signal.SIGINT, signal.SIG_DFL)
         signal.pthread_sigmask(signal.SIG_SETMASK, mask)
+        try_to_write(PAUSES, "1")
         os.execvp(words[0], list(words))
     except OSError as error:
-        say(f"{words[0]}: {error.strerror}")
+        say(f"{words[0]}: {why_not(words[0], error)}")
         sys.stderr.flush()
         os._exit(NOT_FOUND if error.errno == errno.ENOENT else CANNOT_EXECUTE)
     finally:
@@ -168,7 +201,7 @@ class Rooms:
         unshare(NEWNET)
         self.server, server = furnish(), add_tun(ends.server, ends.server6, mtu, bits=ends.bits)
         self.interfaces = (client, server)
-        add_names(ends.names(), "server", ends.server)
+        add_names(ends.names(), ends.names_of_six(), "server", ends.server)
 
     def lead_out(self, ipv6: bool) -> None:
         """Sends what the client has for other networks to the server's room."""
@@ -179,11 +212,11 @@ class Rooms:
 
     def dropped(self) -> list[int]:
         """What the system dropped before the host, by ways."""
-        found = []
+        items = []
         for room in (self.client, self.server):
             enter(room)
-            found.append(dropped())
-        return found
+            items.append(dropped())
+        return items
 
     def start(self, room: int, words: Sequence[str], mask: Mask) -> int:
         """Starts a command in a room, and returns its process."""

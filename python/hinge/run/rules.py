@@ -47,25 +47,25 @@ class Rule:
 
     def nets(self) -> Iterator[tuple[Optional[Net], Optional[Net]]]:
         """The networks of both ends, in each way in which `host` can hold."""
-        given, host = self.short.nets, self.short.nets.get("host")
+        inputs, host = self.short.nets, self.short.nets.get("host")
         if host is None:
-            yield given.get("src"), given.get("dst")
+            yield inputs.get("src"), inputs.get("dst")
             return
         for end in ENDS[0]:
-            both = {**given, end: narrower(given.get(end), host)}
+            both = {**inputs, end: narrower(inputs.get(end), host)}
             if both[end] is not None:
                 yield both.get("src"), both.get("dst")
 
     def spans(self) -> Iterator[tuple[Span, Span]]:
         """The ports of both ends, in each way in which `port` can hold."""
-        given, either = {end: self.short.ports.get(end, EVERY_PORT) for end in ENDS[1]}, self.short.ports.get("port")
+        inputs, either = {end: self.short.ports.get(end, EVERY_PORT) for end in ENDS[1]}, self.short.ports.get("port")
         if either is None:
-            yield given["sport"], given["dport"]
+            yield inputs["sport"], inputs["dport"]
             return
         for end in ENDS[1]:
-            both = given[end].both(either)
+            both = inputs[end].both(either)
             if both is not None:
-                ends = {**given, end: both}
+                ends = {**inputs, end: both}
                 yield ends["sport"], ends["dport"]
 
     def lines(self, way: int) -> list[str]:

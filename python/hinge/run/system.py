@@ -10,6 +10,9 @@ import platform
 import struct
 from typing import Optional
 
+from hinge.border.files import read_system
+from hinge.command import Told
+
 NEWNS, NEWUTS, NEWUSER, NEWPID, NEWNET = 0x00020000, 0x04000000, 0x10000000, 0x20000000, 0x40000000  # of unshare(2)
 BIND, REC, PRIVATE = 0x1000, 0x4000, 0x40000  # of mount(2)
 DETACH = 2  # of umount2(2)
@@ -21,7 +24,7 @@ CAPSET = {"x86_64": 126}.get(platform.machine(), 91)  # 91 on aarch64 and riscv6
 libc = ctypes.CDLL(None, use_errno=True)
 
 
-class Missing(Exception):
+class Missing(Told):
     """Something that the system doesn't have or doesn't allow, told with what to do about it."""
 
 
@@ -90,8 +93,8 @@ def keep_network_rights() -> None:
     """Lets what this process executes use raw sockets, ports below 1024 and the interfaces of its namespace, though it
     isn't root."""
     rights = (BIND_SERVICE, NET_ADMIN, NET_RAW)
-    kept = sum(1 << right for right in rights)
-    libc.syscall(CAPSET, struct.pack("Ii", CAPABILITY_VERSION, 0), struct.pack("6I", kept, kept, kept, 0, 0, 0))
+    part = sum(1 << right for right in rights)
+    libc.syscall(CAPSET, struct.pack("Ii", CAPABILITY_VERSION, 0), struct.pack("6I", part, part, part, 0, 0, 0))
     for right in rights:
         libc.prctl(AMBIENT, AMBIENT_RAISE, right, 0, 0)
 
@@ -112,7 +115,6 @@ def try_to_write(path: str, text: str) -> None:
 def setting(name: str) -> str:
     """A setting of the kernel, or nothing where it has none of that name."""
     try:
-        with open("/proc/sys/" + name) as file:
-            return file.read().strip()
+        return read_system("/proc/sys/" + name).strip()
     except OSError:
         return ""

@@ -4,8 +4,9 @@ from __future__ import annotations
 
 import curses
 import os
-import sys
 from typing import Optional
+
+from hinge.border.terminal import printable, tell_codes
 
 LEAST_LINES, LEAST_COLUMNS = 12, 60
 
@@ -20,7 +21,7 @@ class Terminal:
         self.size = os.get_terminal_size(2)
         if curses.tigetstr("csr") is None or self.size.lines < LEAST_LINES or self.size.columns < LEAST_COLUMNS:
             raise curses.error
-        self.write(
+        tell_codes(
             "\n" * self.height
             + self.code("csr", 0, self.size.lines - self.height - 1)
             + self.code("cup", self.size.lines - self.height - 1, 0)
@@ -30,21 +31,16 @@ class Terminal:
     def code(name: str, *numbers: int) -> str:
         return curses.tparm(curses.tigetstr(name) or b"", *numbers).decode()
 
-    @staticmethod
-    def write(text: str) -> None:
-        sys.stderr.write(text)
-        sys.stderr.flush()
-
     def show(self, lines: list[str]) -> None:
         rows = "".join(
-            self.code("cup", self.size.lines - self.height + row, 0) + line[: self.size.columns] + self.code("el")
+            self.code("cup", self.size.lines - self.height + row, 0) + printable(line)[: self.size.columns] + self.code("el")
             for row, line in enumerate(lines)
         )
-        self.write(self.code("sc") + rows + self.code("rc"))
+        tell_codes(self.code("sc") + rows + self.code("rc"))
 
     def end(self) -> None:
         """Gives the whole terminal back."""
-        self.write(
+        tell_codes(
             self.code("sc")
             + self.code("csr", 0, self.size.lines - 1)
             + self.code("cup", self.size.lines - self.height, 0)

@@ -5,7 +5,9 @@ from __future__ import annotations
 import math
 from typing import Iterator, NamedTuple, Optional
 
-from hinge.run.words import LAST_MOMENT, SECOND, Wrong, bare, read_lines
+from hinge.arguments import is_number
+from hinge.border.files import untrusted
+from hinge.run.words import LAST_MOMENT, SECOND, Wrong, read_lines
 
 MAHIMAHI_BYTES = 1500
 MOST = 10**12  # bit/s of a pipe
@@ -43,7 +45,7 @@ def rows_of(path: str) -> Iterator[tuple[int, list[str]]]:
     """The numbers of the lines that say something, and their fields, without a header."""
     first = True
     for at, line in enumerate(read_lines(path), 1):
-        fields = [field.strip() for field in bare(line).split(",")]
+        fields = line.split("#", 1)[0].strip().split(",")
         if fields == [""]:
             continue
         if not first or any(number(field) is not None for field in fields):
@@ -59,27 +61,27 @@ def rate_of(fields: list[str]) -> Rate:
 
 
 def rates_of_rows(path: str, rows: list[tuple[int, list[str]]]) -> list[Rate]:
-    found: list[Rate] = []
+    rates: list[Rate] = []
     for at, fields in rows:
         try:
-            found.append(rate_of(fields))
+            rates.append(rate_of(fields))
         except ValueError:
             raise Wrong(f"{path} line {at}: not of the form seconds,bit/s, from 0 to 10^12") from None
-        if len(found) > 1 and found[-1].moment < found[-2].moment:
+        if len(rates) > 1 and rates[-1].moment < rates[-2].moment:
             raise Wrong(f"{path} line {at}: earlier than the line before it")
-    return found
+    return rates
 
 
 def read_moments(path: str, rows: list[tuple[int, list[str]]]) -> list[int]:
     """mahimahi's moments, in ms; the last is the period, after which they begin anew."""
-    found: list[int] = []
+    numbers: list[int] = []
     for at, [text] in rows:
-        if not (text.isascii() and text.isdecimal() and int(text) <= MOST_MS):
+        if not (is_number(text) and int(text) <= MOST_MS):
             raise Wrong(f"{path} line {at}: not a number of milliseconds, up to {MOST_MS}")
-        found.append(int(text))
-        if len(found) > 1 and found[-1] < found[-2]:
+        numbers.append(int(text))
+        if len(numbers) > 1 and numbers[-1] < numbers[-2]:
             raise Wrong(f"{path} line {at}: earlier than the line before it")
-    return found if found[-1] else [*found[:-1], 1]
+    return numbers if numbers[-1] else [*numbers[:-1], 1]
 
 
 def counted(path: str, moments: list[int], bin_ns: int, longest: int) -> list[Rate]:
@@ -93,7 +95,7 @@ def counted(path: str, moments: list[int], bin_ns: int, longest: int) -> list[Ra
     counts = [0] * -(-period // bin_ns)
     for moment in moments:
         counts[min(moment * MS // bin_ns, len(counts) - 1)] += 1
-    found, at = [], 0
+    result, at = [], 0
     while at < len(counts):
         end = at + 1
         while end < len(counts) - 1 and counts[end] == counts[at] and at < len(counts) - 1:
@@ -104,14 +106,18 @@ def counted(path: str, moments: list[int], bin_ns: int, longest: int) -> list[Ra
             if counts[at]
             else outage_rate(length, longest)
         )
-        found.append(Rate(at * bin_ns, rate))
+        result.append(Rate(at * bin_ns, rate))
         at = end
-    return found
+    return result
 
 
 def read_trace(path: str) -> Trace:
     """The trace of a file."""
-    rows = list(rows_of(path))
+    with untrusted(path):
+        return trace_of(path, list(rows_of(path)))
+
+
+def trace_of(path: str, rows: list[tuple[int, list[str]]]) -> Trace:
     if not rows:
         raise Wrong(f"{path}: it has no moments")
     if len(rows[0][1]) > 1:

@@ -29,10 +29,10 @@ def parts_of(transcript: str, count: int) -> list[str]:
 
 def files_of(transcript: str) -> list[str]:
     """The files of a transcript that are there; the first is, or is found missing as it is read."""
-    found = [transcript]
-    while os.path.exists(following := f"{transcript}.{len(found)}"):
-        found.append(following)
-    return found
+    result = [transcript]
+    while os.path.exists(following := f"{transcript}.{len(result)}"):
+        result.append(following)
+    return result
 
 
 def told(transcript: str, count: int) -> Iterator[str]:

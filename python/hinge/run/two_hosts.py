@@ -22,6 +22,10 @@ class Ends(NamedTuple):
         """Lines of /etc/hosts."""
         return f"{self.server} server\n{self.client} client\n{self.server6} server6\n{self.client6} client6\n"
 
+    def names_of_six(self) -> str:
+        """Lines by which `server` and `client` lead to IPv6 as well."""
+        return f"{self.server6} server\n{self.client6} client\n"
+
 
 OWN = Ends("10.8.0.1", "10.8.0.2", "fd08::1", "fd08::2", "10.8.0.0/24", 24)
 

@@ -9,6 +9,7 @@ import pwd
 import shutil
 from typing import NamedTuple, Optional
 
+from hinge.border.files import read_system
 from hinge.run.system import BIND, NEWNS, mount, unshare, write
 
 FILES = {"uid": "/etc/subuid", "gid": "/etc/subgid"}
@@ -29,20 +30,19 @@ def subordinate(path: str, user: int) -> Optional[Subordinate]:
     except KeyError:
         pass
     try:
-        with open(path) as file:
-            rows = [line.strip().split(":") for line in file]
+        rows = [line.strip().split(":") for line in read_system(path).splitlines()]
     except OSError:
         return None
-    found = [row for row in rows if len(row) == 3 and row[0] in names and row[1].isdecimal() and row[2].isdecimal()]
-    return Subordinate(int(found[0][1]), int(found[0][2])) if found else None
+    result = [row for row in rows if len(row) == 3 and row[0] in names and row[1].isdecimal() and row[2].isdecimal()]
+    return Subordinate(int(result[0][1]), int(result[0][2])) if result else None
 
 
-def mapping(own: int, given: Subordinate) -> list[str]:
+def mapping(own: int, span: Subordinate) -> list[str]:
     """The words of newuidmap: an id is itself, and the others from 0 on are subordinate ones."""
-    below = min(own, given.length)
+    below = min(own, span.length)
     parts = [
-        (0, given.first, below), (own, own, 1),
-        (own + 1, given.first + below, given.length - below if own < given.length else 0)
+        (0, span.first, below), (own, own, 1),
+        (own + 1, span.first + below, span.length - below if own < span.length else 0)
     ]
     return [str(number) for part in parts if part[2] for number in part]
 
@@ -53,11 +53,11 @@ class Users:
 
     def __init__(self) -> None:
         self.child, self.own = 0, {"uid": os.geteuid(), "gid": os.getegid()}
-        given = {kind: subordinate(path, os.geteuid()) for kind, path in FILES.items()}
+        spans = {kind: subordinate(path, os.geteuid()) for kind, path in FILES.items()}
         words = {
-            kind: [PROGRAMS[kind], str(os.getpid()), *mapping(self.own[kind], found)]
-            for kind, found in given.items()
-            if found
+            kind: [PROGRAMS[kind], str(os.getpid()), *mapping(self.own[kind], result)]
+            for kind, result in spans.items()
+            if result
         }
         if len(words) < len(FILES) or not all(map(shutil.which, PROGRAMS.values())):
             return
@@ -68,7 +68,7 @@ class Users:
             os.dup2(os.open(os.devnull, os.O_WRONLY), 2)  # where it refuses, the user is alone there
             os._exit(
                 0
-                if os.read(read_end, 1) and all(os.spawnvp(os.P_WAIT, said[0], said) == 0 for said in words.values())
+                if os.read(read_end, 1) and all(os.spawnvp(os.P_WAIT, message[0], message) == 0 for message in words.values())
                 else 1
             )
         os.close(read_end)

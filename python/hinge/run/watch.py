@@ -3,10 +3,10 @@
 from __future__ import annotations
 
 import os
-import sys
 from collections import deque
 from typing import TYPE_CHECKING, Callable, NamedTuple, Optional
 
+from hinge.border.terminal import tell
 from hinge.run.page import Counts, Page, Way
 from hinge.run.summary import NAMES
 
@@ -43,9 +43,9 @@ ROWS: tuple[tuple[str, Callable[[Second], float], str], ...] = (
 
 def graph(values: list[float], columns: int) -> str:
     """The last values as bars, of which the highest fills its line."""
-    shown = values[-columns:]
-    most = max(shown, default=0.0)
-    return "".join(BARS[round(value / most * 8) if most else 0] for value in shown).rjust(columns)
+    view = values[-columns:]
+    most = max(view, default=0.0)
+    return "".join(BARS[round(value / most * 8) if most else 0] for value in view).rjust(columns)
 
 
 def terminal() -> Optional[Terminal]:
@@ -76,12 +76,12 @@ class Watch:
         if self.terminal:
             self.terminal.show(self.lines(at, counts, self.terminal.size.columns))
         else:
-            print(self.line(at), file=sys.stderr, flush=True)
+            tell(self.line(at))
 
     def line(self, at: float) -> str:
-        told = (f"{name:4} {last.rate:9.3f} Mbit/s {last.held:6} in link {last.delay:9.3f} ms {last.dropped:5} dropped"
+        text = (f"{name:4} {last.rate:9.3f} Mbit/s {last.held:6} in link {last.delay:9.3f} ms {last.dropped:5} dropped"
                 for name, last in zip(NAMES, (seconds[-1] for seconds in self.seconds)))
-        return "  | ".join([f"{at:6.1f} s", *told])
+        return "  | ".join([f"{at:6.1f} s", *text])
 
     def lines(self, at: float, counts: Counts, columns: int) -> list[str]:
         """The lines of the graphs, both directions beside each other."""

@@ -3,29 +3,44 @@
 from __future__ import annotations
 
 import re
+from functools import lru_cache
 from typing import NamedTuple
 
-from hingetulip_words.link import WordError, in_full, read_link
+from hinge.arguments import is_number
+from hinge.border.files import read_text
+from hinge.command import Fault, Told
+from hingetulip_words.link import Link, Place, WordError, corrected, read_words
 
 WAYS = {"up": 0, "down": 1}
+LINES = ("pipe", "queue", "ipfw")  # what a configuration line begins with
 SECOND = 1_000_000_000  # ns
 LAST_MOMENT = 2**62  # ns, of the links
+MTU_LEAST, MTU_MOST = 576, 65535  # bytes
+KEPT = 1 << 16  # texts whose meaning is remembered, since long files say the same again and again
+TIME = re.compile(r"(\d+(?:\.\d+)?)(ns|us|ms|s|min|h)?", re.ASCII)
 SCALE = {"ns": 1, "us": 10**3, "ms": 10**6, "s": SECOND, "min": 60 * SECOND, "h": 3600 * SECOND}
 
 
-class Wrong(Exception):
+class Wrong(Told):
     """A word of the command line or of a file that can't be obeyed."""
 
 
 def duration(text: str) -> int:
     """ns of a time as 5s, 600ms, 2min; without a unit it is in seconds."""
-    found = re.fullmatch(r"(\d+(?:\.\d+)?)(ns|us|ms|s|min|h)?", text, re.ASCII)
-    if not found:
+    match = TIME.fullmatch(text)
+    if not match:
         raise Wrong(f"{text}: no time, as 5s or 600ms")
-    ns = round(float(found[1]) * SCALE[found[2] or "s"])
+    number, unit = match.groups()
+    ns = float(number) * SCALE[unit or "s"]
     if ns > LAST_MOMENT:
         raise Wrong(f"{text}: above 2^62 ns")
-    return ns
+    return round(ns)
+
+
+def bytes_of_mtu(text: str) -> int:
+    if not (text.isascii() and text.isdecimal() and MTU_LEAST <= int(text) <= MTU_MOST):
+        raise Wrong(f"{text!r} is no number from {MTU_LEAST} to {MTU_MOST}")
+    return int(text)
 
 
 def bare(line: str) -> str:
@@ -33,24 +48,33 @@ def bare(line: str) -> str:
     return " ".join(line.split("#")[0].split())
 
 
+def first_word(text: str) -> tuple[str, str]:
+    """The first word of a text, or nothing, and what is behind it."""
+    word, rest = (*text.split(None, 1), "", "")[:2]
+    return word, rest.strip()
+
+
 def read_lines(path: str) -> list[str]:
     """The lines of a text file; a byte order mark at its front is none of them."""
     try:
-        with open(path, encoding="utf-8-sig") as file:
-            return file.read().splitlines()
-    except UnicodeDecodeError:
-        raise Wrong(f"{path}: it isn't UTF-8") from None
+        return read_text(path).splitlines()
+    except Fault as fault:
+        raise Wrong(str(fault)) from None
     except OSError as error:
         raise Wrong(f"{path}: {error.strerror}") from None
 
 
-def link_line(number: int, text: str, option: str) -> str:
-    """`10Mbit/s 20ms queue 100 loss 1%` as a line for a pipe; Wrong names the option of the command line that has a
-    wrong word."""
+read_once = lru_cache(KEPT)(read_words)
+
+
+def link_of(text: str, option: str, place: Place = Place.CHANGE) -> Link:
+    """What `10Mbit/s 20ms queue 100 loss 1%` asks for. Wrong: it is no link; the option of the command line is named, and all
+    that was typed of it corrected."""
     try:
-        return f"pipe {number} config {in_full(read_link(text))}".strip()
+        return read_once(text, place)
     except WordError as wrong:
-        raise Wrong(f"{option}: {wrong}") from None
+        whole = corrected(text, place)
+        raise Wrong(f"{option}: {wrong}" + f"; in full: '{whole}'" * (whole not in (None, wrong.right()))) from None
 
 
 class Target(NamedTuple):
@@ -61,30 +85,47 @@ class Target(NamedTuple):
 
 
 def target_of(line: str) -> Target:
-    words = [word for word in line.split() if word != "ipfw"]
-    numbers = [word for word in words[1:3] if word.isdecimal()]
+    words = [word for word in line.split(None, 4)[:4] if word != "ipfw"]
+    numbers = [word for word in words[1:3] if is_number(word)]
     return Target(words[0] if words else "", int(numbers[0]) if numbers else 0)
 
 
 def of_link(line: str, link: int) -> str:
     """A line that names the pipes 1 and 2 of a link, counted from 0, as the plan of all links has it."""
+    if link == 0:
+        return line
     words = line.split()
     for at, word in enumerate(words[:-1]):
         number = at + 1 + (words[at + 1] == "delete" and at + 2 < len(words))
         if word == "pipe" and words[number] in ("1", "2"):
             words[number] = str(2 * link + int(words[number]))
-    return " ".join(words) if link else line
+    return " ".join(words)
+
+
+def is_line(text: str) -> bool:
+    """Whether this is a configuration line, and not words of a link, as `queue 7` is."""
+    if not text.startswith(LINES):
+        return False
+    first, *words = text.split(None, 3)[:3]
+    return first in LINES and (first != "queue" or "config" in words or "delete" in words)
 
 
 def configures(line: str) -> bool:
     return "config" in line.split()[:4]
 
 
-def with_bandwidth(line: str, rate: int) -> str:
-    """The line of a pipe with another bandwidth, in bit/s."""
+@lru_cache(KEPT)
+def around_bandwidth(line: str) -> tuple[str, str]:
+    """What the line of a pipe has before its bandwidth, and behind it."""
     words = line.split()
     while "bw" in words:
         at = words.index("bw")
         del words[at:at + 2]
     at = words.index("config") + 1
-    return " ".join([*words[:at], "bw", f"{max(1, rate)}bit/s", *words[at:]])
+    return " ".join(words[:at]), "".join(f" {word}" for word in words[at:])
+
+
+def with_bandwidth(line: str, rate: int) -> str:
+    """The line of a pipe with another bandwidth, in bit/s."""
+    front, back = around_bandwidth(line)
+    return f"{front} bw {max(1, rate)}bit/s{back}"

@@ -10,10 +10,10 @@ import subprocess
 import sys
 from functools import partial
 from pathlib import Path
-from tempfile import TemporaryDirectory
-from typing import Iterator
+from typing import Iterator, Optional
 
-from hinge.command import Bar, Fault, path_of_program, say
+from hinge.border.scratch import scratch
+from hinge.command import MISSING, Bar, Fault, say
 from hinge.run.system import Missing
 from hinge.simulated.kernel import CONFIG, INIT, PATCH, VERSION, Kernel, cache, folder_of
 
@@ -27,27 +27,41 @@ WORDS = 30  # lines of a failed step that are told
 FAILED = 6
 
 
-def source() -> Path:
+def source() -> Optional[Path]:
     """The newest source package of Linux that Debian has installed."""
     def by_version(path: Path) -> list[int]:
         return [int(word) for word in re.findall(r"\d+", path.name.partition(".tar")[0])]
 
-    found = sorted(PACKAGES.glob("linux-source-*.tar.xz"), key=by_version)
-    if not found:
-        raise Missing("there is no source of Linux: apt-get install linux-source-6.12, or name one by --source "
-                      "(hinge docs SIMULATED has other systems)")
-    return found[-1]
+    packages = sorted(PACKAGES.glob("linux-source-*.tar.xz"), key=by_version)
+    return packages[-1] if packages else None
+
+
+def has_static_library() -> bool:
+    """Whether cc can link without libraries at run time; it prints the name alone of a file that it doesn't have."""
+    words = ["cc", "-print-file-name=libc.a"]
+    return shutil.which("cc") is not None and os.path.isabs(subprocess.run(words, capture_output=True, text=True).stdout)
+
+
+def lacking(place: Optional[Path]) -> dict[str, str]:
+    """All that a build of this source lacks, and Debian's packages that bring it."""
+    names = {name: package for name, package in NEEDED.items() if shutil.which(name) is None}
+    if not has_static_library():
+        names["libc.a"] = "libc6-dev"
+    if place is None:
+        names["a source of Linux (or --source)"] = "linux-source-6.12"
+    return names
 
 
 class Build:
     """A build in a folder of its own, which goes when it is over."""
 
-    def __init__(self, packed: Path, jobs: int) -> None:
-        for name, package in NEEDED.items():
-            path_of_program(name, package)
-        if not packed.is_file():
-            raise Missing(f"{packed}: there is no such file")
-        self.packed, self.jobs = packed, jobs
+    def __init__(self, place: Optional[Path], jobs: int) -> None:
+        names = lacking(place)
+        if place is None or names:
+            raise Fault(f"needs {', '.join(names)}: apt-get install {' '.join(names.values())}", MISSING)
+        if not place.is_file():
+            raise Missing(f"{place}: there is no such file")
+        self.packed, self.jobs = place.resolve(), jobs
 
     def step(self, what: str, *words: "str | Path", where: Path) -> None:
         """Runs a command, and tells its last lines where it fails."""
@@ -87,21 +101,28 @@ class Build:
         self.step("stripping", "strip", "-o", into / "linux", "linux", where=tree)
         add_init(Kernel(into))
         (into / "checksum").write_text(f"{sha256_of(into / 'linux')}\n")
-        named = f"Linux {version_of(tree)}: {self.packed.name}, SHA-256 {sha256_of(self.packed)}"
-        (into / "source").write_text(f"{named}\n")
-        shutil.copyfile(tree / ".config", into / "config")
+        (into / "source").write_text("".join(f"{line}\n" for line in self.sources(tree)))
+        shutil.copyfile(tree / "LICENSES" / "preferred" / "GPL-2.0", into / "COPYING")
+
+    def sources(self, tree: Path) -> Iterator[str]:
+        """All that decides the kernel's bytes."""
+        yield f"Linux {version_of(tree)}"
+        for path in (self.packed, PATCH, CONFIG):
+            yield f"{path.name}, SHA-256 {sha256_of(path)}"
+        for words in (["cc", "--version"], ["ld", "--version"], ["ldd", "--version"]):
+            yield subprocess.run(words, capture_output=True, text=True, check=True).stdout.partition("\n")[0]
 
     def run(self) -> Iterator[Kernel]:
         """The kernel that was built, and once it was tried, the same where it is kept."""
         cache().mkdir(parents=True, exist_ok=True)
-        with TemporaryDirectory(prefix="hinge-") as place, TemporaryDirectory(dir=cache(), prefix=".new-") as new:
+        with scratch() as place, scratch(cache(), ".new-") as new:
             if shutil.disk_usage(place).free < ROOM:
                 raise Missing(f"{place}: a build takes {ROOM // 10**9} GB; the variable TMPDIR names another place")
-            tree = self.unpacked(Path(place))
+            tree = self.unpacked(place)
             self.configure(tree)
-            self.compile(tree, Path(new))
-            yield Kernel(Path(new))
-            yield kept_as(Path(new), folder_of(version_of(tree)))
+            self.compile(tree, new)
+            yield Kernel(new)
+            yield kept_as(new, folder_of(version_of(tree)))
 
 
 def sha256_of(path: Path) -> str:
@@ -114,10 +135,10 @@ def sha256_of(path: Path) -> str:
 
 def add_init(kernel: Kernel) -> None:
     """Compiles the first process of a kernel's machines."""
-    words = [path_of_program("cc", NEEDED["cc"]), "-std=c17", "-O2", "-static", "-s", "-o", str(kernel.init), str(INIT)]
-    done = subprocess.run(words, capture_output=True, text=True, errors="replace")
-    if done.returncode:
-        raise Fault(f"{INIT} isn't compiled: {done.stderr.strip()}", FAILED)
+    words = ["cc", "-std=c17", "-O2", "-static", "-s", "-o", str(kernel.init), str(INIT)]
+    process = subprocess.run(words, capture_output=True, text=True, errors="replace")
+    if process.returncode:
+        raise Fault(f"{INIT} isn't compiled: {process.stderr.strip()}", FAILED)
 
 
 def version_of(tree: Path) -> str:

@@ -2,7 +2,6 @@
 
 from __future__ import annotations
 
-import argparse
 import importlib
 import json
 import sys
@@ -12,6 +11,6 @@ from hinge import command
 
 
 def main() -> NoReturn:
-    name, asked = sys.argv[1], argparse.Namespace(**json.loads(sys.argv[2]))
+    name, options = sys.argv[1], json.loads(sys.argv[2])
     command.NAME[0] = f"hinge {name}"
-    command.run(lambda: importlib.import_module(f"hinge.commands.{name}").begin(asked))
+    command.run(lambda: importlib.import_module(f"hinge.commands.{name}").begin_inside(options))

@@ -11,6 +11,7 @@
 #include <stdlib.h>
 #include <string.h>
 #include <sys/mount.h>
+#include <sys/prctl.h>
 #include <sys/reboot.h>
 #include <sys/resource.h>
 #include <sys/stat.h>
@@ -43,6 +44,15 @@ static _Noreturn void stop(const char *what) {
     snprintf(text, sizeof text, "%s: %s\n", what, strerror(errno));
     tell(FOLDER "/fault", text);
     switch_off();
+}
+
+/* Each line by itself. */
+static void tell_lines(const char *path, const char *text) {
+    char line[100];
+    for (; *text; text += strcspn(text, "\n"), text += *text == '\n') {
+        snprintf(line, sizeof line, "%.*s", (int)strcspn(text, "\n"), text);
+        tell(path, line);
+    }
 }
 
 static void must_mount(const char *source, const char *target, const char *kind, unsigned long flags, const char *data) {
@@ -116,6 +126,19 @@ static void mount_all(int scratch) {
     tell("/proc/sys/user/max_user_namespaces", "10000");
 }
 
+/* Copies what a file of the kernel's tells now. */
+static void keep(const char *from, const char *to) {
+    static char text[1 << 16];
+    size_t have = 0;
+    ssize_t got;
+    int file = open(from, O_RDONLY | O_CLOEXEC);
+    if (file < 0) return;
+    while (have < sizeof text - 1 && (got = read(file, text + have, sizeof text - 1 - have)) > 0) have += (size_t)got;
+    close(file);
+    text[have] = 0;
+    tell(to, text);
+}
+
 static int stream(const char *path, int flags) {
     int file = open(path, flags | O_CLOEXEC);
     if (file < 0) stop(path);
@@ -152,6 +175,7 @@ static _Noreturn void become_job(struct user user) {
     if (dup2(stream(FOLDER "/in", O_RDONLY), 0) < 0 || dup2(stream(FOLDER "/out", flags), 1) < 0 || dup2(stream(FOLDER "/err", flags), 2) < 0) stop("a stream");
     struct rlimit most = {99, 99};
     setrlimit(RLIMIT_RTPRIO, &most); /* so that any user may put the link before all other programs */
+    prctl(PR_SET_TIMERSLACK, 1); /* ns: a sleep ends when it is over, and not up to 50 us later, with others */
     umask(user.mask);
     setsid();
     if (setgroups(user.count, user.groups) || setgid(user.gid) || setuid(user.uid) || chdir(place)) {
@@ -182,11 +206,14 @@ int main(void) {
     mount_folder();
     read_job();
     int scratch = !strcmp(must_next(), "scratch");
+    const char *pauses = must_next();
     mount_all(scratch);
+    if (sethostname("simulated", strlen("simulated"))) stop("the name");
     struct user user = next_user();
     /* iputils' ping takes a clock below 1 s for one that it hasn't read, and then sends all its packets at once. */
     struct timespec begin = {1000, 0};
     clock_nanosleep(CLOCK_MONOTONIC, TIMER_ABSTIME, &begin, NULL);
+    tell_lines("/proc/pauses", pauses);
     uint64_t begun = now();
     pid_t child = fork();
     if (child < 0) stop("fork");
@@ -195,6 +222,7 @@ int main(void) {
     for (pid_t ended = 0; ended != child;) ended = wait(&status);
     uint64_t ended = now();
     kill(-1, SIGKILL);
+    if (*pauses) keep("/proc/pauses", FOLDER "/paused");
     char text[100];
     snprintf(text, sizeof text, "%d %llu %llu\n", WIFEXITED(status) ? WEXITSTATUS(status) : 128 + WTERMSIG(status),
              (unsigned long long)(ended - begun), (unsigned long long)spun());

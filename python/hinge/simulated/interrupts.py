@@ -11,7 +11,11 @@ import os
 import signal
 from typing import Iterator, NamedTuple, Optional
 
-LONG = 0.5  # s of processor time without a call of the kernel
+from hinge.border.files import read_system
+
+LONG = 2.0  # s of processor time without a call of the kernel
+# A busy processor makes the same computation take several times as long, and may so reach what another run didn't.
+NEAR = LONG / 4
 PAUSE, SHORT = 0.1, 0.002  # s between looks
 OWN_WAITS = 2  # that an interrupt itself makes at most
 
@@ -27,18 +31,16 @@ class Look(NamedTuple):
 
 def children(machine: int) -> list[int]:
     try:
-        with open(f"/proc/{machine}/task/{machine}/children") as file:
-            return [int(word) for word in file.read().split()]
+        return [int(word) for word in read_system(f"/proc/{machine}/task/{machine}/children").split()]
     except OSError:
         return []
 
 
 def looked(process: int) -> Optional[Look]:
     try:
-        with open(f"/proc/{process}/stat") as file:
-            fields = file.read().rpartition(")")[2].split()
-        with open(f"/proc/{process}/status") as file:
-            waits = next(line for line in file if line.startswith("voluntary_ctxt_switches"))
+        fields = read_system(f"/proc/{process}/stat").rpartition(")")[2].split()
+        lines = read_system(f"/proc/{process}/status").splitlines()
+        waits = next(line for line in lines if line.startswith("voluntary_ctxt_switches"))
     except (OSError, StopIteration):
         return None
     return Look(int(waits.split()[1]), (int(fields[11]) + int(fields[12])) / os.sysconf("SC_CLK_TCK"), fields[0] == "R")
@@ -48,6 +50,7 @@ class Interrupts:
     def __init__(self, machine: int) -> None:
         """For the processes of the machine whose kernel is this process."""
         self.machine, self.count, self.last = machine, 0, dict[int, Look]()
+        self.longest = 0.0  # s of processor time that a process computed without a call, as far as it was seen
 
     def looks(self) -> Iterator[tuple[int, Look]]:
         for process in children(self.machine):
@@ -66,6 +69,8 @@ class Interrupts:
         pause, now = PAUSE, dict[int, Look]()
         for process, look in self.looks():
             before = self.last.get(process, look)
+            if look.waits == before.waits:
+                self.longest = max(self.longest, look.used - before.used)
             if self.is_long(before, look):
                 os.kill(process, signal.SIGALRM)
                 self.count += 1

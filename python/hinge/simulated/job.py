@@ -2,13 +2,15 @@
 
 from __future__ import annotations
 
-import argparse
+import hashlib
 import json
 import os
 import sys
+from dataclasses import asdict
 from pathlib import Path
 from typing import NamedTuple, Sequence
 
+from hinge.run.settings import SimulatedOptions
 from hinge.run.system import Missing
 
 PACKAGES = str(Path(__file__).resolve().parents[2])
@@ -19,6 +21,8 @@ OF_SHELLS = {"_", "OLDPWD", "SHLVL"}
 OF_SESSIONS = {"DBUS_SESSION_BUS_ADDRESS", "DISPLAY", "GPG_TTY", "SSH_AGENT_PID", "SSH_AUTH_SOCK", "SSH_CLIENT",
                "SSH_CONNECTION", "SSH_TTY", "STY", "TMUX", "TMUX_PANE", "WAYLAND_DISPLAY", "WINDOWID",
                "XDG_RUNTIME_DIR", "XDG_SESSION_ID"}
+CLEAN = {"HOME", "LANG", "LOGNAME", "USER"}  # of the user's own, where few are wanted
+PATH = "/usr/local/sbin:/usr/local/bin:/usr/sbin:/usr/bin:/sbin:/bin"  # and this one
 BEGIN = "import sys; sys.path.insert(0, sys.argv.pop(1)); from hinge.simulated.in_machine import main; main()"
 
 
@@ -26,12 +30,23 @@ class Job(NamedTuple):
     words: Sequence[str]
     input: Path  # a file that is its standard input
     is_one_stream: bool  # whether its output and its errors go to one place
+    names: Sequence[str]  # the environment, as NAME=value
 
-    def text(self, kind: str) -> bytes:
+    def text(self, kind: str, pauses: str) -> bytes:
         """For the machine's first process: strings that end in 0."""
         user = [str(os.getuid()), str(os.getgid()), " ".join(map(str, os.getgroups())), f"{mask():o}"]
-        words = [kind, *user, folder(), str(len(self.words)), *self.words, *environment()]
-        return b"".join(os.fsencode(word) + b"\0" for word in words)
+        words = [kind, pauses, *user, folder(), str(len(self.words)), *self.words, *self.names]
+        return joined(words)
+
+    def given(self) -> "dict[str, str]":
+        """Checksums of what the programs have in memory. Two runs are the same only if they are."""
+        parts = {"words": joined(self.words), "environment": joined(self.names), "folder": joined([folder()]),
+                 "input": self.input.read_bytes()}
+        return {name: hashlib.sha256(part).hexdigest()[:16] for name, part in parts.items()}
+
+
+def joined(words: Sequence[str]) -> bytes:
+    return b"".join(os.fsencode(word) + b"\0" for word in words)
 
 
 def mask() -> int:
@@ -41,7 +56,10 @@ def mask() -> int:
     return present
 
 
-def environment() -> list[str]:
+def environment(is_clean: bool) -> list[str]:
+    """The variables of the job; few and in one order, if that is asked for."""
+    if is_clean:
+        return [f"PATH={PATH}", *(f"{name}={os.environ[name]}" for name in sorted(CLEAN) if name in os.environ)]
     return [f"{name}={value}" for name, value in os.environ.items() if name not in OF_SHELLS | OF_SESSIONS]
 
 
@@ -53,7 +71,7 @@ def folder() -> str:
     return place
 
 
-def words_of(command: str, asked: argparse.Namespace) -> list[str]:
-    """The words that run a command of the kit inside with what the user asked. They don't depend on Python's own
+def words_of(command: str, options: SimulatedOptions) -> list[str]:
+    """The words that run a command of the kit inside with these options. They don't depend on Python's own
     variables, and leave no byte code."""
-    return [sys.executable, "-I", "-S", "-B", "-c", BEGIN, PACKAGES, command, json.dumps(vars(asked))]
+    return [sys.executable, "-I", "-S", "-B", "-c", BEGIN, PACKAGES, command, json.dumps(asdict(options))]

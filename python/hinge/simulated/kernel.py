@@ -11,7 +11,8 @@ from hinge.run.system import Missing
 
 HERE = Path(__file__).resolve().parent
 CONFIG, PATCH, INIT = HERE / "kernel.config", HERE / "kernel.patch", HERE / "init.c"
-PACKAGED = Path("/usr/lib/hingetulip/kernels")  # where a package of Debian puts it
+# Where the released one is: beside this module where that was installed, and in a clone's release.
+RELEASED = (HERE / "kernels", HERE.parents[2] / "release" / "kernels")
 LETTERS = 16  # of a checksum in the name of a folder
 # The kernel draws random numbers from its own version too. It is fixed, so that each build draws the same.
 VERSION = {"KBUILD_BUILD_TIMESTAMP": "2026-01-01", "KBUILD_BUILD_USER": "hinge", "KBUILD_BUILD_HOST": "hinge",
@@ -47,8 +48,8 @@ class Kernel(NamedTuple):
 
 def cache() -> Path:
     """Where this user's kernels are kept."""
-    named = os.environ.get("XDG_CACHE_HOME", "")
-    return Path(named if os.path.isabs(named) else os.path.expanduser("~/.cache")) / "hingetulip" / "kernels"
+    path = os.environ.get("XDG_CACHE_HOME", "")
+    return Path(path if os.path.isabs(path) else os.path.expanduser("~/.cache")) / "hingetulip" / "kernels"
 
 
 def checksum_of(*paths: Path, begin: str = "") -> str:
@@ -72,22 +73,22 @@ def version_numbers(folder: Path) -> list[int]:
     return [int(part) if part.isdecimal() else 0 for part in folder.name.partition("-")[0].split(".")]
 
 
-def kept() -> Iterator[Kernel]:
-    """The kernels that were built of the present configuration and patch, the newest Linux first."""
-    for place in (cache(), PACKAGED):
+def kept(*places: Path) -> Iterator[Kernel]:
+    """The kernels that were built of the present configuration and patch, the newest Linux of each place first."""
+    for place in places:
         for folder in sorted(place.glob(f"*-{checksum_of_inputs()}"), key=version_numbers, reverse=True):
             if Kernel(folder).is_built:
                 yield Kernel(folder)
 
 
 def found() -> Kernel:
-    """The kernel whose folder the variable HINGE_KERNEL names, else one that `hinge kernel` or a package has put."""
-    named = os.environ.get("HINGE_KERNEL")
-    if named:
-        if not Kernel(Path(named)).is_whole:
-            raise Missing(f"HINGE_KERNEL: {named} has no kernel and first process of this version of hinge")
-        return Kernel(Path(named).resolve())
-    for kernel in kept():
+    """The kernel whose folder the variable HINGE_KERNEL names, else one that `hinge kernel` built, else the released one."""
+    path = os.environ.get("HINGE_KERNEL")
+    if path:
+        if not Kernel(Path(path)).is_whole:
+            raise Missing(f"HINGE_KERNEL: {path} has no kernel and first process of this version of hinge")
+        return Kernel(Path(path).resolve())
+    for kernel in kept(cache(), *RELEASED):
         if kernel.is_whole:
             return kernel
-    raise Missing("there is no kernel for simulated time yet: `hinge kernel` builds it, once")
+    raise Missing("there is no kernel for simulated time of this version: `hinge kernel` builds one")

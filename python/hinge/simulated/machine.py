@@ -16,7 +16,9 @@ from hinge.simulated.interrupts import Interrupts
 from hinge.simulated.job import Job
 from hinge.simulated.kernel import Kernel
 from hinge.simulated.one_processor import OneProcessor
+from hinge.simulated.pauses import Pauses, PausesMade, pauses_made
 from hinge.simulated.room import Room
+from hinge.simulated.stood import Stood, make_place, stood
 from hinge.simulated.streams import MOST_AHEAD, Copier
 
 BOOTED = 1000  # s of uptime with which a job begins
@@ -33,6 +35,7 @@ class Settings(NamedTuple):
     memory: int  # bytes
     cpu: str
     scratch: bool  # whether what is written in it is thrown away
+    pauses: Optional[Pauses] = None  # of its processes
 
 
 class MachineEnded(NamedTuple):
@@ -54,9 +57,9 @@ def kernel_words(kernel: Kernel, settings: Settings) -> list[str]:
 class Machine:
     """A machine that runs from when this is made, and leaves nothing after `remove`."""
 
-    def __init__(self, kernel: Kernel, settings: Settings, job: Job, kept: Optional[Path] = None) -> None:
+    def __init__(self, kernel: Kernel, settings: Settings, job: Job, place: Optional[Path] = None) -> None:
         """`kept` is a folder for what the job keeps, where it is to stay."""
-        self.room, self.job, self.processor = Room(settings.memory, kept), job, OneProcessor()
+        self.room, self.job, self.processor = Room(settings.memory, place), job, OneProcessor()
         try:
             self.furnish(kernel, settings)
             self.begun = time.monotonic()
@@ -74,7 +77,9 @@ class Machine:
 
     def furnish(self, kernel: Kernel, settings: Settings) -> None:
         """Writes what init reads. Its own file is new in each run, since the age of a file can show in the run."""
-        (self.folder / "job").write_bytes(self.job.text("scratch" if settings.scratch else "files"))
+        pauses = "\n".join(settings.pauses.lines()) if settings.pauses else ""
+        (self.folder / "job").write_bytes(self.job.text("scratch" if settings.scratch else "files", pauses))
+        make_place(self.folder)
         for name in ("out", "err"):
             (self.folder / name).touch()
         if self.job.is_one_stream:
@@ -113,10 +118,10 @@ class Machine:
 
     def wait(self, limit: Optional[float] = None) -> None:
         """Waits for its end, which comes at once after so many seconds, or where nobody takes its output."""
-        watched = os.pidfd_open(self.process.pid)
+        descriptor = os.pidfd_open(self.process.pid)
         try:
             while self.process.poll() is None:
-                select.select([watched], [], [], self.interrupts.look())
+                select.select([descriptor], [], [], self.interrupts.look())
                 self.processor.look(self.process.pid)
                 self.hold_back()
                 if any(copier.is_broken for copier in self.copiers):
@@ -124,7 +129,7 @@ class Machine:
                 elif limit is not None and self.real() > limit:
                     self.end(TIMED_OUT)
         finally:
-            os.close(watched)
+            os.close(descriptor)
         for copier in self.copiers:
             copier.finish()
 
@@ -145,13 +150,20 @@ class Machine:
         except (OSError, TypeError, ValueError):
             return None
 
+    def pauses_made(self) -> Optional[PausesMade]:
+        return pauses_made(self.folder / "paused")
+
+    def stood(self) -> Optional[Stood]:
+        """Where it was when it was ended."""
+        return stood(self.folder, BOOTED * 10**9)
+
     def log(self) -> str:
         return (self.folder / "log").read_text(errors="replace")
 
     def fault(self) -> Missing:
         """Why a machine that nobody killed has no job that ended."""
-        told = self.folder / "fault"
-        text = told.read_text() if told.exists() else "\n".join(self.log().splitlines()[-LOG_LINES:])
+        report = self.folder / "fault"
+        text = report.read_text() if report.exists() else "\n".join(self.log().splitlines()[-LOG_LINES:])
         return Missing(f"the simulated machine ended by itself: {text.strip()}")
 
     @property

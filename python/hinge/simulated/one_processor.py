@@ -11,6 +11,7 @@ import random
 import time
 from contextlib import suppress
 
+from hinge.border.files import read_system
 from hinge.simulated.interrupts import children
 
 SPAN = 0.5  # s after which it looks whether it waited
@@ -20,8 +21,7 @@ choice = random.SystemRandom().choice
 
 def waited(process: int) -> float:
     """The seconds for which a process has waited for a processor."""
-    with open(f"/proc/{process}/schedstat") as file:
-        return int(file.read().split()[1]) / 1e9
+    return int(read_system(f"/proc/{process}/schedstat").split()[1]) / 1e9
 
 
 class OneProcessor:
@@ -37,12 +37,12 @@ class OneProcessor:
             if self.allowed:
                 os.sched_setaffinity(process, {self.present})
 
-    def is_left(self, now: float, waited: float) -> bool:
+    def is_left(self, now: float, wait: float) -> bool:
         """Whether the time since the last look was spent waiting, so that another processor is chosen."""
         if len(self.allowed) < 2 or now - self.seen < SPAN:
             return False
-        share = (waited - self.waited) / (now - self.seen)
-        self.seen, self.waited = now, waited
+        share = (wait - self.waited) / (now - self.seen)
+        self.seen, self.waited = now, wait
         if share <= MOST_WAITED:
             return False
         self.present = choice([processor for processor in self.allowed if processor != self.present])

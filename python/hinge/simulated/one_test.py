@@ -57,21 +57,21 @@ def options_of_mark(mark: pytest.Mark) -> Iterator[str]:
 
 def ran(item: pytest.Item, words: list[str], seed: int, folder: Path) -> Ran:
     """Runs a test in a machine by these options; what is written of it is in the folder."""
-    kept = folder / "kept"
-    kept.mkdir()
+    part = folder / "kept"
+    part.mkdir()
     names = {**os.environ, INSIDE: f"{KEPT}/{REPORTS}", "PYTHONDONTWRITEBYTECODE": "1"}
     names.pop("PYTEST_CURRENT_TEST", None)
     config = ["-c", str(item.config.inipath)] if item.config.inipath else []
     plugins = [word for name in item.config.option.plugins for word in ("-p", name)]
     inner = [sys.executable, "-m", "pytest", "-q", "-p", "no:cacheprovider", *plugins, *config,
              f"--basetemp={KEPT}/tmp", f"--rootdir={item.config.rootpath}", f"--link-seed={seed}", item.nodeid]
-    outer = [sys.executable, str(START), "run", "--simulated", "--seed", str(seed), "--kept", str(kept), *words]
+    outer = [sys.executable, str(START), "run", "--simulated", "--seed", str(seed), "--kept", str(part), *words]
     history = [] if has_net(item) else ["--transcript", str(folder / HISTORY)]
     whole = [*outer, *history, "--", *inner]
-    done = subprocess.run(whole, cwd=item.config.rootpath, env=names, stdin=subprocess.DEVNULL, capture_output=True,
+    process = subprocess.run(whole, cwd=item.config.rootpath, env=names, stdin=subprocess.DEVNULL, capture_output=True,
                           text=True, errors="replace")
-    told = (kept / REPORTS).read_text().replace(f"{KEPT}/", f"{kept}/") if (kept / REPORTS).exists() else ""
-    return Ran(done.returncode, done.stderr.strip(), [json.loads(line) for line in told.splitlines()])
+    text = (part / REPORTS).read_text().replace(f"{KEPT}/", f"{part}/") if (part / REPORTS).exists() else ""
+    return Ran(process.returncode, process.stderr.strip(), [json.loads(line) for line in text.splitlines()])
 
 
 def has_net(item: pytest.Item) -> bool:
@@ -92,23 +92,23 @@ def failed(item: pytest.Item, text: str) -> pytest.TestReport:
     return pytest.TestReport(item.nodeid, item.location, {name: 1 for name in item.keywords}, "failed", text, "call")
 
 
-def of_the_link(told: str, seed: int, history: Path) -> str:
+def of_the_link(text: str, seed: int, history: Path) -> str:
     """What the link did, and how to see more; of a link that nothing takes no word."""
     if not history.exists():
-        return "\n".join(line for line in told.splitlines() if not OF_THE_LINK.fullmatch(line))
-    return "\n".join([told, *dropped_in_history(history), closing(seed, audited(history), history)])
+        return "\n".join(line for line in text.splitlines() if not OF_THE_LINK.fullmatch(line))
+    return "\n".join([text, *dropped_in_history(history), closing(seed, audited(history), history)])
 
 
 def reports(item: pytest.Item, mark: pytest.Mark, links: list[str], seed: int) -> list[pytest.TestReport]:
     """Runs a test in a machine; its reports. One that failed has what the link did, whose transcript stays."""
     folder = Path(tempfile.mkdtemp(prefix="hinge-test-"))
     run = ran(item, [*links, *options_of_mark(mark)], seed, folder)
-    found = [read(item.config, data) for data in run.reports]
-    if all(report.when == "setup" and report.passed for report in found):
-        found.append(failed(item, f"the simulated machine ended with {run.status} before the test had"))
-    wrong = [report for report in found if report.failed]
+    result = [read(item.config, data) for data in run.reports]
+    if all(report.when == "setup" and report.passed for report in result):
+        result.append(failed(item, f"the simulated machine ended with {run.status} before the test had"))
+    wrong = [report for report in result if report.failed]
     for report in wrong:
         report.sections.append(("simulated run", of_the_link(run.told, seed, folder / HISTORY)))
     if not wrong:
         shutil.rmtree(folder, ignore_errors=True)
-    return found
+    return result

@@ -3,30 +3,40 @@
 from __future__ import annotations
 
 import json
-from typing import Iterator, NamedTuple, Union
+from typing import Any, Iterator, NamedTuple, Optional, Union
 
-from hinge.simulated.interrupts import LONG
+from hinge.border.files import read_system
+from hinge.simulated.interrupts import LONG, NEAR
 from hinge.simulated.kernel import Kernel
 from hinge.simulated.machine import MachineEnded, Machine, Settings
+from hinge.simulated.pauses import SHOWN, PausesMade
 
-Record = dict[str, Union[str, int, float, bool]]
+Record = dict[str, Union[str, int, float, bool, "dict[str, Any]"]]
 
 
 class Outcome(NamedTuple):
     ended: MachineEnded
     real: float  # s
     interrupts: int
+    longest: float  # s that a process computed without a call of the system
     hides_the_processor: bool
     settings: Settings
+    given: "dict[str, str]"  # checksums of what the programs had in memory
+    pauses: Optional[PausesMade]
 
     @classmethod
-    def of(cls, machine: Machine, ended: MachineEnded, settings: Settings) -> Outcome:
-        return cls(ended, machine.real(), machine.interrupts.count, machine.hides_the_processor, settings)
+    def of(cls, machine: Machine, endings: MachineEnded, settings: Settings) -> Outcome:
+        interrupts = machine.interrupts
+        return cls(endings, machine.real(), interrupts.count, interrupts.longest, machine.hides_the_processor, settings,
+                   machine.job.given(), machine.pauses_made())
 
     def differences(self) -> Iterator[str]:
         """Why a second run may differ."""
         if self.interrupts:
             yield f"a process computed for {LONG:g} s without a call of the system, until {self.interrupts} interrupts"
+        elif self.longest >= NEAR:
+            yield (f"a process computed for {self.longest:.2f} s without a call of the system, and one that a busier "
+                   f"processor makes compute for {LONG:g} s is interrupted")
         if self.settings.cpu == "host":
             yield "by --cpu host programs ask the processor itself"
         elif not self.hides_the_processor:
@@ -35,20 +45,39 @@ class Outcome(NamedTuple):
     def line(self) -> str:
         why = "; ".join(self.differences())
         second = f"a second run by seed {self.settings.seed} {f'may differ: {why}' if why else 'will be the same'}"
-        given = f"{self.ended.spun / 1e6:.3f} ms of it given to processes that spin"
-        return f"simulated {self.ended.simulated / 1e9:.6f} s in {self.real:.2f} s, {given}; {second}"
+        text = f"{self.ended.spun / 1e6:.3f} ms of it given to processes that spin"
+        return f"simulated {self.ended.simulated / 1e9:.6f} s in {self.real:.2f} s, {text}; {second}"
+
+    def lines(self) -> Iterator[str]:
+        """What is told in words."""
+        if self.pauses and self.settings.pauses:
+            text = self.pauses
+            yield (f"pauses {self.settings.pauses.asked()}: {text.amount} in {text.calls:,} calls, "
+                   f"{text.time / 1e9:.6f} s of simulated time in all")
+            for one in text.first if text.amount <= SHOWN else []:
+                yield one.text()
+        yield self.line()
+
+    def pauses_record(self) -> "dict[str, Any]":
+        if not (self.pauses and self.settings.pauses):
+            return {}
+        first = [one._asdict() for one in self.pauses.first]
+        return {"pauses": {"asked": self.settings.pauses.asked(), "seed": self.settings.pauses.seed,
+                           "calls": self.pauses.calls, "count": self.pauses.amount, "time": self.pauses.time / 1e9,
+                           "first": first}}
 
     def record(self, kernel: Kernel) -> Record:
         """The same for programs; times are in seconds."""
         return {"simulated": self.ended.simulated / 1e9, "real": round(self.real, 3), "spun": self.ended.spun / 1e9,
-                "repeatable": not any(self.differences()), "interrupts": self.interrupts, "at": self.settings.at,
+                "repeatable": not any(self.differences()), "interrupts": self.interrupts, "longest": self.longest,
+                "at": self.settings.at, "given": self.given, **self.pauses_record(),
                 "kernel": kernel.checksum, "cpu": self.settings.cpu, "processor": processor()}
 
 
 def processor() -> str:
     """The model of this system's processor."""
-    with open("/proc/cpuinfo") as file:
-        return next((line.partition(":")[2].strip() for line in file if line.startswith("model name")), "")
+    lines = read_system("/proc/cpuinfo").splitlines()
+    return next((line.partition(":")[2].strip() for line in lines if line.startswith("model name")), "")
 
 
 def with_record(summary: str, more: Record) -> str:

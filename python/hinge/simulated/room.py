@@ -9,6 +9,7 @@ import tempfile
 from pathlib import Path
 from typing import Optional
 
+from hinge.border.scratch import Folder
 from hinge.run.system import Missing
 
 
@@ -36,15 +37,16 @@ def memory_folder(size: int) -> str:
 class Room:
     """The folder that a machine and its launcher share, and the one in which it keeps what outlives it."""
 
-    def __init__(self, size: int, kept: Optional[Path] = None) -> None:
+    def __init__(self, size: int, place: Optional[Path] = None) -> None:
         """For a machine of so many bytes. A folder that is given for what it keeps stays."""
         self.memory = memory_folder(size)
-        self.folder = Path(tempfile.mkdtemp(prefix="hinge-", dir=self.memory))
-        self.is_kept = kept is not None
-        self.kept = kept or Path(tempfile.mkdtemp(prefix="hinge-"))
+        self.scratch = Folder(self.memory)
+        self.folder = self.scratch.path
+        self.own = Folder() if place is None else None
+        self.kept = self.own.path if self.own else Path(place or "")
         (self.folder / "kept").symlink_to(self.kept)
 
     def remove(self) -> None:
-        shutil.rmtree(self.folder, ignore_errors=True)
-        if not self.is_kept:
-            shutil.rmtree(self.kept, ignore_errors=True)
+        self.scratch.remove()
+        if self.own:
+            self.own.remove()

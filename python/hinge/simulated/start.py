@@ -2,22 +2,25 @@
 
 from __future__ import annotations
 
-import argparse
-import os
 import shutil
 import signal
-import tempfile
 import threading
 from contextlib import contextmanager
-from pathlib import Path
-from typing import Iterator
+from dataclasses import replace
+from typing import Iterator, Optional
 
+from hinge.border.scratch import scratch
 from hinge.command import say
+from hinge.outputs import writing, written
 from hinge.run.options import drawn_seed
+from hinge.run.settings import SimulatedOptions
+from hinge.run.system import Missing
 from hinge.run.transcripts import KEPT, parts_of, told
-from hinge.simulated.job import Job, words_of
+from hinge.simulated.job import Job, environment, words_of
 from hinge.simulated.kernel import Kernel, found
+from hinge.simulated.likeness import earlier, remarks
 from hinge.simulated.machine import TIMED_OUT, Machine, Settings
+from hinge.simulated.pauses import pauses_of
 from hinge.simulated.outcome import Outcome, with_record
 from hinge.simulated.streams import has_terminal, is_same_file, read_input
 from hinge.simulated.time_options import BEGINNING, date, real_limit_of, refuse_outside, size
@@ -27,25 +30,30 @@ HISTORY, SUMMARY = "history", "summary"  # names in the folder that outlives a m
 MEMORY = "1G"
 
 
-def settings_of(asked: argparse.Namespace) -> Settings:
-    at = date(BEGINNING) if asked.at is None else asked.at
-    return Settings(asked.seed, at, asked.memory or size(MEMORY), asked.cpu or "stable", asked.scratch or asked.twice)
+def settings_of(options: SimulatedOptions, seed: int) -> Settings:
+    at = date(BEGINNING) if options.at is None else options.at
+    memory, cpu = options.memory or size(MEMORY), options.cpu or "stable"
+    return Settings(seed, at, memory, cpu, options.scratch or options.twice,
+                    pauses_of(options.pauses, seed))
 
 
-def inside(asked: argparse.Namespace) -> argparse.Namespace:
+def inside(options: SimulatedOptions, seed: int) -> SimulatedOptions:
     """The same for the command inside, where any user may put the link before all other programs. A transcript that is
-    there already would show in the run, so it is a new file always, which is copied at the end."""
-    transcript = f"{KEPT}/{HISTORY}" if asked.transcript or asked.twice else None
-    changed = {"realtime": True, "transcript": transcript, "json": f"{KEPT}/{SUMMARY}", "kept": None}
-    return argparse.Namespace(**{**vars(asked), **changed})
+    there already would show in the run, so it is a new file always, which is copied at the end. What only the launcher
+    looks at is left out, since the words are in the programs' memory, so that it doesn't change the run."""
+    transcript = f"{KEPT}/{HISTORY}" if options.transcript or options.twice else None
+    summary = f"{KEPT}/{SUMMARY}"
+    return replace(options, seed=seed, realtime=True, transcript=transcript, json=summary, kept=None, pauses=None,
+                   real_limit=None, twice=False, clean_env=False, like=None)
 
 
 @contextmanager
-def job_of(name: str, asked: argparse.Namespace) -> Iterator[Job]:
-    with tempfile.TemporaryDirectory(prefix="hinge-") as place:
-        given = Path(place) / "in"
-        read_input(given)
-        yield Job(words_of(name, inside(asked)), given, is_same_file(1, 2) and not asked.twice)
+def job_of(name: str, options: SimulatedOptions, seed: int) -> Iterator[Job]:
+    with scratch() as place:
+        inputs = place / "in"
+        read_input(inputs)
+        yield Job(words_of(name, inside(options, seed)), inputs, is_same_file(1, 2) and not options.twice,
+                  environment(options.clean_env))
 
 
 @contextmanager
@@ -66,57 +74,68 @@ def ending(machines: "list[Machine]") -> Iterator[list[int]]:
             signal.signal(number, handler)
 
 
-def hand_over(machine: Machine, asked: argparse.Namespace) -> None:
+def hand_over(machine: Machine, transcript: Optional[str]) -> None:
     """Copies the transcript to where the user wants it, also one that was cut."""
-    kept = machine.room.kept
-    count = len(list(kept.glob(f"{HISTORY}*")))
-    if asked.transcript and count:
-        for part, target in zip(parts_of(str(kept / HISTORY), count), parts_of(asked.transcript, count)):
-            shutil.copyfile(part, target)
-        for line in told(asked.transcript, count):
+    store = machine.room.kept
+    count = len(list(store.glob(f"{HISTORY}*")))
+    if transcript and count:
+        for part, target in zip(parts_of(str(store / HISTORY), count), parts_of(transcript, count)):
+            with written(target) as place:
+                shutil.copyfile(part, place)
+        for line in told(transcript, count):
             say(line)
 
 
-def report_of_machine(machine: Machine, asked: argparse.Namespace, settings: Settings, kernel: Kernel) -> int:
+def report_of_machine(machine: Machine, options: SimulatedOptions, settings: Settings, kernel: Kernel) -> int:
     """Tells how a run went; its status."""
-    hand_over(machine, asked)
+    hand_over(machine, options.transcript)
     if machine.cut is not None:
         if machine.cut == TIMED_OUT:
-            say(f"it was ended after {real_limit_of(asked):g} s of real time, by --real-limit")
+            say(f"it was ended after {real_limit_of(options):g} s of real time, by --real-limit")
+            stood = machine.stood()
+            if stood:
+                say(stood.line())
         return machine.cut
-    ended = machine.ended()
-    if ended is None:
+    endings = machine.ended()
+    if endings is None:
         raise machine.fault()
-    outcome = Outcome.of(machine, ended, settings)
-    if not asked.quiet:
-        say(outcome.line())
+    outcome = Outcome.of(machine, endings, settings)
+    if settings.pauses and not outcome.pauses:
+        raise Missing("--pauses: this kernel has none; `hinge kernel` builds one that has")
+    for line in outcome.lines() if not options.quiet else []:
+        say(line)
+    if options.like:
+        for line in remarks(options.like, earlier(options.like), outcome.record(kernel)):
+            say(line)
     summary = machine.room.kept / SUMMARY
-    if asked.json and summary.exists():
-        Path(asked.json).write_text(with_record(summary.read_text(), outcome.record(kernel)))
-    return ended.status
+    if options.json and summary.exists():
+        with writing(options.json) as file:
+            file.write(with_record(summary.read_text(), outcome.record(kernel)))
+    return endings.status
 
 
-def run_simulated(name: str, asked: argparse.Namespace) -> int:
-    """Runs the command of this name of the kit as the user asked; its status."""
-    refuse_outside(asked, has_terminal())
-    limit, kernel = real_limit_of(asked), found()
-    asked.seed = drawn_seed(asked)
-    settings, machines = settings_of(asked), list[Machine]()
-    with job_of(name, asked) as job, ending(machines) as came:
+def run_simulated(name: str, options: SimulatedOptions) -> int:
+    """Runs the command of this name of the kit with these options; its status."""
+    refuse_outside(options, has_terminal())
+    if options.like:
+        earlier(options.like)  # so that a wrong one is told before a machine is made
+    limit, kernel, seed = real_limit_of(options), found(), drawn_seed(options.seed)
+    settings, machines = settings_of(options, seed), list[Machine]()
+    with job_of(name, options, seed) as job, ending(machines) as came:
         try:
-            for kept in [asked.kept, None] if asked.twice else [asked.kept]:
-                machines.append(Machine(kernel, settings, job, kept))
+            for part in [options.kept, None] if options.twice else [options.kept]:
+                machines.append(Machine(kernel, settings, job, part))
             if came:
                 return 128 + came[0]
-            machines[0].copy_to(1, 2, keeps=asked.twice)
+            machines[0].copy_to(1, 2, keeps=options.twice)
             others = [threading.Thread(target=machine.wait, args=(limit,)) for machine in machines[1:]]
             for other in others:
                 other.start()
             machines[0].wait(limit)
             for other in others:
                 other.join()
-            status = report_of_machine(machines[0], asked, settings, kernel)
-            return compared(machines, status, settings.seed) if asked.twice else status
+            status = report_of_machine(machines[0], options, settings, kernel)
+            return compared(machines, status, settings.seed) if options.twice else status
         finally:
             for machine in machines:
                 machine.remove()

@@ -36,9 +36,9 @@ class Copier(threading.Thread):
     def copy(self) -> bool:
         """Copies what there is; whether there was anything."""
         data = os.pread(self.file, PIECE, self.copied)
-        left = memoryview(data)
-        while left:
-            left = left[os.write(self.to, left):]
+        rest = memoryview(data)
+        while rest:
+            rest = rest[os.write(self.to, rest):]
         if data and not self.keeps:
             libc.fallocate(self.file, KEEP_SIZE | PUNCH_HOLE, ctypes.c_long(self.copied), ctypes.c_long(len(data)))
         self.copied += len(data)

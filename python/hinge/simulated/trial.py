@@ -2,11 +2,10 @@
 
 from __future__ import annotations
 
-import tempfile
-from pathlib import Path
 
+from hinge.border.scratch import scratch
 from hinge.command import Fault
-from hinge.simulated.job import Job
+from hinge.simulated.job import Job, environment
 from hinge.simulated.kernel import Kernel
 from hinge.simulated.machine import MachineEnded, Machine, Settings
 from hinge.simulated.time_options import BEGINNING, date, size
@@ -19,10 +18,11 @@ REAL = 300.0  # s after which a trial is over
 
 def ended(kernel: Kernel, *words: str) -> MachineEnded:
     """How a command ends in a machine of a kernel; what it writes is dropped."""
-    with tempfile.TemporaryDirectory(prefix="hinge-") as place:
-        empty = Path(place) / "in"
+    with scratch() as place:
+        empty = place / "in"
         empty.touch()
-        machine = Machine(kernel, Settings(1, date(BEGINNING), size("256M"), "stable", False), Job(words, empty, True))
+        settings = Settings(1, date(BEGINNING), size("256M"), "stable", False)
+        machine = Machine(kernel, settings, Job(words, empty, True, environment(True)))
         try:
             machine.wait(REAL)
             how = machine.ended()

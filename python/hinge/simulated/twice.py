@@ -41,10 +41,10 @@ def difference(one: Path, other: Path, what: str) -> Optional[str]:
     if line is None:
         return None
     whole = what == TRANSCRIPT and one.stat().st_size and other.stat().st_size
-    found = parting(one, other) if whole else None
-    if found is None:
+    part = parting(one, other) if whole else None
+    if part is None:
         return f"{what} parts in line {line.line:,}: {line.texts[0]} and {line.texts[1]}"
-    return f"{what} parts in call {found.number:,}{found.at()}: {found.reason()}\n{found.text()}"
+    return f"{what} parts in call {part.number:,}{part.at()}: {part.reason()}\n{part.text()}"
 
 
 def length(machine: Machine, name: str) -> int:
@@ -59,13 +59,13 @@ def compared(machines: "list[Machine]", status: int, seed: int) -> int:
         return status
     faults = [] if one.ended() == other.ended() else [f"one ended with {one.ended()}, the other with {other.ended()}"]
     for name, what in COMPARED:
-        found = (
+        result = (
             difference(one.folder / name, other.folder / name, what)
             if length(one, name) or length(other, name)
             else None
         )
-        if found:
-            faults.append(found)
+        if result:
+            faults.append(result)
     for fault in faults:
         for line in f"two runs by seed {seed} differ: {fault}".split("\n"):
             say(line)

@@ -6,21 +6,22 @@ from __future__ import annotations
 import csv
 import itertools
 import json
-import os
 import re
 import shutil
 import subprocess
-import tempfile
 from concurrent.futures import ProcessPoolExecutor, as_completed
 from concurrent.futures.process import BrokenProcessPool
 from dataclasses import dataclass
 from pathlib import Path
 from typing import BinaryIO, Iterator, Optional
 
+from hinge.border.files import read_object, read_text, untrusted
+from hinge.border.scratch import scratch
 from hinge.captures.addresses import addresses_file
 from hinge.captures.random_words import direction_of
 from hinge.command import CONFIGURATION, FILES, ROWS, Bar, Fault, say
 from hinge.loss import Bernoulli
+from hinge.outputs import writing, written
 from hinge.pictures.figures import Figures, table_of, write_csv
 from hinge.program import dummynet
 from hinge.replays.links import Parts, read_configuration
@@ -29,6 +30,7 @@ from hinge.replays.replay import read_packets, read_report
 PACKETS = "packets.csv"  # the copy in the folder
 PLACE = re.compile(r"\{(\w+)\}")
 SEED = "seed"
+NO_PLAN = "it isn't the plan of a sweep"
 
 
 def reseeded(packets: Path, seed: int) -> Iterator[str]:
@@ -46,7 +48,8 @@ def reseeded(packets: Path, seed: int) -> Iterator[str]:
 def copy_addresses(packets: Path, copy: Path) -> None:
     """Copies the file with the IPv6 addresses of a packet file, where there is one."""
     if addresses_file(str(packets)).exists():
-        shutil.copyfile(addresses_file(str(packets)), addresses_file(str(copy)))
+        with written(addresses_file(str(copy))) as place:
+            shutil.copyfile(addresses_file(str(packets)), place)
 
 
 def tell_run(fault: Optional[BaseException], bar: Bar) -> None:
@@ -71,7 +74,7 @@ class Study:
     @staticmethod
     def plan(folder: Path, packets: Path, template: Path, values: dict[str, list[str]], seeds: list[int]) -> Study:
         """Writes a folder with all combinations of the values and seeds."""
-        text = template.read_text(encoding="utf-8")
+        text = read_text(template)
         places = set(PLACE.findall(text))
         if places != set(values):
             odd = ", ".join(sorted(places ^ set(values)))
@@ -80,21 +83,22 @@ class Study:
         names = [*values, SEED]
         runs = [dict(zip(names, run)) for run in itertools.product(*values.values(), map(str, seeds))]
         folder.mkdir(parents=True, exist_ok=True)
-        (folder / "link.config").write_text(text, encoding="utf-8")
+        with writing(str(folder / "link.config")) as out:
+            out.write(text)
         own = folder / PACKETS
         if not (own.exists() and own.samefile(packets)):
-            shutil.copyfile(packets, own)
+            with written(own) as place:
+                shutil.copyfile(packets, place)
             copy_addresses(packets, own)
-        (folder / "study.json").write_text(json.dumps({"packets": PACKETS, "runs": runs}, indent=1) + "\n")
+        with writing(str(folder / "study.json")) as out:
+            out.write(json.dumps({"packets": PACKETS, "runs": runs}, indent=1) + "\n")
         return Study(folder, own, runs)
 
     @staticmethod
     def load(folder: Path) -> Study:
-        try:
-            plan = json.loads((folder / "study.json").read_text())
-            return Study(folder, folder / plan["packets"], plan["runs"])
-        except (ValueError, KeyError, TypeError):
-            raise Fault(f"{folder / 'study.json'}: it isn't the plan of a sweep", ROWS) from None
+        with untrusted(folder / "study.json", what=NO_PLAN):
+            plan = read_object(folder / "study.json", NO_PLAN)
+            return Study(folder, folder / plan["packets"], [dict(run) for run in plan["runs"]])
 
     def table_of(self, run: int) -> Path:
         return self.folder / f"run-{run}.csv"
@@ -113,8 +117,8 @@ class Study:
         if not 1 <= number <= len(self.runs):
             raise Fault(f"{self.folder} has runs 1 to {len(self.runs)}, and no run {number}", ROWS)
         values = self.runs[number - 1]
-        text = PLACE.sub(lambda found: values[found[1]], (self.folder / "link.config").read_text(encoding="utf-8"))
-        with tempfile.TemporaryDirectory() as work:
+        text = PLACE.sub(lambda result: values[result[1]], read_text(self.folder / "link.config"))
+        with scratch() as work:
             config, packets, report = (Path(work, name) for name in ("config", "packets", "report"))
             config.write_text(text, encoding="utf-8")
             with open(packets, "w", encoding="utf-8") as out:
@@ -128,21 +132,18 @@ class Study:
 
     def keep(self, number: int, table: list[Figures]) -> None:
         """Puts the table of a run in its place, whole or not at all."""
-        with tempfile.NamedTemporaryFile("w", encoding="utf-8", newline="", dir=self.folder, prefix=f".run-{number}-",
-                                         delete=False) as out:
+        with writing(str(self.table_of(number))) as out:
             write_csv(table, out)
-        os.chmod(out.name, 0o644)
-        os.replace(out.name, self.table_of(number))
 
     def call(self, words: list[str], number: int, out: Optional[BinaryIO] = None) -> None:
         """Runs a program of a run; its fault is told with the values of the run."""
         try:
-            done = subprocess.run(words, stdout=out, stderr=subprocess.PIPE, text=True)
+            process = subprocess.run(words, stdout=out, stderr=subprocess.PIPE, text=True)
         except OSError as error:
             raise Fault(f"{words[0]}: {error.strerror} (the variable DUMMYNET names the program)", FILES) from None
-        if done.returncode != 0:
+        if process.returncode != 0:
             values = ", ".join(f"{name} {value}" for name, value in self.runs[number - 1].items())
-            raise Fault(f"run {number} ({values}): {' '.join(done.stderr.split())[:300]}", done.returncode)
+            raise Fault(f"run {number} ({values}): {' '.join(process.stderr.split())[:300]}", process.returncode)
 
     def run_all(self, processes: int) -> None:
         """Makes the runs that are missing, so many at a time. A run that fails is told, and the others go on."""
@@ -158,13 +159,13 @@ class Study:
                 raise
             finally:
                 bar.clear()
-        if left := self.missing():
-            raise Fault(f"{len(left)} of {len(self.runs)} runs are missing, run {left[0]} first", ROWS)
+        if rest := self.missing():
+            raise Fault(f"{len(rest)} of {len(self.runs)} runs are missing, run {rest[0]} first", ROWS)
 
     def rows(self) -> Iterator[dict[str, str]]:
         """The tables of all runs as one: the parameters of a run before the figures of each of its flows."""
-        if left := self.missing():
-            raise Fault(f"{len(left)} of {len(self.runs)} runs are missing, run {left[0]} first: sweep run "
+        if rest := self.missing():
+            raise Fault(f"{len(rest)} of {len(self.runs)} runs are missing, run {rest[0]} first: sweep run "
                         f"{self.folder}", ROWS)
         for number, values in enumerate(self.runs, 1):
             with open(self.table_of(number), encoding="utf-8", newline="") as file:

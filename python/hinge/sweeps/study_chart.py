@@ -20,8 +20,8 @@ Lines = dict[str, dict[str, list[float]]]
 
 def magnitude(text: str) -> Optional[float]:
     """The number that a value begins with, with its factor of a thousand; None where it is a word."""
-    found = VALUE.match(text)
-    return None if found is None else float(found[1]) * SCALES[found[2].lower()]
+    match = VALUE.match(text)
+    return None if match is None else float(match[1]) * SCALES[match[2].lower()]
 
 
 def plot_lines(rows: list[dict[str, str]], names: list[str], figure: str, against: str, flow: str) -> Lines:
@@ -44,14 +44,14 @@ def study_figure(lines: Lines, figure: str, against: str, flow: str) -> Figure:
     fig, axes = module("matplotlib.pyplot", "python3-matplotlib").subplots(figsize=(8, 5))
     scale, unit = (1e6, " (ms)") if figure.endswith("_ns") else (1, "")
     values = list(dict.fromkeys(value for line in lines.values() for value in line))
-    magnitudes = [found for found in map(magnitude, values) if found is not None]
+    magnitudes = [result for result in map(magnitude, values) if result is not None]
     place: dict[str, float] = dict(zip(values, magnitudes if len(magnitudes) == len(values) else range(len(values))))
     for number, (others, line) in enumerate(lines.items()):
-        ordered = sorted(line, key=place.__getitem__)
-        means = [sum(line[value]) / len(line[value]) / scale for value in ordered]
-        below = [mean - min(line[value]) / scale for mean, value in zip(means, ordered)]
-        above = [max(line[value]) / scale - mean for mean, value in zip(means, ordered)]
-        axes.errorbar([place[value] for value in ordered], means, yerr=[below, above], marker="o", ms=4, capsize=3,
+        sequence = sorted(line, key=place.__getitem__)
+        means = [sum(line[value]) / len(line[value]) / scale for value in sequence]
+        below = [mean - min(line[value]) / scale for mean, value in zip(means, sequence)]
+        above = [max(line[value]) / scale - mean for mean, value in zip(means, sequence)]
+        axes.errorbar([place[value] for value in sequence], means, yerr=[below, above], marker="o", ms=4, capsize=3,
                       color=COLORS[number % len(COLORS)], label=others or None)
     axes.set_xticks([place[value] for value in values], values)
     axes.set(xlabel=against, ylabel=figure.removesuffix("_ns").replace("_", " ") + unit, ylim=(0, None),

@@ -21,8 +21,8 @@ def is_asynchronous(call: object) -> bool:
 def asynchronous(call: Callable[..., Any]) -> Optional[Callable[..., Any]]:
     """The coroutine or asynchronous generator of a fixture or test, also if another plugin has wrapped it; None if it
     is none."""
-    found = inspect.unwrap(call)
-    return found if is_asynchronous(found) else None
+    result = inspect.unwrap(call)
+    return result if is_asynchronous(result) else None
 
 
 def bound(call: Callable[..., Any], instance: object) -> Callable[..., Any]:
@@ -35,19 +35,19 @@ def bound(call: Callable[..., Any], instance: object) -> Callable[..., Any]:
 
 def synchronous(call: Callable[..., Any], net: Network) -> Callable[..., Any]:
     """A coroutine or an asynchronous generator of a fixture as a plain one, which runs in the network."""
-    wanted = inspect.signature(call).parameters
+    names = inspect.signature(call).parameters
 
     @functools.wraps(call)
-    def function(**named: object) -> object:
-        return net.run(call(**{name: named[name] for name in wanted}))
+    def function(**keywords: object) -> object:
+        return net.run(call(**{name: keywords[name] for name in names}))
 
     @functools.wraps(call)
-    def generator(**named: object) -> Generator[object, None, None]:
-        made: AsyncGenerator[object, None] = call(**{name: named[name] for name in wanted})
-        yield net.run(step(made))
+    def generator(**keywords: object) -> Generator[object, None, None]:
+        generator_of_loop: AsyncGenerator[object, None] = call(**{name: keywords[name] for name in names})
+        yield net.run(step(generator_of_loop))
         if not net.loop.is_closed():  # else the end of the network has ended the generator
             try:
-                net.run(step(made))
+                net.run(step(generator_of_loop))
             except StopAsyncIteration:
                 return
             pytest.fail(f"the fixture {call.__name__} yields more than once")
@@ -55,8 +55,8 @@ def synchronous(call: Callable[..., Any], net: Network) -> Callable[..., Any]:
     return generator if inspect.isasyncgenfunction(call) else function
 
 
-async def step(made: AsyncGenerator[object, None]) -> object:
-    return await made.__anext__()
+async def step(generator_of_loop: AsyncGenerator[object, None]) -> object:
+    return await generator_of_loop.__anext__()
 
 
 def is_in_simulated_time(request: pytest.FixtureRequest, scope: str) -> bool:
@@ -81,7 +81,7 @@ def pytest_pyfunc_call(pyfuncitem: pytest.Function) -> Optional[bool]:
     call = asynchronous(pyfuncitem.obj)
     if call is None or NETWORK not in pyfuncitem.funcargs or NETWORK in inspect.signature(call).parameters:
         return None
-    wanted = [name for name in inspect.signature(call).parameters if name in pyfuncitem.funcargs]
+    names = [name for name in inspect.signature(call).parameters if name in pyfuncitem.funcargs]
     net: Any = pyfuncitem.funcargs[NETWORK]
-    net.run(call(**{name: pyfuncitem.funcargs[name] for name in wanted}))
+    net.run(call(**{name: pyfuncitem.funcargs[name] for name in names}))
     return True

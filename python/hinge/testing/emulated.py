@@ -21,8 +21,8 @@ PATIENCE = 30  # s until a path is ready, and until it has ended
 
 def audited(history: Path) -> str:
     """What dummynet says of a history: `lawful N`, or its first entry that isn't lawful."""
-    done = subprocess.run([dummynet(), "audit", str(history)], capture_output=True, text=True)
-    return (done.stdout or done.stderr).strip()
+    process = subprocess.run([dummynet(), "audit", str(history)], capture_output=True, text=True)
+    return (process.stdout or process.stderr).strip()
 
 
 def dropped_in_history(history: Path) -> list[str]:
@@ -78,11 +78,11 @@ class UdpPath:
     def _ready(self) -> tuple[str, int]:
         assert self.process.stdout
         ready, _, _ = select.select([self.process.stdout], [], [], PATIENCE)
-        found = re.fullmatch(r"ready at (.*):(\d+)\n", self.process.stdout.readline() if ready else "")
-        if found is None:
+        match = re.fullmatch(r"ready at (.*):(\d+)\n", self.process.stdout.readline() if ready else "")
+        if match is None:
             self.process.kill()
             raise RuntimeError(f"no UDP path: {self.process.communicate()[1].strip()}")
-        return found[1], int(found[2])
+        return match[1], int(match[2])
 
     def finish(self) -> None:
         if self.verdict is None:

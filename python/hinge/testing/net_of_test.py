@@ -28,20 +28,20 @@ class NetOfTest:
     def named(self, line: str) -> str:
         """A line with the names of hosts in the place of their addresses."""
         names = {address: name for name, own in self.net.addresses().items() for address in own}
-        return ADDRESS.sub(lambda found: names.get(found[0], found[0]), line)
+        return ADDRESS.sub(lambda result: names.get(result[0], result[0]), line)
 
     def report(self) -> str:
         if not self.history.exists():
             return self.net.told() or "the net didn't begin"
         changes = [f"  {one.seconds:.6f} s, changed: {one.line}" for one in self.net.obeyed]
-        said = [
+        message = [
             f"{name} printed last ({self.log(name)}):\n{text}"
             for name in self.net.addresses()
             if (text := self.net.last_lines(name))
         ]
-        lost = [self.named(line) for line in dropped_in_history(self.history)]
+        losses = [self.named(line) for line in dropped_in_history(self.history)]
         return "\n".join(
-            [self.net.told(), *changes, *lost, *said, closing(self.net.drawn_seed(), self.verdict, self.history)]
+            [self.net.told(), *changes, *losses, *message, closing(self.net.drawn_seed(), self.verdict, self.history)]
         )
 
     def log(self, host: str) -> Path:

@@ -15,7 +15,7 @@
 Timers, datagram endpoints and `socket.socket` of datagrams are those of asyncio and of Python, so that a protocol runs as it is. Nothing
 waits: a minute of the protocol takes the time that its computing takes. During a run the module `time` returns the simulated time, and
 `random`, `secrets` and `os.urandom` follow from the seed. For one seed every run is the same, except where the protocol asks the clock in
-C code: `hinge with-clock` is for that.
+C code: the library that `hinge kernel --clock` names, preloaded, is for that.
 
 There is no TCP. `hinge run --simulated` takes real programs, with the kernel's TCP, into simulated time.
 """

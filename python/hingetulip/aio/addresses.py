@@ -63,3 +63,14 @@ def number(address: str) -> int:
 def version_of(family: int) -> int:
     """4 or 6, by the family of a socket."""
     return 6 if family == socket.AF_INET6 else 4
+
+
+def port_of(port: Any, is_stream: bool) -> int:
+    """The number of a port, which may be the name of a service, as getaddrinfo takes it. gaierror: no service has the name."""
+    text = port.decode() if isinstance(port, (bytes, bytearray)) else str(port or 0)
+    if text.isdecimal():
+        return int(text)
+    try:
+        return socket.getservbyname(text, "tcp" if is_stream else "udp")
+    except OSError:
+        raise socket.gaierror(socket.EAI_SERVICE, f"no service has the name {text!r}") from None

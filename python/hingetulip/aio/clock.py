@@ -3,6 +3,7 @@
 from __future__ import annotations
 
 import asyncio
+import math
 import threading
 from typing import TYPE_CHECKING, Callable, NoReturn, Optional, Sequence
 
@@ -13,6 +14,7 @@ from hingetulip.library import LAST_MOMENT
 if TYPE_CHECKING:
     from hingetulip.aio.loop import Loop
 
+EXACT = 2**22 * NS  # up to which a float of seconds tells each ns
 MOST_STEPS = 100_000  # of the loop while the clock stays where it is
 
 
@@ -67,6 +69,8 @@ class Clock:
                         f"{other_threads()}{waiting(self.loop)}")
         if moment > self.now:
             self.now, self.seconds, self.steps = moment, moment / NS, 0
+            if moment >= EXACT:
+                self.loop.resolve(math.ulp(self.seconds))
             if moment >= self.told_at:
                 for call in self.moved:
                     call(moment)

@@ -1,4 +1,4 @@
-"""The clock that C code asks, as OpenSSL does: simulated where `hinge with-clock` preloaded it, and else warned of."""
+"""The clock that C code asks, as OpenSSL does: simulated where the library of `hinge kernel --clock` is preloaded, and else warned of."""
 
 from __future__ import annotations
 
@@ -19,7 +19,7 @@ if TYPE_CHECKING:
 LONG = 3600 * NS  # of simulated time, after which code that uses ssl is warned of
 FUNCTION = "hinge_clock_set"
 DTLS = "OpenSSL"  # the package that brings DTLS to Python
-ADVICE = "run under `hinge with-clock`"
+ADVICE = "preload the clock, as LD_PRELOAD=$(hinge kernel --clock)"
 
 
 SetClock = Callable[[int, int], None]

@@ -7,6 +7,8 @@ import select
 import socket
 from typing import TYPE_CHECKING, Any, Callable, Union
 
+from hingetulip.aio.real import ALLOWED, REAL_FAMILIES, SOCKET, RealTimeError, family_of
+
 if TYPE_CHECKING:
     from hingetulip.aio.datagram_socket import DatagramSocket
     from hingetulip.aio.loop import Loop
@@ -62,7 +64,15 @@ class Descriptors:
         self.take_away(waits, found)
         waits[found] = asyncio.Handle(callback, args, self.loop, None)
         if found not in self.sockets:
+            self._note_of_system(found)
             self._others.add(found)
+
+    def _note_of_system(self, found: int) -> None:
+        """A descriptor of the system. RealTimeError: it is a socket of the real network, and `real` isn't set."""
+        if found not in self._others and not self.loop.net.real:
+            if family_of(found) in REAL_FAMILIES:
+                raise RealTimeError(SOCKET + ALLOWED)
+            self.loop.net.real_uses.descriptors[found] = None
 
     def take_away(self, waits: dict[int, asyncio.Handle], descriptor: Descriptor) -> bool:
         """Takes a callback away. False: there is none."""

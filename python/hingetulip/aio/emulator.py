@@ -8,7 +8,6 @@ from typing import TYPE_CHECKING, Optional
 
 from hingetulip.aio.history import History
 from hingetulip.entry_text import ANSWERED, CALLER
-from hingetulip.errors import LineError
 from hingetulip.layout import DELIVERY, FATE, FAULT, PACKET
 from hingetulip.library import CALLS, ROOM, failure
 from hingetulip.shaper import Shaper, encoded, unpackable
@@ -78,10 +77,7 @@ class Emulator:
             if self.history is not None:
                 self.history.add(self.history.text.written(CALLS.dn_advance_text, c_uint64(moment), at))
         text = encoded(line)
-        try:
-            status = self.shaper._obeyed(text)
-        except LineError as fault:
-            raise LineError(fault.kind, fault.word, line) from None
+        status = self.shaper._obeyed(text)
         if self.history is not None and status in ANSWERED:
             asked = text, c_size_t(len(text)), c_uint32(status), self._fault
             self.history.add(self.history.text.written(CALLS.dn_configure_text, *asked))

@@ -7,7 +7,7 @@ import errno
 from collections import Counter
 from typing import TYPE_CHECKING, Any, Callable, Coroutine, Optional, TypeVar
 
-from hingetulip.aio.addresses import ANY, BROADCAST, MAPPED, is_of_6
+from hingetulip.aio.addresses import ANY, BROADCAST, is_of_6
 from hingetulip.aio.datagram import Address, Datagram, Refusal
 from hingetulip.aio.endpoint import Endpoint, fault
 from hingetulip.aio.transport import Transport
@@ -127,9 +127,9 @@ class Host:
 
     def take_of_group(self, it: Datagram) -> None:
         """Gives a datagram of a group to all sockets at its port that want it, if any socket has joined the group."""
-        (group, port), found = it.target, self.sockets.get(it.target[1], ())
+        group, port = it.target
         if self.is_up and (self.groups[group] or group == BROADCAST):
-            for socket in list(found):
+            for socket in list(self.sockets.get(port, ())):
                 if socket.accepts(it):
                     socket.receiver.take(it)
 

@@ -8,7 +8,7 @@ from typing import TYPE_CHECKING, Callable, Mapping, Optional, Protocol
 from hingetulip.aio.datagram import MOST_BYTES, Datagram
 from hingetulip.aio.jitter import DelayOf, Jitter
 from hingetulip.aio.drawn import QUEUES, Drawn
-from hingetulip.aio.options import Options, Setting
+from hingetulip.aio.options import Options, said
 from hingetulip.records import Outcome
 
 if TYPE_CHECKING:
@@ -17,7 +17,6 @@ if TYPE_CHECKING:
 
 Classifier = Callable[[Datagram], str]
 LOSES_NONE = 2**31 - 1
-BY_MODEL = 0.5  # the loss rate under which a model's words 0 and 2^31 - 1 decide
 
 
 class Words(Protocol):
@@ -49,9 +48,9 @@ class Link:
         bind = getattr(loss, "bind", None)  # a model without a seed of its own takes the network's, and a direction is a link's
         if bind is not None:
             bind(net.seed, self.pipe)
-        by_model: dict[str, Setting] = {} if loss is None else {"plr": BY_MODEL}
-        self.options = Options(options).changed(by_model)
-        self.class_options = {name: Options(text, "queue").changed(by_model) for name, text in (classes or {}).items()}
+        self.has_model = loss is not None
+        self.options = Options(options, has_model=self.has_model)
+        self.class_options = {name: Options(text, "queue", self.has_model) for name, text in (classes or {}).items()}
         self.class_words = {number: Drawn(net.seed, QUEUES + number) if loss is None else loss for number in self.queues.values()}
         self._configure(self.options)
         for name in self.queues:
@@ -73,23 +72,16 @@ class Link:
     def _line(self, options: Options) -> str:
         return f"pipe {self.pipe} config {options}".strip()
 
-    def configure(self, options: str) -> None:
-        """Gives all options anew, as a `pipe config` line does: one that is left away has its default.
+    def change(self, options: str) -> None:
+        """Gives the whole link anew, `link.change("2Mbit/s 20ms")`: an option that is left out has its default.
 
-        LineError: they are none, and the link stays as it was.
+        LineError: a word is wrong, or there are none, and the link stays as it was.
         """
-        self._configure(Options(options))
+        self._configure(Options(said(options), has_model=self.has_model))
 
-    def change(self, **settings: Setting) -> None:
-        """Sets some options of the pipe and keeps the others: `link.change(plr=0, bw="2Mbit/s")`. None sets the default.
-
-        `delay` is in ms, `bw` in bit/s if it has no unit, and `mask` takes the fields. LineError is as with `configure`.
-        """
-        self._configure(self.options.changed(settings))
-
-    def change_class(self, name: str, **settings: Setting) -> None:
-        """As `change`, of the queue of a class: `link.change_class("video", weight=10)`."""
-        self._configure_class(name, self.class_options[name].changed(settings))
+    def change_class(self, name: str, options: str) -> None:
+        """As `change`, of the queue of a class: `link.change_class("video", "weight 10")`."""
+        self._configure_class(name, Options(said(options), "queue", self.has_model))
 
     def _configure(self, options: Options) -> None:
         self.net.obey(self._line(options))

@@ -15,6 +15,7 @@ from hingetulip.aio.datagram_socket import DatagramSocket
 from hingetulip.aio.descriptors import Descriptor, Descriptors
 from hingetulip.aio.endpoint import Endpoint
 from hingetulip.aio.host import Protocol, current_host, here
+from hingetulip.aio.real import NO_TCP
 from hingetulip.aio.task import Task
 from hingetulip.aio.transport import Transport
 
@@ -24,7 +25,6 @@ if TYPE_CHECKING:
 T = TypeVar("T")
 FEW_TASKS = 64
 RESOLUTION = 0.5e-9  # s: a timer is due at its nearest ns
-NO_TCP = "simulated hosts have datagrams alone: `hinge run --simulated` takes programs with the kernel's TCP into simulated time"
 LEFT_OUT = ("create_connection", "create_server", "connect_accepted_socket", "create_unix_connection", "create_unix_server", "sock_accept",
             "sock_sendfile", "sendfile", "start_tls")
 NO_SYSTEM = "a simulated host has no processes, pipes and signals: `hinge run --simulated` takes programs into simulated time"
@@ -49,6 +49,10 @@ class Loop(asyncio.BaseEventLoop):
     def time(self) -> float:
         """Seconds since the loop was made. `clock.now` has the ns."""
         return self.clock.seconds
+
+    def resolve(self, resolution: float) -> None:
+        """Floats of a long run are this far apart, in seconds, and a timer is due at the nearest one."""
+        self._clock_resolution = max(RESOLUTION, resolution)
 
     def _process_events(self, events: list[asyncio.Handle]) -> None:
         """The callbacks of descriptors that can be read or written. The clock gives other datagrams to their sockets itself."""

@@ -12,7 +12,7 @@ from pathlib import Path
 from random import Random
 from typing import Any, Callable, Coroutine, Mapping, Optional, TypeVar, Union
 
-from hingetulip.aio.addresses import ANY, ANY_OF_6, OWN, is_address, is_of_6, number, plain
+from hingetulip.aio.addresses import ANY, ANY_OF_6, OWN, is_address, is_of_6, number, plain, port_of
 from hingetulip.aio.clock_in_c import hint
 from hingetulip.aio.datagram import MOST_BYTES, UDP, Datagram
 from hingetulip.aio.history import History
@@ -20,13 +20,12 @@ from hingetulip.aio.host import Host, current_host
 from hingetulip.aio.jitter import DelayOf
 from hingetulip.aio.link import Classifier, Link, Words
 from hingetulip.aio.loop import Loop
+from hingetulip.aio.real import RealUses
 from hingetulip.aio.report import report
-from hingetulip.aio.routes import Routes
 from hingetulip.aio.simulated import simulated
-from hingetulip.aio.system import simulated_system
+from hingetulip.aio.system import FLAGS, simulated_system
 from hingetulip.aio.traffic import Traffic
 from hingetulip.aio.waiting import waiting
-from hingetulip.errors import LineError
 from hingetulip.library import NEVER
 from hingetulip.shaper import Shaper
 from hingetulip_words.presets import either_way
@@ -49,6 +48,7 @@ class Network(Traffic):
         self.random = Random(seed)
         super().__init__(Shaper(seed=seed), History(history) if history else None)
         self.links: dict[tuple[Host, Host], Link] = {}
+        self.real_uses = RealUses()
         self.real = False
         """Whether `time.sleep` and sockets of the system may be used in a run."""
         self.loop = Loop(self)
@@ -142,11 +142,14 @@ class Network(Traffic):
             raise socket.gaierror(socket.EAI_NONAME, f"there is no simulated host {name}")
         else:
             found = self.hosts[name].addresses
-        kinds = [(socket.AF_INET6, (it, int(port or 0), 0, 0)) if is_of_6(it) else (socket.AF_INET, (it, int(port or 0))) for it in found]
+        is_stream = type & ~FLAGS == socket.SOCK_STREAM
+        place = port_of(port, is_stream)
+        kinds = [(socket.AF_INET6, (it, place, 0, 0)) if is_of_6(it) else (socket.AF_INET, (it, place)) for it in found]
         wanted = [it for it in kinds if family in (0, it[0])]
         if not wanted:
             raise socket.gaierror(socket.EAI_ADDRFAMILY, f"{host} has no address of {socket.AddressFamily(family).name}")
-        return [(kind, socket.SocketKind(type or socket.SOCK_DGRAM), proto or UDP, "", address) for kind, address in wanted]
+        protocol = proto or (socket.IPPROTO_TCP if is_stream else UDP)
+        return [(kind, socket.SocketKind(type or socket.SOCK_DGRAM), protocol, "", address) for kind, address in wanted]
 
     def obey(self, line: str) -> None:
         """A configuration line counts from the moment of the loop's clock."""

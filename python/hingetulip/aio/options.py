@@ -2,47 +2,31 @@
 
 from __future__ import annotations
 
-from decimal import Decimal
-from typing import Union
-
 from hingetulip.errors import LineError
-from hingetulip_words.link import WordError, in_full, read_link
+from hingetulip_words.link import NO_WORDS, WordError, in_full, read_link
 
-Setting = Union[str, int, float, None]
 MS = 10**6  # ns
-PLACES = 18  # digits behind the point that the language takes
+BY_MODEL = "0.5"  # the loss rate under which a model's words 0 and 2^31 - 1 decide
 
 
-def decimal(value: float) -> str:
-    """A number as the language writes it: digits and a point, without an exponent."""
-    text = format(round(Decimal(repr(value)), PLACES), "f")
-    return text.rstrip("0").rstrip(".") if "." in text else text
-
-
-def read(text: str, kind: str) -> dict[str, str]:
-    try:
-        return read_link(text, kind)
-    except WordError as wrong:
-        raise LineError(str(wrong), 0) from None
+def said(words: str) -> str:
+    """Words that change a link. LineError: there are none."""
+    if not words.partition("#")[0].strip():
+        raise LineError(NO_WORDS, 0)
+    return words
 
 
 class Options:
     """The options of a pipe or queue, by their names in full. LineError: a word isn't one of them."""
 
-    def __init__(self, text: str = "", kind: str = "pipe") -> None:
-        self.kind = kind
-        self.settings = read(text, kind)
-
-    def changed(self, settings: dict[str, Setting]) -> Options:
-        """These with some set anew. None takes one away, so that it has its default."""
-        made = Options(kind=self.kind)
-        made.settings = dict(self.settings)
-        for name, value in settings.items():
-            if value is None:
-                made.settings.pop(name, None)
-            else:
-                made.settings.update(read(f"{name} {decimal(value) if isinstance(value, float) else value}", self.kind))
-        return made
+    def __init__(self, text: str = "", kind: str = "pipe", has_model: bool = False) -> None:
+        """Where a model decides about losses, the link needs a loss rate under which it does."""
+        try:
+            self.settings = read_link(text, kind)
+        except WordError as wrong:
+            raise LineError(str(wrong), 0) from None
+        if has_model:
+            self.settings.setdefault("plr", BY_MODEL)
 
     @property
     def delay(self) -> int:

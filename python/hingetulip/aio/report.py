@@ -4,7 +4,6 @@ from __future__ import annotations
 
 from typing import TYPE_CHECKING
 
-from hingetulip.aio.datagram import NS
 from hingetulip.records import Outcome
 
 if TYPE_CHECKING:
@@ -25,4 +24,5 @@ def report(net: Network) -> str:
     lines += [f"  {it}" for it in net.dropped[:MOST_DROPPED]]
     if len(net.dropped) > MOST_DROPPED:
         lines.append(f"  and {len(net.dropped) - MOST_DROPPED} more")
+    lines += net.real_uses.lines()
     return "\n".join([*lines, f"simulated time {net.loop.time():.9f} s"])

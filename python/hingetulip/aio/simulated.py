@@ -3,29 +3,31 @@
 from __future__ import annotations
 
 import os
+import queue  # which binds the system's clock here: its waits are those of threads, and real
 import random
 import threading
 import time
 from contextlib import ExitStack, contextmanager
 from typing import TYPE_CHECKING, Iterator
-from unittest import mock
 
 from hingetulip.aio.clock_in_c import clock_in_c
 from hingetulip.aio.datagram import NS
 from hingetulip.aio.host import here
 from hingetulip.aio.openssl import random_of_openssl
+from hingetulip.aio.switched import switched
 
 if TYPE_CHECKING:
     from hingetulip.aio.loop import Loop
 
+WAITS_OF_THREADS = (queue,)  # modules that have the system's clock in each run
 ONE = threading.Lock()  # a run: it has the clock and the random numbers of the whole process
 EPOCH = 1_700_000_000  # s: what time.time() returns at the start
 
 
 @contextmanager
 def simulated(loop: Loop, source: random.Random) -> Iterator[None]:
-    """The module `time` returns the simulated time, and so does the clock in C code under `hinge with-clock`. Numbers of `random`,
-    `secrets`, `os.urandom` and OpenSSL come from `source`."""
+    """The module `time` returns the simulated time, and so does the clock in C code with the library of `hinge kernel --clock`. Numbers of
+    `random`, `secrets`, `os.urandom` and OpenSSL come from `source`."""
     if not ONE.acquire(blocking=False):
         raise RuntimeError("another run of simulated time is under way in this process, in another thread or around this one")
     try:
@@ -51,10 +53,11 @@ def _patched(loop: Loop, source: random.Random) -> Iterator[None]:
     random.seed(source.getrandbits(64))
     try:
         with ExitStack() as stack:
-            stack.enter_context(mock.patch.multiple(time, **told))  # type: ignore[arg-type]
-            stack.enter_context(mock.patch.object(os, "urandom", source.randbytes))
-            if hasattr(random, "_urandom"):
-                stack.enter_context(mock.patch.object(random, "_urandom", source.randbytes))
+            for name, of_run in told.items():
+                stack.enter_context(switched(time, name, of_run))
+            for module, name in ((os, "urandom"), (random, "_urandom")):
+                if hasattr(module, name):
+                    stack.enter_context(switched(module, name, source.randbytes))
             stack.enter_context(random_of_openssl(random.Random(source.getrandbits(64))))
             stack.enter_context(clock_in_c(clock, EPOCH * NS))
             yield

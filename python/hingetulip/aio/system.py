@@ -13,6 +13,7 @@ from hingetulip.aio.datagram_socket import DatagramSocket
 from hingetulip.aio.host import current_host, here
 from hingetulip.aio.kept import given_anew
 from hingetulip.aio.real import real_refused
+from hingetulip.aio.switched import switched
 
 if TYPE_CHECKING:
     from hingetulip.aio.network import Network
@@ -47,9 +48,9 @@ def simulated_system(net: Network) -> Iterator[None]:
         "gethostbyname": lambda name: net.addresses_of(name, 0, socket.AF_INET)[0][4][0],
         "gethostname": lambda: current_host().name if here.get(None) else name_of_machine()}
     with ExitStack() as stack:
-        stack.enter_context(real_refused())
+        stack.enter_context(real_refused(net.real_uses))
         stack.enter_context(mock.patch.object(socket.socket, "__new__", make))
         for name, simulated in names.items():
-            stack.enter_context(mock.patch.object(socket, name, here_or(simulated, getattr(socket, name))))
+            stack.enter_context(switched(socket, name, here_or(simulated, getattr(socket, name))))
         stack.enter_context(given_anew(net, sys.modules))
         yield

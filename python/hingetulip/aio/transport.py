@@ -13,7 +13,6 @@ from hingetulip.aio.endpoint import Endpoint
 
 if TYPE_CHECKING:
     from hingetulip.aio.datagram_socket import DatagramSocket
-    from hingetulip.aio.host import Host
 
 Data = Union[bytes, bytearray, memoryview]
 

@@ -11,6 +11,7 @@ import unittest
 from functools import lru_cache
 from pathlib import Path
 
+from forks import forked_in
 from hinge.program import dummynet
 from hinge.replays.links import Parts, read_configuration
 from hinge.replays.replay import read_packets, read_report
@@ -31,7 +32,10 @@ def folder() -> Path:
 
 
 def run(command: str, *words: object, **more: object) -> subprocess.CompletedProcess[str]:
-    """Runs a command of the kit."""
+    """Runs a command of the kit: in a fork of this process, which has its modules already, or if more than an input is
+    wanted in a process of its own."""
+    if set(more) <= {"input"} and "coverage" not in sys.modules:  # which saves what it saw at the end of a process
+        return forked_in(folder(), [command, *map(str, words)], str(more.get("input", "")))
     return subprocess.run([sys.executable, "-m", "hinge", command, *map(str, words)], capture_output=True, text=True,
                           cwd=folder(), **more)
 

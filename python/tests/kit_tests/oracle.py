@@ -5,5 +5,7 @@ from pathlib import Path
 
 sys.path.append(str(Path(__file__).resolve().parents[3] / "tools" / "oracle"))
 
-from fast import FastDummynet  # noqa: E402,F401
-from program import configured  # noqa: E402,F401
+from fast import FastDummynet  # noqa: E402
+from program import configured  # noqa: E402
+
+__all__ = ["FastDummynet", "configured"]

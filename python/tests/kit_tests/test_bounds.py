@@ -101,15 +101,14 @@ class Bounds(unittest.TestCase):
         self.assertNotIn("bound", run("look", path).stdout)
         self.assertEqual(bound_lines(delays(path)), [])
 
-    def test_the_tables_of_look_and_stats(self) -> None:
+    def test_the_table_of_look(self) -> None:
         path = history(*FULL)
-        for command in ("look", "stats"):
-            self.assertEqual(run(command, path).stdout.split("\n\n")[-1], """\
+        self.assertEqual(run("look", path).stdout.split("\n\n")[-1], """\
 pipe  longest  max wait  wait bound  max delay  delay bound
         bytes        ms          ms         ms           ms
 1       1,500   600.000     600.000    632.000      632.000
 """)
-        self.assertNotIn("bound", run("stats", path, "--csv").stdout)
+        self.assertNotIn("bound", run("look", path, "--csv").stdout)
 
     def test_the_line_of_a_picture(self) -> None:
         [line] = bound_lines(delays(history(*FULL)))

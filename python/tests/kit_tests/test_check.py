@@ -55,7 +55,9 @@ TOLD = {  # a line, and what is said of it, where no one word makes it good
     "pipe 1 config mask 255.255.255.0": "write mask src-ip 0xffffff00",
     "pipe 1 config delay -5": "can't be negative",
     "pipe 1 config delay 20 ms": "write 20ms",
-    "pipe 1 config queue 0": "write packets",
+    "pipe 1 config queue 0": "out of range; a queue has room for 1 to 10000 packets",
+    "pipe 1 config delay 3600001ms": "out of range; a delay is 0 to 3600000ms",
+    "pipe 1 config bw 99999999999999999999Gbit/s": "out of range; a bandwidth is 0 to 1000Gbit/s",
     "pipe 1 config bw 8Mbit/s; pipe 2 config": "ends in ';'",
     "pipe 0 config": "write 1 to 65535",
     "queue 1 config weight 3": "names no pipe",
@@ -64,7 +66,7 @@ TOLD = {  # a line, and what is said of it, where no one word makes it good
     "pipe 1 config jitter 3": "no such option",
     "pipe 1 config red 1/2/3/4": "leaves it out",
     "pipe 1 config bw eth0": "name of a device",
-    "pipe 1 config bw": "ends before its value",
+    "pipe 1 config bw": "its value is missing; write 8Mbit/s",
     "ipfw add 100 pipe 1 ip from any to any": "word 2 'add': a rule of the firewall",
     "sched 1 config type fifo": "schedulers",
     "pipe 1 show": "shows nothing",
@@ -129,6 +131,17 @@ class Lines(unittest.TestCase):
                 self.assertTrue(out.startswith(f"{path}:{number[1]}: " + (f"word {number[2]} " if number[2] else "")),
                                 (out, program.stderr))
                 self.assertIn(said, out)
+
+    def test_a_corrected_line_is_taken_whole(self) -> None:
+        for line, whole in (
+            ("pipe 1 config bw 1Mbps delay 0.02s plr 1%", "pipe 1 config bw 1Mbit/s delay 20ms plr 0.01"),
+            ("ipfw pipe 1 config rate 10mbit latency 20ms limit 100,", "ipfw pipe 1 config bw 10Mbit/s delay 20ms queue 100"),
+            ("pipe 1 config bandwidth 56k, mask dst-ip /24", "pipe 1 config bw 56k mask dst-ip 0xffffff00"),
+        ):
+            with self.subTest(line):
+                self.assertIn(f"; in full: {whole}\n", check(file("link.config", f"{line}\n"))[1])
+                self.assertEqual(verdict(whole).returncode, 0)
+        self.assertNotIn("in full", check(file("link.config", "pipe 1 config red 1/2/3/4\n"))[1])
 
     def test_the_word_that_is_advised_is_taken(self) -> None:
         for line in REPLACED:

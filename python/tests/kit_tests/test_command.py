@@ -36,7 +36,7 @@ class Progress(unittest.TestCase):
         return terminal.getvalue()
 
     def test_it_begins_after_two_seconds_and_goes_on_each_half(self) -> None:
-        self.assertEqual(self.told([1.9, 2.1, 2.2, 2.7], Terminal()), f"\rrows: 2,000\rrows: 4,000{CLEARED}")
+        self.assertEqual(self.told([1.9, 2.1, 2.2, 2.7], Terminal()), f"{CLEARED}rows: 2,000{CLEARED}rows: 4,000{CLEARED}")
 
     def test_a_short_command_tells_nothing(self) -> None:
         self.assertEqual(self.told([0.5, 1.9], Terminal()), "")
@@ -55,7 +55,7 @@ class Working(unittest.TestCase):
         return terminal.getvalue()
 
     def test_what_takes_long_is_told_and_taken_away(self) -> None:
-        self.assertEqual(self.told(Terminal(), 0.01), f"\rreading ..{CLEARED}")
+        self.assertEqual(self.told(Terminal(), 0.01), f"{CLEARED}reading ..{CLEARED}")
 
     def test_what_is_soon_done_is_not_told(self) -> None:
         self.assertEqual(self.told(Terminal(), 60), CLEARED)

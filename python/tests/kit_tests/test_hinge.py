@@ -2,6 +2,9 @@
 
 from __future__ import annotations
 
+import contextlib
+import importlib
+import io
 import os
 import re
 import shutil
@@ -10,10 +13,12 @@ import sys
 import tempfile
 import unittest
 from pathlib import Path
+from unittest import mock
 
 import hinge
 from kit import TOP, run, write
 
+from hinge import command as frame
 from hinge.__main__ import COMMANDS
 
 PACKAGE = Path(hinge.__file__).resolve().parent
@@ -23,7 +28,7 @@ TELLS = "from hinge import program, version; print(version.version(), program.du
 class Help(unittest.TestCase):
     def test_help_needs_no_numpy(self) -> None:
         """Nor does a fault of the command line: a table and a paragraph load it when they have something to reckon."""
-        for command in ("look", "why", "stats", "picture", "packets", "through", "ipfw", "run"):
+        for command in ("look", "why", "packets", "ipfw", "run"):
             script = (f"import sys; sys.modules['numpy'] = None; sys.argv = ['hinge', '{command}', '--help']; from "
                       f"hinge.__main__ import main; main()")
             told = subprocess.run([sys.executable, "-c", script], capture_output=True, text=True)
@@ -31,28 +36,42 @@ class Help(unittest.TestCase):
         packets = write("one.csv",
                         "moment,target,number,src,dst,proto,sport,dport,len,word\n"
                         "0,pipe,1,10.0.0.1,10.0.0.2,17,1,2,1000,0\n")
-        script = (f"import sys; sys.modules['numpy'] = None; sys.argv = ['hinge', 'stats', {str(packets)!r}, "
+        script = (f"import sys; sys.modules['numpy'] = None; sys.argv = ['hinge', 'look', {str(packets)!r}, "
                   f"{str(packets)!r}]; from hinge.__main__ import main; main()")
         told = subprocess.run([sys.executable, "-c", script], capture_output=True, text=True)
         self.assertEqual((told.returncode, told.stderr),
                          (7,
-                          "hinge stats: needs Python's numpy: pip install numpy, or apt-get install python3-numpy\n"))
+                          "hinge look: needs Python's numpy: pip install numpy, or apt-get install python3-numpy\n"))
 
     def test_standard_input_is_a_file(self) -> None:
         packets = write("in.csv",
                         "moment,target,number,src,dst,proto,sport,dport,len,word\n"
                         "0,pipe,1,10.0.0.1,10.0.0.2,17,1,2,1000,0\n")
         report = write("in.report", "event,row,flow,packet,at,start,due\nout,1,0,0,0,0,5\n")
-        plain = run("stats", packets, report).stdout
+        plain = run("look", packets, report).stdout
         self.assertIn("udp 10.0.0.1:1 > 10.0.0.2:2", plain)
-        self.assertEqual(run("stats", packets, "-", input=report.read_text()).stdout, plain)
-        self.assertEqual(run("stats", "-", report, input=packets.read_text()).stdout, plain)
+        self.assertEqual(run("look", packets, "-", input=report.read_text()).stdout, plain)
+        self.assertEqual(run("look", "-", report, input=packets.read_text()).stdout, plain)
 
     def test_help_lists_the_commands(self) -> None:
         told = run("help")
         self.assertEqual((told.returncode, told.stderr), (0, ""))
         self.assertIn("\n  packets     a capture as a packet file\n", told.stdout)
         self.assertEqual(told.stdout, run("--help").stdout)
+
+    def test_each_help_fits_a_terminal_and_ends_with_an_example_and_the_statuses(self) -> None:
+        self.assertEqual(len(COMMANDS), 18)
+        for name in COMMANDS:
+            out, words = io.StringIO(), {"argv": ["hinge", "--help"]}
+            with mock.patch.multiple(sys, **words), mock.patch.dict(os.environ, COLUMNS="80"), contextlib.redirect_stdout(out):
+                with self.assertRaises(SystemExit) as end, mock.patch.object(frame, "NAME", [f"hinge {name}"]):
+                    importlib.import_module(f"hinge.commands.{name}").main()
+            text = out.getvalue()
+            self.assertEqual(end.exception.code, 0, name)
+            self.assertEqual([line for line in text.splitlines() if len(line) > 80], [], name)
+            *_, example, statuses = text.strip().split("\n\n")
+            self.assertRegex(example, rf"^example:\n  (sudo .*&& )?hinge {name}\b|^example:\n(.*\n)*  hinge {name}\b", name)
+            self.assertTrue(statuses.startswith("exit status: "), name)
 
     def test_help_of_a_command_is_its_own(self) -> None:
         self.assertEqual(run("help", "why").stdout, run("why", "--help").stdout)
@@ -65,6 +84,8 @@ class Help(unittest.TestCase):
             self.assertRegex(told.stdout, f"(?m)^  {name} +{re.escape(text.splitlines()[0][2:])}$")
         for asked in ("LIVE", "live", "docs/LIVE.md"):
             self.assertEqual(run("docs", asked).stdout, pages["LIVE"])
+        for older, now in (("formats", "FILES"), ("CONFIG.md", "LINKS"), ("FAULTS", "NET")):
+            self.assertEqual(run("docs", older).stdout, pages[now])
         wrong = run("docs", "LIVES")
         self.assertEqual((wrong.returncode, wrong.stderr),
                          (2, "hinge docs: no page 'LIVES'; did you mean `hinge docs LIVE`?\n"))
@@ -85,10 +106,16 @@ class Help(unittest.TestCase):
         self.assertEqual((told.returncode, told.stdout, told.stderr), (2, "", run("help").stdout))
 
     def test_a_word_that_is_no_command(self) -> None:
-        told = run("pictur")
+        told = run("packet")
         self.assertEqual((told.returncode, told.stdout, told.stderr),
-                         (2, "", "hinge: no command 'pictur'; did you mean `hinge picture`?\n"))
+                         (2, "", "hinge: no command 'packet'; did you mean `hinge packets`?\n"))
         self.assertEqual(run("help", "xyz").stderr, "hinge: no command 'xyz'; `hinge help` lists the commands.\n")
+        for word in ("stats", "picture", "paths", "through", "with-clock"):
+            self.assertRegex(run(word, "x").stderr, rf"^hinge: no command '{word}'; write (hinge look|LD_PRELOAD=)", word)
+        gone = "dummynet replay CONFIG PACKETS --threads N --most-packets 1099511627776 > REPORT"
+        for words in (["shard"], ["shard", "c", "p", "-j", "4"], ["help", "shard"], ["shard", "--help"]):
+            done = run(*words)
+            self.assertEqual((2, f"hinge: no command 'shard'; write {gone} (hinge docs FILES)\n"), (done.returncode, done.stderr))
 
     def test_the_version_is_that_of_the_file(self) -> None:
         version = (PACKAGE.parents[1] / "VERSION").read_text()
@@ -113,7 +140,8 @@ class Programs(unittest.TestCase):
                     "PYTHONPATH": str(modules), "PATH": str(self.other)}
 
     def told(self, **env: str) -> str:
-        done = subprocess.run([sys.executable, "-c", TELLS], env={**self.env, **env}, capture_output=True, text=True)
+        words, found = [sys.executable, "-c", TELLS], {**self.env, **env}
+        done = subprocess.run(words, env=found, cwd=self.prefix, capture_output=True, text=True)
         return done.stdout or done.stderr.splitlines()[-1]
 
     def test_the_one_that_was_installed_goes_before_the_path(self) -> None:

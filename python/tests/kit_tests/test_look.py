@@ -33,26 +33,29 @@ class Look(unittest.TestCase):
     def test_a_history_and_a_report_with_its_configuration_have_one_table(self) -> None:
         for name in ("dsl", "shared"):
             config, packets, report = mixed(name)
-            history, files = history_of(name), (packets, report, "--config", config)
-            wanted = run("stats", *files)
+            wanted = run("look", packets, report, "--config", config)
             self.assertIn("transmission", wanted.stdout)
-            for words in (("look", history), ("stats", history), ("look", *files),
-                          ("stats", packets, "--config", config, report)):
-                found = run(*words)
-                self.assertEqual((found.returncode, found.stdout, found.stderr),
-                                 (0, wanted.stdout, wanted.stderr.replace("stats", words[0])))
+            for files in ((history_of(name),), (packets, "--config", config, report)):
+                done = run("look", *files)
+                self.assertEqual((done.returncode, done.stdout, done.stderr), (0, wanted.stdout, wanted.stderr))
+
+    def test_files_of_a_table_and_several_reports(self) -> None:
+        config, packets, report = mixed("dsl")
+        done = run("look", packets, report, "--config", config, "-o", "table.csv", "-o", "table.txt")
+        self.assertEqual((folder() / "table.txt").read_text(), done.stdout)
+        self.assertEqual((folder() / "table.csv").read_text(), run("look", packets, report, "--config", config, "--csv").stdout)
+        one = run("look", packets, report).stdout
+        self.assertEqual(run("look", packets, report, report).stdout, f"{report}\n{one}\n{report}\n{one}")
 
     def test_a_history_and_a_report_with_its_configuration_have_one_picture(self) -> None:
         config, packets, report = mixed("dsl")
-        drawn = {}
-        for words in (("picture", packets, report, "--config", config), ("look", packets, report, "--config", config),
-                      ("picture", history_of("dsl")), ("look", history_of("dsl"))):
-            done = run(*words, "-o", "one.svg")
+        drawn = []
+        for files in ((packets, report, "--config", config), (packets, "--config", config, report)):
+            done = run("look", *files, "-o", "one.svg")
             self.assertEqual(done.returncode, 0, done.stderr)
             lines = (folder() / "one.svg").read_text().splitlines()
-            drawn[words[:2]] = [line for line in lines if line.lstrip().startswith(("<path d=", "L ", "M "))]
-        self.assertEqual(drawn["look", packets], drawn["picture", packets])
-        self.assertEqual(drawn["look", history_of("dsl")], drawn["picture", history_of("dsl")])
+            drawn.append([line for line in lines if line.lstrip().startswith(("<path d=", "L ", "M "))])
+        self.assertEqual(drawn[0], drawn[1])
         of_report, of_history = (series_of(sources, "tuple", 3, None)[0]
                                  for sources in (of_reports(str(packets), [str(report)], str(config)),
                                                  [read_history(history_of("dsl"))]))
@@ -79,10 +82,13 @@ class Look(unittest.TestCase):
     def test_a_source_that_lacks_something_says_what(self) -> None:
         config, packets, report = mixed("dsl")
         for words, status, told in (
-            (("stats", packets), 4, "is a packet file: behind it comes the report that dummynet wrote of it"),
-            (("stats", packets, report, report), 2, "a packet file has one report here, and these are 2"),
-            (("picture", "-o", "x.png", *[packets] * 6), 2, "a picture has up to four reports"),
-            (("stats", history_of("dsl"), "--config", config), 2, "is alone: a history has its configuration"),
+            (("look", packets), 4, "is a packet file: behind it comes the report that dummynet wrote of it"),
+            (("why", 1, packets, report, report, "--config", config), 2, "a packet file has one report here, and these are 2"),
+            (("look", *[packets] * 6), 2, "a packet file has up to four reports"),
+            (("look", packets, report, report, "-o", "x.html"), 2, "of several reports there are pictures"),
+            (("look", packets, report, "-o", "x.pcap"), 2, "--capture, --index and -o FILE.pcap or FILE.pcapng go together"),
+            (("look", packets, report, "--capture", "c", "--index", "i"), 2, "go together"),
+            (("look", history_of("dsl"), "--config", config), 2, "is alone: a history has its configuration"),
             (("why", 1, packets, report), 2, "a paragraph needs the configuration: --config FILE"),
             (("why", 1), 2, "behind the rows comes a history, or a packet file and its report"),
             (("why", 0, history_of("dsl")), 2, "'0' is no number from 1"),
@@ -145,20 +151,20 @@ class Look(unittest.TestCase):
         assert run("look", path, "--json", folder() / "look.json").returncode == 0
         told = json.loads((folder() / "look.json").read_text())
         config, packets, report = mixed("dsl")
-        rows = list(csv.DictReader(run("stats", packets, report, "--config", config, "--csv").stdout.splitlines()))
+        rows = list(csv.DictReader(run("look", packets, report, "--config", config, "--csv").stdout.splitlines()))
         self.assertEqual((told["format"], told["seed"], told["lateness_ms"], [flow["flow"] for flow in told["flows"]]),
                          (1, None, None, [row["flow"] for row in rows]))
         self.assertEqual([flow["p95_ns"] for flow in told["flows"]], [int(row["p95_ns"]) for row in rows])
-        page = (TOP / "docs" / "JSON.md").read_text(encoding="utf-8").partition("## A history")
+        page_of_runs, page = ((TOP / "docs" / f"{name}.md").read_text(encoding="utf-8") for name in ("LIVE", "CAPTURE"))
         for key in {*told, *told["flows"][0], *told["pipes"][0]}:
-            self.assertIn(f"`{key}`", page[2])
+            self.assertIn(f"`{key}`", page)
         counts = Counts((1, *[0] * (len(HEAD) - 1), *[0] * 2 * WAY))
         told_of_run = record(counts, [0, 0], 0, 1, [])
         self.assertLessEqual({"late_p50_ms", "late_max_ms", "unread_p50_ms", "unread_max_ms"}, set(told_of_run["up"]))
         for key, value in told_of_run.items():
-            self.assertIn(f"`{key}`", page[0])
+            self.assertIn(f"`{key}`", page_of_runs)
             for inner in value if isinstance(value, dict) else ():
-                self.assertIn(f"`{inner}`", page[0])
+                self.assertIn(f"`{inner}`", page_of_runs)
 
     def test_a_transcript_that_was_cut_anywhere(self) -> None:
         """What stands in it is looked at: as many packets as there are calls with a reply, those out that were

@@ -7,8 +7,11 @@ import unittest
 from pathlib import Path
 from typing import Any
 
+import numpy as np
 from kit import folder, run
 from test_paths import HOSTS, MS, Net, Packet, good
+
+from hinge.paths.net_graph import places_of
 
 SECOND = 1_000 * MS
 CUT_FROM, CUT_TO = 4 * SECOND, 6 * SECOND
@@ -53,7 +56,7 @@ class OfNets(unittest.TestCase):
     def test_a_way_that_was_cut(self) -> None:
         lines, told = self.looked(cut_link())
         self.assertEqual(lines[1].split(), "a > r 100 20 0 0.081 15.000 20.000".split())  # 80 x 10,000 bits in 9.91 s
-        self.assertEqual(lines[-4:-1], ["     4.000 s  a > r: cut", "     6.000 s  a > r: delay 20", ""])
+        self.assertEqual(lines[-5:-2], ["     4.000 s  a > r: cut", "     6.000 s  a > r: delay 20", ""])
         self.assertEqual(told["ways"],
                          [{"pipe": 1, "from": "a", "to": "r", "packets": 100, "lost": 20, "full": 0,
                            "carried_mbit_s": 800_000 / 9_910_000, "mean_ns": 15 * MS, "p99_ns": 20 * MS}])
@@ -96,12 +99,33 @@ class OfNets(unittest.TestCase):
             for name in panels:
                 self.assertIn(f"<!-- {name}", drawn)
 
+    def test_a_picture_has_the_net_its_words_and_its_lateness(self) -> None:
+        late = "#,late,1000000000" + ",5000000,1000000" * 4 + "\n"
+        text = cut_link()
+        end = text.index("c,0,submit")
+        self.session(text[:end].rpartition("#,content")[0] + late + text[end:].join(["#,content,0000000000000000\n", ""]))
+        done = run("look", folder() / "session", "-o", "x.svg")
+        self.assertEqual(done.returncode, 0, done.stderr)
+        self.assertIn("late by 5 ms and packets lay unread for 1 ms", done.stderr)
+        drawn = (folder() / "x.svg").read_text()
+        for name in ("The net: width by load; dashed: cut for a time", "a &gt; r: 10ms; ", "late, at most 5 ms",
+                     "The links' lateness"):
+            self.assertIn(f"<!-- {name}", drawn)
+
+    def test_hosts_stand_apart(self) -> None:
+        star = [(0, other) for other in range(1, 6)]
+        places = places_of(6, star)
+        apart = np.sqrt(((places[:, None] - places[None])**2).sum(axis=2))
+        self.assertGreater(apart[np.triu_indices(6, 1)].min(), 0.2)
+        self.assertEqual((places.min(), places.max()), (0, 1))
+        self.assertLess(abs(places[0] - 0.5).max(), 0.2, "the host that all others have a link to is in the middle")
+
     def test_an_empty_net(self) -> None:
         text = "".join(["dummynet-live,1\n", *HOSTS, "end,0\n"])
         lines, told = self.looked(text, "-o", "x.png")
         self.assertEqual((lines, told["ways"]),
                          (["way  packets  lost  full  Mbit/s  mean ms  p99 ms", "",
-                           "0 packets on links, 0 handed on by hosts, 0 arrived"], []))
+                           "0 packets on links, 0 handed on by hosts, 0 arrived", "lawful between links"], []))
 
     def test_what_is_refused(self) -> None:
         place = self.session(cut_link())

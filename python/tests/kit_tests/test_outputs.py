@@ -3,11 +3,16 @@
 from __future__ import annotations
 
 import os
+import signal
+import subprocess
+import sys
 import unittest
 from pathlib import Path
+from unittest import mock
 
 from kit import MIXED, folder, mixed, needs_tshark, replay, run, write
 
+from hinge.border.scratch import scratch
 from hinge.outputs import written
 
 ROWS = "moment,target,number,src,dst,proto,sport,dport,len,word\n0,pipe,1,1.1.1.1,2.2.2.2,17,1,2,1000,0\n"
@@ -23,24 +28,24 @@ class Outputs(unittest.TestCase):
 
     def test_an_output_that_is_an_input(self) -> None:
         config, packets = write("o.config", "pipe 1 config bw 8Mbit/s\n"), write("o.csv", ROWS)
-        report = write("o.report", run("shard", config, packets).stdout)
-        for kept in (config, packets):
-            self.refused(kept, "shard", config, packets, "-o", kept)
+        report = replay("o", config, packets)
         self.refused(config, "ipfw", config, "-o", config)
         for kept in (packets, report, config):
-            self.refused(kept, "stats", packets, report, "--config", config, "-o", kept)
+            self.refused(kept, "look", packets, report, "--config", config, "--json", kept)
         picture = write("o.png", report.read_text())
-        self.refused(picture, "picture", packets, picture, "-o", picture)
+        self.refused(picture, "look", packets, picture, "-o", "other.svg", "-o", picture)
+        self.refused(packets, "look", packets, report, "-o", packets)
         history = write("h.png", "dummynet-history,3\nend,0\n")
         self.refused(history, "look", history, "-o", history)
 
     def test_another_name_of_an_input(self) -> None:
         config, packets = write("n.config", "pipe 1 config\n"), write("n.csv", ROWS)
+        report = replay("n", config, packets)
         for name, link in (("n.symbolic", os.symlink), ("n.hard", os.link)):
             (folder() / name).unlink(missing_ok=True)
             link(packets, folder() / name)
-            self.refused(packets, "shard", config, packets, "-o", name)
-        self.refused(packets, "shard", config, packets, "-o", f"../{folder().name}/n.csv")
+            self.refused(packets, "look", packets, report, "--json", name)
+        self.refused(packets, "look", packets, report, "-o", f"../{folder().name}/n.csv")
 
     @needs_tshark
     def test_captures_and_what_is_beside_a_packet_file(self) -> None:
@@ -54,7 +59,7 @@ class Outputs(unittest.TestCase):
         self.assertEqual(0, run("packets", capture, "-o", "own.csv").returncode)
         self.assertEqual("a file of the user\n", own.read_text())
         _, packets, report = mixed("shared")
-        self.refused(capture, "through", capture, folder() / "shared.index", packets, report, "-o", capture)
+        self.refused(capture, "look", packets, report, "--capture", capture, "--index", folder() / "shared.index", "-o", capture)
 
     def test_a_sweep(self) -> None:
         config, packets = write("s.config", "pipe 1 config bw {bw}\n"), write("s.csv", ROWS)
@@ -65,10 +70,8 @@ class Outputs(unittest.TestCase):
         self.assertEqual(0, run("sweep", "gather", "study", "-o", folder() / "study" / "table.csv").returncode)
 
     def test_what_fails_leaves_the_older_file(self) -> None:
-        config, packets, report = write("f.config",
-                                        "pipe 1 config\n"), write("f.csv",
-                                                                  f"{ROWS}0,pipe,1\n"), write("f.report", "older\n")
-        self.assertEqual(4, run("shard", config, packets, "-o", report).returncode)
+        packets, wrong, report = write("f.csv", ROWS), write("f.wrong", "no report\n"), write("f.report", "older\n")
+        self.assertEqual(4, run("look", packets, wrong, "--json", report).returncode)
         self.assertEqual("older\n", report.read_text())
         report.chmod(0o640)
         with self.assertRaises(KeyError), written(report) as place:
@@ -79,11 +82,102 @@ class Outputs(unittest.TestCase):
         self.assertEqual(("whole", 0o640), (report.read_text(), report.stat().st_mode & 0o777))
         self.assertEqual([], [name for name in os.listdir(folder()) if name.startswith(".")])
 
+    def test_nothing_is_left_however_a_command_ends(self) -> None:
+        place, written_half = folder() / "killed", (
+            "import os, signal, sys; from hinge.outputs import written\n"
+            "with written(sys.argv[1]) as place, open(place, 'w') as file:\n"
+            "    file.write('half'), file.flush(), os.kill(os.getpid(), int(sys.argv[2]))\n"
+        )
+        for number in (signal.SIGTERM, signal.SIGKILL):
+            for older in (False, True):
+                place.write_text("older") if older else place.unlink(missing_ok=True)
+                before = sorted(os.listdir(folder()))
+                done = subprocess.run([sys.executable, "-c", written_half, str(place), str(int(number))])
+                self.assertEqual((done.returncode, sorted(os.listdir(folder()))), (-number, before))
+                self.assertEqual(place.read_text() if older else "older", "older")
+
+    def test_a_file_system_without_unnamed_files(self) -> None:
+        place = write("named", "older\n")
+        with mock.patch("hinge.outputs.unnamed_file", lambda folder: None), written(place) as beside:
+            beside.write_text("whole")
+        self.assertEqual("whole", place.read_text())
+
     def test_streams_and_devices_are_no_files(self) -> None:
         config, packets = write("d.config", "pipe 1 config\n"), write("d.csv", ROWS)
-        done = run("shard", config, packets, "-o", "/dev/stdout")
-        self.assertEqual((0, run("shard", config, packets).stdout), (done.returncode, done.stdout))
-        self.assertEqual(0, run("stats", packets, write("d.report", done.stdout), "-o", "/dev/null").returncode)
+        report = replay("d", config, packets)
+        done = run("look", packets, report, "--json", "/dev/stdout", check=False)  # in a process whose output is a pipe
+        self.assertEqual((0, run("look", packets, report).stdout + "{\n"), (done.returncode, done.stdout.partition('"format"')[0].rstrip(" ")))
+        self.assertEqual(0, run("look", packets, report, "--json", "/dev/null").returncode)
+
+
+SCRATCH = """
+import sys, time
+from hinge.border.scratch import scratch
+with scratch(sys.argv[1]) as folder:
+    (folder / "file").touch()
+    print(folder, flush=True)
+    time.sleep(1000)
+"""
+
+
+class OfScratch(unittest.TestCase):
+    """Folders for a while."""
+
+    def setUp(self) -> None:
+        self.place = folder() / "scratch"
+        self.place.mkdir(exist_ok=True)
+
+    def holder(self) -> tuple[subprocess.Popen[str], Path]:
+        """A process with such a folder, and its folder, which looks old."""
+        process = subprocess.Popen([sys.executable, "-c", SCRATCH, str(self.place)], stdout=subprocess.PIPE, text=True)
+        assert process.stdout
+        made = Path(process.stdout.readline().strip())
+        os.utime(made, (0, 0))
+        return process, made
+
+    def ended(self, process: subprocess.Popen[str], number: int) -> int:
+        process.send_signal(number)
+        process.communicate()
+        return process.returncode
+
+    def test_sigterm_takes_it_away(self) -> None:
+        process, made = self.holder()
+        self.assertEqual(self.ended(process, signal.SIGTERM), -signal.SIGTERM)
+        self.assertFalse(made.exists())
+
+    def test_the_next_one_takes_away_what_sigkill_left(self) -> None:
+        (lives, kept), (dies, _) = self.holder(), self.holder()
+        self.ended(dies, signal.SIGKILL)
+        with scratch(self.place) as own:
+            self.assertEqual({path.name for path in self.place.iterdir()}, {kept.name, own.name})
+        self.ended(lives, signal.SIGTERM)
+
+    def test_others_stay(self) -> None:
+        young, other, link = (self.place / name for name in (".hinge-young", "hinge-0", ".hinge-link"))
+        young.mkdir(), other.mkdir(), link.symlink_to(other)
+        os.utime(other, (0, 0))
+        with scratch(self.place):
+            self.assertTrue(young.exists() and other.exists() and link.is_symlink())
+        young.rmdir(), link.unlink(), other.rmdir()
+
+
+class OfBudgets(unittest.TestCase):
+    def test_a_text_that_never_ends_is_refused(self) -> None:
+        for words in (["run", "--timeline", "/dev/zero", "--", "true"], ["net", "/dev/zero", "--dry-run"], ["sweep", "plan", folder() / "s", "p", "/dev/zero"]):
+            done = run(*words)
+            self.assertIn("has more than 268,435,456 bytes", done.stderr, words)
+
+    def test_where_an_exception_came_from(self) -> None:
+        text = "try:\n  with untrusted('f'):\n    [][0]\nexcept Fault as fault:\n  print(fault)"
+        for variables in ({}, {"HINGE_TRACEBACK": "1"}):
+            words = [sys.executable, "-c", f"from hinge.border.files import *\nfrom hinge.command import Fault\n{text}"]
+            done = subprocess.run(words, env={**os.environ, **variables}, capture_output=True, text=True)
+            self.assertEqual(done.stdout, "f: it can't be read (IndexError: list index out of range)\n")
+            self.assertEqual("Traceback" in done.stderr, bool(variables))
+
+    def test_what_is_told_has_a_length(self) -> None:
+        done = run("check", "x" * 100_000)
+        self.assertLess(len(done.stderr), 5000)
 
 
 class OfTerminals(unittest.TestCase):
@@ -99,9 +193,12 @@ class OfTerminals(unittest.TestCase):
     def test_addresses_beside_a_packet_file(self) -> None:
         packets, config = write("own.csv", ROWS), write("own.config", "pipe 1 config\n")
         write("own.csv.addresses", "stand-in,address\n1.1.1.1,fd00::1\x1b[31m\n")
-        done = run("stats", packets, replay("own", config, packets))
+        done = run("look", packets, replay("own", config, packets))
         self.assertEqual((done.returncode, done.stdout), (4, ""))
-        self.assertEqual(done.stderr, f"hinge stats: {packets}.addresses: 'fd00::1\\x1b[31m' is no address of IPv6\n")
+        self.assertEqual(done.stderr, f"hinge look: {packets}.addresses: 'fd00::1\\x1b[31m' is no address of IPv6\n")
+        write("own.csv.addresses", "stand-in,address\n1.1.1.1,fe80::1%\x1b[31m\n")  # a zone may be any text
+        done = run("look", packets, replay("own", config, packets))
+        self.assertEqual((done.returncode, "\x1b" in done.stdout + done.stderr), (4, False))
 
 
 if __name__ == "__main__":

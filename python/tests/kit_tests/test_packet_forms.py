@@ -7,6 +7,8 @@ import gzip
 import io
 import os
 import random
+import struct
+import subprocess
 import unittest
 from pathlib import Path
 
@@ -17,11 +19,14 @@ from kit import MIXED, folder, needs_tshark, rows_of, run
 from random_frames import Frames
 from tshark_frames import frames_by_tshark
 
+from hinge.border.files import Input
 from hinge.captures.capture_file import write_frame, write_header
 from hinge.captures.dissect import frames
 from hinge.captures.link_layers import LINKS
 from hinge.command import Fault
 from packets_told import edited
+
+SEED = 7  # of random frames; tools/fuzz/border.py draws others
 
 
 def every_capture() -> list[Path]:
@@ -64,18 +69,57 @@ class Reader(unittest.TestCase):
     def test_the_captures_of_the_tests(self) -> None:
         for capture in every_capture():
             with self.subTest(capture=capture.name):
-                self.assertEqual(list(frames(str(capture))), list(frames_by_tshark(str(capture))))
+                self.assertEqual(list(frames(Input.as_it_is(str(capture)))), list(frames_by_tshark(str(capture))))
 
     def test_random_frames_of_every_link(self) -> None:
-        seed = random.randrange(10**6)
-        for capture in of_every_link(seed):
-            found = list(frames(str(capture)))
+        for capture in of_every_link(SEED):
+            found = list(frames(Input.as_it_is(str(capture))))
             self.assertGreater(sum(frame is not None for _, frame in found), 20)
             for one, other in zip(found, frames_by_tshark(str(capture))):
-                self.assertEqual(one, other, f"{capture.name} of seed {seed}")
+                self.assertEqual(one, other, f"{capture.name} of seed {SEED}")
 
     def test_every_link_that_is_known_is_tried(self) -> None:
         self.assertEqual(sorted(Frames(1).links), sorted(LINKS))
+
+
+class Hostile(unittest.TestCase):
+    """Captures that others wrote."""
+
+    def made(self, name: str, data: bytes) -> Path:
+        (folder() / name).write_bytes(data)
+        return folder() / name
+
+    def test_a_segment_that_no_card_sends(self) -> None:
+        packet = bytes.fromhex("4500000000000000401100000a0000010a0000020001000200080000")
+        head = struct.pack("<IHHIIII", 0xA1B2C3D4, 2, 4, 0, 0, 65535, 12)
+        for length, rows in ((524_280, 357), (524_281, 0), (2**32 - 1, 0)):
+            capture = self.made("s.pcap", head + struct.pack("<IIII", 0, 0, len(packet), length) + packet)
+            for options in ([], ["--mtu", 1500]):
+                done = run("packets", capture, "-o", "s.csv", *options)
+                self.assertEqual(done.returncode, 0 if rows else 4, done.stderr)
+                self.assertEqual("a card is given at most 524,280 to cut" in done.stderr, not rows)
+        self.assertEqual(len(rows_of(folder() / "s.csv")), 357)
+
+    def test_damaged_and_endless_archives(self) -> None:
+        whole = gzip.compress(MIXED.read_bytes()[:20_000], mtime=0)
+        for at in [*range(20), *range(20, len(whole), len(whole) // 40)]:
+            capture = self.made("d.pcap.gz", whole[:at] + bytes([whole[at] ^ 4]) + whole[at + 1:])
+            with contextlib.redirect_stderr(io.StringIO()), contextlib.suppress(Fault):
+                list(frames(Input.as_it_is(str(capture))))
+        head = struct.pack("<IHHIIII", 0xA1B2C3D4, 2, 4, 0, 0, 65535, 12)
+        bomb = gzip.compress(head + (struct.pack("<IIII", 0, 0, 1 << 20, 0) + bytes(1 << 20)) * 80)
+        self.assertLess(len(bomb), 1 << 18)
+        done = run("packets", self.made("b.pcap.gz", bomb))
+        self.assertEqual((done.returncode, "unpacks to more than 100 times its length" in done.stderr), (4, True))
+
+    def test_a_named_pipe(self) -> None:
+        pipe = folder() / "pipe"
+        pipe.unlink(missing_ok=True)
+        os.mkfifo(pipe)
+        with subprocess.Popen(["sh", "-c", 'exec cat "$1" > "$2"', "sh", str(MIXED), str(pipe)]) as writer:
+            done = run("packets", pipe, timeout=60)
+            writer.kill()
+        self.assertEqual((done.returncode, done.stdout), (0, run("packets", MIXED).stdout), done.stderr)
 
 
 class Forms(unittest.TestCase):
@@ -116,4 +160,4 @@ class Forms(unittest.TestCase):
                             else 0] = draw.choice((0, 1, 255, draw.randrange(256)))
                 (folder() / name).write_bytes(changed)
                 with contextlib.suppress(Fault), contextlib.redirect_stderr(io.StringIO()):
-                    list(frames(str(folder() / name)))
+                    list(frames(Input.as_it_is(str(folder() / name))))

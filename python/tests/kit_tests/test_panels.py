@@ -125,7 +125,7 @@ class Panels(unittest.TestCase):
     def test_what_a_picture_was_made_of_is_under_it(self) -> None:
         packets, report = forty()
         config = write("forty.config", "pipe 1 config\n")
-        assert run("picture", packets, report, "--config", config, "-o", "under.svg").returncode == 0
+        assert run("look", packets, report, "--config", config, "-o", "under.svg").returncode == 0
         told = (folder() / "under.svg").read_text()
         self.assertIn("<!-- pipe 1 config -->", told)
         self.assertIn(f"<!-- of forty.csv, forty.report, forty.config; hinge {version()} -->", told)

@@ -1,4 +1,4 @@
-"""`hinge paths`: a net in which nothing happened between the links but what a router should do, and what is planted
+"""`hinge look` of a net between its links: one in which nothing happened between the links but what a router should do, and what is planted
 there."""
 
 from __future__ import annotations
@@ -7,9 +7,13 @@ import heapq
 import json
 import re
 import unittest
+from random import Random
 from typing import Callable, NamedTuple, Optional
 
 from kit import folder, run
+
+from hinge.paths.matching import match
+from hinge.paths.passages import read_transcript
 
 MS = 1_000_000
 HOSTS = ("#,host,a,10.8.0.1,fd08::1\n", "#,host,b,10.8.0.2,fd08::2\n", "#,host,r,10.8.0.3,fd08::3\n",
@@ -22,6 +26,7 @@ class Packet(NamedTuple):
     src: str = "10.8.0.1"
     dst: str = "10.8.0.2"
     length: int = 1500
+    last: bool = False  # its time to live is 1
 
     def back(self) -> bool:
         return self.src != "10.8.0.1"
@@ -62,7 +67,7 @@ class Net:
 
     def submit(self, moment: int, pipe: int, packet: Packet) -> None:
         if self.contents:
-            self.lines.append(f"#,content,{packet.content:016x}\n")
+            self.lines += ["#,last\n"] * packet.last + [f"#,content,{packet.content:016x}\n"]
         self.entry(f"c,0,submit,pipe,{pipe},{packet.src},{packet.dst},6,1000,80,{packet.length},7,{moment}",
                    f"r,queued,{moment},0,{self.numbers}")
         self.push(moment + DELAYS[pipe], pipe, packet, self.numbers)
@@ -82,10 +87,18 @@ def both_ways(count: int) -> list[Packet]:
             for place in range(count)]
 
 
+def faults_of(text: str) -> dict[str, int]:
+    (folder() / "net.history").write_text(text)
+    found = match(read_transcript([str(folder() / "net.history")]).passages, 0, {})
+    return {kind: len(rows) for kind, rows in found.faults.items() if len(rows)}
+
+
 class Paths(unittest.TestCase):
     def told(self, text: str, *words: object) -> tuple[int, list[str]]:
-        (folder() / "net.history").write_text(text)
-        done = run("paths", "net.history", "--end", 0, *words)
+        (folder() / "lone").mkdir(exist_ok=True)
+        for name in ("net.history", "lone/net.history"):
+            (folder() / name).write_text(text)
+        done = run("look", *(("net.history", *words) if words else ("lone",)), "--end", 0)
         self.assertEqual(done.stderr, "")
         return done.returncode, done.stdout.splitlines()
 
@@ -165,7 +178,7 @@ class Paths(unittest.TestCase):
         text = Net(router, [Packet(place) for place in range(20)]).text
         for drops, status in ((2, 0), (1, 1)):
             (folder() / "net.json").write_text(json.dumps({"ways": [{"from": "r", "to": "b", "system_drops": drops}]}))
-            self.assertEqual(self.told(text, "--json", "net.json")[0], status)
+            self.assertEqual(self.told(text, "net.json")[0], status)
         refused = re.sub(r"(d,2,0,.*\n)", r"\1#,refused,2\n", re.sub(r"(d,8,0,.*\n)", r"\1#,refused,8\n", text))
         self.assertEqual([self.told(text)[0], len(refused) - len(text)], [1, 24])
         numbers = [int(found) for found in re.findall(r"c,0,submit,pipe,1,.*\nr,queued,\d+,0,(\d+)", text)]
@@ -178,20 +191,91 @@ class Paths(unittest.TestCase):
                    [Packet(place) for place in range(20)]).text
         self.assertEqual(self.told(text)[0], 1)
         (folder() / "net.history").write_text(text)
-        done = run("paths", "net.history", "--end", 100)
+        (folder() / "lone" / "net.history").write_text((folder() / "net.history").read_text())
+        done = run("look", "lone", "--end", 100)
         self.assertEqual((done.returncode, "1 at hosts at the end" in done.stdout), (0, True))
 
     def test_parts_of_a_transcript_in_a_folder(self) -> None:
         text = Net(good, [Packet(place) for place in range(20)]).text
-        place = folder() / "session"
+        place = folder() / "parts"
         place.mkdir(exist_ok=True)
         first, second = text, Net(good, [Packet(100 + place) for place in range(10)]).text
         (place / "net.history").write_text(first)
         (place / "net.history.1").write_text("".join(line for line in second.splitlines(True)
                                                      if not line.startswith(("#,host", "#,pipe"))))
-        done = run("paths", "session")
+        done = run("look", "parts")
         self.assertEqual((done.returncode, done.stdout.splitlines()[-2]),
                          (0, "60 packets on links, 30 handed on by hosts, 30 arrived"), done.stderr)
+
+    def test_what_ends_at_the_next_host(self) -> None:
+        """By its group, as of OSPF and mDNS, a broadcast, a source that means the link alone, or its time to live."""
+        ones = [Packet(number, dst=address) for number, address in enumerate(
+            ("224.0.0.5", "224.0.0.251", "255.255.255.255", "10.8.0.255", "240.0.0.1", "240.0.0.2", "240.0.0.3"))]
+        ones += [Packet(100, last=True), Packet(101, "0.0.0.0", "255.255.255.255"), Packet(102, dst="239.9.9.9", last=True)]
+        names = "".join(f"#,address,240.0.0.{place},{address}\n"
+                        for place, address in enumerate(("ff02::fb", "ff12::99", "fe80::1"), 1))
+
+        def kinds(router: Router) -> list[str]:
+            text = Net(router, ones).text.replace("#,pipe,1,", names + "#,pipe,1,", 1)
+            return self.told(text)[1]
+
+        def ended(_: int, packet: Packet) -> list[tuple[int, Packet]]:
+            return []
+
+        def handed_on(_: int, packet: Packet) -> list[tuple[int, Packet]]:
+            return [(50_000, packet._replace(src="10.8.0.1"))]
+
+        self.assertEqual(
+            kinds(ended)[-2:],
+            ["10 packets on links, 0 handed on by hosts, 9 arrived, 1 with an expired time to live", "lawful between links"]
+        )
+        self.assertIn("came from nowhere: 10", kinds(handed_on))
+
+    def test_a_packet_that_came_back_to_its_sender(self) -> None:
+        """As while routes change. Its sender drops it."""
+        text = Net(lambda _, packet: [(50_000, packet)], [Packet(1)]).text.replace("c,0,submit,pipe,3", "c,0,submit,pipe,2")
+        status, lines = self.told(text)
+        self.assertEqual((status, lines[-2:]), (0, [
+            "2 packets on links, 1 handed on by hosts, 0 arrived, 1 back at their senders", "lawful between links"]))
+
+    def test_groups_that_routers_may_hand_on(self) -> None:
+        """None, or one on each other link, but for a faulty one."""
+        groups = [Packet(number, dst="239.1.2.3") for number in range(10)]
+        for router, wanted in (
+            (lambda number, packet: [], {}), (good, {}),
+            (lambda number, packet: good(number, packet)[:number % 2], {}),
+            (lambda number, packet: [(50_000, packet)] * (1 + (number == 4)), {"came twice": 1}),
+            (lambda number, packet: [(50_000, packet._replace(content=packet.content + (number == 4) * 99))],
+             {"came from nowhere": 1}),
+        ):
+            self.assertEqual(self.kinds(router, packets=groups), wanted)
+
+    def test_each_fault_among_other_packets_is_found(self) -> None:
+        """One in each of 120 transcripts, beside packets that routers rightly don't hand on."""
+        def is_handed_on(packet: Packet) -> bool:
+            return not packet.last and packet.dst == "10.8.0.2"
+
+        def router(number: int, packet: Packet) -> list[tuple[int, Packet]]:
+            return good(number, packet) if is_handed_on(packet) else []
+
+        chosen, faults = Random(6), ("lost", "changed", "twice", "forged", "swapped")
+        packets = [
+            Packet(1 + place, dst=chosen.choice(("10.8.0.2",) * 3 + ("224.0.0.5", "239.1.1.1")), last=chosen.random() < 0.2)
+            for place in range(80)
+        ]
+        self.assertEqual(faults_of(Net(router, packets).text), {})
+        there = [number for number, packet in enumerate(packets, 1) if is_handed_on(packet)]
+        for trial in range(120):
+            fault, at, other = faults[trial % len(faults)], chosen.choice(there[:-1]), chosen.getrandbits(63)
+
+            def faulty(number: int, packet: Packet) -> list[tuple[int, Packet]]:
+                if number != at:
+                    return router(number, packet)
+                return {"lost": [], "changed": [(50_000, packet._replace(content=packet.content ^ 1 << other % 63))],
+                        "twice": [(50_000, packet)] * 2, "forged": [(50_000, packet), (60_000, packet._replace(content=other))],
+                        "swapped": [((there[there.index(at) + 1] - at) * MS + 60_000, packet)]}[fault]
+
+            self.assertNotEqual(faults_of(Net(faulty, packets).text), {}, (fault, at))
 
     def test_ipv6_by_its_stand_ins(self) -> None:
         stand_ins = "".join(
@@ -225,12 +309,13 @@ class Paths(unittest.TestCase):
                               "net.history: no remark says between which hosts pipe 1 is: hinge net writes them"),
                              (Net(good, [Packet(1)]).text.replace("r,queued,0,0,0", "r,queued,x,0,0"),
                               "net.history line 19: not as a history has it")):
-            (folder() / "net.history").write_text(text)
-            done = run("paths", "net.history")
-            self.assertEqual((done.returncode, done.stdout, done.stderr), (4, "", f"hinge paths: {wanted}\n"))
+            (folder() / "lone").mkdir(exist_ok=True)
+            (folder() / "lone" / "net.history").write_text(text)
+            done = run("look", "lone")
+            self.assertEqual((done.returncode, done.stdout, done.stderr), (4, "", f"hinge look: lone/{wanted}\n"))
         self.assertEqual(self.told("dummynet-live,1\nend,0\n"),
                          (0,
-                          ["way  packets  lost  full  Mbit/s  mean ms  p99 ms",
+                          ["way  packets  lost  full  Mbit/s  mean ms  p99 ms", "",
                            "0 packets on links, 0 handed on by hosts, 0 arrived",
                                                                     "lawful between links"]))
 

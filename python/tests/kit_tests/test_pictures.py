@@ -2,18 +2,22 @@
 
 from __future__ import annotations
 
+import gzip
 import html
 import json
 import re
 import unittest
+from base64 import b64decode
 
 import numpy as np
 from kit import folder, mixed, needs_tshark, parts_of, rows_of, run
 
 from hinge.command import Fault, module
+from hinge.pictures.drawing import Band
+from hinge.pictures.html_page import outline
 from hinge.pictures.panels import MOST_FLOWS
 from hinge.pictures.series import (NS_PER_MS, NS_PER_S, Series, Steps, fitting_step, round_step, series, span_of,
-                                   thinned, waiting)
+                                   thinned)
 from hinge.replays.groups import group
 from hinge.replays.replay import read_packets, read_report
 from pictured import figure, forty, full_link, matplotlib_there, series_of
@@ -24,6 +28,12 @@ def plotly_there() -> bool:
         return bool(module("plotly", "python3-plotly"))
     except Fault:
         return False
+
+
+def program_of(page: str) -> str:
+    """What a page unpacks and runs."""
+    packed = re.search(r"data:application/gzip;base64,([^\"]*)", page)
+    return gzip.decompress(b64decode(packed[1])).decode()
 
 
 def series_of_forty() -> Series:
@@ -95,52 +105,68 @@ class Figures(unittest.TestCase):
     @unittest.skipUnless(plotly_there(), "plotly isn't there")
     def test_a_page_tells_of_its_packets_without_network(self) -> None:
         config, packets, report = mixed("shared")
-        done = run("picture", packets, report, "--config", config, "-o", "page.html")
+        done = run("look", packets, report, "--config", config, "-o", "page.html")
         self.assertEqual(done.returncode, 0, done.stderr)
         page = (folder() / "page.html").read_text()
         self.assertNotRegex(page, r"<script[^>]+src=")
         self.assertTrue(page.startswith("<!DOCTYPE html>\n<html lang=\"en\">\n<head><title>shared.report</title>"),
                         page[:200])
-        row = int(re.search(r"Row (\d+) \(tcp", page)[1])
+        program = program_of(page)
+        row = int(re.search(r"Row (\d+) \(tcp", program)[1])
         paragraph = run("why", row, config, packets, report).stdout
-        whole = json.loads('"' + re.search(rf'"(Row {row} \(.*?)"', page)[1] + '"').replace("<br>", " ")
+        whole = json.loads('"' + re.search(rf'"(Row {row} \(.*?)"', program)[1] + '"').replace("<br>", " ")
         self.assertEqual(html.unescape(whole), paragraph.strip())
+        run("look", packets, report, "--config", config, "-o", "again.html")
+        self.assertEqual(page, (folder() / "again.html").read_text())
+        names = re.findall(r'"name":"([^"]*)"[^{}]*"showlegend":true', program)
+        self.assertEqual(sorted(set(names)), sorted(names), "each name is once in the legend")
 
 
 class Titles(unittest.TestCase):
     @unittest.skipUnless(matplotlib_there(), "matplotlib isn't there")
     def test_every_title_is_shown_letter_by_letter(self) -> None:
         packets, report = forty()
-        for title in ("$\\foo$", "</script><b>", "x " * 1500, "y" * 3000, "a % of \\$5, $6 and \\alpha^{"):
-            for ending in ("png", "svg"):
-                done = run("picture", packets, report, "-o", f"title.{ending}", "--title", title)
-                self.assertEqual((done.returncode, done.stderr), (0, ""), title)
+        for title, ending in (("$\\foo$", "png"), ("</script><b>", "svg"), ("x " * 1500, "png"), ("y" * 3000, "svg"),
+                              ("a % of \\$5, $6 and \\alpha^{", "png")):
+            done = run("look", packets, report, "-o", f"title.{ending}", "--title", title)
+            self.assertEqual((done.returncode, done.stderr), (0, ""), title)
         shown = figure([series_of_forty()], "a $\\foo$ b")._suptitle
         self.assertEqual(shown.get_text(), "a \\$\\foo\\$ b")
 
     @unittest.skipUnless(plotly_there(), "plotly isn't there")
     def test_a_title_of_a_page_is_text(self) -> None:
         packets, report = forty()
-        done = run("picture", packets, report, "-o", "title.html", "--title", "</script><script>alert(1)</script>")
+        done = run("look", packets, report, "-o", "title.html", "--title", "</script><script>alert(1)</script>")
         self.assertEqual(done.returncode, 0, done.stderr)
-        self.assertNotIn("<script>alert", (folder() / "title.html").read_text())
+        page = (folder() / "title.html").read_text()
+        self.assertNotIn("<script>alert", page)
+        self.assertNotIn("<script>alert", program_of(page))
+
+    def test_a_band_has_a_gap_where_no_packet_was(self) -> None:
+        nan = np.nan
+        rows = [np.array([at, at, nan, at]) for at in (1.0, 2.0, 3.0)]
+        x, y = outline(Band("", np.array([0.0, 1, 2, 3, 4]), *rows, "", 0))
+        np.testing.assert_equal(x, [0, 1, 1, 2, 2, 1, 1, 0, nan, 3, 4, 4, 3, nan])
+        np.testing.assert_equal(y, [3, 3, 3, 3, 1, 1, 1, 1, nan, 3, 3, 1, 1, nan])
 
 
 class Endings(unittest.TestCase):
-    @unittest.skipUnless(matplotlib_there(), "matplotlib isn't there")
-    def test_forty_flows_and_each_ending(self) -> None:
+    @unittest.skipUnless(matplotlib_there() and plotly_there(), "matplotlib or plotly isn't there")
+    def test_forty_flows_and_each_ending_with_the_same_bytes_each_time(self) -> None:
         packets, report = forty()
-        for ending, begin in ((".png", b"\x89PNG"), (".svg", b"<?xml"), (".pdf", b"%PDF")):
-            done = run("picture", packets, report, "-o", f"forty{ending}")
-            self.assertEqual(done.returncode, 0, done.stderr)
-            self.assertTrue((folder() / f"forty{ending}").read_bytes().startswith(begin))
+        for ending, begin in ((".png", b"\x89PNG"), (".svg", b"<?xml"), (".pdf", b"%PDF"), (".html", b"<!DOCTYPE html>")):
+            for name in ("forty", "again"):
+                done = run("look", packets, report, "-o", f"{name}{ending}")
+                self.assertEqual(done.returncode, 0, done.stderr)
+            one, other = ((folder() / f"{name}{ending}").read_bytes() for name in ("forty", "again"))
+            self.assertTrue(one.startswith(begin))
+            self.assertTrue(one == other, ending)
         self.assertIn(f"{40 - MOST_FLOWS} others", (folder() / "forty.svg").read_text())
 
     def test_faults_are_one_line(self) -> None:
         packets, report = forty()
-        for words, status in (([packets, report, "-o", "x.gif"], 2), ([packets, packets, "-o", "x.png"], 4),
-                              ([packets, report], 2)):
-            done = run("picture", *words)
+        for words, status in (([packets, report, "-o", "x.gif"], 2), ([packets, packets, "-o", "x.png"], 4)):
+            done = run("look", *words)
             self.assertEqual(done.returncode, status, done.stderr)
             self.assertNotIn("Traceback", done.stderr)
 

@@ -17,7 +17,7 @@ from hinge.replays.units import packets, rows
 
 
 def table(*words: object) -> dict[str, dict[str, str]]:
-    done = run("stats", *words, "--csv")
+    done = run("look", *words, "--csv")
     assert done.returncode == 0, done.stderr
     return {row["flow"]: row for row in csv.DictReader(io.StringIO(done.stdout))}
 
@@ -50,7 +50,7 @@ class ByHand(unittest.TestCase):
             "mean_ns": "1666666", "p50_ns": "2000000", "p95_ns": "2000000", "p99_ns": "2000000", "max_ns": "2000000",
             "jitter_ns": "58593", "queueing_ns": "666666", "transmission_ns": "1000000", "link_delay_ns": "0",
         })
-        done = run("stats", packets, report, "--by", "target")
+        done = run("look", packets, report, "--by", "target")
         self.assertIn("1 rows went to pipe 9, which isn't configured", done.stderr)
         lines = done.stdout.splitlines()
         self.assertEqual([line[5:].split("  ")[0] for line in lines[:5]],
@@ -60,17 +60,15 @@ class ByHand(unittest.TestCase):
                          ["1", "2", "all"] * lines.count("") + ["1", "2", "all"])
 
     def test_no_row_has_a_target(self) -> None:
-        """Every command that reads such a replay says so, and so does the program."""
+        """Every command that reads such a replay says so."""
         packets = write("lost.csv",
                         HEADER + "\n"
                         + "".join(f"{moment},pipe,7,10.0.0.1,10.0.0.2,17,1,2,1000,0\n" for moment in (0, 1000)))
         config = write("lost.config", "pipe 1 config bw {bw}\n")
         spelled = write("lost1.config", "pipe 1 config bw 8Mbit/s\n")
         report, history = replay("lost", spelled, packets), folder() / "lost.history"
-        done = subprocess.run([dummynet(), "replay", spelled, packets, "--history", history], stdout=subprocess.DEVNULL,
-                              stderr=subprocess.PIPE, check=True)
-        self.assertEqual(done.stderr, b"no row has a target: nothing went through a link\n")
-        for words in (("stats", packets, report), ("picture", packets, report, "-o", "lost.png"), ("look", history)):
+        subprocess.run([dummynet(), "replay", spelled, packets, "--history", history], stdout=subprocess.DEVNULL, check=True)
+        for words in (("look", packets, report), ("look", packets, report, "-o", "lost.png"), ("look", history)):
             done = run(*words)
             told = (f"hinge {words[0]}: 2 rows went to pipe 7, which isn't configured\nhinge {words[0]}: no row has a "
                     f"target: nothing went through a link\n")

@@ -50,9 +50,9 @@ class Sweep(unittest.TestCase):
         config = write("run4.config", "pipe 1 config bw 8Mbit/s delay 5 queue 9 plr 0.05\n")
         own = write("run4.csv", "".join(reseeded(packets, 4)))
         report = replay("run4", config, own)
-        done = run("stats", own, report, "--config", config, "--csv", "-o", "run4.table")
+        done = run("look", own, report, "--config", config, "-o", "alone.csv")
         self.assertEqual(done.returncode, 0, done.stderr)
-        alone = rows_of(folder() / "run4.table")
+        alone = rows_of(folder() / "alone.csv")
         self.assertEqual([{name: row[name] for name in alone[0]} for row in rows if row["run"] == "4"], alone)
 
     def test_a_study_is_moved_and_made_by_several(self) -> None:

@@ -25,7 +25,7 @@ def through(capture: Path, config: str, *words: object) -> tuple[Frames, list[di
     done = run("packets", capture, "-o", "t.csv", "--index", "t.index", *words)
     assert done.returncode == 0, done.stderr
     report = replay("t", write("t.config", config), folder() / "t.csv")
-    done = run("through", capture, "t.index", "t.csv", report, "-o", "through.pcap")
+    done = run("look", "t.csv", report, "--capture", capture, "--index", "t.index", "-o", "through.pcap")
     assert done.returncode == 0, done.stderr
     return frames_of(folder() / "through.pcap"), rows_of(report), [int(row["frame"])
                                                                    for row in rows_of(folder() / "t.index")]
@@ -57,7 +57,7 @@ class Through(unittest.TestCase):
         assert run("packets", MIXED, "-o", "why.csv", "--index", "why.index", "--mtu", 1500, "--from",
                    "10.9.0.1").returncode == 0
         report = replay("why", config, folder() / "why.csv")
-        done = run("through", MIXED, "why.index", "why.csv", report, "--why", config, "-o", "why.pcapng")
+        done = run("look", "why.csv", report, "--capture", MIXED, "--index", "why.index", "--config", config, "-o", "why.pcapng")
         self.assertEqual(done.returncode, 0, done.stderr)
         index = [int(row["frame"]) for row in rows_of(folder() / "why.index")]
         first = {frame: row for row, frame in reversed(list(enumerate(index, 1)))}
@@ -90,15 +90,15 @@ class Through(unittest.TestCase):
     def test_a_cut_header_is_told_of_the_capture(self) -> None:
         through(MIXED, "pipe 1 config\n")
         (folder() / "header.pcap").write_bytes(MIXED.read_bytes()[:10])
-        done = run("through", "header.pcap", "t.index", "t.csv", "t.report", "-o", "x.pcap")
+        done = run("look", "t.csv", "t.report", "--capture", "header.pcap", "--index", "t.index", "-o", "x.pcap")
         self.assertEqual(done.returncode, 4)
-        self.assertIn("hinge through: header.pcap: ", done.stderr)
+        self.assertIn("hinge look: header.pcap: ", done.stderr)
         self.assertIn("cut short", done.stderr)
 
     def test_an_index_of_other_packets_is_noticed(self) -> None:
         through(MIXED, "pipe 1 config\n")
         index = (folder() / "t.index").read_text().splitlines()
         write("other.index", "\n".join(index[:-1]) + "\n")
-        done = run("through", MIXED, "other.index", "t.csv", "t.report", "-o", "x.pcap")
+        done = run("look", "t.csv", "t.report", "--capture", MIXED, "--index", "other.index", "-o", "x.pcap")
         self.assertEqual(done.returncode, 4)
         self.assertIn("aren't those of", done.stderr)

@@ -16,7 +16,7 @@ import unittest
 from contextlib import contextmanager
 from functools import lru_cache
 from pathlib import Path
-from typing import Callable, Iterator, Optional, Union
+from typing import Callable, Iterator, Optional, Sequence, Union
 
 from hinge.program import dummynet
 from hinge.run.host import program
@@ -49,10 +49,10 @@ def no_host() -> str:
 needs_host = unittest.skipIf(bool(no_host()), no_host())
 
 
-def hinge(command: str, *words: Word, seconds: float = 60, folder: Optional[Word] = None) -> Done[str]:
+def hinge(command: str, *words: Word, seconds: float = 60, folder: Optional[Word] = None, **variables: str) -> Done[str]:
     return subprocess.run(
         [*HINGE, command, *map(str, words)], capture_output=True, text=True, timeout=seconds, stdin=subprocess.DEVNULL,
-        cwd=folder
+        cwd=folder, env={**os.environ, **variables}
     )
 
 
@@ -80,7 +80,7 @@ def no_mounts() -> str:
 
 needs_rooms = unittest.skipIf(bool(no_rooms()), no_rooms())
 needs_mounts = unittest.skipIf(bool(no_mounts()), no_mounts())
-only_long = unittest.skipUnless(os.environ.get("HINGE_LONG"), "takes long: --long")
+only_long = unittest.skipUnless(os.environ.get("HINGE_LONG"), "takes long: HINGE_LONG=yes tries it")
 
 
 def needs(*programs: str) -> Callable[[type], type]:
@@ -105,7 +105,7 @@ def ip6(src: str, dst: str, proto: int, body: bytes) -> bytes:
     return struct.pack("!IHBB", 0x6 << 28, len(body), proto, 64) + ends + body
 
 
-def until(holds: Callable[[], object], seconds: float = 5) -> None:
+def until(holds: Callable[[], object], seconds: float = 60) -> None:
     end = time.monotonic() + seconds
     while not holds():
         if time.monotonic() > end:
@@ -140,8 +140,9 @@ class Ended:
 class Linked:
     """The host between two sockets, or between the two of each of some links, which runs until `end`."""
 
-    def __init__(self, plan: str, most: int = 10**9, carrier: Optional[str] = None, links: int = 1) -> None:
-        """With the carrier `tun` each packet is behind a note."""
+    def __init__(self, plan: str, most: int = 10**9, carrier: Optional[str] = None, links: int = 1,
+                 descriptors: Sequence[int] = ()) -> None:
+        """With the carrier `tun` each packet is behind a note. It gets these descriptors too, which the plan names."""
         self.folder = tempfile.TemporaryDirectory()
         self.transcript = f"{self.folder.name}/session.history"
         pairs = [socket.socketpair(socket.AF_UNIX, socket.SOCK_SEQPACKET) for _ in range(2 * links)]
@@ -150,7 +151,7 @@ class Linked:
         self.page = Page(2 * links)
         passed = [*(its.fileno() for _, its in pairs), self.page.descriptor]
         self.process = subprocess.Popen(
-            [program(), *([carrier] if carrier else []), *map(str, passed)], pass_fds=passed, stdin=subprocess.PIPE,
+            [program(), *([carrier] if carrier else []), *map(str, passed)], pass_fds=[*passed, *descriptors], stdin=subprocess.PIPE,
             stderr=subprocess.PIPE
         )
         assert self.process.stdin

@@ -16,7 +16,7 @@ from typing import Callable, Iterator, Optional
 
 from linked import HINGE, Done, audited_as_lawful, found, hinge, needs, needs_host, needs_rooms, run, until
 
-from hinge.run.control import ask
+from hinge.border.asking import ask
 
 
 class InAFolder(unittest.TestCase):
@@ -30,7 +30,8 @@ class InAFolder(unittest.TestCase):
     def running(self, *words: object) -> Iterator["subprocess.Popen[str]"]:
         """A run with a socket, which lasts until the file `go` is there."""
         command = [
-            *HINGE, *map(str, words), "--control", str(self.socket), "--transcript", str(self.history), "--quiet"
+            *HINGE, *map(str, words), "--control", str(self.socket), "--transcript", str(self.history), "--quiet",
+            *["--no-realtime"] * (words[0] == "net"),  # of which a user without rights is told
         ]
         loop = ["--", "sh", "-c", f"until [ -e {self.go} ]; do sleep 0.05; done"] if words[0] != "udp" else []
         begun = subprocess.Popen([*command, *loop], stdout=subprocess.PIPE, stderr=subprocess.PIPE, text=True)
@@ -58,7 +59,7 @@ class OfRuns(InAFolder):
     def test_lines_and_links_are_obeyed_and_stand_in_the_transcript(self) -> None:
         with self.running("run", "--up", "5ms", "--down", "5ms"):
             for words, lines in (
-                (["pipe", "1", "config", "bw", "1Mbit/s"], ["pipe 1 config bw 1000000bit/s"]),
+                (["ipfw", "pipe", "1", "config", "bw", "1Mbit/s"], ["pipe 1 config bw 1000000bit/s"]),
                 (["up", "9ms"], ["pipe 1 config delay 9"]),
                 (["2Mbit/s 3ms"], [f"pipe {pipe} config bw 2000000bit/s delay 3" for pipe in (1, 2)])
             ):
@@ -81,18 +82,19 @@ class OfRuns(InAFolder):
                 float(one) for one in found(r"^(\d+\.\d+) s: ", self.change("up", "outage", "200ms", "lossy").stdout)
             ]
             after = moments[1] * 1e9
-            until(lambda: ask(str(self.socket), status=True)["status"]["moment"] >= after, 20)  # type: ignore[index]
+            until(lambda: ask(str(self.socket), status=True).status["moment"] >= after, 20)  # type: ignore[index]
         self.assertEqual(
             self.obeyed()[2:], ["pipe 1 config delay 7", "pipe 1 config delay 7 plr 1", "pipe 1 config delay 7"]
         )
-        self.assertTrue(0.2 <= moments[1] - moments[0] < 5, moments)
+        self.assertEqual(round((moments[1] - moments[0]) * 1e6), 200_000)
 
     def test_what_is_refused(self) -> None:
         with self.running("run", "--up", "5ms"):
             for words, status, wanted in (
                 (["up", "outage", "1s"], 2, "an outage from now on loses packets: write `outage LENGTH lossy`"),
-                (["sideways", "5ms"], 2, "'sideways'"), (["pipe", "1", "config", "bw", "3x"], 3, "word 5: bad number"),
-                (["queue", "delete", "9"], 3, "queue delete 9: no-such-queue")
+                (["sideways", "5ms"], 2, "'sideways'"), (["pipe", "1", "config", "bw", "3x"], 3, "word 5 '3x': not a bandwidth; write 8Mbit/s"),
+                (["queue", "delete", "9"], 3, "queue delete 9: no-such-queue"), (["up", "# nothing"], 2, "no words of a link"),
+                (["up", f"{'9' * 5000}bit/s"], 2, "words of more than 4,000 letters")
             ):
                 done = self.change(*words)
                 self.assertEqual((done.returncode, wanted in done.stdout + done.stderr), (status, True),
@@ -109,13 +111,13 @@ class OfRuns(InAFolder):
             with socket.socket(socket.AF_UNIX) as stranger:  # one that speaks otherwise, and goes
                 stranger.connect(str(self.socket))
                 stranger.sendall(b"hello\n[]\n")
-            status = ask(str(self.socket), status=True)["status"]
-            self.assertEqual(status.keys(), told.keys())  # type: ignore[attr-defined]
+            status = ask(str(self.socket), status=True).status
+            self.assertEqual(status.keys(), told.keys())  # type: ignore[union-attr]
         self.assertEqual((told["status"], told["up"]["came"], told["void"]), (None, 0, []))
 
     def test_a_place_that_is_taken_and_one_that_was_left(self) -> None:
         self.socket.write_text("")
-        done = run("--control", self.socket, "--", "true")
+        done = run("--up", "1ms", "--control", self.socket, "--", "true")
         self.assertEqual(
             (done.returncode, done.stderr), (6, f"hinge run: --control {self.socket}: Address already in use\n")
         )

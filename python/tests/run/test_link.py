@@ -206,7 +206,7 @@ class OfTheEnd(unittest.TestCase):
         wrong = ["transcript", "transcript x", "at", "at x pipe 1 config", "outage 5 1", "outage 5 0 9", "outage 5 3 9", "hold 1 5", "hold 3 5 6",
                  "hold 1 6 5", "slots 0 1", "slots 3 1", "slots 1", "slots 1 x", "slots 1 5 4", "slots 1 0", "map 0 0 1", "seed", "seed 2 1", "seed -1 1",
                  "gilbert 0 1 2 3", "gilbert 5 1 2 3 4", "list 0 x", "list 0 1 x", "list 2 1", "jitter 0 9 2", "jitter 0 0 2 1", "jitter 0 9 0 1",
-                 "jitter 0 65535 2 1", "jitter 0 2147483647 2147483647 1", "jitter 7 9 2 1", "copies 0 5", "copies 2 5 1",
+                 "jitter 0 65535 2 1", "jitter 0 2147483647 2147483647 1", "jitter 7 9 2 1", "copies 0 5", "copies 2 5 1", "switch ", "switch 0 2", "switch 0 x", "switch -1",
                  "realtime now", "simulated now", "epoch", "epoch x", "epoch 5 x",
                  "control 0", "contents too", "lines", "map 0 0 1 -1 -1 " + "x " * 4 + "0 65535 0 65535"]
         for text in wrong:

@@ -103,7 +103,7 @@ class OfFiles(InAFolder):
                                      f"until [ -e {go} ]; do sleep 0.05; done"
                                  ])
         until(path.exists, 30)
-        second = run("--transcript", path, "--", "true")
+        second = run("--quiet", "--transcript", path, "--", "true")
         go.touch()
         self.assertEqual(
             (first.wait(20), second.returncode, second.stderr), (0, 6, f"hinge: {path}: another run writes it\n")

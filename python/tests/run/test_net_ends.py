@@ -11,7 +11,6 @@ import unittest
 
 from linked import HINGE, found, hinge, needs, needs_rooms, until
 
-from hinge.run.control import ask
 from hinge.run.outside import GATEWAY
 from in_a_folder import InAFolder
 

@@ -9,9 +9,10 @@ from linked import SEEDS, Linked, audited_as_lawful, found, hinge, ip4, needs, n
 from test_net import InAFolder
 
 from hinge.captures.random_words import word
-from hinge.run.extras import CERTAIN, Extra, without_extras
 from hinge.run.options import add_link, add_run, plan_of
-from hinge.run.words import Wrong
+from hinge.run.settings import LiveOptions
+from hinge.run.words import Wrong, link_of
+from hingetulip_words.link import CERTAIN, Extra, Place
 
 OF_JITTER, OF_COPIES = 1 << 20, 2 << 20  # the streams of random words, as passes.c has them
 COUNT, FIRST, STEP = 40, 60000, 60  # packets; the first second pipe; ms between their delays
@@ -21,8 +22,8 @@ def plan_words(*words: str) -> list[str]:
     """The lines of the plan that options make."""
     parser = argparse.ArgumentParser()
     add_link(parser), add_run(parser)
-    asked = parser.parse_args(words)
-    return plan_of(asked, 1500).text(asked.seed or 0).splitlines()
+    options = LiveOptions(**vars(parser.parse_args(words)), more_files=())
+    return plan_of(options, 1500).text(options.seed or 0).splitlines()
 
 
 def udp(number: int) -> bytes:
@@ -100,27 +101,20 @@ class OfPasses(unittest.TestCase):
 
 class OfWords(unittest.TestCase):
     def test_they_are_parted_from_the_others(self) -> None:
-        self.assertEqual(without_extras("10Mbit/s jitter 5ms 20ms duplicate 0.5%", "x"),
-                         ("10Mbit/s 20ms", Extra(5, round(CERTAIN / 200))))
-        within = [without_extras(text, "x")[1] for text in ("jitter 1ms", "jitter 1000ms duplicate 100%")]
-        self.assertEqual(within, [Extra(1), Extra(1000, CERTAIN)])
-        self.assertEqual(
-            (without_extras("", "x"), without_extras("duplicate 100%", "x")), (("", Extra()), ("", Extra(0, CERTAIN)))
-        )
-        for text, wanted in (
-            ("jitter", "'jitter '"), ("jitter 5", "'jitter 5'"), ("jitter 0ms", "'jitter 0ms'"),
-            ("jitter 1001ms", "'jitter 1001ms'"), ("duplicate 101%", "'duplicate 101%'"), ("duplicate", "'duplicate '"),
-            ("reorder 5%", "'reorder': write jitter 5ms"), ("jitter 1ms 5ms jitter 2ms", "'jitter': it is there twice")
+        for text, line, extra in (
+            ("10Mbit/s jitter 5ms 20ms duplicate 0.5%", "pipe 1 config bw 10Mbit/s delay 20ms", Extra(5, round(CERTAIN / 200))),
+            ("jitter 1ms", "pipe 1 config", Extra(1)), ("jitter 1000ms duplicate 100%", "pipe 1 config", Extra(1000, CERTAIN)),
+            ("", "pipe 1 config", Extra()), ("duplicate 100%", "pipe 1 config", Extra(0, CERTAIN)),
         ):
-            with self.assertRaisesRegex(Wrong, f"^--up: {wanted}"):
-                without_extras(text, "--up")
+            link = link_of(text, "x", Place.RUN)
+            self.assertEqual((link.line(1), link.extra), (line, extra))
 
     def test_a_plan_has_a_pipe_for_each_delay(self) -> None:
         told = plan_words("--up", "20ms jitter 2ms", "--down", "jitter 1ms duplicate 50%", "--seed", "7")
         self.assertEqual(
             [line for line in told if line.startswith("line")],
             [
-                "line pipe 1 config delay 20", "line pipe 2 config", "line pipe 65533 config",
+                "line pipe 1 config delay 20ms", "line pipe 2 config", "line pipe 65533 config",
                 "line pipe 65534 config delay 1", "line pipe 65535 config delay 2", "line pipe 65531 config",
                 "line pipe 65532 config delay 1"
             ],
@@ -150,7 +144,7 @@ class OfRuns(InAFolder):
                              *(f"{pipe},r~a,a" for pipe in range(65526, 65531)), "3,r,b", "3", "4,b,b~r",
                              *(f"{pipe},b~r,r" for pipe in range(65522, 65526))
                          ])
-        paths = hinge("paths", self.folder / "out")
+        paths = hinge("look", self.folder / "out")
         if paths.returncode == 7:
             self.skipTest("no numpy")
         self.assertEqual(paths.stdout.splitlines()[-1], "lawful between links", paths.stdout)
@@ -161,10 +155,10 @@ class OfRuns(InAFolder):
         for words in (["--timeline", self.folder / "t"],):
             self.assertRegex(
                 run("--up", "5ms", *words, "--", "true").stderr,
-                "line 1: 5s: jitter and duplicate are of a whole run: they belong to --up, --down and a line `link`$",
+                "line 1: 5s: 'jitter': of a whole run; write it in --up, --down or a line `link`, from the beginning on$",
             )
         self.file.write_text("host a\nhost b\nlink a b 5ms\nat 1s a b jitter 5ms\n")
-        self.assertRegex(hinge("net", self.file, "--dry-run").stderr, "line 4: jitter and duplicate are of a whole run")
+        self.assertRegex(hinge("net", self.file, "--dry-run").stderr, "line 4: 'jitter': of a whole run; write it in --up")
 
     def test_second_passes_have_no_part_in_a_caution(self) -> None:
         done = run("--up", "500ms jitter 1ms", "--", "ping", "-c", "1", "-q", "server")

@@ -5,19 +5,24 @@ from __future__ import annotations
 import argparse
 import contextlib
 import io
+import shutil
 import subprocess
+import tempfile
 import unittest
-from fractions import Fraction
+from dataclasses import fields
+from pathlib import Path
 
+from hinge.command import Told
+from hinge.commands import net, run
 from hinge.program import dummynet
 from hinge.run.options import add_link, add_run, plan_of
 from hinge.run.page import BINS, COUNTS, ENDED_WELL, HEAD, WAY, Counts, Times
 from hinge.run.plan import Plan
-from hinge.run.spelling import spelled
-from hinge.run.summary import cautions
+from hinge.run.settings import LiveOptions, NetOptions, RunOptions
+from hinge.run.summary import cautions, void
 from hinge.run.summary import lines as summary_lines
 from hinge.run.transcripts import AUDITED, told
-from hinge.run.words import Wrong, duration, link_line
+from hinge.run.words import Wrong, duration, link_of
 from plan_files import OfFiles
 
 
@@ -25,26 +30,24 @@ class Words(unittest.TestCase):
     def test_links(self) -> None:
         wanted = "pipe 2 config bw 10Mbit/s delay 20ms queue 100 plr 0.01"
         for text in ("10Mbit/s 20ms queue 100 loss 1%", "bw 10Mbit/s delay 20ms queue 100 plr 0.01"):
-            self.assertEqual(link_line(2, text, "--down"), wanted)
-        self.assertEqual(link_line(1, "", "--up"), "pipe 1 config")
+            self.assertEqual(link_of(text, "--down").line(2), wanted)
+        self.assertEqual(link_of("", "--up").line(1), "pipe 1 config")
         self.assertRaisesRegex(
-            Wrong, "^--up: '10mbit': not a bandwidth; write 10Mbit/s$", link_line, 1, "10mbit", "--up"
+            Wrong, "^--up: '10mbit': not a bandwidth; write 10Mbit/s$", link_of, "10mbit", "--up"
         )
 
-    def test_the_spelling_of_the_program(self) -> None:
-        for line, wanted in (
-            ("ipfw pipe 1 config bw 5Mbit/s delay 5ms", "pipe 1 config bw 5000000bit/s delay 5"),
-            ("pipe 1 config bw 1KByte/s queue 64K", "pipe 1 config bw 8000bit/s queue 64Kbytes"),
-            ("queue 2 config pipe 1 weight 3 queue 7", "queue 2 config pipe 1 weight 3 queue 7"),
-            ("pipe 1 delete", "pipe delete 1"), ("pipe 1 config bw fast plr x", "pipe 1 config bw fast plr x"),
-            ("pipe 1 config plr 0.5", "pipe 1 config plr 0.5"), ("pipe 1 config plr 1.", "pipe 1 config plr 1")
-        ):
-            self.assertEqual(spelled(line), wanted)
-
-    def test_a_loss_rate_keeps_its_whole_part(self) -> None:
-        """0.01 of 2^31 is 21474836.48."""
-        kept = Fraction(spelled("pipe 1 config plr 0.01").split()[-1]) * 2**31
-        self.assertTrue(21474836 <= kept < 21474836.001, kept)
+    def test_changes_without_words_and_numbers_of_any_length(self) -> None:
+        plan = Plan()
+        plan.link("pipe 1 config")
+        for words in ("1s", "1s up", "1s down # nothing"):
+            with self.subTest(words), self.assertRaisesRegex(Wrong, "no words of a link"):
+                plan.event(words.split())
+        plan.event(["1s", "pipe", "9" * 5000, "config"])
+        for text in ("9" * 5000, "0,1\n" + "9" * 5000):
+            (path := Path(tempfile.mkdtemp()) / "trace").write_text(text)
+            with self.assertRaises(Told):
+                plan.trace(0, str(path), None, 1)
+            shutil.rmtree(path.parent)
 
     def test_times(self) -> None:
         self.assertEqual([duration(text) for text in ("5s", "600ms", "0.5", "2min")],
@@ -74,10 +77,18 @@ class Words(unittest.TestCase):
 
 
 class OfOptions(OfFiles):
+    def test_each_option_has_a_field(self) -> None:
+        """Those without one print something and end."""
+        for parser, kind, more in (
+            (run.options(), RunOptions, {"more_files"}), (net.options(), NetOptions, {"command"})
+        ):
+            named = {action.dest for action in parser._actions if action.default != argparse.SUPPRESS}
+            self.assertEqual(named | more, {field.name for field in fields(kind)})
+
     def configured(self, *words: str) -> list[str]:
         parser = argparse.ArgumentParser()
         add_link(parser), add_run(parser.add_argument_group("the run"))
-        return plan_of(parser.parse_args(words), 1500).configured
+        return plan_of(LiveOptions(**vars(parser.parse_args(words)), more_files=()), 1500).configured
 
     def test_the_order_of_lines(self) -> None:
         """Queues can be of the pipes of --up and --down, which go before lines that configure the same pipe; what isn't
@@ -108,7 +119,7 @@ class Cautions(unittest.TestCase):
         """A hundred packets up, each late by so many us, which are less than 32."""
         values = [0] * len(COUNTS)
         values[COUNTS.index("came")], values[COUNTS.index("late_most")] = 100, us * 1000
-        bins = [0] * (2 * BINS)
+        bins = [0] * (WAY - len(COUNTS))
         bins[us] = 100
         return Counts((ENDED_WELL, *[0] * (len(HEAD) - 1), *values, *bins, *[0] * WAY))
 
@@ -137,6 +148,16 @@ class Cautions(unittest.TestCase):
         )
         self.assertEqual(cautions(slow, [0, 0], "line pipe 1 config delay 50\n"), [])
         self.assertEqual(cautions(slow, [0, 0], "line pipe 1 config\n"), [])
+
+    def test_a_stall_isnt_lost_among_many_packets(self) -> None:
+        """One packet of a hundred thousand in 300 ms, of a run of ten seconds or of a hundred."""
+        for seconds, wanted in ((10, ["up: in more than 1 % of the time packets were unread by over 5 ms (max 300.000 ms)"]), (100, [])):
+            values = [100_000 if name == "came" else 300_000_000 if name == "unread_most" else 0 for name in COUNTS]
+            late, unread, late_time, unread_time = ([0] * BINS for _ in range(4))
+            unread[0], unread[242], unread_time[242] = 99_999, 1, 300_000_000
+            head = [ENDED_WELL, seconds * 10**9, *[0] * (len(HEAD) - 2)]
+            counts = Counts((*head, *values, *late, *unread, *late_time, *unread_time, *[0] * WAY))
+            self.assertEqual(void(counts, [0, 0], 5.0), wanted)
 
     def test_a_way_without_traffic_has_no_figures(self) -> None:
         self.assertEqual(summary_lines(self.counts(3), [0, 0])[-1], "down: nothing came")

@@ -6,7 +6,6 @@ import time
 
 from hinge.run.plan import Plan
 from hinge.run.traces import Rate, Trace, outage_rate, read_trace
-from hinge.run.transcripts import told
 from hinge.run.words import Wrong, of_link
 from plan_files import OfFiles
 
@@ -132,7 +131,7 @@ class Timelines(OfFiles):
 
     def test_a_lossy_outage(self) -> None:
         self.assertEqual(self.lines("1s down outage 2s lossy\n", "pipe 2 config delay 3"),
-                         ["pipe 2 config delay 3 plr 1", "pipe 2 config delay 3"])
+                         ["cut 2 1", "open 2 1"])
 
     def test_a_link_names_its_own_pipes(self) -> None:
         for text, wanted in (

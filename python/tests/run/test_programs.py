@@ -15,7 +15,7 @@ import unittest
 from typing import NamedTuple
 
 from behind import Behind
-from linked import audited_as_lawful, found, needs, needs_rooms, run
+from linked import audited_as_lawful, needs, needs_rooms, run
 
 PAYLOAD = 1448 / 1500  # of a TCP packet's bytes, with time stamps
 TOLERANCE = 0.05

@@ -34,7 +34,9 @@ class OfCommands(unittest.TestCase):
     def test_status_and_user(self) -> None:
         got = run("--", "sh", "-c", "id -u; exit 7")
         self.assertEqual((got.returncode, got.stdout.strip()), (7, str(os.getuid())))
-        self.assertEqual(got.stderr.splitlines()[:2], ["hinge run: up: nothing came", "hinge run: down: nothing came"])
+        self.assertEqual(got.stderr.splitlines()[:3], [
+            "hinge run: no link is given, so nothing is slowed or lost: --link '10Mbit/s 20ms loss 1%' or --preset lte gives one",
+            "hinge run: up: nothing came", "hinge run: down: nothing came"])
         self.assertEqual(run("--", "/nix").returncode, 127)
         self.assertEqual(run("--", "/").returncode, 126)
         self.assertEqual(run("--", "sh", "-c", "kill -9 $$").returncode, 137)
@@ -66,7 +68,7 @@ class OfCommands(unittest.TestCase):
             got = run(option, value, "--", "echo", "started")
             self.assertEqual((got.returncode, got.stdout), (2, ""))
             self.assertIn(
-                f"{option}: the words of a link are in --up and --down; write --up '{words}' --down '{words}'\n",
+                f"{option}: the words of a link are in --link; write --link '{words}'\n",
                 got.stderr,
             )
             self.assertIn("nothing came", run("--up", words, "--", "true").stderr)

@@ -159,7 +159,8 @@ class OfWords(InAFolder):
 
     def test_what_is_wrong_is_told_before_it_listens(self) -> None:
         self.assertEqual(
-            self.refused("pipe 1 config dely 20"), (3, "hinge: pipe 1 config dely 20: word 4: unknown word\n")
+            self.refused("pipe 1 config dely 20"),
+            (3, "hinge udp: LINK: word 4 'dely': no option; write delay; in full: pipe 1 config delay 20\n")
         )
         self.assertEqual(self.refused("queue 1 config pipe 9"), (3, "hinge: queue 1 config pipe 9: no-such-pipe\n"))
         self.assertEqual(

@@ -96,6 +96,12 @@ class Repeated(Simulated):
         return one
 
 
+def left(temporary: Path) -> "list[Path]":
+    """What machines whose TMPDIR this is have there and in memory, where each has a link to its folder there."""
+    links = Path("/dev/shm").glob(".hinge-*/kept")
+    return [*temporary.iterdir(), *(link for link in links if temporary in link.readlink().parents)]
+
+
 def probed(text: str) -> "list[int]":
     """The numbers that a probe printed."""
     return [int(word) for word in re.findall(r"\d+", text)]

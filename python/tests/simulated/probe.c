@@ -109,7 +109,7 @@ static void counter(void) {
 /* What cpuid says of rdrand, rdseed and this processor's number. Others than the first two calls of a program are answered. */
 static void processor(void) {
     unsigned int a, b, c, d, e, f;
-    getppid(), getppid(), getppid();
+    for (int call = 0; call < 3; call++) getppid();
     __cpuid(1, a, b, c, d);
     __cpuid_count(7, 0, e, f, d, a);
     printf("processor rdrand %u rdseed %u number %u\n", c >> 30 & 1, f >> 18 & 1, b >> 24);
@@ -122,7 +122,7 @@ static void processor(void) {
 
 /* A call of the system while all vector registers hold a value; how many of them don't hold it behind the call. */
 static int lost_by(unsigned long value, long call, long one, long two, long *answer) {
-    unsigned long found[16];
+    unsigned long found[16] = {0};
     int lost = 0;
     __asm__ volatile(ALL(SET) "syscall\n\t" ALL(GET)
                      : "=a"(*answer) : "a"(call), "D"(one), "S"(two), [value] "r"(value), [found] "r"(found) : ALL(NAME) "rcx", "r11", "memory");

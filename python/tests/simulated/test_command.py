@@ -4,13 +4,15 @@ from __future__ import annotations
 
 import os
 import signal
+import struct
 import subprocess
 import tempfile
 import time
+from pathlib import Path
 
 from hinge.simulated.interrupts import children
 from hinge.simulated.one_processor import OneProcessor
-from machines import HINGE, SIMULATED, Simulated, environment
+from machines import HINGE, SIMULATED, Simulated, environment, left
 
 STATUSES = (
     (["true"], 0),
@@ -29,11 +31,6 @@ GOES_ON = "echo begun; while :; do sleep 1; done"
 PIPE, NONE = subprocess.PIPE, subprocess.DEVNULL
 
 
-def left(temporary: str) -> "set[str]":
-    """The folders of machines that are there."""
-    return {name for place in ("/dev/shm", temporary) for name in os.listdir(place) if name.startswith("hinge-")}
-
-
 class OfStreams(Simulated):
     def test_statuses(self) -> None:
         for command, status in STATUSES:
@@ -45,6 +42,14 @@ class OfStreams(Simulated):
         self.assertEqual(int(ran.summary["simulated"]), 3600, ran.err)
         self.assertIs(ran.summary["repeatable"], True)
         self.assertEqual((ran.summary["spun"], ran.summary["interrupts"]), (0, 0))
+
+    def test_a_32_bit_program(self) -> None:
+        """The head of one is enough: the kernel looks no further."""
+        (self.folder / "old").write_bytes(b"\x7fELF\x01\x01\x01".ljust(16, b"\0") + struct.pack("<HHI", 2, 3, 1).ljust(200, b"\0"))
+        (self.folder / "old").chmod(0o755)
+        done = self.started("--quiet", "--", "./old")
+        told = "hinge run: ./old: it is a 32-bit program, and the simulated machine runs 64-bit programs only\n"
+        self.assertEqual((done.returncode, done.stderr), (126, told))
 
     def test_both_streams(self) -> None:
         done = self.started("--quiet", "--", "sh", "-c", "echo out; echo err >&2; exit 3")
@@ -117,14 +122,14 @@ class OfSurroundings(Simulated):
         self.assertEqual(done.stdout, "10.8.0.2\n7000\n", done.stderr)
 
     def test_side_by_side(self) -> None:
-        """Six at once, of which two have one seed."""
+        """Three at once, of which two have one seed."""
         def begun(seed: int) -> "subprocess.Popen[bytes]":
             words = ["--quiet", "--up", "20ms", "--down", "20ms loss 20%", "--seed", str(seed), "--"]
             return subprocess.Popen([*SIMULATED, *words, "ping", "-c", "50", "server"], stdin=NONE, stdout=PIPE)
 
-        out = [run.communicate()[0] for run in [begun(seed) for seed in (1, 2, 3, 4, 5, 1)]]
-        self.assertEqual(out[0], out[5])
-        self.assertEqual(len(set(out)), 5)
+        out = [run.communicate()[0] for run in [begun(seed) for seed in (1, 2, 1)]]
+        self.assertEqual(out[0], out[2])
+        self.assertNotEqual(out[0], out[1])
 
 
 class OfEnds(Simulated):
@@ -145,14 +150,14 @@ class OfEnds(Simulated):
     def test_signals_end_it_at_once_with_nothing_left(self) -> None:
         # A folder of its own for what is temporary, since other tests run at the same time.
         with tempfile.TemporaryDirectory() as temporary:
-            before = left(temporary)
             for number in (signal.SIGINT, signal.SIGTERM, signal.SIGHUP):
                 with self.begun(TMPDIR=temporary) as process:
                     below = self.below(process)
+                    self.assertGreater(len(left(Path(temporary))), 1)
                     process.send_signal(number)
                     self.assertEqual(process.wait(), 128 + number)
                 self.assertEqual([path for path in below if os.path.exists(path)], [])
-            self.assertEqual(left(temporary) - before, set())
+            self.assertEqual(left(Path(temporary)), [])
 
     def test_a_launcher_that_is_killed_takes_its_machine_along(self) -> None:
         with self.begun() as process:
@@ -183,14 +188,14 @@ class OfEnds(Simulated):
         self.assertFalse(place.is_left(3.0, 1.4))
 
     def test_the_limit_of_real_time(self) -> None:
-        done = self.started("--real-limit", "500ms", "--", "sh", "-c", GOES_ON)
+        done = self.started("--up", "1ms", "--real-limit", "500ms", "--", "sh", "-c", GOES_ON)
         self.assertEqual(done.returncode, 124)
-        self.assertEqual(done.stderr, "hinge run: it was ended after 0.5 s of real time, by --real-limit\n")
+        self.assertTrue(done.stderr.startswith("hinge run: it was ended after 0.5 s of real time, by --real-limit\n"))
 
 
 class OfRefusals(Simulated):
     def refused(self, status: int, sentence: str, *words: str, **more: object) -> None:
-        done = self.started(*words, **more)
+        done = self.started("--up", "1ms", *words, **more)
         self.assertEqual((done.returncode, done.stdout, done.stderr), (status, "", f"hinge run: {sentence}\n"))
 
     def test_the_network_outside(self) -> None:
@@ -213,11 +218,15 @@ class OfRefusals(Simulated):
             os.close(main)
             os.close(second)
 
-    def test_without_a_kernel(self) -> None:
-        names = environment(XDG_CACHE_HOME=str(self.folder))
-        names.pop("HINGE_KERNEL", None)
-        self.refused(6, "there is no kernel for simulated time yet: `hinge kernel` builds it, once",
-                     "--", "true", env=names)
+    def test_a_folder_without_a_kernel(self) -> None:
+        self.refused(6, f"HINGE_KERNEL: {self.folder} has no kernel and first process of this version of hinge",
+                     "--", "true", env=environment(HINGE_KERNEL=str(self.folder)))
+
+    def test_a_build_of_a_kernel_names_all_that_it_lacks(self) -> None:
+        done = subprocess.run([*HINGE, "kernel", "--again"], env=environment(PATH=str(self.folder)), capture_output=True,
+                              text=True)
+        self.assertEqual(done.returncode, 7)
+        self.assertRegex(done.stderr, r"^hinge kernel: needs cc, make, .*, libc\.a.*: apt-get install gcc make .* libc6-dev.*\n$")
 
     def test_a_wrong_word_before_the_machine_is_made(self) -> None:
         self.refused(2, "--map => pipe 3: pipe 3 isn't configured", "--map", "=> pipe 3", "--", "true")

@@ -2,7 +2,9 @@
 
 from __future__ import annotations
 
+import json
 import subprocess
+import sys
 from pathlib import Path
 
 from hinge.program import dummynet
@@ -17,6 +19,89 @@ link a r 10Mbit/s 10ms queue 100
 link r b 5Mbit/s 15ms queue 50
 link c r 20Mbit/s 5ms
 main c sh -c 'ping -q -c 3 -i 0.2 a; ping -q -c 3 -i 0.2 b; iperf3 -c b -t 1'
+"""
+CLOCKS = f"""
+host o {sys.executable} looks.py
+main m {sys.executable} looks.py; sleep 1
+link m o 1ms
+at main+1s skew m +5s 1000ppm
+at main+29s skew m +0s
+"""
+LOOKS = """
+import ctypes, os, signal, socket, struct, subprocess, time
+
+c = ctypes.CDLL(None)
+
+class Moment(ctypes.Structure):
+    _fields_ = [("s", ctypes.c_long), ("ns", ctypes.c_long)]
+
+class Waiter(ctypes.Structure):
+    _fields_ = [("value", ctypes.c_uint64), ("place", ctypes.c_uint64), ("flags", ctypes.c_uint32), ("none", ctypes.c_uint32)]
+
+def ahead():
+    return round(time.time() - time.monotonic() - before, 3)
+
+def after(length):
+    moment = time.time() + length
+    return Moment(int(moment), int(moment % 1 * 1e9))
+
+def by_nanosleep(end):
+    c.clock_nanosleep(0, 1, end, None)
+
+def by_futex(end):
+    c.syscall(202, ctypes.byref(ctypes.c_uint32(7)), 9 | 256, 7, end, None, -1)
+
+def by_lock(end):
+    c.syscall(202, ctypes.byref(ctypes.c_uint32(owner)), 6, 0, end, None, 0)
+
+def by_many_futexes(end):
+    value = ctypes.c_uint32(7)
+    c.syscall(449, ctypes.byref(Waiter(7, ctypes.addressof(value), 2, 0)), 1, 0, end, 0)
+
+def by_semaphore(end):
+    place = ctypes.create_string_buffer(32)
+    c.sem_init(place, 0, 0)
+    c.sem_timedwait(place, end)
+
+def by_timerfd(end):
+    file = c.timerfd_create(0, 0)
+    c.timerfd_settime(file, 1, (Moment * 2)(Moment(), end._obj), None)
+    os.read(file, 8)
+
+def by_timer(end):
+    number = ctypes.c_int()
+    signal.signal(signal.SIGALRM, lambda *words: None)
+    c.timer_create(0, None, ctypes.byref(number))
+    c.timer_settime(number, 1, (Moment * 2)(Moment(), end._obj), None)
+    signal.pause()
+
+def by_queue(end):
+    queue = c.mq_open(b"/queue", os.O_RDWR | os.O_CREAT, 0o600, None)
+    c.mq_timedreceive(queue, ctypes.create_string_buffer(8192), 8192, None, end)
+
+def waited(wait):
+    begun = time.monotonic()
+    wait(ctypes.byref(after(2)))
+    return round(time.monotonic() - begun, 3)
+
+def stamped():
+    one = socket.socket(socket.AF_INET, socket.SOCK_DGRAM)
+    one.setsockopt(socket.SOL_SOCKET, 35, 1)
+    one.bind(("127.0.0.1", 0))
+    one.sendto(b"", one.getsockname())
+    [(_, _, data)] = one.recvmsg(1, 100)[1]
+    seconds, ns = struct.unpack("qq", data)
+    return round(seconds + ns / 1e9 - time.time(), 3) + 0.0
+
+before = time.time() - time.monotonic()
+owner = subprocess.Popen(["sleep", "100"]).pid
+time.sleep(2)
+print(ahead(), stamped())
+for name, wait in list(globals().items()):
+    if name.startswith("by_"):
+        print(name, waited(wait))
+time.sleep(20)
+print(ahead())
 """
 NET = Path(__file__).resolve().parents[3] / "examples" / "net" / "etcd.net"
 
@@ -33,6 +118,42 @@ class OfEtcd(Simulated):
         words = [dummynet(), "audit", "session/net.history"]
         audit = subprocess.run(words, cwd=self.folder, capture_output=True, text=True)
         self.assertRegex(audit.stdout, r"^lawful \d+\n$")
+
+
+FAULTS = """
+host a while :; do sleep 0.1; done
+host b while :; do sleep 0.1; done
+main c ping -q -i 0.1 -c 60 a
+link a c 5ms
+link b c 5ms
+link a b 5ms
+at 500ms cut a from c 2s
+at 1s cut c from a 500ms
+at 2s..3s stop a 1s
+at 4s kill b 1s
+nemesis partition-one every 1s..2s for 500ms until 6s of a b
+"""
+
+
+@needs("ping")
+class OfFaults(Simulated):
+    def test_faults_of_links_and_hosts_are_the_same_twice(self) -> None:
+        """Those of links to the nanosecond. Of the two cuts between c and a the second ends within the first."""
+        (self.folder / "faults.net").write_text(FAULTS)
+        words = ["--simulated", "--twice", "--seed", "3", "--real-limit", LIMIT, "--transcripts", "session"]
+        done = subprocess.run([*HINGE, "net", "faults.net", *words], cwd=self.folder, stdin=subprocess.DEVNULL,
+                              capture_output=True, text=True)
+        self.assertEqual(done.returncode, 0, done.stdout + done.stderr)
+        self.assertIn("hinge net: two runs by seed 3 are the same: ", done.stderr)
+        summary = json.loads((self.folder / "session" / "net.json").read_text())
+        acts = [(one["words"].split()[0], one["moment"] - summary["main"], one["at"]) for one in summary["acts"]]
+        self.assertEqual([word for word, *_ in acts if word != "cut"], ["stop", "cont", "kill", "restart"])
+        self.assertTrue(all(moment == float(at[:-1]) * 1e9 for word, moment, at in acts if word == "cut"), acts)
+        packets = packets_of((self.folder / "session" / "net.history").read_text())
+        pings = [packet for packet in packets if packet.target == ("pipe", 2)]  # from c to a
+        self.assertEqual([packet.fate == "lost" for packet in pings],
+                         [500_000_000 <= packet.came - summary["main"] < 2_500_000_000 for packet in pings])
+        self.assertEqual(len(pings), 60)
 
 
 @needs("iperf3", "ping")
@@ -52,3 +173,25 @@ class OfTheLinks(Simulated):
         self.assertEqual(len(answers), 2)
         waits = [next(came for came in own if came >= due) - due for due in answers]
         self.assertLess(max(waits), 10_000, waits)
+
+
+class OfClocks(Simulated):
+    def test_one_that_is_ahead_and_gains(self) -> None:
+        """By it the program reads the time of day and stamps of packets, and waits for a moment in each way that a kernel
+        has; the other host's clock is as before."""
+        (self.folder / "clocks.net").write_text(CLOCKS)
+        (self.folder / "looks.py").write_text(LOOKS)
+        words = ["--simulated", "--seed", "1", "--real-limit", LIMIT, "--logs", "logs"]
+        done = subprocess.run([*HINGE, "net", "clocks.net", *words], cwd=self.folder, stdin=subprocess.DEVNULL,
+                              capture_output=True, text=True)
+        self.assertEqual(done.returncode, 0, done.stdout + done.stderr)
+        for name, first, length in (("m", "5.001 0.0", "1.998"), ("o", "0.0 0.0", "2.0")):
+            before, *waits, behind = (self.folder / "logs" / f"{name}.log").read_text().splitlines()
+            self.assertEqual((before, float(behind)), (first, 0.0), done.stderr)
+            self.assertEqual([wait.split()[1] for wait in waits], [length] * 8, waits)
+
+    def test_real_time_has_one_clock(self) -> None:
+        (self.folder / "clocks.net").write_text(CLOCKS)
+        done = subprocess.run([*HINGE, "net", "clocks.net"], cwd=self.folder, capture_output=True, text=True)
+        self.assertEqual(done.returncode, 2)
+        self.assertIn("skew: hosts have clocks of their own in simulated time alone; add --simulated", done.stderr)

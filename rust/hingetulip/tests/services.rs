@@ -5,7 +5,7 @@ use std::net::Ipv4Addr;
 use std::sync::{mpsc, Mutex};
 use std::thread;
 
-/// The file of docs/HISTORIES.md.
+/// The file of docs/FILES.md.
 const OF_THE_PAGE: &str = "dummynet-history,3
 c,0,configure,pipe 1 config bw 8000000bit/s
 r,configured

@@ -1,18 +1,6 @@
-/* Every refusal of hingetulip.h: its status, and that nothing else changed; two handles side by side; texts; and audits. */
+/* Every refusal of hingetulip.h: its status, and that nothing else changed; and audits. */
 #include "hingetulip.h"
-#include <stdio.h>
-#include <string.h>
-
-static int tried, failed;
-
-static void holds(bool it, const char *what, int line) {
-    tried++;
-    if (it) return;
-    failed++;
-    printf("line %d: %s\n", line, what);
-}
-
-#define HOLDS(it) holds(it, #it, __LINE__)
+#include "holds.h"
 
 static uint32_t configured(struct dn_handle *handle, const char *line, struct dn_fault *fault) {
     return dn_configure(handle, (const uint8_t *)line, strlen(line), fault);
@@ -22,12 +10,6 @@ static uint32_t configured(struct dn_handle *handle, const char *line, struct dn
 static struct dn_packet good(uint64_t moment) {
     struct dn_packet packet = {.moment = moment, .src = 1, .dst = 2, .sport = 3, .dport = 4, .length = 1000, .number = 1, .kind = DN_PIPE, .proto = 17};
     return packet;
-}
-
-static bool untouched(const void *bytes, size_t count) {
-    for (const uint8_t *at = bytes; count > 0; at++, count--)
-        if (*at != 77) return false;
-    return true;
 }
 
 static void every_call_of_a_closed_handle(void) {
@@ -51,9 +33,9 @@ static void every_call_of_a_closed_handle(void) {
     HOLDS(dn_collect(&handle, 0, &delivery, 1, &number) == DN_CLOSED);
     HOLDS(dn_show(&handle, &flow, 1, &number) == DN_CLOSED);
     HOLDS(dn_wake(&handle, &number) == DN_CLOSED);
-    HOLDS(untouched(&fate, sizeof fate) && untouched(&fault, sizeof fault) && untouched(&delivery, sizeof delivery));
-    HOLDS(untouched(&flow, sizeof flow) && untouched(&number, sizeof number));
-    HOLDS(dn_submit_many(&handle, &packet, 1, &fate, 1, &number) == DN_CLOSED && number == 0 && untouched(&fate, sizeof fate));
+    HOLDS(are_77(&fate, sizeof fate) && are_77(&fault, sizeof fault) && are_77(&delivery, sizeof delivery));
+    HOLDS(are_77(&flow, sizeof flow) && are_77(&number, sizeof number));
+    HOLDS(dn_submit_many(&handle, &packet, 1, &fate, 1, &number) == DN_CLOSED && number == 0 && are_77(&fate, sizeof fate));
     HOLDS(handle.at == NULL && !handle.open);
 }
 
@@ -78,30 +60,7 @@ static void packets_out_of_range(struct dn_handle *handle) {
     packet = good(0);
     packet.reserved = 1;
     HOLDS(dn_submit(handle, &packet, &fate) == DN_BAD_RESERVED && dn_reserve(handle, &packet) == DN_BAD_RESERVED);
-    HOLDS(untouched(&fate, sizeof fate));
-}
-
-static void lines_that_are_none(struct dn_handle *handle) {
-    static const struct {
-        const char *line;
-        uint32_t status, kind;
-        uint64_t word;
-    } CASES[] = {{"pipe 1 config bw 8Mbps", DN_LINE, DN_NOT_A_NUMBER, 5}, {"pipe 1 config speed 8", DN_LINE, DN_UNKNOWN_WORD, 4},
-                 {"pipe 1 config bw", DN_LINE, DN_MISSING_VALUE, 4},      {"pipe 0 config", DN_LINE, DN_OUT_OF_RANGE, 2},
-                 {"ipfw pipe show", DN_LINE, DN_LEFT_OUT, 3},             {"queue 1 config weight 2", DN_LINE, DN_NEEDS_PIPE, 1},
-                 {"pipe 1 config \xff", DN_LINE, DN_NOT_UTF8, 0},         {"queue 1 config pipe 9", DN_NO_SUCH_PIPE, 77, 77},
-                 {"pipe 9 delete", DN_NO_SUCH_PIPE, 77, 77},              {"queue 9 delete", DN_NO_SUCH_QUEUE, 77, 77},
-                 {"", DN_OK, 77, 77},                                     {"  # nothing", DN_OK, 77, 77}};
-    for (size_t i = 0; i < sizeof CASES / sizeof *CASES; i++) {
-        struct dn_fault fault = {77, 77, 77};
-        HOLDS(configured(handle, CASES[i].line, &fault) == CASES[i].status);
-        HOLDS(fault.kind == CASES[i].kind && fault.word == CASES[i].word);
-    }
-    struct dn_fault fault = {77, 77, 77};
-    HOLDS(configured(handle, "pipe 3 config", &fault) == DN_OK && configured(handle, "queue 3 config pipe 3", &fault) == DN_OK);
-    HOLDS(configured(handle, "pipe 3 delete", &fault) == DN_PIPE_HAS_QUEUES);
-    HOLDS(configured(handle, "queue 3 delete", &fault) == DN_OK && configured(handle, "pipe 3 delete", &fault) == DN_OK);
-    HOLDS(fault.kind == 77 && fault.word == 77);
+    HOLDS(are_77(&fate, sizeof fate));
 }
 
 static void moments_and_rules_out_of_range(struct dn_handle *handle) {
@@ -111,7 +70,7 @@ static void moments_and_rules_out_of_range(struct dn_handle *handle) {
     memset(&number, 77, sizeof number);
     HOLDS(dn_advance(handle, DN_LAST_MOMENT + 1, &number) == DN_BAD_MOMENT);
     HOLDS(dn_collect(handle, UINT64_MAX, list, 2, &number) == DN_BAD_MOMENT);
-    HOLDS(untouched(list, sizeof list) && untouched(&number, sizeof number));
+    HOLDS(are_77(list, sizeof list) && are_77(&number, sizeof number));
     struct dn_handle before = *handle;
     HOLDS(dn_open(handle, 2) == DN_BAD_RULE && dn_open(handle, UINT32_MAX) == DN_BAD_RULE);
     HOLDS(dn_open_with_key(handle, 2, 0, 0) == DN_BAD_RULE && dn_open_with_key(handle, UINT32_MAX, 1, 1) == DN_BAD_RULE);
@@ -130,14 +89,14 @@ static void lists_that_are_too_short(struct dn_handle *handle) {
     memset(flows, 77, sizeof flows);
     memset(fates, 77, sizeof fates);
     HOLDS(configured(handle, "pipe 1 config bw 8Mbit/s", &fault) == DN_OK);
-    HOLDS(dn_submit_many(handle, two, 2, fates, 1, &count) == DN_ROOM && count == 0 && untouched(fates, sizeof fates));
-    HOLDS(dn_submit_many(handle, two, 0, fates, 0, &count) == DN_OK && count == 0 && untouched(fates, sizeof fates));
+    HOLDS(dn_submit_many(handle, two, 2, fates, 1, &count) == DN_ROOM && count == 0 && are_77(fates, sizeof fates));
+    HOLDS(dn_submit_many(handle, two, 0, fates, 0, &count) == DN_OK && count == 0 && are_77(fates, sizeof fates));
     HOLDS(dn_submit_many(handle, two, 2, fates, 2, &count) == DN_OK && count == 2 && fates[1].packet == 1);
-    HOLDS(dn_collect(handle, 2000000, list, 1, &count) == DN_ROOM && count == 2 && untouched(list, sizeof list));
-    HOLDS(dn_show(handle, flows, 0, &count) == DN_ROOM && count == 1 && untouched(flows, sizeof flows));
-    HOLDS(dn_show(handle, flows, 1, &count) == DN_OK && count == 1 && flows[0].started == 1 && untouched(flows + 1, sizeof *flows));
+    HOLDS(dn_collect(handle, 2000000, list, 1, &count) == DN_ROOM && count == 2 && are_77(list, sizeof list));
+    HOLDS(dn_show(handle, flows, 0, &count) == DN_ROOM && count == 1 && are_77(flows, sizeof flows));
+    HOLDS(dn_show(handle, flows, 1, &count) == DN_OK && count == 1 && flows[0].started == 1 && are_77(flows + 1, sizeof *flows));
     HOLDS(dn_collect(handle, 2000000, list, 2, &count) == DN_OK && count == 2 && list[0].due == 1000000 && list[1].due == 2000000);
-    HOLDS(untouched(list + 2, sizeof *list));
+    HOLDS(are_77(list + 2, sizeof *list));
 }
 
 /* The second of three packets is out of range: the first alone is answered. */
@@ -148,10 +107,10 @@ static void packets_up_to_a_bad_one(struct dn_handle *handle) {
     three[1].length = 0;
     memset(fates, 77, sizeof fates);
     HOLDS(dn_submit_many(handle, three, 3, fates, 3, &done) == DN_BAD_LENGTH && done == 1);
-    HOLDS(fates[0].outcome == DN_QUEUED && fates[0].packet == 2 && untouched(fates + 1, 2 * sizeof *fates));
+    HOLDS(fates[0].outcome == DN_QUEUED && fates[0].packet == 2 && are_77(fates + 1, 2 * sizeof *fates));
 }
 
-static struct dn_fate told = {.at = 9, .flow = 2, .packet = 3, .outcome = DN_QUEUED};
+static struct dn_fate queued = {.at = 9, .flow = 2, .packet = 3, .outcome = DN_QUEUED};
 static struct dn_delivery given[2] = {{.due = 9, .packet = 3, .flow = 2, .start = 8},
                                       {.due = 9, .packet = 4, .flow = 2, .start = 9}};
 static uint8_t text[200];
@@ -165,7 +124,7 @@ static void fill_text(void) {
 static bool is_text(const char *wanted) {
     size_t length = strlen(wanted);
     bool same = text_length == length && memcmp(text, wanted, length) == 0;
-    same = same && untouched(text + length, sizeof text - length);
+    same = same && are_77(text + length, sizeof text - length);
     fill_text();
     return same;
 }
@@ -178,54 +137,38 @@ static uint32_t collect_text(uint64_t caller, uint64_t moment, size_t count) {
     return dn_collect_text(caller, moment, UINT64_MAX, given, count, text, sizeof text, &text_length);
 }
 
-static void texts_of_each_kind(void) {
-    struct dn_fate fate = told;
-    fill_text();
-    HOLDS(submit_text(15, good(7), fate) == DN_OK);
-    HOLDS(is_text("c,15,submit,pipe,1,0.0.0.1,0.0.0.2,17,3,4,1000,0,7\nr,queued,9,2,3\n"));
-    fate.outcome = DN_LOST; /* the packet's number isn't read */
-    HOLDS(submit_text(0, good(7), fate) == DN_OK);
-    HOLDS(is_text("c,0,submit,pipe,1,0.0.0.1,0.0.0.2,17,3,4,1000,0,7\nr,lost,9,2\n"));
-    fate.outcome = DN_FULL;
-    HOLDS(submit_text(0, good(7), fate) == DN_OK);
-    HOLDS(is_text("c,0,submit,pipe,1,0.0.0.1,0.0.0.2,17,3,4,1000,0,7\nr,full,9,2\n"));
-    fate.outcome = DN_NO_TARGET;
-    HOLDS(submit_text(0, good(7), fate) == DN_OK);
-    HOLDS(is_text("c,0,submit,pipe,1,0.0.0.1,0.0.0.2,17,3,4,1000,0,7\nr,no-target,9\n"));
-    HOLDS(dn_advance_text(1, 7, UINT64_MAX, text, sizeof text, &text_length) == DN_OK);
-    HOLDS(is_text("c,1,advance,7\nr,advanced,18446744073709551615\n"));
-    HOLDS(collect_text(2, DN_LAST_MOMENT, 2) == DN_OK);
-    HOLDS(is_text("c,2,collect,4611686018427387904\nr,delivered,18446744073709551615,2\nd,3,2,8,9\nd,4,2,9,9\n"));
-    HOLDS(collect_text(2, 7, 0) == DN_OK && is_text("c,2,collect,7\nr,delivered,18446744073709551615,0\n"));
-}
-
 static void texts_that_are_refused(void) {
     struct dn_packet packet = good(7), other = good(DN_LAST_MOMENT + 1);
-    struct dn_fate fate = told;
+    struct dn_fate fate = queued;
     fill_text();
-    HOLDS(submit_text(16, packet, told) == DN_BAD_CALLER && submit_text(UINT64_MAX, packet, told) == DN_BAD_CALLER);
+    HOLDS(submit_text(16, packet, queued) == DN_BAD_CALLER && submit_text(UINT64_MAX, packet, queued) == DN_BAD_CALLER);
     HOLDS(collect_text(16, 7, 2) == DN_BAD_CALLER);
     HOLDS(dn_advance_text(16, 7, 7, text, sizeof text, &text_length) == DN_BAD_CALLER);
-    HOLDS(submit_text(0, other, told) == DN_BAD_MOMENT && collect_text(0, DN_LAST_MOMENT + 1, 2) == DN_BAD_MOMENT);
+    HOLDS(submit_text(0, other, queued) == DN_BAD_MOMENT && collect_text(0, DN_LAST_MOMENT + 1, 2) == DN_BAD_MOMENT);
     HOLDS(dn_advance_text(0, UINT64_MAX, 7, text, sizeof text, &text_length) == DN_BAD_MOMENT);
-    other = packet, other.kind = 2;
-    HOLDS(submit_text(0, other, told) == DN_BAD_KIND);
-    other = packet, other.number = 0;
-    HOLDS(submit_text(0, other, told) == DN_BAD_NUMBER);
-    other = packet, other.length = 0;
-    HOLDS(submit_text(0, other, told) == DN_BAD_LENGTH);
-    other = packet, other.reserved = 1;
-    HOLDS(submit_text(0, other, told) == DN_BAD_RESERVED);
+    other = packet;
+    other.kind = 2;
+    HOLDS(submit_text(0, other, queued) == DN_BAD_KIND);
+    other = packet;
+    other.number = 0;
+    HOLDS(submit_text(0, other, queued) == DN_BAD_NUMBER);
+    other = packet;
+    other.length = 0;
+    HOLDS(submit_text(0, other, queued) == DN_BAD_LENGTH);
+    other = packet;
+    other.reserved = 1;
+    HOLDS(submit_text(0, other, queued) == DN_BAD_RESERVED);
     fate.outcome = 4;
     HOLDS(submit_text(0, packet, fate) == DN_BAD_OUTCOME);
     fate.outcome = UINT32_MAX;
     HOLDS(submit_text(0, packet, fate) == DN_BAD_OUTCOME);
-    fate = told, fate.reserved = 1;
+    fate = queued;
+    fate.reserved = 1;
     HOLDS(submit_text(0, packet, fate) == DN_BAD_RESERVED);
     given[1].reserved = 1;
-    HOLDS(collect_text(0, 7, 2) == DN_BAD_RESERVED && text_length == 77 && untouched(text, sizeof text));
+    HOLDS(collect_text(0, 7, 2) == DN_BAD_RESERVED && text_length == 77 && are_77(text, sizeof text));
     given[1].reserved = 0;
-    HOLDS(dn_advance_text(0, 7, 7, text, 26, &text_length) == DN_ROOM && text_length == 27 && untouched(text, sizeof text));
+    HOLDS(dn_advance_text(0, 7, 7, text, 26, &text_length) == DN_ROOM && text_length == 27 && are_77(text, sizeof text));
     HOLDS(dn_advance_text(0, 7, 7, text, 27, &text_length) == DN_OK && is_text("c,0,advance,7\nr,advanced,7\n"));
 }
 
@@ -239,12 +182,12 @@ static void audits_that_end(void) {
     memset(&verdict, 77, sizeof verdict);
     memset(&record, 77, sizeof record);
     HOLDS(dn_audit_close(&audit) == DN_CLOSED && fed(&audit, "") == DN_CLOSED);
-    HOLDS(dn_audit_finish(&audit, &verdict, &record) == DN_CLOSED && untouched(&record, sizeof record));
+    HOLDS(dn_audit_finish(&audit, &verdict, &record) == DN_CLOSED && are_77(&record, sizeof record));
     HOLDS(dn_audit_open(&audit, 5) == DN_OK && fed(&audit, "12345") == DN_OK && fed(&audit, "") == DN_OK && audit.open);
     HOLDS(fed(&audit, "6") == DN_TOO_LONG && audit.at == NULL && !audit.open && dn_audit_close(&audit) == DN_CLOSED);
     HOLDS(dn_audit_open(&audit, 0) == DN_OK && fed(&audit, "") == DN_OK);
     HOLDS(dn_audit_finish(&audit, &verdict, &record) == DN_BAD_RECORD && record == 1 && !audit.open);
-    HOLDS(untouched(&verdict, sizeof verdict));
+    HOLDS(are_77(&verdict, sizeof verdict));
     HOLDS(dn_audit_open(&audit, SIZE_MAX) == DN_OK && fed(&audit, "dummynet-hist") == DN_OK);
     HOLDS(dn_audit_open_with_key(&audit, DN_HISTORY_LIMIT, UINT64_MAX, 7) == DN_OK); /* lets go of what was open */
     HOLDS(fed(&audit, DN_HISTORY_FRONT "c,0,advance,5\nr,advanced,5\nc,9,advance,4\nr,advanced,4\nend,2\n") == DN_OK);
@@ -256,25 +199,6 @@ static void audits_that_end(void) {
     HOLDS(dn_audit_open(&audit, 100) == DN_OK && fed(&audit, "x") == DN_OK && dn_audit_close(&audit) == DN_OK && !audit.open);
 }
 
-static void two_handles_side_by_side(void) {
-    struct dn_handle slow = {0}, fast = {0};
-    struct dn_fault fault;
-    struct dn_delivery list[4];
-    struct dn_fate fate;
-    uint64_t count, wake;
-    HOLDS(dn_open(&slow, DN_ORDERED) == DN_OK && dn_open_with_key(&fast, DN_FREE, UINT64_MAX, 7) == DN_OK);
-    HOLDS(configured(&slow, "pipe 1 config bw 8Kbit/s", &fault) == DN_OK && configured(&fast, "pipe 1 config delay 1", &fault) == DN_OK);
-    struct dn_packet packet = good(5);
-    HOLDS(dn_submit(&slow, &packet, &fate) == DN_OK && fate.packet == 0 && dn_submit(&fast, &packet, &fate) == DN_OK && fate.packet == 0);
-    HOLDS(dn_wake(&slow, &wake) == DN_OK && wake == 1000000005 && dn_wake(&fast, &wake) == DN_OK && wake == 1000005);
-    HOLDS(dn_collect(&fast, 1000005, list, 4, &count) == DN_OK && count == 1 && list[0].due == 1000005);
-    HOLDS(dn_collect(&slow, 1000005, list, 4, &count) == DN_OK && count == 0);
-    HOLDS(dn_close(&fast) == DN_OK);
-    HOLDS(dn_collect(&slow, 1000000005, list, 4, &count) == DN_OK && count == 1 && list[0].due == 1000000005);
-    HOLDS(dn_wake(&slow, &wake) == DN_OK && wake == DN_NEVER);
-    HOLDS(dn_close(&slow) == DN_OK && dn_close(&slow) == DN_CLOSED);
-}
-
 int main(void) {
     struct dn_handle handle = {0};
     uint64_t at;
@@ -282,17 +206,13 @@ int main(void) {
     every_call_of_a_closed_handle();
     HOLDS(dn_open(&handle, DN_ORDERED) == DN_OK && handle.open);
     packets_out_of_range(&handle);
-    lines_that_are_none(&handle);
     moments_and_rules_out_of_range(&handle);
     HOLDS(dn_advance(&handle, 0, &at) == DN_OK && at == 0); /* nothing of all that moved the clock */
     lists_that_are_too_short(&handle);
     packets_up_to_a_bad_one(&handle);
     HOLDS(dn_open(&handle, DN_FREE) == DN_OK); /* lets go of what was open */
     HOLDS(dn_close(&handle) == DN_OK && dn_close(&handle) == DN_CLOSED);
-    two_handles_side_by_side();
-    texts_of_each_kind();
     texts_that_are_refused();
     audits_that_end();
-    printf("%d of %d hold\n", tried - failed, tried);
-    return failed != 0;
+    return told();
 }

@@ -1,27 +1,10 @@
 /* The texts of lines, by dn_configure_text: of each command with each of its answers, and every refusal. */
 #include "hingetulip.h"
-#include <stdio.h>
-#include <string.h>
+#include "holds.h"
 
-static int tried, failed;
 static uint8_t text[200];
 static uint64_t length;
 static struct dn_fault fault;
-
-static void holds(bool it, const char *what, int line) {
-    tried++;
-    if (it) return;
-    failed++;
-    printf("line %d: %s\n", line, what);
-}
-
-#define HOLDS(it) holds(it, #it, __LINE__)
-
-static bool untouched(const void *bytes, size_t count) {
-    for (const uint8_t *at = bytes; count > 0; at++, count--)
-        if (*at != 77) return false;
-    return true;
-}
 
 static uint32_t written(uint64_t caller, const char *line, uint32_t status, size_t room) {
     memset(text, 77, sizeof text);
@@ -32,10 +15,10 @@ static uint32_t written(uint64_t caller, const char *line, uint32_t status, size
 
 static bool is_text(const char *wanted) {
     bool same = length == strlen(wanted) && memcmp(text, wanted, length) == 0;
-    return same && untouched(text + length, sizeof text - length) && untouched(&fault, sizeof fault);
+    return same && are_77(text + length, sizeof text - length) && are_77(&fault, sizeof fault);
 }
 
-static bool nothing_is_written(void) { return untouched(text, sizeof text) && untouched(&length, sizeof length); }
+static bool nothing_is_written(void) { return are_77(text, sizeof text) && are_77(&length, sizeof length); }
 
 static void lines_that_were_answered(void) {
     static const struct {
@@ -81,16 +64,15 @@ static void numbers_and_room(void) {
         HOLDS(written(CALLERS[i], LINE, DN_OK, sizeof text) == DN_BAD_CALLER && nothing_is_written());
     for (size_t i = 0; i < sizeof STATUSES / sizeof *STATUSES; i++)
         HOLDS(written(0, LINE, STATUSES[i], sizeof text) == DN_BAD_OUTCOME && nothing_is_written());
-    HOLDS(untouched(&fault, sizeof fault));
-    HOLDS(written(0, LINE, DN_OK, strlen(WANTED) - 1) == DN_ROOM && length == strlen(WANTED) && untouched(text, sizeof text));
+    HOLDS(are_77(&fault, sizeof fault));
+    HOLDS(written(0, LINE, DN_OK, strlen(WANTED) - 1) == DN_ROOM && length == strlen(WANTED) && are_77(text, sizeof text));
     HOLDS(written(0, LINE, DN_OK, strlen(WANTED)) == DN_OK && is_text(WANTED));
-    HOLDS(written(0, "# nothing", DN_OK, 0) == DN_OK && length == 0 && untouched(text, sizeof text));
+    HOLDS(written(0, "# nothing", DN_OK, 0) == DN_OK && length == 0 && are_77(text, sizeof text));
 }
 
 int main(void) {
     lines_that_were_answered();
     lines_that_are_none();
     numbers_and_room();
-    printf("%d of %d hold\n", tried - failed, tried);
-    return failed != 0;
+    return told();
 }

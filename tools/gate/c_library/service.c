@@ -2,8 +2,8 @@
 
        ./service HISTORY CALLS...
 
-   Each file of calls is made by a thread of its own through a caller of its own, in its order. The lines are those of scenarios.c; what
-   they say of replies is passed over, since the order of the threads decides it. For each caller a line tells what it was told. */
+   Each file of calls is made by a thread of its own through a caller of its own, in its order. tools/gate/c_service.py writes the lines.
+   For each caller a line tells what it was told. */
 #include "hingetulip_service.h"
 #include <inttypes.h>
 #include <pthread.h>
@@ -32,10 +32,9 @@ static void numbers(const char *text, uint64_t *into, int count) {
     for (int i = 0; i < count; i++) into[i] = strtoull(at, &at, 10);
 }
 
-/* f STATUS WORD KIND TEXT: the text of a fault makes no call. */
+/* f TEXT: the text of a fault makes no call. */
 static void configure(struct work *work, const char *text) {
-    const char *line = text + 1;
-    for (int i = 0; i < 4; i++) line = strchr(line, ' ') + 1;
+    const char *line = text + 2;
     struct dn_fault fault = {77, 77, 77};
     uint32_t status = dn_caller_configure_wait(work->caller, (const uint8_t *)line, strlen(line), &fault);
     want(work, "the status of a line", status <= DN_NO_SUCH_QUEUE || status == DN_LINE);
@@ -45,6 +44,7 @@ static void configure(struct work *work, const char *text) {
     work->refused += status != DN_OK;
 }
 
+/* p MOMENT KIND NUMBER SRC DST PROTO SPORT DPORT LENGTH WORD */
 static void submit(struct work *work, const char *text) {
     uint64_t n[10];
     numbers(text, n, 10);

@@ -1,18 +1,6 @@
 /* Every refusal of hingetulip_service.h: its status, and that nothing else changed; and each call once, with the values worked out by hand. */
 #include "hingetulip_service.h"
-#include <stdio.h>
-#include <string.h>
-
-static int tried, failed;
-
-static void holds(bool it, const char *what, int line) {
-    tried++;
-    if (it) return;
-    failed++;
-    printf("line %d: %s\n", line, what);
-}
-
-#define HOLDS(it) holds(it, #it, __LINE__)
+#include "holds.h"
 
 static uint64_t number = 77, other = 77, holder = 77;
 static struct dn_fate fate;
@@ -28,12 +16,6 @@ static void fill(void) {
     memset(list, 77, sizeof list);
     memset(flows, 77, sizeof flows);
     memset(text, 77, sizeof text);
-}
-
-static bool are_77(const void *bytes, size_t count) {
-    for (const uint8_t *at = bytes; count > 0; at++, count--)
-        if (*at != 77) return false;
-    return true;
 }
 
 static bool untouched(void) {
@@ -95,8 +77,8 @@ static void refusals(struct dn_caller *caller) {
     fill();
 #define REFUSED(field, value, status) \
     packet = good(0);                 \
-    packet.field = value;             \
-    HOLDS(dn_caller_submit(caller, &packet, &fate, &holder) == status)
+    packet.field = (value);           \
+    HOLDS(dn_caller_submit(caller, &packet, &fate, &holder) == (status))
     REFUSED(moment, DN_LAST_MOMENT + 1, DN_BAD_MOMENT);
     REFUSED(kind, 2, DN_BAD_KIND);
     REFUSED(number, 0, DN_BAD_NUMBER);
@@ -229,6 +211,5 @@ int main(void) {
     HOLDS(dn_service_close(&service) == DN_OK && dn_caller_close(&callers[0]) == DN_OK && dn_caller_close(&callers[1]) == DN_OK);
     entries();
     many_entries();
-    printf("%d of %d hold\n", tried - failed, tried);
-    return failed != 0;
+    return told();
 }

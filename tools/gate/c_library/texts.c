@@ -107,21 +107,21 @@ static int split(char *text, char **field) {
 }
 
 /* The line with other bytes between its words, and with a note that is no part of the command. */
-static size_t respelled(const char *line, char *other) {
-    strcpy(other, "\tipfw");
-    for (size_t at = strlen(other); *line; at += strlen(other + at)) {
+static size_t respelled(const char *line, char *other, size_t room) {
+    size_t at = (size_t)snprintf(other, room, "\tipfw");
+    while (*line) {
         size_t word = strcspn(line, " ");
-        sprintf(other + at, "\r \t%.*s", (int)word, line);
+        at += (size_t)snprintf(other + at, room - at, "\r \t%.*s", (int)word, line);
         line += word + (line[word] == ' ');
     }
-    return strlen(strcat(other, " # \"a\", b"));
+    return at + (size_t)snprintf(other + at, room - at, " # \"a\", b");
 }
 
 /* Obeys a line, and writes it. */
 static void obey(char **field) {
     static char other[4 * LONGEST_LINE];
     struct dn_fault fault;
-    struct made made = {.kind = CONFIGURE, .caller = number(field[1]), .line = (const uint8_t *)other, .size = respelled(field[3], other)};
+    struct made made = {.kind = CONFIGURE, .caller = number(field[1]), .line = (const uint8_t *)other, .size = respelled(field[3], other, sizeof other)};
     made.status = dn_configure(&handle, made.line, made.size, &fault);
     wanted("a line", made.status <= DN_NO_SUCH_QUEUE);
     write_text(&made);
@@ -131,8 +131,7 @@ static void obey(char **field) {
 static bool is_made(char *text) {
     static char fields[LONGEST_LINE];
     char *field[MOST_FIELDS] = {NULL};
-    strcpy(fields, text);
-    fields[strcspn(fields, "\n")] = 0;
+    snprintf(fields, sizeof fields, "%.*s", (int)strcspn(text, "\n"), text);
     int count = split(fields, field);
     if (count == 4 && strcmp(field[2], "configure") == 0) obey(field);
     else if (count >= 4) make(field, count);

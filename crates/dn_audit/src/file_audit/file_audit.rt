@@ -1,15 +1,13 @@
-ghost use Rattle.std.specs.Prelude.{◌≡◌, ◌≤◌, ◌+◌, ◌-◌, ◌++◌, length, ⊤, ℕ, List, [], IfOk, IfErr, OnOk, None, box_value, false};
+ghost use Rattle.std.specs.Prelude.{◌≡◌, ◌≤◌, ◌+◌, ◌-◌, ◌++◌, length, ⊤, ℕ, List, [], IfOk, IfErr, OnOk, None, false};
 ghost use Rattle.dn_types.specs.declared.entry.Entry.{Entry as EntryValue};
 ghost use Rattle.dn_types.specs.declared.rule.Rule.{Rule as RuleValue};
 ghost use Rattle.dn_files.specs.Reading.{IsFaultOf, IsRefusal, IsTextOf};
 ghost use Rattle.dn_files.specs.declared.source.Source.TheVariants.{History};
 ghost use Rattle.dn_history.specs.HistoryFile.{history_in};
-ghost use Rattle.dn_history.specs.HistoryParts.{HasRead};
-ghost use Rattle.dn_audit.specs.FileAudit.{HasCome, HasTaken, HasVerdict, history_within, IsAuditing, IsUnfed};
+ghost use Rattle.dn_audit.specs.FileAudit.{HasCome, HasTaken, HasVerdict, history_within, IsUnfed};
 
 use crate::file_audit::entries::audit_text;
 use crate::file_audit::parts_audit::PartsAudit;
-use crate::file_audit::threading::{OneThread, Threading};
 use crate::verdict::Verdict;
 use dn_files::{Feed, ReplayFault, Source, feed_all};
 use dn_history::{HISTORY_LIMIT, HistoryParts};
@@ -31,31 +29,6 @@ pub struct FileAudit {
     pub(crate) front: Vec<u8>,
     // In a block of its own, so that the proof that an audit is dropped doesn't go through all that is in it.
     pub(crate) begun: Option<Box<PartsAudit>>,
-}
-
-/// The place behind the first line feed, or the end.
-fn behind_first_line(part: &[u8]) -> usize
-    ensures { result ≤ length part.now }
-{
-    match part.iter().position(|byte| *byte == b'\n') {
-        Some(at) => at + 1,
-        None => part.len(),
-    }
-}
-
-/// The audit of a history of these parts, which takes the text behind them.
-fn begun_with<T: Threading>(
-    alloc: Global,
-    by: &T,
-    key: HashKey,
-    parts: HistoryParts,
-    rest: &[u8],
-) -> Result<Box<PartsAudit>, AllocError>
-    ensures { IfOk result (λ begun. (text : List ℕ) → HasRead parts text [] → IsAuditing (box_value begun) (text ++ rest.now)) }
-{
-    let mut begun = Box::new(alloc, PartsAudit::new(alloc, key, parts))?;
-    by.take(&mut begun, rest)?;
-    Ok(begun)
 }
 
 impl FileAudit {
@@ -85,31 +58,30 @@ impl FileAudit {
     }
 
     // Keeps a part of the text, and begins where the line of the version has come.
-    fn begin<T: Threading>(&mut self, by: &T, part: &[u8]) -> Result<(), AllocError>
+    fn begin(&mut self, part: &[u8]) -> Result<(), AllocError>
         requires { self.old.begun ≡ None }
         ensures taken { OnOk result ((text : List ℕ) → HasTaken self.old text → HasTaken self.new (text ++ part.now)) }
         ensures length { self.new.length ≡ self.old.length }
         ensures limit { self.new.limit ≡ self.old.limit }
     {
-        let (line, rest) = part.split_at(behind_first_line(part));
-        self.front.extend_from_slice(line)?;
+        self.front.extend_from_slice(part)?;
         let Some(parts) = HistoryParts::new(self.alloc, self.front.as_slice())? else {
-            return self.front.extend_from_slice(rest);
+            return Ok(());
         };
-        let begun = begun_with(self.alloc, by, self.key, parts, rest)?;
+        let begun = Box::new(self.alloc, PartsAudit::new(self.alloc, self.key, parts))?;
         drop(mem::replace(&mut self.begun, Some(begun)));
         Ok(())
     }
 
-    // Takes a part of the text, whatever its length, whose entries are read by these threads.
-    fn take<T: Threading>(&mut self, by: &T, part: &[u8]) -> Result<(), AllocError>
+    // Takes a part of the text, whatever its length.
+    fn take(&mut self, part: &[u8]) -> Result<(), AllocError>
         ensures taken { OnOk result ((text : List ℕ) → HasTaken self.old text → HasTaken self.new (text ++ part.now)) }
         ensures length { self.new.length ≡ self.old.length }
         ensures limit { self.new.limit ≡ self.old.limit }
     {
         match &mut self.begun {
-            Some(begun) => by.take(begun, part),
-            None => self.begin(by, part),
+            Some(begun) => begun.take(part),
+            None => self.begin(part),
         }
     }
 
@@ -117,20 +89,8 @@ impl FileAudit {
     ///
     /// TooLong says that the text has more, and OutOfMemory that a growth was refused. After either the audit is of no more
     /// use.
-    pub fn feed(&mut self, part: &[u8]) -> Result<(), ReplayFault>
-        ensures ok { OnOk result ((text : List ℕ) → HasCome self.old text → HasCome self.new (text ++ part.now)) }
-        ensures limit { self.new.limit ≡ self.old.limit }
-        ensures room { OnOk result (length part.now + (self.new.limit - self.new.length) ≤ self.old.limit - self.old.length) }
-        ensures err { IfErr result (λ fault. (text more : List ℕ) → HasCome self.old text
-            → IsFaultOf (history_within self.old.limit (text ++ (part.now ++ more))) fault) }
-        ensures faults { IfErr result (λ fault. IsUnfed self.old part.now fault) }
-    {
-        self.feed_by(&OneThread, part)
-    }
-
-    /// [`feed`](FileAudit::feed), whose entries are read by these threads.
     #[tactic(auto, using(crate::proofs::FileAuditSteps::overflows, crate::proofs::FileAuditSteps::fits))]
-    pub(crate) fn feed_by<T: Threading>(&mut self, by: &T, part: &[u8]) -> Result<(), ReplayFault>
+    pub fn feed(&mut self, part: &[u8]) -> Result<(), ReplayFault>
         ensures ok { OnOk result ((text : List ℕ) → HasCome self.old text → HasCome self.new (text ++ part.now)) }
         ensures limit { self.new.limit ≡ self.old.limit }
         ensures room { OnOk result (length part.now + (self.new.limit - self.new.length) ≤ self.old.limit - self.old.length) }
@@ -141,7 +101,7 @@ impl FileAudit {
         if part.len() > self.limit.saturating_sub(self.length) {
             return Err(ReplayFault::TooLong(Source::History));
         }
-        let Ok(()) = self.take(by, part) else {
+        let Ok(()) = self.take(part) else {
             return Err(ReplayFault::OutOfMemory);
         };
         self.length += part.len();

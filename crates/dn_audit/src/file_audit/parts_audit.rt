@@ -45,30 +45,6 @@ impl PartsAudit {
         self.audit_given()
     }
 
-    // Audits the entries that have come whole, where no list is under way.
-    fn audit_whole(&mut self) -> Result<(), AllocError>
-        ensures { OnOk result ((text : List ℕ) → IsAuditing self.old text → IsAuditing self.new text) }
-    {
-        let first = self.parts.given();
-        let entries = self.parts.take_whole()?;
-        self.audit.compare_all(first, entries.as_slice())
-    }
-
-    /// Takes a part of the text behind which a call's line begins, and audits the entries that have come whole.
-    pub(crate) fn take_to_call(&mut self, part: &[u8]) -> Result<(), AllocError>
-        ensures { OnOk result ((text : List ℕ) → IsAuditing self.old text → IsAuditing self.new (text ++ part.now)) }
-    {
-        self.parts.feed(part)?;
-        self.audit_whole()
-    }
-
-    /// Takes a part of the text, of which no entry is audited yet.
-    pub(crate) fn keep(&mut self, part: &[u8]) -> Result<(), AllocError>
-        ensures { OnOk result ((text : List ℕ) → IsAuditing self.old text → IsAuditing self.new (text ++ part.now)) }
-    {
-        self.parts.feed(part)
-    }
-
     /// The verdict on the history, whose text has ended, and the count of its entries.
     pub(crate) fn end(&mut self) -> Result<(Verdict, usize), ReplayFault>
         ensures ok { IfOk result (λ found. (text : List ℕ) → IsAuditing self.old text → HasVerdict text found.0 found.1) }

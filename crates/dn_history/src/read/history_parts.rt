@@ -1,9 +1,8 @@
-ghost use Rattle.std.specs.Prelude.{◌≡◌, ◌==◌, ◌<◌, ◌^◌, ◌+◌, ◌++◌, [], ◌∷◌, ℕ, List, length, IfOk, IfSome, MatchBool, MatchOption, OnErr, OnOk};
+ghost use Rattle.std.specs.Prelude.{◌≡◌, ◌<◌, ◌^◌, ◌+◌, ◌++◌, [], ◌∷◌, ℕ, List, length, IfOk, MatchOption, OnErr, OnOk};
 ghost use Rattle.dn_types.specs.declared.entry.Entry.{Entry as EntryValue};
 ghost use Rattle.dn_history.specs.HistoryFile.{history_in};
 ghost use Rattle.dn_history.specs.HistoryParts.{BeginsNoHistory, HasRead, history_behind};
 ghost use Rattle.dn_history.specs.HistoryRecords.{rule_of};
-ghost use Rattle.dn_history.specs.InChunks.{HasEntries};
 
 use crate::history_version::HistoryVersion;
 use crate::read::batch::{Batch, read_batch};
@@ -15,9 +14,6 @@ use dn_records::behind_records;
 use dn_types::{Entry, Rule};
 use std::alloc::{AllocError, Global};
 use std::marker::Model;
-
-// Entries and records from this one on are left for the end of the text.
-const MOST: u64 = 1 << 62;
 
 /// The entries of a history whose text comes in parts.
 ///
@@ -58,14 +54,6 @@ fn text_left(alloc: Global, front: &[u8], back: &[u8]) -> Result<Vec<u8>, AllocE
     Ok(text)
 }
 
-/// The sum of two counts, or None if it is 2^62 or more.
-fn sum_below(count: u64, more: u64) -> Option<u64>
-    ensures { IfSome result (λ sum. (sum ≡ count + more) × (sum < 2 ^ 62)) }
-{
-    let sum = count.checked_add(more)?;
-    if sum < MOST { Some(sum) } else { None }
-}
-
 impl HistoryParts {
     /// The parts of a history that begins with this text.
     ///
@@ -104,18 +92,9 @@ impl HistoryParts {
         self.given
     }
 
-    /// The version of the history.
-    pub fn version(&self) -> HistoryVersion
-        ensures { result ≡ self.now.version }
-    {
-        self.version
-    }
-
-    /// Whether the entries of all that was fed were given.
-    pub fn is_behind_entry(&self) -> bool
-        ensures { result ≡ (length self.now.text == 0) }
-    {
-        self.text[1..].is_empty()
+    // Whether it is worth to read again: a list isn't read before its end, and no entry more than a few times.
+    fn is_due(&self) -> bool {
+        self.text.len() / 2 >= self.tried && !ends_in_item(self.text.as_slice())
     }
 
     /// Takes the next part of the text, of any length. After an error it wasn't taken.
@@ -139,76 +118,33 @@ impl HistoryParts {
         ensures given { IfOk result (λ list. (self.new.given ≡ self.old.given + length list.items) × (self.new.given < 2 ^ 62)) }
         ensures err { OnErr result (self.new ≡ self.old) }
     {
-        if ends_in_item(self.text.as_slice()) {
-            return Ok(Vec::new(self.alloc));
-        }
-        self.take_whole()
-    }
-
-    /// [`take`](HistoryParts::take) where no list is under way: what has come ends where an entry ends.
-    pub fn take_whole(&mut self) -> Result<Vec<Entry>, AllocError>
-        ensures ok { IfOk result (λ list. (text : List ℕ) (entries : List EntryValue) → HasRead self.old text entries
-            → HasRead self.new text (entries ++ list.items)) }
-        ensures version { self.new.version ≡ self.old.version }
-        ensures given { IfOk result (λ list. (self.new.given ≡ self.old.given + length list.items) × (self.new.given < 2 ^ 62)) }
-        ensures err { OnErr result (self.new ≡ self.old) }
-    {
-        if self.text.len() / 2 < self.tried {
+        if !self.is_due() {
             return Ok(Vec::new(self.alloc));
         }
         let whole = self.text.len() - behind_records(&self.text[1..]).len();
         let Batch {
             entries,
-            records,
+            given,
+            number,
             left,
         } = read_batch(
             self.alloc,
             self.version,
+            self.given,
+            self.number,
             &self.text[..whole],
-            &self.text[1..whole],
             &mut self.fields,
         )?;
         // What is left of whole records is whole records, which no clause of the reading says.
         if !behind_records(left).is_empty() {
             return Ok(Vec::new(self.alloc));
         }
-        let Some(given) = sum_below(self.given as u64, entries.len() as u64) else {
-            return Ok(Vec::new(self.alloc));
-        };
-        let Some(number) = sum_below(self.number, records) else {
-            return Ok(Vec::new(self.alloc));
-        };
         let text = text_left(self.alloc, left, &self.text[whole..])?;
-        self.given = given as usize;
+        self.given = given;
         self.number = number;
         self.tried = text.len();
         self.text = text;
         Ok(entries)
-    }
-
-    /// Goes on behind a chunk that wasn't fed, and whose entries and records, so many, were read elsewhere.
-    ///
-    /// False says that some text before the chunk is still left, or that entries or records are too many, and nothing has
-    /// changed.
-    pub fn pass_over(&mut self, entries: usize, records: u64) -> bool
-        ensures over { MatchBool result
-            ((text chunk : List ℕ) (front new : List EntryValue) → HasRead self.old text front → HasEntries self.old.version chunk new records → length new ≡ entries
-            → HasRead self.new (text ++ chunk) (front ++ new))
-            (self.new ≡ self.old) }
-        ensures version { self.new.version ≡ self.old.version }
-    {
-        if !self.is_behind_entry() {
-            return false;
-        }
-        let Some(given) = sum_below(self.given as u64, entries as u64) else {
-            return false;
-        };
-        let Some(next) = sum_below(self.number, records) else {
-            return false;
-        };
-        self.given = given as usize;
-        self.number = next;
-        true
     }
 
     /// A reader of the entries that are left, where the text has ended.

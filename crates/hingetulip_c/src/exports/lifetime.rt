@@ -9,12 +9,12 @@ use dn_shaper::{HashKey, Shaper};
 use dn_types::Rule;
 use std::alloc::{AllocError, Global};
 
-const VERSION: u32 = 1_007_000;
+const VERSION: u32 = 2_000_000;
 
 /// The version of the library: major * 1,000,000 + minor * 1,000 + patch.
 #[unsafe(no_mangle)]
 pub extern "C" fn dn_version() -> u32
-    ensures { result ≡ 1007000 }
+    ensures { result ≡ 2000000 }
 {
     VERSION
 }

@@ -9,6 +9,4 @@ returns c = record {
   history = search rules;
   most_history = count_read _ (λ bs r. ParsesUnsigned 64 10 bs r × ExplainsUnsignedError 10 bs r × HasUnsignedDigitsIfOk bs r) (found_of c.args.found.now) (codes "most-history")
       c.get_one.result c.get_one.ensures.none (λ t read. c.get_one.ensures.value t read) (λ t r gives. gives.0);
-  threads = count_read _ (λ bs r. ParsesUnsigned 64 10 bs r × ExplainsUnsignedError 10 bs r × HasUnsignedDigitsIfOk bs r) (found_of c.args.found.now) (codes "threads")
-      c.get_one-threads.result c.get_one-threads.ensures.none (λ t read. c.get_one-threads.ensures.value t read) (λ t r gives. gives.0);
 }

@@ -1,6 +1,6 @@
 -- Each law is a lemma over the definitions.
 use Rattle.dn_types.proofs.InTurn.{gives-in-order}
-use Rattle.dn_laws.proofs.Sums.{delays-add-up}
+use Rattle.dn_laws.proofs.Sums.{delays-add-up, delivered-delays-add-up}
 use Rattle.dn_laws.proofs.Timely.{events-stay, starts-in-time, none-starts-early}
 use Rattle.dn_types.proofs.TransmissionTime.{unlimited-takes-no-time}
 use Rattle.dn_laws.proofs.Exactly.{waits-for-its-link, starts-behind}
@@ -20,6 +20,9 @@ returns-clause-unlimited c = unlimited-takes-no-time
 
 pub returns-clause-sum : goal.returns-clause-sum
 returns-clause-sum c = delays-add-up
+
+pub returns-clause-delivered : goal.returns-clause-delivered
+returns-clause-delivered c = delivered-delays-add-up
 
 pub returns-clause-in_order : goal.returns-clause-in_order
 returns-clause-in_order c = gives-in-order

@@ -1,4 +1,4 @@
-use Rattle.std.proofs.Common.{◌≡◌, length}
+use Rattle.std.proofs.Common.{◌≡◌, ◌<◌, ◌^◌, length}
 use Rattle.csv.specs.declared.parser.State.TheVariants as st
 use Rattle.dn_records.specs.Reading.{records_after}
 use Rattle.dn_records.specs.Records.{records_of}
@@ -7,8 +7,9 @@ use Rattle.dn_history.proofs.read.batch.read_batch.Given as goal
 
 abbrev pub invariant-loop-entry : goal.invariant-loop-entry
 invariant-loop-entry l = record {
-  read : AreRead l.version (records_of l.text) l.batch.entries.items l.records.number l.records.records;
-  left : l.records ≡ record { number = l.batch.records; records = records_after st.StartRecord l.batch.left.now };
+  read : AreRead l.version l.given (record { number = l.number; records = records_of l.text }) l.batch.entries.items l.batch.given l.records;
+  left : l.records ≡ record { number = l.batch.number; records = records_after st.StartRecord l.batch.left.now };
+  few : (l.batch.given < 2 ^ 62) × (l.batch.number < 2 ^ 62);
 }
 
 abbrev pub decreases-loop-entry : goal.decreases-loop-entry

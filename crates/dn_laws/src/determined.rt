@@ -1,0 +1,24 @@
+//! The law of laws: what obeys them all is the emulator.
+
+ghost use Rattle.dn_laws.specs.Determined.{LawsDetermine};
+ghost use Rattle.dn_laws.specs.Emulated.{HistoriesByTheLaws, LawsGiveTheReplies, LawsHold};
+
+/// The laws determine the emulator.
+///
+/// Any two that obey them answer each call the same.
+pub fn laws_determine()
+    ensures { LawsDetermine }
+{}
+
+/// The definitions obey the laws.
+pub fn laws_hold()
+    ensures { LawsHold }
+{}
+
+/// So whatever obeys the laws answers as the definitions do.
+///
+/// A history is lawful exactly if its replies are those of whatever obeys the laws.
+pub fn laws_give_the_replies()
+    ensures replies { LawsGiveTheReplies }
+    ensures histories { HistoriesByTheLaws }
+{}

@@ -1,0 +1,29 @@
+/* Ways that lose all packets, for as long as any of the cuts of their pipe goes on: each cut has a number of its own, by which it begins and
+   ends. A line of a pipe that is cut is obeyed with the loss of all packets, and as it is once the last cut has ended. */
+#ifndef CUTS_H
+#define CUTS_H
+#include <stdbool.h>
+
+/* Room for the pipes of so many ways, which can be cut. To be called before all others. */
+void prepare_cuts(int ways);
+
+/* Whether a line is one of these, in which case it needs no links to be tried:
+
+     cut PIPE N       the cut with this number begins
+     open PIPE N      it ends; nothing happens where it doesn't go on
+     heal PIPE        all cuts of a pipe that go on end
+     remark WORDS     a remark in the transcript */
+bool is_own_line(const char *line);
+
+/* What is wrong with a line of the plan, of the links or of these, or NULL. Nothing changes. */
+const char *wrong_with_line(const char *line);
+
+/* Follows a line at the moment of the last call, and returns NULL or why it is refused. */
+const char *follow(const char *line);
+
+/* The line that the links followed last, where it was about a pipe that can be cut; else NULL. */
+const char *followed(void);
+
+/* The line that a pipe has after the end of a cut, `open PIPE N`, where no other one goes on; NULL of other lines. */
+const char *behind_cut(const char *line);
+#endif

@@ -1,0 +1,72 @@
+"""The client's end of a control socket."""
+
+from __future__ import annotations
+
+import os
+import socket
+from contextlib import contextmanager
+from dataclasses import replace
+from itertools import count
+from typing import Iterator
+
+from hinge.border.messages import Lines, Order, Reply, Strange, line_of, read_message
+from hinge.border.peers import is_own, process_and_user, within
+from hinge.run.names import socket_of
+from hinge.run.words import Wrong
+
+PATIENCE = 20.0  # s: more than a run takes for an order, so that its refusal comes before
+LONGEST_REPLY = 1 << 26  # bytes: a status has some thousand of each link
+MOST_DOORS = 8  # descriptors with an answer
+NUMBERS = count(1)
+
+
+@contextmanager
+def connected(path: str, patience: float = PATIENCE) -> Iterator[socket.socket]:
+    """A line to this user's run, by its socket or by its name."""
+    path = socket_of(path)
+    with socket.socket(socket.AF_UNIX, socket.SOCK_STREAM) as line:
+        try:
+            line.settimeout(patience)
+            with within(path) as near:
+                line.connect(near)
+            if not is_own(line):
+                raise Wrong(f"{path}: another user's process answers there")
+            yield line
+        except OSError as error:
+            raise Wrong(f"{path}: {error.strerror or error}") from None
+
+
+def asked_at(path: str, order: Order, patience: float = PATIENCE) -> tuple[Reply, list[int]]:
+    """What a run answers, and the doors that it opens. Wrong: it refuses the order."""
+    order = replace(order, number=next(NUMBERS))
+    with connected(path, patience) as line:
+        line.sendall(line_of(order))
+        lines = Lines(line, LONGEST_REPLY, MOST_DOORS)
+        try:
+            text = lines.next(patience)
+            reply = None if text is None else read_message(Reply, text)
+        except Strange as strange:
+            raise Wrong(f"{path}: no run of hinge answers there: {strange}") from None
+    if reply is None:
+        raise Wrong(f"{path}: the run has ended")
+    if reply.refused is not None:
+        raise Wrong(reply.refused)
+    if reply.number != order.number:
+        raise Wrong(f"{path}: the reply is that of another order")
+    return reply, lines.doors
+
+
+def ask(path: str, patience: float = PATIENCE, *, change: str | None = None, status: bool = False,
+        end: bool = False) -> Reply:
+    return asked_at(path, Order(change=change, status=status, end=end), patience)[0]
+
+
+def process_at(path: str) -> int:
+    """A descriptor of the process that answers."""
+    with connected(path) as line:
+        return os.pidfd_open(process_and_user(line)[0])
+
+
+def is_answered(path: str) -> bool:
+    with socket.socket(socket.AF_UNIX, socket.SOCK_STREAM) as sock, within(path) as near:
+        return sock.connect_ex(near) == 0

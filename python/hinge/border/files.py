@@ -1,0 +1,147 @@
+"""Files that others wrote. Whatever goes wrong while one is read is a fault of that file, in one line with its name."""
+
+from __future__ import annotations
+
+import gzip
+import json
+import os
+import shutil
+import stat
+from contextlib import contextmanager
+from pathlib import Path
+from typing import Any, BinaryIO, Iterator, NamedTuple, Union, cast
+
+from hinge.border.scratch import unnamed
+from hinge.border.terminal import note_defect
+from hinge.command import FILES, ROWS, Fault, Told
+
+Name = Union[str, Path]
+GZIP = b"\x1f\x8b"  # the front of a compressed file
+MOST_TOLD = 200  # letters of an exception
+MOST_TEXT, MOST_OBJECT = 1 << 28, 1 << 26  # bytes of a text of lines, and of JSON, which takes some 20 times its length
+TOO_DEEP, TOO_LARGE = "its parts are too deep in one another", "it takes more memory than there is"
+
+
+def told_name(name: Name) -> str:
+    return "standard input" if str(name) == "-" else str(name)
+
+
+@contextmanager
+def untrusted(name: Name, status: int = ROWS, what: str = "") -> Iterator[None]:
+    """Reads what others wrote. What a reader says itself stays as it is, and so does a module that isn't there; all else
+    is a fault of the file, told by what it should be where that is said."""
+    try:
+        yield
+    except (Told, ImportError):
+        raise
+    except OSError as error:
+        if error.filename is not None:
+            raise
+        text = error.strerror or what or str(error)
+        raise Fault(f"{told_name(name)}: {text}", FILES if error.errno else status) from error
+    except (RecursionError, MemoryError) as error:
+        raise Fault(f"{told_name(name)}: {TOO_DEEP if isinstance(error, RecursionError) else TOO_LARGE}",
+                    status) from None
+    except Exception as error:
+        note_defect()
+        why = f"{type(error).__name__}: {error}"[:MOST_TOLD].rstrip(": ")
+        text = what or f"it can't be read ({why})"
+        raise Fault(f"{told_name(name)}: {text}", status) from error
+
+
+def opened(name: Name) -> BinaryIO:
+    """A file, a pipe or, as `-`, standard input, from its beginning on."""
+    return open(0, "rb", closefd=False) if str(name) == "-" else open(name, "rb")
+
+
+def read_bytes(name: Name, most: int = -1) -> bytes:
+    """All of a file. Fault: it has more than so many bytes, where a number is given."""
+    with untrusted(name), opened(name) as file:
+        data = file.read(most if most < 0 else most + 1)
+    if 0 <= most < len(data):
+        raise Fault(f"{told_name(name)}: it has more than {most:,} bytes", ROWS)
+    return data
+
+
+def read_front(name: Name, most: int) -> bytes:
+    """At most so many bytes."""
+    with untrusted(name), opened(name) as file:
+        return file.read(most)
+
+
+def read_text(name: Name, errors: str = "strict", most: int = MOST_TEXT) -> str:
+    """A text of UTF-8; a byte order mark at its front is none of it."""
+    data = read_bytes(name, most)
+    try:
+        return data.decode("utf-8-sig", errors)
+    except UnicodeDecodeError:
+        raise Fault(f"{told_name(name)}: it isn't UTF-8", ROWS) from None
+
+
+def read_object(name: Name, what: str) -> dict[str, Any]:
+    """The object of a JSON file; what it is tells a fault."""
+    with untrusted(name, what=what):
+        record = json.loads(read_text(name, most=MOST_OBJECT))
+        if not isinstance(record, dict):
+            raise TypeError
+        return record
+
+
+def read_system(path: str) -> str:
+    """A file of the kernel's own, as those of /proc."""
+    with open(path) as file:
+        return file.read()
+
+
+class Input(NamedTuple):
+    """A file that is read more than once, also by other programs, and the name by which the user knows it."""
+
+    path: str
+    name: str
+
+    @classmethod
+    def as_it_is(cls, name: str) -> Input:
+        return cls(name, name)
+
+
+@contextmanager
+def read_again(name: str) -> Iterator[Input]:
+    """A file as it is. Standard input and a pipe are copied to a file without a name first."""
+    if name != "-" and not stat.S_ISFIFO(os.stat(name).st_mode):
+        yield Input.as_it_is(name)
+        return
+    with unnamed() as (copy, path):
+        with opened(name) as source:
+            shutil.copyfileobj(source, copy)
+        copy.flush()
+        yield Input(path, told_name(name))
+
+
+class Counted:
+    """A file that counts what was read of it."""
+
+    def __init__(self, file: BinaryIO) -> None:
+        self.file, self.count = file, 0
+
+    def read(self, size: int = -1) -> bytes:
+        data = self.file.read(size)
+        self.count += len(data)
+        return data
+
+
+class Unpacked:
+    """A gzip file as it was before, up to a length in proportion to its own."""
+
+    FREE, TIMES = 1 << 26, 100
+
+    def __init__(self, name: str, file: BinaryIO) -> None:
+        self.name, self.packed, self.count = name, Counted(file), 0
+        self.file = gzip.GzipFile(fileobj=cast(BinaryIO, self.packed))  # of which it takes `read` alone
+
+    def read(self, size: int) -> bytes:
+        data: bytes = self.file.read(size)
+        self.count += len(data)
+        if self.count > self.FREE + self.TIMES * self.packed.count:
+            raise Fault(f"{self.name}: it unpacks to more than {self.TIMES} times its length; if that is right, "
+                        "`zcat FILE |` before hinge, and `-` as its name, read it", ROWS)
+        return data

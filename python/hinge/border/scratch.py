@@ -1,0 +1,92 @@
+"""Files and folders that a process has for a while. Nothing is left of a file, since it has no name. A folder goes with SIGTERM
+too; where its process was killed, the next one that makes such a folder removes it."""
+
+from __future__ import annotations
+
+import fcntl
+import os
+import shutil
+import signal
+import tempfile
+import threading
+import time
+from contextlib import contextmanager, suppress
+from pathlib import Path
+from types import FrameType
+from typing import IO, Iterator, NoReturn, Optional, Union
+
+PREFIX = ".hinge-"
+YOUNG = 60.0  # s: the process of a folder may not have locked it yet
+
+
+class Ended(BaseException):
+    """SIGTERM came."""
+
+
+@contextmanager
+def unnamed() -> Iterator[tuple[IO[bytes], str]]:
+    """A file without a name, and the path by which other programs reach it meanwhile."""
+    with tempfile.TemporaryFile() as file:
+        yield file, f"/proc/{os.getpid()}/fd/{file.fileno()}"
+
+
+class Folder:
+    """A folder that is locked as long as this process, or one that it has forked, lives."""
+
+    def __init__(self, within: Union[str, Path, None] = None, prefix: str = PREFIX) -> None:
+        place = str(within or tempfile.gettempdir())
+        remove_left(place, prefix)
+        self.path = Path(tempfile.mkdtemp(prefix=prefix, dir=place))
+        self.lock = os.open(self.path, os.O_RDONLY | os.O_DIRECTORY | os.O_CLOEXEC)
+        fcntl.flock(self.lock, fcntl.LOCK_EX)
+
+    def remove(self) -> None:
+        shutil.rmtree(self.path, ignore_errors=True)
+        os.close(self.lock)
+
+
+def remove_left(within: str, prefix: str) -> None:
+    """Removes the folders of this user's processes that are no more."""
+    with os.scandir(within) as entries:
+        for one in entries:
+            if one.name.startswith(prefix):
+                with suppress(OSError):
+                    remove_unlocked(one.path)
+
+
+def remove_unlocked(path: str) -> None:
+    """OSError: it is no folder, or its process is there."""
+    place = os.open(path, os.O_RDONLY | os.O_DIRECTORY | os.O_NOFOLLOW | os.O_CLOEXEC)
+    try:
+        of = os.fstat(place)
+        if of.st_uid == os.geteuid() and time.time() - of.st_mtime > YOUNG:
+            fcntl.flock(place, fcntl.LOCK_EX | fcntl.LOCK_NB)
+            shutil.rmtree(path, ignore_errors=True)
+    finally:
+        os.close(place)
+
+
+def end(number: int, frame: Optional[FrameType]) -> NoReturn:
+    raise Ended
+
+
+@contextmanager
+def scratch(within: Union[str, Path, None] = None, prefix: str = PREFIX) -> Iterator[Path]:
+    """A folder for a while. SIGTERM ends this process as ever, once the folder is gone."""
+    takes = threading.current_thread() is threading.main_thread() and signal.getsignal(signal.SIGTERM) == signal.SIG_DFL
+    if takes:
+        signal.signal(signal.SIGTERM, end)
+    try:
+        folder = Folder(within, prefix)
+        try:
+            yield folder.path
+        finally:
+            folder.remove()
+    except Ended:
+        if not takes:
+            raise
+        signal.signal(signal.SIGTERM, signal.SIG_DFL)
+        os.kill(os.getpid(), signal.SIGTERM)
+    finally:
+        if takes:
+            signal.signal(signal.SIGTERM, signal.SIG_DFL)

@@ -1,0 +1,64 @@
+"""Text that leaves for a terminal: nothing in it is obeyed there but the ends of its lines."""
+
+from __future__ import annotations
+
+import io
+import os
+import sys
+import traceback
+from typing import TextIO, cast
+
+
+def printable(text: str) -> str:
+    """A line that may name a file or quote one, without what a terminal would obey."""
+    return text if text.isprintable() else "".join(
+        letter if letter.isprintable() else f"\\x{ord(letter):02x}" for letter in text
+    )
+
+
+def lines(text: str) -> str:
+    """The same of several lines."""
+    return text if text.isprintable() else "\n".join(map(printable, text.split("\n")))
+
+
+def show(text: str = "", end: str = "\n") -> None:
+    """Text on standard output."""
+    sys.stdout.write(lines(text) + end)
+
+
+def tell(text: str, end: str = "\n") -> None:
+    """Text on standard error, at once."""
+    sys.stderr.write(lines(text) + end)
+    sys.stderr.flush()
+
+
+def note_defect() -> None:
+    """Shows where an exception came from that is told as a line, for who looks for a defect of the kit."""
+    if "HINGE_TRACEBACK" in os.environ:
+        tell(traceback.format_exc(), "")
+
+
+def tell_over(text: str = "") -> None:
+    """A line on a terminal that takes the place of the one before; without words that one goes."""
+    tell_codes(f"\r\x1b[K{printable(text)}")
+
+
+def tell_codes(codes: str) -> None:
+    """What a terminal is to obey; it quotes nobody."""
+    sys.stderr.write(codes)
+    sys.stderr.flush()
+
+
+class Shown(io.TextIOBase):
+    """Standard output as a file of text."""
+
+    def write(self, text: str) -> int:
+        show(text, "")
+        return len(text)
+
+    def flush(self) -> None:
+        sys.stdout.flush()
+
+
+def standard_output() -> TextIO:
+    return cast(TextIO, Shown())

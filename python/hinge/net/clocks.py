@@ -1,0 +1,58 @@
+"""Clocks of hosts in simulated time: what a host reads as the time of day may be ahead of the others', and go faster."""
+
+from __future__ import annotations
+
+import re
+from typing import Iterable, NamedTuple
+
+from hinge.net.statements import Statement
+from hinge.run.system import try_to_write
+from hinge.run.words import Wrong, duration
+
+SKEW = "at TIME skew HOST +TIME|-TIME [PPM]"
+PLACE = "/proc/clocks"  # of the simulated machine's kernel
+MOST_CLOCKS = 255  # the kernel's CLOCKS
+MOST_PPM = 100_000
+IN_REAL_TIME = "hosts have clocks of their own in simulated time alone; add --simulated"
+
+
+class Skew(NamedTuple):
+    """How far a clock is ahead, and how much it gains from then on."""
+
+    ahead: int  # ns
+    gains: int  # ns a second
+
+    def text(self) -> str:
+        """As the kernel takes it."""
+        return f"{self.ahead} {self.gains}"
+
+
+def read_skew(statement: Statement) -> Skew:
+    """As `+2s`, `-300ms 100ppm` or `+0s -50.5ppm`."""
+    word = statement.take(SKEW)
+    if word[0] not in "+-":
+        raise statement.wrong(word, f"how far the clock is ahead, as +2s, or behind, as -2s: {SKEW}")
+    try:
+        ahead = duration(word[1:]) * (1 if word[0] == "+" else -1)
+    except Wrong as wrong:
+        raise Wrong(f"{statement.place}: {wrong}") from None
+    gains = statement.take(SKEW) if statement.peek() else "0ppm"
+    match = re.fullmatch(r"([+-]?\d{1,6}(?:\.\d{1,3})?)ppm", gains, re.ASCII)
+    if not match or abs(float(match[1])) > MOST_PPM:
+        raise statement.wrong(gains, f"what the clock gains, as 100ppm or -50.5ppm, at most {MOST_PPM}ppm: {SKEW}")
+    return Skew(ahead, round(float(match[1]) * 1000))
+
+
+def number_of(host: str, hosts: Iterable[str]) -> int:
+    """Of the clock of a host; the machine's own is 0, which those beyond the last one have."""
+    number = list(hosts).index(host) + 1
+    return number if number <= MOST_CLOCKS else 0
+
+
+def take_clock(number: int) -> None:
+    """Gives a clock to this process and to those that it starts, where there are such."""
+    try_to_write(PLACE, str(number))
+
+
+def set_clock(number: int, skew: str) -> None:
+    try_to_write(PLACE, f"{number} {skew}")

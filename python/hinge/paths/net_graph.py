@@ -1,0 +1,96 @@
+"""A net as a drawing: hosts where their links pull them, each link with the words, the load and the losses of its two ways."""
+
+from __future__ import annotations
+
+import re
+from fractions import Fraction
+from typing import Optional
+
+from hinge.lazy import Reals, np
+from hinge.paths.matching import Matched
+from hinge.paths.passages import BETWEEN
+from hinge.paths.report import ways
+from hinge.paths.timeline import Timeline
+from hinge.pictures.drawing import DASHED, SOLID, Edge, Graph, Node, Panel
+from hingetulip_words.elsewhere import in_units
+from hingetulip_words.values import plain
+
+BANDWIDTH, DELAY = re.compile(r"\bbw (\d{1,18})bit/s"), re.compile(r"\bdelay (\d+)")
+LOSS = re.compile(r"\bplr (\d{0,18}\.?\d{1,18})(?!\S)")  # of a number: a history may have anything
+MOST_HOSTS, MOST_WORDS = 40, 12  # hosts that are drawn, and links whose words are
+ROUNDS, FIRST_STEP = 200, 0.1  # of the layout
+THINNEST, THICKEST = 1.0, 6.0
+WHOLE, CUT = "#606060", "#d55e00"
+
+
+def places_of(count: int, links: list[tuple[int, int]]) -> Reals:
+    """Where so many hosts stand: each pushes all others away, and links pull, as Fruchterman and Reingold have it in 1991."""
+    turn = 2 * np.pi * np.arange(count) / max(count, 1)
+    places = np.column_stack((np.cos(turn), np.sin(turn)))
+    ideal, pulls = np.sqrt(4 / max(count, 1)), np.zeros((count, count))
+    for one, other in links:
+        pulls[one, other] = pulls[other, one] = 1
+    for part in range(ROUNDS):
+        apart = places[:, None] - places[None]
+        distance = np.maximum(np.sqrt((apart**2).sum(axis=2)), 1e-3)
+        force = (apart * (ideal**2 / distance**2 - pulls * distance / ideal)[:, :, None]).sum(axis=1)
+        length = np.maximum(np.sqrt((force**2).sum(axis=1)), 1e-9)[:, None]
+        places += force / length * np.minimum(length, FIRST_STEP * (1 - part / ROUNDS))
+    low, high = places.min(axis=0), places.max(axis=0)
+    fitted: Reals = (places - low) / np.maximum(high - low, 1e-9)
+    return fitted
+
+
+def as_link(words: str) -> str:
+    """The words of a configuration as those of a link: 12Mbit/s 10ms loss 1%."""
+    words = BANDWIDTH.sub(lambda result: in_units(Fraction(result[1])), words)
+    words = LOSS.sub(lambda result: f"loss {plain(Fraction(result[1]) * 100)}%", words)
+    return DELAY.sub(r"\1ms", words)
+
+
+def host_of(name: str) -> str:
+    """The host whose name it is, or at which the jitter of a way begins."""
+    return name.partition(BETWEEN)[0]
+
+
+class NetGraph:
+    """Makes the panel of a net's hosts and links."""
+
+    def __init__(self, matching: Matched, line: Timeline, words: dict[int, str]) -> None:
+        topology = matching.passages.topology
+        self.timeline, self.words, self.figures = line, words, {way.pipe: way for way in ways(matching)}
+        self.switches = {topology.hosts[number] for number in topology.switches}
+        self.links: dict[tuple[str, str], list[int]] = {}  # the pipes of their ways
+        for pipe, numbers in topology.pipes.items():
+            one, other = sorted(host_of(topology.hosts[number]) for number in numbers)
+            if one != other:
+                self.links.setdefault((one, other), []).append(pipe)
+        self.hosts = sorted({name for ends in self.links for name in ends})
+
+    def rates(self, pipes: list[int]) -> list[float]:
+        return [self.figures[pipe].mbit_s or 0 if pipe in self.figures else 0 for pipe in pipes]
+
+    def label(self, pipes: list[int]) -> str:
+        """The words of a link's ways, once where they are the same, and what it carried and dropped."""
+        words = dict.fromkeys(as_link(self.words.get(pipe, "")) for pipe in pipes)
+        drops = sum(way.lost + way.full for pipe in pipes if (way := self.figures.get(pipe)))
+        rates = " and ".join(f"{rate:.3g}" for rate in self.rates(pipes))
+        return "\n".join([*filter(None, words), f"{rates} Mbit/s" + f", {drops:,} dropped" * bool(drops)])
+
+    def edge(self, ends: tuple[str, str], most: float, has_label: bool) -> Edge:
+        pipes = self.links[ends]
+        is_cut = any(pipe in self.timeline.cuts for pipe in pipes)
+        width = THINNEST + (THICKEST - THINNEST) * (sum(self.rates(pipes)) / most if most else 0)
+        return Edge(self.hosts.index(ends[0]), self.hosts.index(ends[1]), self.label(pipes) if has_label else "",
+                    CUT if is_cut else WHOLE, width, DASHED if is_cut else SOLID)
+
+    def panel(self) -> Optional[Panel]:
+        """None of a net with too many hosts, or of a single link."""
+        if not 2 < len(self.hosts) <= MOST_HOSTS:
+            return None
+        most, has_labels = max(sum(self.rates(pipes)) for pipes in self.links.values()), len(self.links) <= MOST_WORDS
+        edges = [self.edge(ends, most, has_labels) for ends in self.links]
+        places = places_of(len(self.hosts), [(edge.begin, edge.end) for edge in edges])
+        nodes = [Node(name, x, y, name in self.switches) for name, (x, y) in zip(self.hosts, places.tolist())]
+        cut = "; dashed: cut for a time" if any(edge.dash == DASHED for edge in edges) else ""
+        return Panel(f"The net: width by load{cut}", "", "", [Graph(nodes, edges)], from_zero=False, has_time=False)

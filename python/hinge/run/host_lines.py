@@ -1,0 +1,87 @@
+"""Lines to the host hinge-link while packets pass, and its answers (control.h)."""
+
+from __future__ import annotations
+
+import select
+import socket
+import threading
+import time
+from typing import Callable, NamedTuple, Optional
+
+from hinge.run.words import Wrong
+
+PATIENCE = 10.0  # s within which the host takes a line
+LOOK = 0.05  # s between looks whether a client is still there
+MOMENT = 1.0  # s for the answer to a line that the host has taken as its time ended
+LONGEST_LINE = 4000  # bytes
+LONGEST_ANSWER = 8500
+UNTAKEN = f"not obeyed: the links took no line within {PATIENCE:g} s"
+UNANSWERED = "the links took the line, and have not answered: it may be obeyed"
+
+
+class Answer(NamedTuple):
+    moment: int  # ns, of the links
+    wrong: str  # why the line is refused, or nothing
+    line: str  # the configuration line that a pipe has now, or nothing
+
+
+def always() -> bool:
+    return True
+
+
+class HostLines:
+    """Lines for the host, which answers each that it takes, in their order. One that it hasn't taken when nobody waits
+    for it any more is taken back, so that it is never obeyed late."""
+
+    def __init__(self) -> None:
+        self.own, self.hosts = socket.socketpair(socket.AF_UNIX, socket.SOCK_SEQPACKET)
+        self.lock = threading.Lock()  # a line and its answer go together
+        self.owed = 0  # answers to lines for which nobody waits any more
+        self.latest = 0  # the last moment that was answered
+
+    def descriptor(self) -> int:
+        """The host's end."""
+        return self.hosts.fileno()
+
+    def line(self) -> str:
+        """What a plan says of it."""
+        return f"control {self.descriptor()}\n"
+
+    def ask(self, text: str, until: Optional[float] = None, is_wanted: Callable[[], bool] = always) -> Answer:
+        """The host's answer, if it takes the line by that moment of the monotonic clock and while it is wanted."""
+        if len(text.encode()) > LONGEST_LINE:
+            raise Wrong("a line of more than 4,000 bytes")
+        with self.lock:
+            head, _, line = self.answer(text, until or time.monotonic() + PATIENCE, is_wanted).partition("\n")
+            moment, _, wrong = head.partition(" ")
+            self.latest = int(moment)
+            return Answer(self.latest, wrong, line)
+
+    def answer(self, text: str, until: float, is_wanted: Callable[[], bool]) -> str:
+        try:
+            self.own.send(text.encode())
+            while not self.has_answered(LOOK):
+                if (time.monotonic() > until or not is_wanted()) and self.is_taken_back():
+                    return f"{self.latest} {UNTAKEN}"
+                if time.monotonic() > until + MOMENT:
+                    self.owed += 1
+                    return f"{self.latest} {UNANSWERED}"
+            return self.own.recv(LONGEST_ANSWER).decode() or f"{self.latest} the links don't answer"
+        except OSError:
+            return f"{self.latest} the links don't answer"
+
+    def has_answered(self, patience: float) -> bool:
+        """Whether the answer to the last line is there; the answers that were owed go."""
+        while select.select([self.own], [], [], patience)[0]:
+            if not self.owed:
+                return True
+            self.own.recv(LONGEST_ANSWER)
+            self.owed -= 1
+        return False
+
+    def is_taken_back(self) -> bool:
+        """Reads the host's end itself, which has a line only while the host hasn't."""
+        try:
+            return bool(self.hosts.recv(2 * LONGEST_LINE, socket.MSG_DONTWAIT))
+        except BlockingIOError:
+            return False

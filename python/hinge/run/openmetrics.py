@@ -1,0 +1,99 @@
+"""The counts of links that run in the text format of OpenMetrics, for a monitor."""
+
+from __future__ import annotations
+
+from typing import Any, Iterator, NamedTuple, Optional
+
+from hinge.run.summary import NAMES
+
+MS, NS = 1e3, 1e9  # of a second
+QUANTILES = {"p50": "0.5", "p99": "0.99", "p99.9": "0.999", "max": "1"}
+
+
+class Family(NamedTuple):
+    """A metric, and the key of a way's record that has it."""
+
+    name: str
+    kind: str
+    unit: str
+    key: str
+    help: str
+
+
+COUNTERS = (
+    ("came_packets", "packets", "came", "Packets that came to the way."),
+    ("came_bytes", "bytes", "came_bytes", "Bytes of them, with the headers of IP."),
+    ("sent_packets", "packets", "sent", "Packets that the way delivered."),
+    ("sent_bytes", "bytes", "sent_bytes", "Bytes of them."),
+    ("lost_packets", "packets", "lost", "Packets that the way lost, by its loss rate, a model or a cut."),
+    ("full_packets", "packets", "full", "Packets that met a full queue."),
+    ("no_target_packets", "packets", "no_target", "Packets whose pipe or queue was not there."),
+    ("discarded_packets", "packets", "discarded", "Packets that the delete of a pipe or queue took away."),
+    ("refused_packets", "packets", "refused", "Packets that the system refused behind the way."),
+    ("system_dropped_packets", "packets", "system_drops", "Packets that the system dropped before the way."),
+    ("not_ip_packets", "packets", "not_ip", "Packets that were none of IP."),
+    ("stayed_seconds", "seconds", "stayed", "The sum of the times that sent packets were on the way."),
+)
+GAUGES = (
+    ("underway_packets", "packets", "underway", "Packets that are on the way now."),
+    ("held_packets", "packets", "held", "Packets that the process of the links has in its memory."),
+)
+SUMMARIES = (
+    ("late_seconds", "seconds", "late", "How much behind their due moments packets left, since the start."),
+    ("unread_seconds", "seconds", "unread", "How long packets can have waited to be read, since the start."),
+)
+FAMILIES = [
+    Family(*family[:1], kind, *family[1:])
+    for kind, families in (("counter", COUNTERS), ("gauge", GAUGES), ("summary", SUMMARIES))
+    for family in families
+]
+
+
+def labels(**values: object) -> str:
+    """Names and what they have: hosts, numbers and quantiles, whose letters need no quotes."""
+    return ",".join(f'{name.rstrip("_")}="{value}"' for name, value in values.items())
+
+
+def ways_of(status: dict[str, Any]) -> list[tuple[str, dict[str, Any]]]:
+    """The labels of each way, and its record."""
+    if "ways" in status:
+        return [(labels(from_=way["from"], to=way["to"], pipe=way["pipe"]), way) for way in status["ways"]]
+    return [(labels(way=name), status[name]) for name in NAMES]
+
+
+def samples(family: Family, label: str, way: dict[str, Any]) -> Iterator[str]:
+    if family.kind == "summary":
+        for part, quantile in QUANTILES.items():
+            yield f'hinge_{family.name}{{{label},quantile="{quantile}"}} {way[f"{family.key}_{part}_ms"] / MS:.9g}'
+        return
+    value = way[family.key] / NS if family.unit == "seconds" else way[family.key]
+    yield f"hinge_{family.name}{'_total' * (family.kind == 'counter')}{{{label}}} {value!r}"
+
+
+def head(name: str, kind: str, unit: str, text: str) -> Iterator[str]:
+    yield f"# TYPE hinge_{name} {kind}"
+    if unit:
+        yield f"# UNIT hinge_{name} {unit}"
+    yield f"# HELP hinge_{name} {text}"
+
+
+def openmetrics(status: dict[str, Any]) -> str:
+    """What `hinge status` has, as a monitor takes it."""
+    lines, ways = list[str](), ways_of(status)
+    for family in FAMILIES:
+        lines += head(family.name, family.kind, family.unit, family.help)
+        lines += [line for label, way in ways for line in samples(family, label, way)]
+    for name, key, text in (
+        ("wakeups", "wakeups", "How often the process of the links slept and woke."),
+        ("turns", "turns", "How often it looked after its links.")
+    ):
+        lines += [*head(name, "counter", "", text), f"hinge_{name}_total {status[key]}"]
+    lines += [
+        *head("moment_seconds", "gauge", "seconds", "The clock of the links."),
+        f"hinge_moment_seconds {status['moment'] / NS!r}"
+    ]
+    endings: Optional[dict[str, int]] = status.get("ended")
+    if endings is not None:
+        lines += head("ended_status", "gauge", "", "The statuses of the hosts' commands that have ended.")
+        lines += [f"hinge_ended_status{{{labels(host=host)}}} {status}" for host, status in endings.items()]
+    return "\n".join([*lines, "# EOF"])

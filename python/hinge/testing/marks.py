@@ -1,0 +1,98 @@
+"""What the marks of a test say. A word that a mark doesn't take is refused, since a test would pass over another link."""
+
+from __future__ import annotations
+
+import difflib
+from typing import Mapping, NamedTuple, Optional
+
+import pytest
+
+from hingetulip_words.advice import OPTIONS, OTHER_NAMES
+from hingetulip_words.link import WordError, as_words, read_link
+from hingetulip_words.presets import either_way
+
+TAKES = ("back", "preset")
+FIXTURES = ("sim_net", "udp_path", "net", "simulated_net")
+SAMPLE = '"10Mbit/s 20ms loss 1%"'
+
+
+class WrongMark(ValueError):
+    """A mark that says what it doesn't take; the text has what to write."""
+
+
+class Ends(NamedTuple):
+    """The words of the link there, and those of the link back if they are others."""
+
+    there: str
+    back: Optional[str]
+
+
+def words_of(options: Mapping[str, object]) -> str:
+    """Options of another tool's call, as bw="10Mbit/s", as the words of a link; nothing where they are none."""
+    words = []
+    for key, value in options.items():
+        name, text = OTHER_NAMES.get(key.lower(), key.lower()), str(value)
+        if name not in OPTIONS["pipe"]:
+            return ""
+        words.append(as_words(name, text))
+    try:
+        read_link(" ".join(words))
+    except WordError:
+        return ""
+    return " ".join(words)
+
+
+def unknown(keywords: Mapping[str, object], there: object) -> WrongMark:
+    """Of keywords that the mark `link` doesn't take."""
+    name = next(iter(keywords))
+    near = difflib.get_close_matches(name, TAKES, 1)
+    words = words_of(keywords)
+    whole = f'"{there} {words}"' if there and words else f'"{words}"' if words else ""
+    right = f"write {near[0]}=.." if near else f"write link({whole or SAMPLE})"
+    return WrongMark(f"the mark link takes no {name!r}; {right}")
+
+
+def ends_of(mark: pytest.Mark) -> Ends:
+    """What a mark `link` says. WrongMark: it says something else. ValueError: there is no such preset."""
+    if len(mark.args) > 2:
+        raise WrongMark(f"the mark link has {len(mark.args)} texts, and takes one for the way there and one for the way back;"
+                        f" write all words of a way in one text, as link({SAMPLE})")
+    there, back = (*mark.args, None, None)[:2]
+    if others := {name: value for name, value in mark.kwargs.items() if name not in TAKES}:
+        raise unknown(others, there)
+    if "back" in mark.kwargs and back is not None:
+        raise WrongMark("the mark link has the way back twice; leave one of them out")
+    back, preset = mark.kwargs.get("back", back), mark.kwargs.get("preset")
+    for one in (there, back, preset):
+        if one is not None and not isinstance(one, str):
+            raise WrongMark(f"the mark link takes texts, and {one!r} is none; write link({SAMPLE})")
+    if preset is not None:
+        return Ends(*either_way(preset, there, back))
+    if not any((one or "").strip() for one in (there, back)):
+        raise WrongMark(f"the mark link has no words of a link; write link({SAMPLE})")
+    return Ends(there or "", back)
+
+
+def link_of(item: pytest.Item) -> Ends:
+    """What the mark `link` of a test says; no words where there is none."""
+    mark = item.get_closest_marker("link")
+    return Ends("", None) if mark is None else ends_of(mark)
+
+
+def fault_of(item: pytest.Item) -> Optional[str]:
+    """What is wrong with the marks of a test, if anything is."""
+    try:
+        link_of(item)
+    except ValueError as error:
+        return str(error)
+    in_simulated_time = item.get_closest_marker("simulated")
+    if in_simulated_time is not None and in_simulated_time.args:
+        return f"the mark simulated takes options by name alone, as server=\"COMMAND\", and {in_simulated_time.args[0]!r} has none"
+    return None
+
+
+def is_unused(item: pytest.Item) -> bool:
+    """Whether a test itself has the mark `link`, and nothing that takes it."""
+    has_own = any(mark.name == "link" for mark in getattr(item, "own_markers", ()))
+    takes = any(name in FIXTURES for name in getattr(item, "fixturenames", ()))
+    return has_own and not takes and item.get_closest_marker("simulated") is None

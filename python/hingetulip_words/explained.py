@@ -1,0 +1,30 @@
+"""What is wrong with a configuration line, in a sentence: the word as it was typed, and what to write."""
+
+from __future__ import annotations
+
+import re
+from typing import Optional
+
+from hingetulip_words.advice import advice, words_of
+
+CAUSE = re.compile(r"word (\d+): (.+)")
+NO_TEXT = "not UTF-8: a file of another kind, or of an older encoding"
+
+
+def explained(line: str, fault: str) -> str:
+    """A fault as the program has it, `word 5: bad number`, as `word 5 '1Mbps': not a bandwidth; write 1Mbit/s`."""
+    words, cause = words_of(line), CAUSE.fullmatch(fault)
+    if not cause or int(cause[1]) > len(words):
+        return NO_TEXT if fault == "not UTF-8" else fault
+    said = advice(words, int(cause[1]), cause[2])
+    return f"word {cause[1]} {words[int(cause[1]) - 1]!r}: {said.wrong}; {said.right}"
+
+
+def replaced(line: str, fault: str) -> Optional[str]:
+    """The line with the word that its fault says to write, if a word can stand in the place of the wrong one."""
+    words, cause = words_of(line), CAUSE.fullmatch(fault)
+    if not cause or int(cause[1]) > len(words):
+        return None
+    place = int(cause[1]) - 1
+    word = advice(words, place + 1, cause[2]).word
+    return None if word is None else " ".join([*words[:place], word, *words[place + 1:]])

@@ -1,0 +1,196 @@
+"""The control socket, to clients that are idle, speak otherwise, are gone or are another user's."""
+
+from __future__ import annotations
+
+import contextlib
+import json
+import os
+import shutil
+import signal
+import socket
+import subprocess
+import sys
+import time
+import unittest
+from pathlib import Path
+from typing import Iterator
+
+from linked import found, hinge, needs_rooms, until
+from test_control import InAFolder
+
+from hinge.border.messages import Order, Reply, Strange, line_of, read_message
+from hinge.run.control import Control
+from hinge.run.host_lines import UNTAKEN, Answer
+from hinge.run.page import Page
+from hinge.run.plan import Plan
+
+ODD = (b"5\n", b"null\n", b'"x"\n', b"[" * 60_000 + b"\n", b"\xff\xfe\n", b'{"change": 5}\n', b'{"enter": 5}\n', b'{"x": 1}\n',
+       b'{"number": true}\n', b"{}\n", b"x" * 100_000 + b"\n", b"[" * 200_000 + b"\n", b'{"change": ""}\n',
+       b'{"change": "up"}\n', b'{"change": "up outage 1s"}\n', b'{"change": "up ' + b"9" * 5000 + b'bit/s"}\n')
+ENDLESS = 600 << 20  # bytes of a line
+MOST_MORE = 8 << 10  # KiB of memory that a run may take for it
+
+
+class OfMessages(unittest.TestCase):
+    def test_each_comes_back(self) -> None:
+        for message in (Order(3, change="up 1ms"), Order(status=True), Order(end=True), Reply(3, refused="")):
+            self.assertEqual(read_message(type(message), line_of(message)), message)
+        told = read_message(Reply, b'{"told": [{"moment": 1, "line": "pipe 1 config"}]}').told
+        self.assertEqual([(one.moment, one.line, one.refused) for one in told or []], [(1, "pipe 1 config", "")])
+
+    def test_all_others_are_refused(self) -> None:
+        for text in (*ODD[:9], b'{"number": 1.5}', b'{"number": ' + b"9" * 5000 + b"}", b'{"told": [{"moment": 1}]}'):
+            with self.subTest(text[:40]), self.assertRaises(Strange):
+                read_message(Reply if b"told" in text else Order, text)
+
+
+@needs_rooms
+class OfClients(InAFolder):
+    @contextlib.contextmanager
+    def client(self) -> Iterator[socket.socket]:
+        with socket.socket(socket.AF_UNIX) as line:
+            line.settimeout(20)
+            line.connect(str(self.socket))
+            yield line
+
+    def test_odd_lines_are_refused_and_the_run_goes_on(self) -> None:
+        with self.running("run", "--up", "5ms"):
+            for text in ODD:
+                with self.client() as line:
+                    with contextlib.suppress(BrokenPipeError, ConnectionResetError):
+                        line.sendall(text)
+                        answer = json.loads(line.makefile().readline())
+                        self.assertIn("refused", answer, text[:40])
+            self.assertEqual(self.change("up", "7ms").returncode, 0)
+
+    def test_a_line_without_an_end_takes_no_memory(self) -> None:
+        with self.running("run", "--up", "5ms") as begun:
+            hinge("status", self.socket)  # so that what a reply takes is there
+            before = most_memory(begun.pid)
+            with self.client() as line, contextlib.suppress(BrokenPipeError, ConnectionResetError):
+                piece = b"x" * (1 << 20)
+                for _ in range(ENDLESS // len(piece)):
+                    line.sendall(piece)
+            self.assertEqual(self.change("up", "7ms").returncode, 0)
+            self.assertLess(most_memory(begun.pid), before + MOST_MORE)
+
+    def test_an_outage_is_one_line_for_the_host(self) -> None:
+        taken, plan = list[str](), plan_of_two()
+        control = Control(str(self.socket), plan, Page(), lambda moment, words: plan.event([moment, *words.split()]), dict)
+        self.addCleanup(control.end)
+
+        def ask(text: str, until: object = None, is_wanted: object = None) -> Answer:
+            if text == "moment":
+                return Answer(5, "", "")
+            taken.append(text.rpartition(" ")[0])
+            return Answer(5, UNTAKEN if is_refused else "", "begun\nended")
+
+        control.lines.ask = ask  # type: ignore[method-assign, assignment]
+        for is_refused in (False, True):
+            taken.clear()
+            told = control.change("up outage 7ns lossy")
+            self.assertEqual(taken, ["outage 7 cut 1"])
+            self.assertEqual([(one.moment, one.refused) for one in told], [(5, UNTAKEN)] if is_refused else [(5, ""), (12, "")])
+
+    def test_an_idle_client_keeps_nobody_waiting(self) -> None:
+        with self.running("run", "--up", "5ms"), contextlib.ExitStack() as idle:
+            for _ in range(5):
+                idle.enter_context(self.client())
+            begun = time.monotonic()
+            self.assertEqual((self.change("up", "7ms").returncode, hinge("status", self.socket).returncode), (0, 0))
+            self.assertLess(time.monotonic() - begun, 9)
+
+    def test_an_order_has_its_number_again(self) -> None:
+        with self.running("run", "--up", "5ms"), self.client() as line:
+            stream = line.makefile()
+            line.sendall(b'{"number": 7, "status": true}\n{"number": 8, "change": "up 6ms"}\n')
+            self.assertEqual([json.loads(stream.readline())["number"] for _ in range(2)], [7, 8])
+
+    def test_what_a_stalled_host_has_not_taken_is_never_obeyed(self) -> None:
+        with self.running("run", "--up", "5ms") as begun:
+            until(lambda: bool(hosts_of(begun.pid)), 30)
+            hosts = hosts_of(begun.pid)
+            for host in hosts:
+                os.kill(host, signal.SIGSTOP)
+            try:
+                refused = self.change("up", "11ms")
+                with self.client() as line:  # one that goes
+                    line.sendall(b'{"change": "up 12ms"}\n')
+                time.sleep(0.5)
+            finally:
+                for host in hosts:
+                    os.kill(host, signal.SIGCONT)
+            self.assertEqual((refused.returncode, "not obeyed" in refused.stderr), (2, True), refused.stdout)
+            later = self.change("up", "21ms")
+            self.assertEqual((later.returncode, found(r"s: (.*)$", later.stdout)), (0, ["pipe 1 config delay 21"]))
+        self.assertEqual(self.obeyed()[2:], ["pipe 1 config delay 21"])
+
+    @unittest.skipUnless(shutil.which("setpriv") and os.geteuid() == 0, "only root can be another user")
+    def test_another_user_is_no_run(self) -> None:
+        self.folder.chmod(0o777)
+        other = ["setpriv", "--reuid=65534", "--regid=65534", "--clear-groups", sys.executable, "-c", FALSE_RUN, str(self.socket)]
+        with subprocess.Popen(other) as false:
+            try:
+                until(self.socket.exists, 30)
+                for words in (["status"], ["change", "up", "1ms"], ["down"], ["exec", "a", "--", "id"]):
+                    done = hinge(words[0], self.socket, *words[1:])
+                    self.assertEqual((done.returncode, "another user's process" in done.stderr), (2, True), done.stderr)
+            finally:
+                false.kill()
+
+    @unittest.skipUnless(os.geteuid() == 0, "only root can give a folder to another user")
+    def test_names_are_of_ones_own_folder(self) -> None:
+        (self.folder / "hinge").mkdir()
+        os.chown(self.folder / "hinge", 65534, 65534)
+        for words in (["status", "x"], ["change", "x", "1ms"], ["down", "x"], ["exec", "x", "a"]):
+            done = hinge(*words, XDG_RUNTIME_DIR=str(self.folder))
+            self.assertEqual((done.returncode, done.stderr.endswith("it is another user's\n")), (2, True), done.stderr)
+
+
+def plan_of_two() -> Plan:
+    plan = Plan()
+    for pipe in (1, 2):
+        plan.link(f"pipe {pipe} config delay 5")
+    return plan
+
+
+def hosts_of(process: int) -> list[int]:
+    """The host of a run and the writer of its transcript."""
+    named = subprocess.run(["pgrep", "-x", "hinge-link"], capture_output=True, text=True).stdout.split()
+    return [int(pid) for pid in named if descends(int(pid), process)]
+
+
+def most_memory(process: int) -> int:
+    """The most KiB that a process and those below it have had, the greatest of them."""
+    processes = [int(name) for name in os.listdir("/proc") if name.isdecimal()]
+    found = [0]
+    for one in processes:
+        with contextlib.suppress(OSError, ProcessLookupError):
+            if descends(one, process):
+                status = Path(f"/proc/{one}/status").read_text()
+                found += [int(line.split()[1]) for line in status.splitlines() if line.startswith("VmHWM:")]
+    return max(found)
+
+
+FALSE_RUN = """
+import os, socket, sys
+line = socket.socket(socket.AF_UNIX)
+line.bind(sys.argv[1]), os.chmod(sys.argv[1], 0o666), line.listen()
+while True:
+    try:
+        line.accept()[0].sendall(b'{"number": 1, "status": {}, "entered": {"PATH": "/tmp"}}\\n')
+    except OSError:
+        pass
+"""
+
+
+def descends(process: int, above: int) -> bool:
+    """Whether a process descends from another one."""
+    with contextlib.suppress(OSError):  # it has ended
+        while process > 1 and process != above:
+            process = int(Path(f"/proc/{process}/stat").read_text().rpartition(")")[2].split()[1])
+    return process == above
+
+
+if __name__ == "__main__":
+    unittest.main()

@@ -1,0 +1,155 @@
+"""What happens to hosts of `hinge net`, and moments by the main command's beginning."""
+
+from __future__ import annotations
+
+import os
+import unittest
+
+from linked import found, hinge, needs, needs_rooms, until
+
+from in_a_folder import InAFolder
+from hinge.net import Net, NetError
+from hinge.net.cgroups import own_folder
+
+TWO = "link a c 5ms\n"
+
+
+@needs_rooms
+class OfHosts(InAFolder):
+    def lines(self) -> list[str]:
+        return (self.folder / "told").read_text().splitlines()
+
+    def test_a_kill_and_a_restart(self) -> None:
+        """Also of what is in no group of the command any more."""
+        command = f"setsid sleep 77.3 & echo begun >> {self.folder}/told; exec sleep 1000"
+        done = self.net(
+            f"host a {command}\nhost b exec sleep 1000\nmain c sleep 1.2; cat /proc/[0-9]*/cmdline | tr '\\0' ' '\n{TWO}"
+            "link b c 5ms\nat main+300ms kill a\nat 600ms restart a\nat 900ms kill a\n"
+        )
+        self.assertEqual(done.returncode, 0, done.stderr)
+        self.assertEqual((self.lines(), found("sleep (77.3|1000) ", done.stdout)), (["begun", "begun"], ["1000"]))
+        summary = self.summary()
+        self.assertEqual([one["words"] for one in summary["acts"]], ["kill a", "restart a", "kill a"])
+        for act, late in zip(summary["acts"], (0.3, 0.6, 0.9)):
+            self.assertGreaterEqual(act["moment"], summary["main"] + late * 10**9 * 0.99)
+        self.assertEqual({name: one["by"] for name, one in summary["hosts"].items()},
+                         {"a": "kill", "b": "SIGTERM", "c": "itself"})
+        self.assertEqual(found("^#,act,(.*)", self.history()), ["kill a", "restart a", "kill a"])
+        self.assertRegex(done.stderr, r"net: a: killed by an act after [0-9.]+ s, and not begun again\n")
+
+    def test_a_host_that_stands_still(self) -> None:
+        command = f"while :; do echo on >> {self.folder}/told; sleep 0.05; done"
+        count = f"wc -l < {self.folder}/told"
+        done = self.net(
+            f"host a {command}\nmain c sleep 0.8; {count}; sleep 0.5; {count}; sleep 1; {count}\n{TWO}"
+            "at 500ms stop a\nat 1500ms cont a\nat 2200ms stop a\n"
+        )
+        before, meanwhile, after = map(int, done.stdout.split())
+        self.assertTrue(before == meanwhile < after, done.stdout)
+        self.assertEqual(self.summary()["hosts"]["a"]["by"], "SIGTERM")
+
+    def test_faults_with_a_length_end_by_themselves(self) -> None:
+        """Each ends for itself: the stop that ends first doesn't end the other, and a host is begun again once."""
+        command = f"echo begun >> {self.folder}/told; while :; do echo on; sleep 0.02; done"
+        done = self.net(
+            f"host a {command}\nmain c sleep 3\n{TWO}at 200ms stop a 1s\nat 300ms stop a 200ms\nat 1500ms kill a 200ms\n"
+            "at 1600ms kill a 400ms\n", "--logs", str(self.folder / "logs"),
+        )
+        self.assertEqual((done.returncode, self.lines()), (0, ["begun"] * 2), done.stderr)
+        self.assertEqual([one["words"] for one in self.summary()["acts"]],
+                         ["stop a", "stop a", "cont a", "kill a", "kill a", "restart a"])
+        moments = [one["moment"] for one in self.summary()["acts"]]
+        self.assertGreaterEqual(moments[2], self.summary()["main"] + 1_190_000_000)
+
+    def test_no_program_sees_a_stop(self) -> None:
+        """Where there are cgroups: the shell would be told of a child that a signal has stopped."""
+        if own_folder() is None or not os.access(str(own_folder()), os.W_OK):
+            self.skipTest("this user may make no cgroup")
+        before = set(os.listdir(str(own_folder())))
+        told = f"import os; print(os.waitpid(-1, os.WUNTRACED)[1], file=open('{self.folder}/told', 'w'), flush=True)"
+        done = self.net(
+            f'host a exec python3 -c "import os; os.posix_spawn(\'/bin/sleep\', [\'sleep\', \'1.5\'], {{}}); {told}"\n'
+            f"main c sleep 0.6; until [ -s {self.folder}/told ]; do sleep 0.05; done\n{TWO}at 200ms stop a 300ms\n"
+        )
+        self.assertEqual((done.returncode, self.lines()), (0, ["0"]), done.stderr)
+        self.assertEqual(set(os.listdir(str(own_folder()))), before)
+
+    def test_a_net_without_a_main_command_lasts_until_a_restart(self) -> None:
+        done = self.net(
+            f"host a echo begun >> {self.folder}/told; [ $(wc -l < {self.folder}/told) -gt 1 ] || exec sleep 1000\nhost c\n{TWO}"
+            "at 300ms kill a\nat 900ms restart a\n",
+            "--quiet", "--no-realtime",
+        )
+        self.assertEqual((done.returncode, done.stderr, self.lines()),
+                         (0, f"hinge net: a: ended with 0 after {self.summary()['hosts']['a']['after']:.1f} s\n", ["begun"] * 2))
+
+    def test_while_it_runs(self) -> None:
+        net = Net(self.folder / "net")
+        self.addCleanup(net.close)
+        net.host("a", "echo begun; exec sleep 1000"), net.host("b"), net.link("a", "b", "1ms")
+        def sleeps() -> int:
+            return net.run("b", "cat /proc/[0-9]*/cmdline | tr '\\0' ' '").stdout.count("sleep 1000 ")
+
+        net.start()
+        until(lambda: net.output("a") == "begun\n")
+        self.assertEqual([one.line for one in net.kill("a")], ["kill a"])
+        self.assertEqual(sleeps(), 0)
+        net.restart("a")
+        until(lambda: sleeps() == 1)
+        until(lambda: net.output("a") == "begun\nbegun\n")
+        net.stop("a"), net.cont("a")
+        self.assertRaisesRegex(NetError, "'z': no host of this net", net.kill, "z")
+        self.assertRaisesRegex(NetError, "'b': it has no command that could begin again", net.restart, "b")
+        net.cut("a", 1), net.heal("a")
+        net.end()
+        self.assertEqual(found("^#,act,(.*)", net.history.read_text()),
+                         ["kill a", "restart a", "stop a", "cont a", "cut a 1s", "heal a"])
+
+
+@needs_rooms
+@needs("ping")
+class OfMoments(InAFolder):
+    SLOW = "host a sleep 1; exec python3 -m http.server 7000\nmain c ping -c 5 -i 0.2 -W 1 -q a\nwait a port 7000\n" + TWO
+
+    def test_a_change_before_the_main_command_is_told(self) -> None:
+        done = self.net(self.SLOW + "at start+100ms cut a 200ms\nat 1h heal a\nat 10s cut a 2h\nat start+1h c a 6ms\n")
+        self.assertEqual([way["lost"] for way in self.summary()["ways"]], [0, 0])
+        self.assertEqual(found("before the main command, which began at [0-9.]+ s: (.*)", done.stderr),
+                         ["`at start+0.1s cut a 200ms`"])
+        self.assertEqual(found("CAUTION, not yet when the run ended: (.*)", done.stderr),
+                         ["`at 3600s heal a`, `at 10s cut a 2h`, `at start+3600s c a 6ms`"])
+
+    def test_a_change_behind_its_beginning(self) -> None:
+        done = self.net(self.SLOW + "at 0s cut a 500ms\n")
+        self.assertNotIn("before the main", done.stderr)
+        self.assertEqual((sum(way["lost"] for way in self.summary()["ways"]) > 0, done.returncode), (True, 0))
+        cuts, begun = found(r"^r,advanced,(\d+)\nc,0,configure,pipe 1 .* plr 1$", self.history()), self.summary()["main"]
+        self.assertEqual(([int(one) for one in cuts], begun > 10**9), ([begun], True))
+
+    def test_a_cut_that_begins_in_another_doesnt_end_it(self) -> None:
+        done = self.net(
+            "host n1\nhost n2 ping -i 0.1 -c 40 n1\nmain n3 sleep 3\nlink n1 n2 5ms\nlink n1 n3 5ms\nlink n2 n3 5ms\n"
+            "at 500ms cut n1 2s\nat 800ms cut n2 500ms\n", "--logs", str(self.folder / "logs")
+        )
+        self.assertEqual(done.returncode, 0, done.stderr)
+        seen = [int(one) for one in found(r"icmp_seq=(\d+) ", (self.folder / "logs" / "n2.log").read_text())]
+        gaps = [after - before for before, after in zip(seen, seen[1:]) if after > before + 1]
+        self.assertEqual(len(gaps), 1, seen)
+        self.assertGreaterEqual(gaps[0], 15)
+
+    def test_what_a_nemesis_draws_is_told(self) -> None:
+        text = (
+            "host a exec sleep 99\nhost b exec sleep 99\nmain c sleep 1\nlink a b 1ms\nlink c a 1ms\n"
+            "nemesis partition-one every 300ms for 100ms until 10s\n"
+        )
+        done = self.net(text, "--seed", "3")
+        told = found("drawn: (at .*)", done.stderr)
+        shown = hinge("net", self.file, "--dry-run", "--seed", "3").stdout.splitlines()
+        self.assertGreaterEqual(len(told), 3)  # more where the main command ends late
+        self.assertEqual(told, shown[shown.index("# by seed 3") + 1:][:len(told)])
+        self.assertEqual(found("^#,act,(.*)", self.history()), [line.split(" ", 2)[2] for line in told])
+        self.assertEqual(found("^#,drawn,(.*)", self.history())[:len(told)], told)
+
+
+if __name__ == "__main__":
+    unittest.main()

@@ -1,0 +1,96 @@
+"""A process that asks again and again lets time pass, by whatever it asks; a run that was ended says where it was."""
+
+from __future__ import annotations
+
+import subprocess
+import sys
+
+from machines import HERE, Simulated, needs
+
+LIMIT = "300s"
+POLLS = """
+import subprocess
+process = subprocess.Popen(["sleep", "1"])
+while process.poll() is None: pass
+"""
+STATS = """
+import os
+if os.fork() == 0:
+    os.execlp("sh", "sh", "-c", "sleep 1; echo > there")
+while not os.path.exists("there"): pass
+"""
+KILLS = """
+import os, subprocess
+process = subprocess.Popen(["sh", "-c", "sleep 1 & echo $!"], stdout=subprocess.PIPE, text=True)
+number = int(process.stdout.readline())
+try:
+    while True: os.kill(number, 0)
+except ProcessLookupError:
+    pass
+"""
+TESTS = "(sleep 1; echo > there) & while [ ! -e there ]; do :; done"
+STARTS = "(sleep 1; echo > there) & while ! /bin/ls there 2>/dev/null; do :; done"
+YIELDS = """
+import mmap, os, time
+shared = mmap.mmap(-1, 4096)
+for one in range(3):
+    if os.fork() == 0:
+        while not shared[0]: os.sched_yield()
+        os._exit(0)
+if os.fork() == 0:
+    time.sleep(1)
+    shared[0] = 1
+    os._exit(0)
+for one in range(4): os.wait()
+"""
+NEVER = "import os\nwhile not os.path.exists('never'): os.sched_yield()"
+
+
+class OfAsking(Simulated):
+    def takes_a_second(self, *words: str) -> None:
+        (self.folder / "there").unlink(missing_ok=True)
+        ran = self.run_by(1, "--real-limit", LIMIT, "--", *words)
+        self.assertEqual(ran.status, 0, ran.err)
+        self.assertAlmostEqual(ran.summary["simulated"], 1, delta=0.3)
+        self.assertIs(ran.summary["repeatable"], True)
+
+    def test_of_a_child(self) -> None:
+        self.takes_a_second(sys.executable, "-c", POLLS)
+
+    def test_of_a_file(self) -> None:
+        self.takes_a_second(sys.executable, "-c", STATS)
+
+    def test_of_a_process(self) -> None:
+        self.takes_a_second(sys.executable, "-c", KILLS)
+
+    @needs("bash")
+    def test_of_a_shell(self) -> None:
+        self.takes_a_second("bash", "-c", TESTS)
+
+    def test_of_several_that_spin_at_once(self) -> None:
+        self.takes_a_second(sys.executable, "-c", YIELDS)
+
+    def test_by_programs_that_it_starts(self) -> None:
+        self.takes_a_second("sh", "-c", STARTS)
+
+    @needs("cc")
+    def test_by_any_call(self) -> None:
+        """Twenty ways to ask again and again, each of them for a second."""
+        made = str(self.folder / "spins")
+        subprocess.run(["cc", "-O1", "-o", made, HERE / "spins.c"], check=True)
+        count = int(subprocess.run([made], stdout=subprocess.PIPE, check=True).stdout)
+        loop = f"for way in $(seq 0 {count - 1}); do {made} $way || exit; done"
+        ran = self.run_by(1, "--real-limit", LIMIT, "--", "sh", "-c", loop)
+        self.assertEqual(ran.status, 0, ran.err)
+        self.assertAlmostEqual(ran.summary["simulated"] / count, 1, delta=0.1)
+
+    def test_a_process_that_stays_behind(self) -> None:
+        """It ends with the run, which doesn't wait for it."""
+        ran = self.run_by(1, "--real-limit", LIMIT, "--", "sh", "-c", "setsid sleep 1000 & sleep 1; echo end")
+        self.assertEqual((ran.status, ran.out), (0, "end\n"), ran.err)
+        self.assertLess(ran.summary["simulated"], 2)
+
+    def test_a_run_that_was_ended_says_where_it_was(self) -> None:
+        done = self.started("--real-limit", "15s", "--", sys.executable, "-c", NEVER)
+        self.assertEqual(done.returncode, 124)
+        self.assertRegex(done.stderr, r"simulated time was at \d+\.\d{6} s; (nothing has waited .*)?the last was \w+ by ")

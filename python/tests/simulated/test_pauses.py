@@ -1,0 +1,123 @@
+"""Pauses of processes: they find what one order of calls hides, they repeat, and the link doesn't pause."""
+
+from __future__ import annotations
+
+import argparse
+import subprocess
+import sys
+import unittest
+from collections.abc import Iterable
+
+from hinge.simulated.pauses import Paused, longest_of, pauses_of, pauses_word
+from machines import HERE, LINK, Simulated, needs
+from packets import packets_of
+
+ONCE = """take() { if [ ! -e lock ]; then echo > lock; echo $1 >> took; fi; }
+          rm -f lock took; take a & take b & wait; wc -l < took"""
+SEEDS = range(1, 21)
+
+
+class OfWords(unittest.TestCase):
+    def test_words(self) -> None:
+        for word in ("1/20", "3/10000", "0/1", "drawn", "1034-16ms", "9+1ns,1034-16.5ms"):
+            self.assertEqual(pauses_word(word), word)
+        many = ",".join(f"{call}+1s" for call in range(257))
+        for word in ("", "3", "2/1", "1/0", "0/0", "-1/2", "1/20s", "9*1s", "9+1s,", "9+1s,8", "9+1s,9-2s", "9+9999999h", many):
+            self.assertRaises(argparse.ArgumentTypeError, pauses_word, word)
+
+    def test_pauses_one_by_one(self) -> None:
+        pauses = pauses_of("20+1ms,9-5ns", 1)
+        assert pauses
+        self.assertEqual(list(pauses.lines())[1:], ["9 before 5", "20 behind 1000000"])
+        self.assertEqual(pauses_of(pauses.asked(), 2), pauses)
+
+    def test_rare_pauses_may_be_long(self) -> None:
+        calls = [(1, 1), (1, 20), (1, 200), (1, 2000), (3, 10000)]
+        self.assertEqual([longest_of(*one) for one in calls], [13, 17, 20, 22, 22])
+
+    def test_what_is_drawn_is_the_seeds(self) -> None:
+        self.assertIsNone(pauses_of(None, 1))
+        self.assertEqual(pauses_of("drawn", 1), pauses_of("drawn", 1))
+        self.assertGreater(len({pauses_of("drawn", seed) for seed in SEEDS}), 15)
+
+
+START = """import json, os, sys
+file = os.open("there", os.O_WRONLY | os.O_CREAT)
+for n in range(10):
+    os.getpid(), os.stat("."), os.write(file, b"x")
+"""
+THREADS = """import os, threading
+one = threading.Thread(target=lambda: None)
+one.start()
+one.join()
+for n in range(200): os.getpid()
+"""
+
+
+def first_two(outcomes: "Iterable[object]") -> "set[object]":
+    """The different outcomes, up to the second one."""
+    found: set[object] = set()
+    for outcome in outcomes:
+        found.add(outcome)
+        if len(found) == 2:
+            break
+    return found
+
+
+class OfPauses(Simulated):
+    def took(self, seed: int, *options: str) -> str:
+        return self.run_by(seed, *options, "--", "bash", "-c", ONCE).out.strip()
+
+    @needs("bash")
+    def test_a_file_that_two_make(self) -> None:
+        self.assertEqual({self.took(seed) for seed in SEEDS[:3]}, {"1"})
+        self.assertEqual(first_two(self.took(seed, "--pauses", "1/5") for seed in SEEDS), {"1", "2"})
+
+    def calls_of(self, program: str) -> int:
+        """How many calls of a program of Python may pause."""
+        return int(self.run_by(1, "--pauses", "0/1", "--", sys.executable, "-c", program).summary["pauses"]["calls"])
+
+    def test_calls_whose_order_nobody_can_tell(self) -> None:
+        """Those of a start, and what concerns a process alone that shares its memory with none."""
+        none, some, threads = (self.calls_of(program) for program in ("pass", START, THREADS))
+        self.assertLess(none, 100)
+        self.assertTrue(20 <= some - none < 60, (none, some))
+        self.assertGreater(threads, 200)
+
+    @needs("bash")
+    def test_pauses_that_are_named_again(self) -> None:
+        """A run by the pauses of another one, one by one, is that run."""
+        one = self.run_by(1, "--pauses", "1/20", *LINK, "--", "bash", "-c", ONCE)
+        word = ",".join(Paused(**pause).given().word() for pause in one.summary["pauses"]["first"])
+        other = self.run_by(1, "--pauses", word, *LINK, "--", "bash", "-c", ONCE)
+        self.assertEqual(other.summary["pauses"]["first"], one.summary["pauses"]["first"])
+        self.assertEqual((other.out, other.summary["simulated"]), (one.out, one.summary["simulated"]))
+        self.assertEqual(other.history, one.history)
+
+    @needs("bash")
+    def test_two_runs_are_the_same(self) -> None:
+        done = self.started("--twice", "--seed", "7", "--pauses", "1/20", *LINK, "--", "bash", "-c", ONCE)
+        self.assertEqual(done.returncode, 0, done.stderr)
+        self.assertIn("two runs by seed 7 are the same", done.stderr)
+
+    @needs("ping")
+    def test_the_link_does_not_pause(self) -> None:
+        """So each packet is on its way for just as long as without, whenever its program sends it."""
+        links = ["--up", "10Mbit/s 20ms", "--down", "10Mbit/s 20ms"]
+        ran = self.run_by(1, "--pauses", "1/5", *links, "--", "ping", "-c", "20", "server")
+        self.assertEqual(ran.status, 0, ran.err)
+        packets = packets_of(ran.history)
+        self.assertEqual({packet.due - packet.came for packet in packets if packet.size == 84}, {20_067_200})
+        self.assertRegex(ran.err, r"late p99 0\.000")
+        pauses = ran.summary["pauses"]
+        self.assertGreater(pauses["count"], 0)
+        self.assertEqual(pauses["count"], len(pauses["first"]))
+
+    @needs("cc")
+    def test_a_signal_that_comes_before_a_wait(self) -> None:
+        """A pause before a call lets a signal's handler run before the call, as on a processor that another took."""
+        made = str(self.folder / "wakes")
+        subprocess.run(["cc", "-o", made, HERE / "wakes.c"], check=True)
+        statuses = (self.run_by(seed, "--pauses", "1/20", "--", made).status for seed in SEEDS)
+        self.assertEqual(first_two(statuses), {0, 1})
+        self.assertEqual(self.run_by(1, "--", made).status, 0)

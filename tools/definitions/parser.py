@@ -1,0 +1,147 @@
+"""Reads equations: recursive descent, with a table of how tightly the signs bind."""
+
+from __future__ import annotations
+
+from syntax import (Apply, ConsPattern, Elim, EmptyList, Equation, Expression, Field, Infix, Lambda, Let, Name,
+                    NamePattern, NilPattern, Number, NumberPattern, Pattern, Record)
+from tokens import NotUnderstood, Token, tokens
+
+BINDING = {"→": 0, "×": 1, "≡": 2, "≤": 2, "<": 2, "||": 3, "&&": 4, "++": 5, "∷": 6, "+": 7, "-": 7,
+           "*": 8, "/": 8, "%": 8, "^": 9}
+TO_THE_RIGHT = {"→", "×", "++", "∷", "^"}
+KEYWORDS = {"let", "in", "elim", "record"}
+
+
+class Parser:
+    """Reads one text. Each method takes the tokens of what it is named for."""
+
+    def __init__(self, text: str) -> None:
+        self.tokens, self.place = tokens(text), 0
+
+    @property
+    def next(self) -> Token:
+        return self.tokens[self.place]
+
+    def take(self, text: str = "") -> str:
+        """The next token's text, which has to be this one if one is given."""
+        token = self.next
+        if text and token.text != text or token.kind == "end":
+            near = " ".join(token.text for token in self.tokens[max(0, self.place - 6):self.place + 6])
+            raise NotUnderstood(f"{text or 'more'} wanted near: {near}")
+        self.place += 1
+        return token.text
+
+    def take_if(self, text: str) -> bool:
+        taken = self.next.text == text and self.next.kind != "end"
+        self.place += taken
+        return taken
+
+    def equation(self) -> Equation:
+        name, patterns = self.take(), []
+        while self.next.text != "=":
+            patterns.append(self.pattern_atom())
+        self.take("=")
+        body = self.expression()
+        if self.next.kind != "end":
+            raise NotUnderstood(f"the equation of {name} goes on: {self.next.text}")
+        return Equation(name, tuple(patterns), body)
+
+    def expression(self, least: int = 0) -> Expression:
+        left = self.application()
+        while self.next.kind == "sign" and BINDING.get(self.next.text, -1) >= least:
+            sign = self.take()
+            left = Infix(sign, left, self.expression(BINDING[sign] + (sign not in TO_THE_RIGHT)))
+        return left
+
+    def application(self) -> Expression:
+        if self.take_if("let"):
+            return self.let()
+        if self.take_if("λ"):
+            return self.function()
+        if self.take_if("elim"):
+            return self.elim()
+        head, arguments = self.atom(), []
+        while self.begins_an_atom():
+            arguments.append(self.atom())
+        return Apply(head, tuple(arguments)) if arguments else head
+
+    def let(self) -> Let:
+        name = self.take()
+        self.take("=")
+        value = self.expression()
+        self.take("in")
+        return Let(name, value, self.expression())
+
+    def function(self) -> Lambda:
+        names = [self.take()]
+        while not self.take_if("."):
+            names.append(self.take())
+        return Lambda(tuple(names), self.expression())
+
+    def elim(self) -> Elim:
+        value, cases = self.atom(), list[tuple[Pattern, Expression]]()
+        self.take("[")
+        while not cases or self.take_if("|"):
+            pattern = self.pattern()
+            self.take("↦")
+            cases.append((pattern, self.expression()))
+        self.take("]")
+        return Elim(value, tuple(cases))
+
+    def begins_an_atom(self) -> bool:
+        kind, text = self.next
+        is_name = kind == "name" and (text == "record" or text not in KEYWORDS)
+        return is_name or kind == "number" or kind == "sign" and text in "([⊤⊥"
+
+    def atom(self) -> Expression:
+        kind, text = self.next
+        found: Expression
+        if kind == "number":
+            found = Number(int(self.take()))
+        elif self.take_if("record"):
+            found = self.record()
+        elif kind == "name" and text not in KEYWORDS or text in ("⊤", "⊥"):
+            found = Name(self.take())
+        elif self.take_if("["):
+            self.take("]")
+            found = EmptyList()
+        else:
+            self.take("(")
+            found = self.expression()
+            self.take(")")
+        while self.next.kind == "field":
+            found = Field(found, self.take())
+        return found
+
+    def record(self) -> Record:
+        base, fields = None if self.next.text == "{" else self.atom(), []
+        self.take("{")
+        while not self.take_if("}"):
+            name = self.take()
+            self.take("=")
+            fields.append((name, self.expression()))
+            if self.next.text != "}":
+                self.take(";")
+        return Record(base, tuple(fields))
+
+    def pattern(self) -> Pattern:
+        if self.next.kind == "name":
+            name, parts = self.take(), []
+            while self.next.kind in ("name", "number") or self.next.text in ("(", "["):
+                parts.append(self.pattern_atom())
+            head: Pattern = NamePattern(name, tuple(parts))
+        else:
+            head = self.pattern_atom()
+        return ConsPattern(head, self.pattern()) if self.take_if("∷") else head
+
+    def pattern_atom(self) -> Pattern:
+        if self.take_if("("):
+            inner = self.pattern()
+            self.take(")")
+            return inner
+        if self.take_if("["):
+            self.take("]")
+            return NilPattern()
+        if self.next.kind not in ("number", "name"):
+            raise NotUnderstood(f"a pattern wanted: {self.next.text}")
+        return NumberPattern(int(self.take())) if self.next.kind == "number" else NamePattern(self.take(), ())

@@ -1,0 +1,36 @@
+"""The tokens of a text in the language of specs."""
+
+from __future__ import annotations
+
+import re
+from typing import NamedTuple
+
+# A field stands at once behind what it is a field of: the dot of `λ p. p.len` before a space is a sign.
+TOKEN = re.compile(r"(?P<number>\d+)|(?P<name>[^\W\d][\w']*)|(?P<field>\.[^\W\d]\w*)"
+                   r"|(?P<sign>\+\+|&&|\|\||[][(){};=λ↦|∷+*/%^.,<≤≡×→⊤⊥:-])")
+
+
+class NotUnderstood(Exception):
+    """A text that isn't in the part of the language that is read here."""
+
+
+class Token(NamedTuple):
+    """A kind (number, name, field, sign or end) and the text, a field's without its dot."""
+
+    kind: str
+    text: str
+
+
+def tokens(text: str) -> list[Token]:
+    """The tokens of a text without comments, with one of kind `end` behind them."""
+    found, place = [], 0
+    while text[place:].strip():
+        if text[place].isspace():
+            place += 1
+            continue
+        token = TOKEN.match(text, place)
+        if token is None or token.lastgroup is None:
+            raise NotUnderstood(f"no token: {text[place:place + 40]}")
+        found.append(Token(token.lastgroup, token.group()[token.lastgroup == "field":]))
+        place = token.end()
+    return [*found, Token("end", "")]

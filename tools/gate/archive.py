@@ -1,0 +1,59 @@
+"""The source archive of a commit: all tracked files and a checksum, and the same bytes whatever a user's git is set to.
+
+    python3 tools/gate/archive.py
+"""
+
+from __future__ import annotations
+
+import os
+import subprocess
+import sys
+import tarfile
+from pathlib import Path
+from tempfile import TemporaryDirectory
+from typing import Any
+
+from tally import Tally
+
+TOP = Path(__file__).resolve().parents[2]
+SCRIPT = TOP / "tools" / "release" / "source_archive.py"
+SETTINGS = {"tar.umask": "0077", "core.autocrlf": "true", "tar.tar.gz.command": "cat"}
+OF_A_USER = {
+    "TZ": "Pacific/Auckland",
+    "GIT_CONFIG_COUNT": str(len(SETTINGS)),
+    **{f"GIT_CONFIG_KEY_{place}": name for place, name in enumerate(SETTINGS)},
+    **{f"GIT_CONFIG_VALUE_{place}": value for place, value in enumerate(SETTINGS.values())},
+}
+
+
+def run(*words: object, **variables: str) -> "subprocess.CompletedProcess[str]":
+    env = {**os.environ, **variables}
+    how: Any = {"stdout": subprocess.PIPE, "stderr": subprocess.STDOUT, "text": True}
+    return subprocess.run(list(map(str, words)), cwd=TOP, env=env, **how)
+
+
+def main() -> int:
+    tally = Tally()
+    with TemporaryDirectory() as folder:
+        first, again = Path(folder) / "first", Path(folder) / "again"
+        settings: dict[Path, dict[str, str]] = {first: {}, again: OF_A_USER}
+        for place, variables in settings.items():
+            done = run(SCRIPT, "HEAD", place, **variables)
+            tally.equal(f"the archive in {place.name}", 0, done.returncode)
+        [archive] = first.glob("*.tar.gz")
+        is_same = archive.read_bytes() == (again / archive.name).read_bytes()
+        tally.note("the archive made again", "" if is_same else "other bytes")
+        checked = run("sh", "-c", f"cd '{first}' && sha256sum -c SHA256SUMS").stdout
+        tally.equal("its checksum", f"{archive.name}: OK\n", checked)
+        with tarfile.open(archive) as tar:
+            names = sorted(it.name.partition("/")[2] for it in tar if not it.isdir())
+        listed = run("git", "-c", "core.quotePath=false", "ls-tree", "-r", "--name-only", "HEAD").stdout.splitlines()
+        tally.equal("its files", sorted(listed), names)
+        refused = run(SCRIPT, "9.9.9", first)
+        advice = "9.9.9: no such version or revision: CHANGELOG.md lists the versions\n"
+        tally.equal("a version that isn't", (1, advice), (refused.returncode, refused.stdout))
+    return tally.end()
+
+
+if __name__ == "__main__":
+    sys.exit(main())
