@@ -53,6 +53,7 @@ class Take(asyncio.DatagramProtocol):
 
 def floor(seconds: int) -> None:
     """asyncio's own part: a timer, and a callback that is due at once."""
+
     async def main() -> None:
         loop = asyncio.get_running_loop()
         for _ in range(seconds * A_SECOND):
@@ -79,6 +80,7 @@ def datagrams(seconds: int, history: Optional[Path] = None) -> None:
 
 def star(count: int) -> float:
     """us a datagram between the leaves of a star, after it was made."""
+
     async def main() -> float:
         net = aio.network()
         middle, *leaves = [net.host(f"10.{n >> 16}.{n >> 8 & 255}.{n & 255}") for n in range(1, count + 2)]
@@ -96,6 +98,7 @@ def star(count: int) -> float:
 
 def endpoints(count: int) -> float:
     """s in which a host opens them."""
+
     async def main() -> float:
         host = aio.network().host("10.0.0.1")
         begun = time.process_time_ns()
@@ -110,7 +113,18 @@ def pytest_run(folder: Path, text: str) -> float:
     """Processor s of pytest over a file, with its processes."""
     file = folder / "test_it.py"
     file.write_text(text)
-    words = [sys.executable, "-m", "pytest", "-q", "-p", "hinge.pytest_plugin", "-p", "no:cacheprovider", f"--basetemp={folder}/t", str(file)]
+    words = [
+        sys.executable,
+        "-m",
+        "pytest",
+        "-q",
+        "-p",
+        "hinge.pytest_plugin",
+        "-p",
+        "no:cacheprovider",
+        f"--basetemp={folder}/t",
+        str(file),
+    ]
     begun = resource.getrusage(resource.RUSAGE_CHILDREN)
     env = {**os.environ, "PYTHONPATH": str(TOP / "python"), "PYTEST_DISABLE_PLUGIN_AUTOLOAD": "1"}
     done = subprocess.run(words, cwd=folder, env=env, capture_output=True, text=True)
@@ -130,17 +144,22 @@ def least(rounds: int, call: Callable[[], object]) -> float:
 
 
 def main() -> None:
-    rounds, seconds = (int(word) for word in (*sys.argv[1:], *("3", "1000")[len(sys.argv) - 1:]))
+    rounds, seconds = (int(word) for word in (*sys.argv[1:], *("3", "1000")[len(sys.argv) - 1 :]))
     count = seconds * A_SECOND
     with tempfile.TemporaryDirectory() as name:
         folder = Path(name)
-        for what, call in (("asyncio alone", lambda: floor(seconds)), ("without a history", lambda: datagrams(seconds)),
-                           ("with a history", lambda: datagrams(seconds, folder / "h"))):
+        for what, call in (
+            ("asyncio alone", lambda: floor(seconds)),
+            ("without a history", lambda: datagrams(seconds)),
+            ("with a history", lambda: datagrams(seconds, folder / "h")),
+        ):
             print(f"us a datagram, {what}: {least(rounds, call) / count * 1e6:.1f}", flush=True)
         for hosts in HOSTS:
             print(f"us a datagram in a star of {hosts} hosts: {min(star(hosts) for _ in range(rounds)):.1f}", flush=True)
         print(f"s for {ENDPOINTS} endpoints of a host: {min(endpoints(ENDPOINTS) for _ in range(rounds)):.2f}", flush=True)
-        empty, small = TEST.format(count=TESTS, kind="def", fixture="", body="pass"), TEST.format(count=TESTS, kind="async def", fixture="sim_net, ", body=BODY)
+        empty, small = TEST.format(count=TESTS, kind="def", fixture="", body="pass"), TEST.format(
+            count=TESTS, kind="async def", fixture="sim_net, ", body=BODY
+        )
         took = [min(pytest_run(folder, text) for _ in range(rounds)) for text in (empty, small)]
         print(f"ms of a small test: {(took[1] - took[0]) / TESTS * 1000:.1f}")
 

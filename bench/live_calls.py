@@ -70,8 +70,10 @@ def file(packets):
         live = session(stdin=asked, stdout=told)
         _, status, used = os.wait4(live.pid, 0)
         spent = time.perf_counter() - begun
-        print(f"from a file to a file: {2 * packets + 1} calls, {(2 * packets + 1) / spent:.0f} calls/s, status {status}, "
-              f"{used.ru_maxrss} KiB at most, {told.seek(0, os.SEEK_END) / packets:.0f} bytes of transcript a packet")
+        print(
+            f"from a file to a file: {2 * packets + 1} calls, {(2 * packets + 1) / spent:.0f} calls/s, status {status}, "
+            f"{used.ru_maxrss} KiB at most, {told.seek(0, os.SEEK_END) / packets:.0f} bytes of transcript a packet"
+        )
 
 
 {"one": one, "pipelined": pipelined, "file": file}[sys.argv[1]](int(sys.argv[2]))

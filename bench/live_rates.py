@@ -17,27 +17,58 @@ import tempfile
 from pathlib import Path
 
 TOP = Path(__file__).resolve().parent.parent
-CPU = "awk '$2 == \"(hinge-link)\" {print \"cpu\", ($14 + $15) / 100}' /proc/[0-9]*/stat 2>/dev/null"
+CPU = 'awk \'$2 == "(hinge-link)" {print "cpu", ($14 + $15) / 100}\' /proc/[0-9]*/stat 2>/dev/null'
 
 
 def run(folder: str, transcript: bool, *words: str) -> tuple[str, dict[str, dict[str, float]]]:
     kept = ["--transcript", f"{folder}/history"] if transcript else []
-    done = subprocess.run([TOP / "hinge", "run", "--quiet", "--realtime", "--json", f"{folder}/json", *kept, *words], capture_output=True, text=True)
+    done = subprocess.run(
+        [TOP / "hinge", "run", "--quiet", "--realtime", "--json", f"{folder}/json", *kept, *words], capture_output=True, text=True
+    )
     with open(f"{folder}/json") as file:
         return done.stdout, json.load(file)
 
 
 def packets(folder: str, rate: int, seconds: float, transcript: bool) -> str:
     blast = f"{folder}/blast"
-    text, told = run(folder, transcript, "--up", "5ms", "--server", f"{blast} sink 9999", "--", "sh", "-c", f"{blast} 10.8.0.2 9999 {rate} {seconds} 100; {CPU}")
+    text, told = run(
+        folder,
+        transcript,
+        "--up",
+        "5ms",
+        "--server",
+        f"{blast} sink 9999",
+        "--",
+        "sh",
+        "-c",
+        f"{blast} 10.8.0.2 9999 {rate} {seconds} 100; {CPU}",
+    )
     up, cpu = told["up"], float(re.findall(r"cpu (\S+)", text)[0])
     came = max(1, up["came"])
-    return (f"{up['sent'] / seconds:9,.0f}/s delivered, {up['system_drops']} dropped; late {up['late_p50_ms']:.3f} p99 {up['late_p99_ms']:.3f} ms; "
-            f"unread p99 {up['unread_p99_ms']:.3f} ms; {cpu / came * 1e6:.1f} us and {float(told['wakeups']) / came:.2f} wakeups a packet")  # type: ignore[arg-type]
+    return (
+        f"{up['sent'] / seconds:9,.0f}/s delivered, {up['system_drops']} dropped; late {up['late_p50_ms']:.3f} p99 {up['late_p99_ms']:.3f} ms; "
+        f"unread p99 {up['unread_p99_ms']:.3f} ms; {cpu / came * 1e6:.1f} us and {float(told['wakeups']) / came:.2f} wakeups a packet"
+    )  # type: ignore[arg-type]
 
 
 def tcp(folder: str, link: str, seconds: float, transcript: bool) -> str:
-    text, _ = run(folder, transcript, "--up", link, "--down", link, "--server", "iperf3 -s -1 >/dev/null", "--", "iperf3", "-c", "server", "-t", str(seconds), "-J")
+    text, _ = run(
+        folder,
+        transcript,
+        "--up",
+        link,
+        "--down",
+        link,
+        "--server",
+        "iperf3 -s -1 >/dev/null",
+        "--",
+        "iperf3",
+        "-c",
+        "server",
+        "-t",
+        str(seconds),
+        "-J",
+    )
     return f"{json.loads(text)['end']['sum_received']['bits_per_second'] / 1e9:.2f} Gbit/s"
 
 

@@ -81,8 +81,12 @@ def main(rate, seconds, size=200, link="pipe 1 config delay 5"):
     with tempfile.TemporaryDirectory() as folder:
         transcript = os.path.join(folder, "session.history")
         host = [sys.executable, os.path.join(TOP, "hinge"), "udp"]
-        proxy = subprocess.Popen([*host, "0", str(sink.socket.getsockname()[1]), link, "--transcript", transcript], text=True,
-                                 stdout=subprocess.PIPE, stderr=subprocess.PIPE)
+        proxy = subprocess.Popen(
+            [*host, "0", str(sink.socket.getsockname()[1]), link, "--transcript", transcript],
+            text=True,
+            stdout=subprocess.PIPE,
+            stderr=subprocess.PIPE,
+        )
         port = int(proxy.stdout.readline().rpartition(":")[2])
         sink.start()
         first = threading.Timer(1, lambda: before.append(memory(child(proxy.pid))))
@@ -100,11 +104,15 @@ def main(rate, seconds, size=200, link="pipe 1 config delay 5"):
         spent = time.monotonic() - begun
     up = re.search(r"up: (\d+) came, (\d+) delivered, (\d+) lost, (\d+) met.*\n.*up: (.*)", told)
     came, sent_on, lost, full = map(int, up.groups()[:4])
-    print(f"{sent} sent in {seconds:g} s, {came} came to the host, {lost} lost and {full} refused by the link, {sent_on} sent on, "
-          f"{sink.arrived} arrived: {sent - lost - full - sink.arrived} lost by the host")
+    print(
+        f"{sent} sent in {seconds:g} s, {came} came to the host, {lost} lost and {full} refused by the link, {sent_on} sent on, "
+        f"{sink.arrived} arrived: {sent - lost - full - sink.arrived} lost by the host"
+    )
     print(f"delay: median {sink.within(0.5):.3f} ms, p99 {sink.within(0.99):.3f} ms; the host {up[5]}")
     print(f"memory: the host {before[0]} KiB after a second, {after} at the end")
-    print(f"transcript: {size} bytes, {size / sent:.0f} a datagram; audit in {spent:.1f} s: {(audit.stdout or audit.stderr).strip()}")
+    print(
+        f"transcript: {size} bytes, {size / sent:.0f} a datagram; audit in {spent:.1f} s: {(audit.stdout or audit.stderr).strip()}"
+    )
 
 
 main(float(sys.argv[1]), float(sys.argv[2]), *([int(sys.argv[3])] if len(sys.argv) > 3 else []), *sys.argv[4:5])

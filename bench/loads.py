@@ -64,11 +64,18 @@ CONFIGS = {
     "links": "pipe 1 config bw 8Mbit/s queue 10 mask all\n",
     "flows": "pipe 1 config bw 8Gbit/s delay 20ms\n"
     + "".join(
-        f"queue {n} config pipe 1 weight {n * 10} queue 64Kbytes plr 0.01 mask src-ip 0xffff src-port 0xffff\n" for n in range(1, 11)
+        f"queue {n} config pipe 1 weight {n * 10} queue 64Kbytes plr 0.01 mask src-ip 0xffff src-port 0xffff\n"
+        for n in range(1, 11)
     ),
     "backlogged": "pipe 1 config bw 8Gbit/s delay 5ms\nqueue 1 config pipe 1 queue 100 mask all\n",
 }
-ROWS: dict[str, Callable[[int], tuple[int, str]]] = {"pipe": pipe, "queues": queues, "links": links, "flows": flows, "backlogged": backlogged}
+ROWS: dict[str, Callable[[int], tuple[int, str]]] = {
+    "pipe": pipe,
+    "queues": queues,
+    "links": links,
+    "flows": flows,
+    "backlogged": backlogged,
+}
 
 
 def rows(load: str, count: int) -> Iterator[str]:

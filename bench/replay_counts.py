@@ -17,8 +17,15 @@ from tempfile import TemporaryDirectory
 from loads import CONFIGS, write
 from replay import Form, forms
 
-COUNTED = ["valgrind", "--tool=cachegrind", "--cache-sim=yes", "--I1=32768,8,64", "--D1=32768,8,64", "--LL=1048576,16,64",
-           "--cachegrind-out-file=/dev/null"]
+COUNTED = [
+    "valgrind",
+    "--tool=cachegrind",
+    "--cache-sim=yes",
+    "--I1=32768,8,64",
+    "--D1=32768,8,64",
+    "--LL=1048576,16,64",
+    "--cachegrind-out-file=/dev/null",
+]
 
 
 def counts(form: Form) -> tuple[int, int]:

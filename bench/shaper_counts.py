@@ -21,8 +21,19 @@ ROUNDS = (150, 650)
 def start(load, rounds, path):
     """A run of one load under the simulator."""
     return subprocess.Popen(
-        ["valgrind", "--tool=cachegrind", "--cache-sim=yes", *CACHES, f"--cachegrind-out-file={path}", PROGRAM,
-         str(rounds), str(load)], stdout=subprocess.DEVNULL, stderr=subprocess.DEVNULL)
+        [
+            "valgrind",
+            "--tool=cachegrind",
+            "--cache-sim=yes",
+            *CACHES,
+            f"--cachegrind-out-file={path}",
+            PROGRAM,
+            str(rounds),
+            str(load),
+        ],
+        stdout=subprocess.DEVNULL,
+        stderr=subprocess.DEVNULL,
+    )
 
 
 def counts(path):
@@ -51,8 +62,10 @@ def main():
         found = [per_packet(folder, load) for load in range(len(LOADS))]
     cycles = [instructions + 10 * first + 100 * last for instructions, first, last in found]
     for load, (instructions, first, last), estimate in zip(LOADS, found, cycles):
-        print(f"{load}: {instructions:.0f} instructions, {first:.1f} and {last:.1f} misses, some {estimate:.0f} cycles,"
-              f" {instructions / found[0][0]:.2f} and {estimate / cycles[0]:.2f} times one flow's")
+        print(
+            f"{load}: {instructions:.0f} instructions, {first:.1f} and {last:.1f} misses, some {estimate:.0f} cycles,"
+            f" {instructions / found[0][0]:.2f} and {estimate / cycles[0]:.2f} times one flow's"
+        )
 
 
 if __name__ == "__main__":

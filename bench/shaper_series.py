@@ -46,8 +46,10 @@ def tell_loads(runs):
     """The least and the median of each load."""
     for load in runs[0][0]:
         submits, shares = zip(*(costs[load] for costs, _ in runs))
-        print(f"{load}: least {min(submits):.0f} + {min(shares):.0f},"
-              f" median {statistics.median(submits):.0f} + {statistics.median(shares):.0f}")
+        print(
+            f"{load}: least {min(submits):.0f} + {min(shares):.0f},"
+            f" median {statistics.median(submits):.0f} + {statistics.median(shares):.0f}"
+        )
 
 
 def tell_ratios(name, runs):
@@ -57,8 +59,10 @@ def tell_ratios(name, runs):
         return
     times = [2 * sum(costs[MANY]) / (sum(costs[ONE]) + sum(after)) for costs, after in runs]
     least = min(sum(costs[MANY]) for costs, _ in runs) / min(min(sum(costs[ONE]), sum(after)) for costs, after in runs)
-    print(f"{name}: 16,384 links to one in a run: least {min(times):.2f}, median {statistics.median(times):.2f}, most {max(times):.2f},"
-          f" at most 4 in {sum(ratio <= 4 for ratio in times)} of {len(times)}; by the least costs {least:.2f}")
+    print(
+        f"{name}: 16,384 links to one in a run: least {min(times):.2f}, median {statistics.median(times):.2f}, most {max(times):.2f},"
+        f" at most 4 in {sum(ratio <= 4 for ratio in times)} of {len(times)}; by the least costs {least:.2f}"
+    )
 
 
 def main():

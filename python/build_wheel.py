@@ -26,8 +26,10 @@ def clone() -> Path:
     for folder in (HERE.parent, called, called.parent):
         if (folder / "VERSION").is_file() and (folder / "python" / "build_wheel.py").is_file():
             return folder
-    raise SystemExit("this folder isn't in its clone, since pip before 21.3 copies it: in the clone's folder do pip "
-                     "install ./python, or pip install --upgrade pip")
+    raise SystemExit(
+        "this folder isn't in its clone, since pip before 21.3 copies it: in the clone's folder do pip "
+        "install ./python, or pip install --upgrade pip"
+    )
 
 
 TOP = clone()
@@ -38,8 +40,7 @@ BASE = f"{NAME}-{VERSION}"
 PACKAGES = ("hingetulip", "hingetulip_words", "hinge")
 TAG = "py3-none-manylinux_2_34_x86_64"
 LIBRARY = "libhingetulip.so.1"
-HOSTS = {"hinge-link": "hinge/run/hinge-link",
-         "hinge-clock.so": "hinge/hinge-clock.so"}  # built from C, where the release has them
+HOSTS = {"hinge-link": "hinge/run/hinge-link", "hinge-clock.so": "hinge/hinge-clock.so"}  # built from C, where the release has them
 FIRST_DATE = 315532800  # 1980-01-01, the first that a zip file can have
 METADATA = f"""\
 Metadata-Version: 2.1
@@ -78,8 +79,9 @@ class File(NamedTuple):
 
 def released(name: str, sources: str, crate: str) -> Path:
     """A file of the release, if it was built from the present sources."""
-    present = subprocess.run([TOP / "tools" / "release" / "program_sources", crate], capture_output=True, text=True,
-                             check=True).stdout
+    present = subprocess.run(
+        [TOP / "tools" / "release" / "program_sources", crate], capture_output=True, text=True, check=True
+    ).stdout
     noted = RELEASE / sources
     if not noted.is_file() or noted.read_text() != present:
         raise SystemExit(f"release/{name} isn't of these sources: tools/release/release makes it anew")
@@ -92,8 +94,7 @@ def library() -> Path:
 
 def manual(name: str) -> bytes:
     """A manual page, with the version in its last line."""
-    return (TOP / "docs" / name).read_text(encoding="utf-8").replace("\n.Os\n", f"\n.Os Hingetulip {VERSION}\n",
-                                                                     1).encode()
+    return (TOP / "docs" / name).read_text(encoding="utf-8").replace("\n.Os\n", f"\n.Os Hingetulip {VERSION}\n", 1).encode()
 
 
 def packages() -> Iterator[File]:
@@ -126,16 +127,21 @@ def beside() -> Iterator[File]:
         yield File(f"{share}/doc/{NAME}/{page}", (TOP / page).read_bytes())
     for name in ("dummynet", "hinge"):
         yield File(f"{share}/man/man1/{name}.1", manual(f"{name}.1"))
-        yield File(f"{share}/bash-completion/completions/{name}",
-                   (TOP / "tools" / "release" / f"{name}-completion.bash").read_bytes())
+        yield File(
+            f"{share}/bash-completion/completions/{name}", (TOP / "tools" / "release" / f"{name}-completion.bash").read_bytes()
+        )
 
 
 def information() -> Iterator[File]:
     """What pip reads of a wheel."""
     page = (HERE / "README.md").read_text(encoding="utf-8")
-    for name, data in (("LICENSE", (TOP / "LICENSE").read_bytes()), ("NOTICE", (TOP / "NOTICE").read_bytes()),
-                       ("METADATA", f"{METADATA}\n{page}".encode()),
-                       ("WHEEL", WHEEL.encode()), ("entry_points.txt", ENTRY_POINTS.encode())):
+    for name, data in (
+        ("LICENSE", (TOP / "LICENSE").read_bytes()),
+        ("NOTICE", (TOP / "NOTICE").read_bytes()),
+        ("METADATA", f"{METADATA}\n{page}".encode()),
+        ("WHEEL", WHEEL.encode()),
+        ("entry_points.txt", ENTRY_POINTS.encode()),
+    ):
         yield File(f"{BASE}.dist-info/{name}", data)
 
 
@@ -172,13 +178,15 @@ def write_information(folder: str) -> str:
     return f"{BASE}.dist-info"
 
 
-def build_wheel(wheel_directory: str, config_settings: Optional[dict[str, str]] = None,
-                metadata_directory: Optional[str] = None) -> str:
+def build_wheel(
+    wheel_directory: str, config_settings: Optional[dict[str, str]] = None, metadata_directory: Optional[str] = None
+) -> str:
     return built(wheel_directory)
 
 
-def build_editable(wheel_directory: str, config_settings: Optional[dict[str, str]] = None,
-                   metadata_directory: Optional[str] = None) -> str:
+def build_editable(
+    wheel_directory: str, config_settings: Optional[dict[str, str]] = None, metadata_directory: Optional[str] = None
+) -> str:
     return built(wheel_directory, editable=True)
 
 

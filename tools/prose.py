@@ -20,10 +20,13 @@ import subprocess
 import sys
 from typing import Iterator, NamedTuple
 
-HELPED = (r"(?! (?:not|never|already|also|always|just|only|to|been|had|got|gone|come|made|done|said|begun|ended|sent|seen|taken|given|left|lost|met"
-          r"|found|kept|shown|told|put|set|run|read|written|been|\w+ed)\b)")
+HELPED = (
+    r"(?! (?:not|never|already|also|always|just|only|to|been|had|got|gone|come|made|done|said|begun|ended|sent|seen|taken|given|left|lost|met"
+    r"|found|kept|shown|told|put|set|run|read|written|been|\w+ed)\b)"
+)
 NOUN_GONE = r"(?= (?:of|that|which|who|whose|in|from|with|without|above|below|on|at|to|for|is|are|was|were|has|have)\b|[.,;:)]|$)"
 
+# fmt: off
 HABITS = [  # the name, the pattern, and what to write
     ("has", rf"\b(?:has|have|had)\b{HELPED}", "contains, lists, describes, prints, comes with"),
     ("of", r"\bof\b", "a compound or a verb: 'the queue's limit', 'a TCP capture'"),
@@ -45,16 +48,132 @@ HABITS = [  # the name, the pattern, and what to write
     ("one, two as noun", r"\b(?:the|that|this|an)? ?(?:one|ones|other|others)\b" + NOUN_GONE, "repeat the noun"),
     ("but for, beside", r"\b(?:but for|beside|behind|apart|likewise|else|besides)\b", "except, next to, separately, otherwise"),
 ]
+# fmt: on
 
 NEEDED = ("has", "of", "it, its")  # a page that avoids such a word reads as oddly: what is missing to the least rate counts too
 
 # Of Debian 12: git 2.39 with 17 pages, curl 7.88, ssh 9.2 with 7 pages, rsync 3.5 with 2, tc 6.1 with 15.
 BASE: dict[str, dict[str, float]] = {
-    "curl": {"has": 7.79, "of": 7.68, "of .. of": 0.11, "it, its": 11.92, "bare that, those": 0.87, "by": 2.99, "tell": 1.09, "own": 0.16, "what ..": 0.44, "none, nothing": 0.38, "alone": 0.0, "as for such as": 1.09, "fronted": 1.52, "take, give, come, go": 2.94, "judge, obey, ask, meet": 0.49, "one, two as noun": 0.98, "but for, beside": 0.22, "you": 9.47, "words a sentence": 13.85, "in paragraphs": 13.85, "spread": 0.57, "words": 18365},
-    "git": {"has": 2.62, "of": 20.18, "of .. of": 0.99, "it, its": 7.02, "bare that, those": 2.67, "by": 3.8, "tell": 0.4, "own": 0.26, "what ..": 1.38, "none, nothing": 0.57, "alone": 0.03, "as for such as": 1.46, "fronted": 1.81, "take, give, come, go": 4.03, "judge, obey, ask, meet": 0.26, "one, two as noun": 1.62, "but for, beside": 0.31, "you": 9.82, "words a sentence": 17.51, "in paragraphs": 17.51, "spread": 0.58, "words": 61800},
-    "rsync": {"has": 3.32, "of": 18.05, "of .. of": 0.58, "it, its": 10.7, "bare that, those": 1.6, "by": 3.37, "tell": 1.62, "own": 0.63, "what ..": 1.33, "none, nothing": 0.37, "alone": 0.18, "as for such as": 1.52, "fronted": 1.54, "take, give, come, go": 1.88, "judge, obey, ask, meet": 0.5, "one, two as noun": 1.41, "but for, beside": 0.24, "you": 13.97, "words a sentence": 21.7, "in paragraphs": 21.7, "spread": 0.52, "words": 38236},
-    "ssh": {"has": 1.53, "of": 15.91, "of .. of": 0.69, "it, its": 5.04, "bare that, those": 1.23, "by": 6.82, "tell": 0.05, "own": 0.15, "what ..": 0.15, "none, nothing": 0.79, "alone": 0.05, "as for such as": 1.09, "fronted": 1.53, "take, give, come, go": 1.53, "judge, obey, ask, meet": 0.74, "one, two as noun": 1.53, "but for, beside": 0.05, "you": 0.3, "words a sentence": 16.76, "in paragraphs": 16.76, "spread": 0.53, "words": 20244},
-    "tc": {"has": 3.1, "of": 22.65, "of .. of": 0.76, "it, its": 6.8, "bare that, those": 1.85, "by": 6.46, "tell": 0.0, "own": 0.42, "what ..": 0.25, "none, nothing": 0.0, "alone": 0.0, "as for such as": 2.52, "fronted": 2.6, "take, give, come, go": 2.1, "judge, obey, ask, meet": 0.25, "one, two as noun": 1.26, "but for, beside": 0.08, "you": 2.27, "words a sentence": 15.26, "in paragraphs": 15.26, "spread": 0.55, "words": 11918},
+    "curl": {
+        "has": 7.79,
+        "of": 7.68,
+        "of .. of": 0.11,
+        "it, its": 11.92,
+        "bare that, those": 0.87,
+        "by": 2.99,
+        "tell": 1.09,
+        "own": 0.16,
+        "what ..": 0.44,
+        "none, nothing": 0.38,
+        "alone": 0.0,
+        "as for such as": 1.09,
+        "fronted": 1.52,
+        "take, give, come, go": 2.94,
+        "judge, obey, ask, meet": 0.49,
+        "one, two as noun": 0.98,
+        "but for, beside": 0.22,
+        "you": 9.47,
+        "words a sentence": 13.85,
+        "in paragraphs": 13.85,
+        "spread": 0.57,
+        "words": 18365,
+    },
+    "git": {
+        "has": 2.62,
+        "of": 20.18,
+        "of .. of": 0.99,
+        "it, its": 7.02,
+        "bare that, those": 2.67,
+        "by": 3.8,
+        "tell": 0.4,
+        "own": 0.26,
+        "what ..": 1.38,
+        "none, nothing": 0.57,
+        "alone": 0.03,
+        "as for such as": 1.46,
+        "fronted": 1.81,
+        "take, give, come, go": 4.03,
+        "judge, obey, ask, meet": 0.26,
+        "one, two as noun": 1.62,
+        "but for, beside": 0.31,
+        "you": 9.82,
+        "words a sentence": 17.51,
+        "in paragraphs": 17.51,
+        "spread": 0.58,
+        "words": 61800,
+    },
+    "rsync": {
+        "has": 3.32,
+        "of": 18.05,
+        "of .. of": 0.58,
+        "it, its": 10.7,
+        "bare that, those": 1.6,
+        "by": 3.37,
+        "tell": 1.62,
+        "own": 0.63,
+        "what ..": 1.33,
+        "none, nothing": 0.37,
+        "alone": 0.18,
+        "as for such as": 1.52,
+        "fronted": 1.54,
+        "take, give, come, go": 1.88,
+        "judge, obey, ask, meet": 0.5,
+        "one, two as noun": 1.41,
+        "but for, beside": 0.24,
+        "you": 13.97,
+        "words a sentence": 21.7,
+        "in paragraphs": 21.7,
+        "spread": 0.52,
+        "words": 38236,
+    },
+    "ssh": {
+        "has": 1.53,
+        "of": 15.91,
+        "of .. of": 0.69,
+        "it, its": 5.04,
+        "bare that, those": 1.23,
+        "by": 6.82,
+        "tell": 0.05,
+        "own": 0.15,
+        "what ..": 0.15,
+        "none, nothing": 0.79,
+        "alone": 0.05,
+        "as for such as": 1.09,
+        "fronted": 1.53,
+        "take, give, come, go": 1.53,
+        "judge, obey, ask, meet": 0.74,
+        "one, two as noun": 1.53,
+        "but for, beside": 0.05,
+        "you": 0.3,
+        "words a sentence": 16.76,
+        "in paragraphs": 16.76,
+        "spread": 0.53,
+        "words": 20244,
+    },
+    "tc": {
+        "has": 3.1,
+        "of": 22.65,
+        "of .. of": 0.76,
+        "it, its": 6.8,
+        "bare that, those": 1.85,
+        "by": 6.46,
+        "tell": 0.0,
+        "own": 0.42,
+        "what ..": 0.25,
+        "none, nothing": 0.0,
+        "alone": 0.0,
+        "as for such as": 2.52,
+        "fronted": 2.6,
+        "take, give, come, go": 2.1,
+        "judge, obey, ask, meet": 0.25,
+        "one, two as noun": 1.26,
+        "but for, beside": 0.08,
+        "you": 2.27,
+        "words a sentence": 15.26,
+        "in paragraphs": 15.26,
+        "spread": 0.55,
+        "words": 11918,
+    },
 }
 
 
@@ -140,8 +259,10 @@ def base(folder: pathlib.Path) -> None:
 
 
 def row(name: str, these: dict[str, float]) -> str:
-    return (f"{name:34} {these['words']:6.0f} words, excess {excess(these):6.1f}; {these['in paragraphs']:4.1f} words a sentence of a paragraph, "
-            f"spread {these['spread']:.2f}, you {these['you']:4.1f}")
+    return (
+        f"{name:34} {these['words']:6.0f} words, excess {excess(these):6.1f}; {these['in paragraphs']:4.1f} words a sentence of a paragraph, "
+        f"spread {these['spread']:.2f}, you {these['you']:4.1f}"
+    )
 
 
 def sentences_of(top: pathlib.Path, names: list[str]) -> dict[str, list[Sentence]]:
@@ -208,7 +329,13 @@ def participles(folder: pathlib.Path) -> tuple[int, dict[str, int]]:
         except (SyntaxError, ValueError):
             continue
         for node in ast.walk(tree):
-            name = node.id if isinstance(node, ast.Name) and isinstance(node.ctx, ast.Store) else node.arg if isinstance(node, ast.arg) else ""
+            name = (
+                node.id
+                if isinstance(node, ast.Name) and isinstance(node.ctx, ast.Store)
+                else node.arg
+                if isinstance(node, ast.arg)
+                else ""
+            )
             if not name or name.isupper() or name.startswith(("is_", "has_")):
                 continue
             count += 1

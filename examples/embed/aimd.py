@@ -44,6 +44,7 @@ def simulate(sender: Sender) -> int:
     carried: dict[int, tuple[int, int]] = {}  # the pipe, and the sender's number of the packet, by the number of the shaper
     moment, came = 0, 0
     with Shaper() as shaper:
+
         def submit(pipe: int, length: int, number: int) -> None:
             fate = shaper.submit(moment, length, pipe=pipe)
             if fate.packet is not None:
@@ -70,6 +71,7 @@ def simulate(sender: Sender) -> int:
 
 def draw(sender: Sender, file: str) -> None:
     from matplotlib import pyplot
+
     moments, windows, trips = zip(*sender.seen)
     seconds = [moment / 1000 / MS for moment in moments]
     figure, (above, below) = pyplot.subplots(2, sharex=True, figsize=(9, 5))
@@ -84,8 +86,10 @@ def draw(sender: Sender, file: str) -> None:
 def main() -> None:
     sender = Sender()
     came, trips = simulate(sender), [trip / MS for _, _, trip in sender.seen]
-    print(f"{came} packets came in {SECONDS} s, {came * 1500 * 8 / SECONDS / 10**6:.2f} Mbit/s. The window was halved {sender.halvings} times. "
-          f"A round trip took {min(trips):.1f} to {max(trips):.1f} ms.")
+    print(
+        f"{came} packets came in {SECONDS} s, {came * 1500 * 8 / SECONDS / 10**6:.2f} Mbit/s. The window was halved {sender.halvings} times. "
+        f"A round trip took {min(trips):.1f} to {max(trips):.1f} ms."
+    )
     if len(sys.argv) > 1:
         draw(sender, sys.argv[1])
 

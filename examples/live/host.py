@@ -39,7 +39,11 @@ def main(port: str, server: str, *links: str) -> None:
                 client = source if one is near else client
                 pipe, ends = (THERE, (source, far.getpeername())) if one is near else (BACK, (source, client))
                 (src, sport), (dst, dport) = ends
-                [fate] = session.ask([f"c,0,submit,pipe,{pipe},{src},{dst},17,{sport},{dport},{len(data) + HEADERS},{random.getrandbits(31)},{moment}"])
+                [fate] = session.ask(
+                    [
+                        f"c,0,submit,pipe,{pipe},{src},{dst},17,{sport},{dport},{len(data) + HEADERS},{random.getrandbits(31)},{moment}"
+                    ]
+                )
                 if fate.outcome == "queued":
                     held[fate.numbers[2]] = pipe, data
             leaving, following = session.ask([f"c,0,collect,{moment}", "next"])

@@ -70,7 +70,9 @@ class Session:
     def begin(self, transcript: Optional[str]) -> None:
         """In a process group of its own, so that a ^C on the terminal is for the host alone, which then ends the session."""
         self.transcript = open(transcript, "wb") if transcript else None
-        self.process = subprocess.Popen([self.words, "live"], stdin=subprocess.PIPE, stdout=subprocess.PIPE, bufsize=0, start_new_session=True)
+        self.process = subprocess.Popen(
+            [self.words, "live"], stdin=subprocess.PIPE, stdout=subprocess.PIPE, bufsize=0, start_new_session=True
+        )
         assert self.process.stdin and self.process.stdout
         self.lines, self.answers = self.process.stdin, io.BufferedReader(self.process.stdout)  # type: ignore[type-var]
         if self.record() != BEGUN:
@@ -95,8 +97,11 @@ class Session:
         if mark == "#":
             return Answer(rest[0], [int(number) for number in rest[1:]], [])
         _, outcome, *numbers = self.fields()
-        return Answer(outcome, [int(number) for number in numbers],
-                      [self.fields()[1:] for _ in range(int(numbers[-1]))] if outcome in LISTS else [])
+        return Answer(
+            outcome,
+            [int(number) for number in numbers],
+            [self.fields()[1:] for _ in range(int(numbers[-1]))] if outcome in LISTS else [],
+        )
 
     def ask(self, lines: Iterable[str]) -> list[Answer]:
         """The answers of lines, as many as there are lines: none of them may be empty or a comment, which have no answer."""

@@ -15,7 +15,9 @@ BEGUN = time.monotonic()
 
 def asked(node, path, **body):
     """The answer of a node, or None where it has none within a second."""
-    request = urllib.request.Request(f"http://{node}:2379/v3/{path}", json.dumps(body).encode(), {"Content-Type": "application/json"})
+    request = urllib.request.Request(
+        f"http://{node}:2379/v3/{path}", json.dumps(body).encode(), {"Content-Type": "application/json"}
+    )
     try:
         with urllib.request.urlopen(request, timeout=1) as answer:
             return json.load(answer)

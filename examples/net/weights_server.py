@@ -9,7 +9,10 @@ WEIGHTS = {"a": 3, "b": 2, "c": 1}
 RATE = 12_000_000 * 1448 / 1500  # bit/s of payload
 FROM, TO = 3, 9  # s
 
-servers = {name: subprocess.Popen(["iperf3", "-s", "-1", "-J", "-p", str(port)], stdout=subprocess.PIPE, text=True) for port, name in enumerate(WEIGHTS, 5201)}
+servers = {
+    name: subprocess.Popen(["iperf3", "-s", "-1", "-J", "-p", str(port)], stdout=subprocess.PIPE, text=True)
+    for port, name in enumerate(WEIGHTS, 5201)
+}
 is_fair = True
 for name, server in servers.items():
     seconds = [one["sum"] for one in json.loads(server.communicate()[0])["intervals"] if FROM <= one["sum"]["start"] < TO]

@@ -43,9 +43,11 @@ HELP, VERSION = ("help", "-h", "--help"), ("--version", "-V")
 def list_of_commands() -> str:
     """What `hinge help` prints: the commands, and where more is told."""
     rows = "".join(f"  {name:<12}{what}\n" for name, what in COMMANDS.items())
-    return (f"usage: hinge COMMAND ..\n\nThe kit round dummynet: captures, pictures, tables and live links.\n\n{rows}"
-            "\n`hinge help COMMAND` tells more, with an example, and `hinge docs` names the pages; `hinge --version` "
-            "prints the version.\n")
+    return (
+        f"usage: hinge COMMAND ..\n\nThe kit round dummynet: captures, pictures, tables and live links.\n\n{rows}"
+        "\n`hinge help COMMAND` tells more, with an example, and `hinge docs` names the pages; `hinge --version` "
+        "prints the version.\n"
+    )
 
 
 def refuse(words: list[str]) -> NoReturn:

@@ -47,11 +47,15 @@ def filled(text: str) -> str:
     return "\n\n".join(textwrap.fill(" ".join(part.split()), WIDTH - 1) for part in text.strip().split("\n\n"))
 
 
-def parser(what: str, example: str, statuses: str = STATUSES, usage: Optional[str] = None, words: str = "") -> argparse.ArgumentParser:
+def parser(
+    what: str, example: str, statuses: str = STATUSES, usage: Optional[str] = None, words: str = ""
+) -> argparse.ArgumentParser:
     """A command line whose help says what the command does and what it takes, and ends in an example and the exit statuses.
     `words` are of a file, in lines of their own."""
     return argparse.ArgumentParser(
-        prog=NAME[0], usage=usage, description=filled(what),
+        prog=NAME[0],
+        usage=usage,
+        description=filled(what),
         epilog=f"{words}example:\n  {example.strip()}\n\n{filled(f'exit status: {statuses}')}",
         formatter_class=argparse.RawDescriptionHelpFormatter,
     )

@@ -25,25 +25,50 @@ class Answer(NamedTuple):
 
 WORDS: dict[str, Answer] = {
     # tc, mahimahi, toxiproxy, comcast, pumba without what a line of them says
-    **dict.fromkeys(("tc", "netem", "qdisc", "tbf", "htb", "comcast", "delay", "loss", "link", "latency", "limit", "bandwidth",
-                     "mm-delay", "mm-loss"), Answer(LINK, "LINKS")),
-    **dict.fromkeys(("mm-link", "mm-onoff", "trace", "mahimahi"),
-                    Answer("hinge run --link 20ms --up-trace up.trace --down-trace down.trace -- COMMAND", "LINKS")),
-    **dict.fromkeys(("toxic", "toxiproxy", "toxiproxy-cli", "proxy", "cli"),
-                    Answer("hinge run --outside --link 100ms -- COMMAND", "LIVE")),
+    **dict.fromkeys(
+        (
+            "tc",
+            "netem",
+            "qdisc",
+            "tbf",
+            "htb",
+            "comcast",
+            "delay",
+            "loss",
+            "link",
+            "latency",
+            "limit",
+            "bandwidth",
+            "mm-delay",
+            "mm-loss",
+        ),
+        Answer(LINK, "LINKS"),
+    ),
+    **dict.fromkeys(
+        ("mm-link", "mm-onoff", "trace", "mahimahi"),
+        Answer("hinge run --link 20ms --up-trace up.trace --down-trace down.trace -- COMMAND", "LINKS"),
+    ),
+    **dict.fromkeys(
+        ("toxic", "toxiproxy", "toxiproxy-cli", "proxy", "cli"), Answer("hinge run --outside --link 100ms -- COMMAND", "LIVE")
+    ),
     "pumba": Answer("sudo hinge run --netns PID --link 100ms", "LIVE"),
     "udp-proxy": Answer("hinge udp 5000 HOST:PORT 'pipe 1 config delay 20'", "LIVE"),
     # nets
-    **dict.fromkeys(("mn", "mininet", "containernet", "topo", "topology", "create", "host", "hosts", "pingall", "cluster"),
-                    Answer(NET, "NET")),
+    **dict.fromkeys(
+        ("mn", "mininet", "containernet", "topo", "topology", "create", "host", "hosts", "pingall", "cluster"), Answer(NET, "NET")
+    ),
     **dict.fromkeys(("start", "launch", "daemon"), Answer("hinge up FILE", "NET")),
     **dict.fromkeys(("stop", "kill", "end", "quit", "delete", "remove", "rm"), Answer("hinge down NAME", "NET")),
     **dict.fromkeys(("list", "ls", "ps", "show", "info"), Answer("hinge status NAME", "NET")),
     **dict.fromkeys(("cut", "heal", "partition", "isolate", "restart", "set"), Answer("hinge change NAME cut HOST 5s", "NET")),
     **dict.fromkeys(("sh", "bash", "shell", "enter", "attach", "ssh"), Answer("hinge exec NAME HOST -- COMMAND", "NET")),
-    **dict.fromkeys(("nemesis", "chaos", "jepsen"), Answer(f"{NET}, with a line `nemesis partition-halves every 10s for 3s`", "NET")),
+    **dict.fromkeys(
+        ("nemesis", "chaos", "jepsen"), Answer(f"{NET}, with a line `nemesis partition-halves every 10s for 3s`", "NET")
+    ),
     # ipfw and its relations
-    **dict.fromkeys(("pipe", "queue", "dnctl", "pfctl", "sched"), Answer("hinge run --line 'pipe 1 config bw 10Mbit/s' -- COMMAND", "LINKS")),
+    **dict.fromkeys(
+        ("pipe", "queue", "dnctl", "pfctl", "sched"), Answer("hinge run --line 'pipe 1 config bw 10Mbit/s' -- COMMAND", "LINKS")
+    ),
     **dict.fromkeys(("replay", "audit", "live"), Answer("dummynet replay CONFIG PACKETS, or dummynet audit HISTORY", "FILES")),
     # commands of older versions
     "stats": Answer("hinge look SOURCE, with --csv, or -o FILE.csv", "CAPTURE"),
@@ -58,20 +83,43 @@ WORDS: dict[str, Answer] = {
     **dict.fromkeys(("man", "doc", "manual", "pages", "readme", "info-page"), Answer("hinge docs")),
     **dict.fromkeys(("example", "examples", "tutorial", "demo", "hello", "quickstart"), Answer(RUN, "LIVE")),
     **dict.fromkeys(("test", "pytest", "fixture"), Answer("hinge docs TESTING")),
-    **dict.fromkeys(("plot", "graph", "draw", "chart", "png", "report", "analyze", "analyse", "log", "logs", "history", "view", "open"),
-                    Answer("hinge look HISTORY -o picture.png", "CAPTURE")),
-    **dict.fromkeys(("capture", "pcap", "tcpdump", "wireshark", "import", "convert"),
-                    Answer("hinge packets CAPTURE -o packets.csv", "CAPTURE")),
-    **dict.fromkeys(("simulate", "sim", "simulation", "--simulated", "deterministic"),
-                    Answer("hinge run --simulated --seed 1 --link '10Mbit/s 20ms' -- COMMAND", "SIMULATED")),
-    **dict.fromkeys(("emulate", "emulator", "exec-link", "throttle", "slow", "shape", "limit-rate", "with", "wrap", "ping", "curl", "wget",
-                     "iperf3"), Answer(RUN, "LIVE")),
+    **dict.fromkeys(
+        ("plot", "graph", "draw", "chart", "png", "report", "analyze", "analyse", "log", "logs", "history", "view", "open"),
+        Answer("hinge look HISTORY -o picture.png", "CAPTURE"),
+    ),
+    **dict.fromkeys(
+        ("capture", "pcap", "tcpdump", "wireshark", "import", "convert"), Answer("hinge packets CAPTURE -o packets.csv", "CAPTURE")
+    ),
+    **dict.fromkeys(
+        ("simulate", "sim", "simulation", "--simulated", "deterministic"),
+        Answer("hinge run --simulated --seed 1 --link '10Mbit/s 20ms' -- COMMAND", "SIMULATED"),
+    ),
+    **dict.fromkeys(
+        (
+            "emulate",
+            "emulator",
+            "exec-link",
+            "throttle",
+            "slow",
+            "shape",
+            "limit-rate",
+            "with",
+            "wrap",
+            "ping",
+            "curl",
+            "wget",
+            "iperf3",
+        ),
+        Answer(RUN, "LIVE"),
+    ),
     **dict.fromkeys(("monitor", "watch", "top", "stat", "metrics"), Answer("hinge status NAME")),
     **dict.fromkeys(("validate", "lint", "verify", "explain"), Answer("hinge check FILE")),
     **dict.fromkeys(("fuzz", "explore", "seeds", "shrink"), Answer("hinge search FILE.net", "SIMULATED")),
     **dict.fromkeys(("build-kernel", "uml", "linux"), Answer("hinge kernel", "SIMULATED")),
-    **dict.fromkeys(("web", "gui", "ui", "server", "serve", "dashboard"),
-                    Answer("hinge look HISTORY -o page.html; there is no server", "CAPTURE")),
+    **dict.fromkeys(
+        ("web", "gui", "ui", "server", "serve", "dashboard"),
+        Answer("hinge look HISTORY -o page.html; there is no server", "CAPTURE"),
+    ),
     **dict.fromkeys(("install", "setup", "update", "upgrade"), Answer("./install in a clone", "LIVE")),
 }
 
@@ -87,12 +135,12 @@ def of_link(words: Sequence[str], more: str = "") -> Optional[Answer]:
 def of_tc(words: Sequence[str]) -> Optional[Answer]:
     """A line of tc that adds or changes a qdisc."""
     if "netem" in words:
-        netem = Netem(words[list(words).index("netem") + 1:]).read()
+        netem = Netem(words[list(words).index("netem") + 1 :]).read()
         answer = of_link(netem.link, f" --loss {netem.model}" if netem.model else "")
         if answer is not None and netem.lacking:
             return answer._replace(write=f"{answer.write}; a link has no {', '.join(netem.lacking)}")
         return answer
-    return of_link(tbf(words[list(words).index("tbf") + 1:])) if "tbf" in words else None
+    return of_link(tbf(words[list(words).index("tbf") + 1 :])) if "tbf" in words else None
 
 
 def of_mahimahi(words: Sequence[str]) -> Optional[Answer]:
@@ -126,7 +174,9 @@ READERS: dict[str, Callable[[Sequence[str]], Optional[Answer]]] = {
     **dict.fromkeys(("ipfw", "dnctl", "pipe", "queue"), of_ipfw),
     **dict.fromkeys(("toxic", "toxiproxy-cli"), lambda words: of_link(toxic(words), " --outside")),
     "comcast": lambda words: of_link(comcast(words)),
-    "pumba": lambda words: Answer(f"sudo hinge run --netns PID --link {shlex.quote(' '.join(pumba(words)))}", "LIVE") if pumba(words) else None,
+    "pumba": lambda words: Answer(f"sudo hinge run --netns PID --link {shlex.quote(' '.join(pumba(words)))}", "LIVE")
+    if pumba(words)
+    else None,
 }
 
 

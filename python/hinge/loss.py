@@ -119,7 +119,7 @@ def read_rates(text: str) -> list[Fraction]:
     rates = [Fraction(rate) for rate in texts]
     for rate in rates:
         parts(rate)
-    return rates + [Fraction(1), Fraction(0)][len(rates) - 2:]
+    return rates + [Fraction(1), Fraction(0)][len(rates) - 2 :]
 
 
 Maker = Callable[[int, int], Words]  # of a seed and a direction

@@ -55,8 +55,7 @@ def refuse_inputs(outputs: Iterable[Name], inputs: Iterable[Name]) -> None:
     for name in outputs:
         if is_file(name):
             if place(name) in width:
-                raise Fault(f"{name} would be written over {width[place(name)]}: give the output a name of its own",
-                            COMMAND_LINE)
+                raise Fault(f"{name} would be written over {width[place(name)]}: give the output a name of its own", COMMAND_LINE)
             width[place(name)] = str(name)
 
 

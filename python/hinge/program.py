@@ -30,8 +30,12 @@ def program_named(variable: str, name: str, *in_repository: str) -> str:
     for place in [path] if path else places(name, *in_repository):
         if place and os.path.isfile(place) and os.access(place, os.X_OK):
             return place
-    raise Fault(f"{variable} names {path}, which is no program" if path
-                else f"there is no program {name}: the variable {variable} can name it", MISSING)
+    raise Fault(
+        f"{variable} names {path}, which is no program"
+        if path
+        else f"there is no program {name}: the variable {variable} can name it",
+        MISSING,
+    )
 
 
 def dummynet() -> str:

@@ -46,13 +46,10 @@ if TYPE_CHECKING:
 
 MARKS = (
     (
-        "link(options, back=options, preset=name): the link of a test, as \"8Mbit/s 20ms plr 0.05\", and that of the"
+        'link(options, back=options, preset=name): the link of a test, as "8Mbit/s 20ms plr 0.05", and that of the'
         " way back if it is another"
     ),
-    (
-        "simulated(**options): the test runs in a simulated machine of its own, with options of `hinge run`, as"
-        " server=COMMAND"
-    ),
+    ("simulated(**options): the test runs in a simulated machine of its own, with options of `hinge run`, as" " server=COMMAND"),
 )
 INSIDE = "HINGE_TEST_REPORTS"  # in a simulated machine: the file that the reports of its test go to
 
@@ -60,8 +57,16 @@ INSIDE = "HINGE_TEST_REPORTS"  # in a simulated machine: the file that the repor
 class MakeUdpPath(Protocol):
     """Makes a path to a server: a port of the loopback, or HOST:PORT."""
 
-    def __call__(self, server: Union[int, str], there: Optional[str] = None, back: Optional[str] = None, *,
-                 preset: Optional[str] = None, seed: Optional[int] = None) -> UdpPath: ...
+    def __call__(
+        self,
+        server: Union[int, str],
+        there: Optional[str] = None,
+        back: Optional[str] = None,
+        *,
+        preset: Optional[str] = None,
+        seed: Optional[int] = None,
+    ) -> UdpPath:
+        ...
 
 
 def pytest_addoption(parser: pytest.Parser) -> None:
@@ -108,16 +113,18 @@ LINKS = pytest.StashKey["list[Emulated]"]()
 
 
 @pytest.fixture
-def udp_path(
-    request: pytest.FixtureRequest, emulated_links: list[Emulated], link_seed: int, tmp_path: Path
-) -> MakeUdpPath:
+def udp_path(request: pytest.FixtureRequest, emulated_links: list[Emulated], link_seed: int, tmp_path: Path) -> MakeUdpPath:
     """Makes UDP paths in real time: `udp_path(server, there, back=there)`, of a port or HOST:PORT and the options of
     two links."""
     from hinge.testing.emulated import UdpPath
 
     def make(
-        server: Union[int, str], there: Optional[str] = None, back: Optional[str] = None, *,
-        preset: Optional[str] = None, seed: Optional[int] = None
+        server: Union[int, str],
+        there: Optional[str] = None,
+        back: Optional[str] = None,
+        *,
+        preset: Optional[str] = None,
+        seed: Optional[int] = None,
     ) -> UdpPath:
         if preset is not None:
             there, back = either_way(preset, there, back)
@@ -125,8 +132,11 @@ def udp_path(
             there, back = link_of(request.node)
         history = tmp_path / f"link{len(emulated_links) + 1}.history"
         product = UdpPath(
-            f"127.0.0.1:{server}" if isinstance(server, int) else server, there, there if back is None else back,
-            link_seed if seed is None else seed, history
+            f"127.0.0.1:{server}" if isinstance(server, int) else server,
+            there,
+            there if back is None else back,
+            link_seed if seed is None else seed,
+            history,
         )
         emulated_links.append(product)
         return product
@@ -195,9 +205,7 @@ def pytest_runtest_setup(item: pytest.Item) -> None:
 
 
 @pytest.hookimpl(hookwrapper=True)  # type: ignore[misc]
-def pytest_runtest_makereport(
-    item: pytest.Item, call: pytest.CallInfo[None]
-) -> Generator[None, pytest.TestReport, None]:
+def pytest_runtest_makereport(item: pytest.Item, call: pytest.CallInfo[None]) -> Generator[None, pytest.TestReport, None]:
     outcome = yield
     report = outcome.get_result()
     if report.when == "call" and report.failed:
@@ -207,6 +215,7 @@ def pytest_runtest_makereport(
                 text = link.report()
             except Exception as fault:
                 from hinge.testing.emulated import no_report
+
                 text = no_report(fault)
             report.sections.append(("emulated link", text))
 

@@ -20,15 +20,48 @@ from __future__ import annotations
 from hingetulip.audits import Audit, audit
 from hingetulip.batches import Deliveries, Fates, Packets
 from hingetulip.errors import (
-    ClosedError, ExhaustedError, HingetulipError, HistoryError, InUseError, LineError, OutOfMemoryError, RangeError, RefusedError,
+    ClosedError,
+    ExhaustedError,
+    HingetulipError,
+    HistoryError,
+    InUseError,
+    LineError,
+    OutOfMemoryError,
+    RangeError,
+    RefusedError,
 )
 from hingetulip.library import HISTORY_LIMIT, LAST_MOMENT, LIBRARY, VERSION
 from hingetulip.records import Delivery, Fate, FlowStatus, Outcome, Rule, Verdict
 from hingetulip.service import Caller, Service
 from hingetulip.shaper import Shaper
 
-__all__ = ["HISTORY_LIMIT", "LAST_MOMENT", "LIBRARY", "VERSION", "Audit", "Caller", "ClosedError", "Deliveries",
-           "Delivery", "ExhaustedError", "Fate", "Fates", "FlowStatus", "HingetulipError", "HistoryError", "InUseError",
-           "LineError", "OutOfMemoryError", "Outcome", "Packets", "RangeError", "RefusedError", "Rule", "Service",
-           "Shaper", "Verdict", "audit"]
+__all__ = [
+    "HISTORY_LIMIT",
+    "LAST_MOMENT",
+    "LIBRARY",
+    "VERSION",
+    "Audit",
+    "Caller",
+    "ClosedError",
+    "Deliveries",
+    "Delivery",
+    "ExhaustedError",
+    "Fate",
+    "Fates",
+    "FlowStatus",
+    "HingetulipError",
+    "HistoryError",
+    "InUseError",
+    "LineError",
+    "OutOfMemoryError",
+    "Outcome",
+    "Packets",
+    "RangeError",
+    "RefusedError",
+    "Rule",
+    "Service",
+    "Shaper",
+    "Verdict",
+    "audit",
+]
 __version__ = VERSION

@@ -60,7 +60,7 @@ class Audit:
         text = memoryview(part).cast("B")
         with self._turn:
             for at in range(0, max(len(text), 1), PART):
-                taken = bytes(text[at:at + PART])
+                taken = bytes(text[at : at + PART])
                 self._succeed(CALLS.dn_audit_feed(self._self, taken, c_size_t(len(taken))))
 
     def finish(self) -> Verdict:
@@ -89,9 +89,7 @@ class Audit:
     def __enter__(self) -> Audit:
         return self
 
-    def __exit__(
-        self, kind: Optional[type[BaseException]], error: Optional[BaseException], trace: Optional[TracebackType]
-    ) -> None:
+    def __exit__(self, kind: Optional[type[BaseException]], error: Optional[BaseException], trace: Optional[TracebackType]) -> None:
         self.close()
 
     def __del__(self) -> None:

@@ -47,9 +47,12 @@ class Answers(Batch, Sequence[Item], Generic[Item]):
     READ: Any
 
     @overload
-    def __getitem__(self, place: int) -> Item: ...
+    def __getitem__(self, place: int) -> Item:
+        ...
+
     @overload
-    def __getitem__(self, place: slice) -> list[Item]: ...
+    def __getitem__(self, place: slice) -> list[Item]:
+        ...
 
     def __getitem__(self, place: Union[int, slice]) -> Union[Item, list[Item]]:
         if isinstance(place, slice):
@@ -114,17 +117,39 @@ class Packets(Batch):
     dport = Column("Ports, 0 to 65535.")
     word = Column("Random words: a packet is lost where the low 31 bits of its word are below the loss rate times 2^31.")
 
-    def __init__(self, count: int, *, moment: Values, length: Values, pipe: Optional[Values] = None, queue: Optional[Values] = None,
-                 src: Values = 0, dst: Values = 0, proto: Values = 0, sport: Values = 0, dport: Values = 0,
-                 word: Optional[Values] = None) -> None:
+    def __init__(
+        self,
+        count: int,
+        *,
+        moment: Values,
+        length: Values,
+        pipe: Optional[Values] = None,
+        queue: Optional[Values] = None,
+        src: Values = 0,
+        dst: Values = 0,
+        proto: Values = 0,
+        sport: Values = 0,
+        dport: Values = 0,
+        word: Optional[Values] = None,
+    ) -> None:
         """`count` packets, each to the pipe or to the queue of its number. Where no word is given, each `submit_many` draws new ones."""
         number = queue if pipe is None else pipe
         if number is None or (pipe is not None and queue is not None):
             raise TypeError("packets are sent to a pipe or to a queue")
         super().__init__(bytearray(PACKET.record.size * count))
         self.draws = word is None
-        given = {"moment": moment, "length": length, "number": number, "kind": int(pipe is None), "src": src, "dst": dst, "proto": proto,
-                 "sport": sport, "dport": dport, "word": 0 if word is None else word}
+        given = {
+            "moment": moment,
+            "length": length,
+            "number": number,
+            "kind": int(pipe is None),
+            "src": src,
+            "dst": dst,
+            "proto": proto,
+            "sport": sport,
+            "dport": dport,
+            "word": 0 if word is None else word,
+        }
         for name, values in given.items():
             self._fill(name, values)
 

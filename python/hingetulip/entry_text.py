@@ -37,10 +37,10 @@ class EntryText:
             status = call(CALLER, *entry, *room)
         if status:
             raise failure(status)
-        return text[:self.length.value]
+        return text[: self.length.value]
 
     def short(self, status: int) -> memoryview:
         """The text of a submit, an advance or one delivery, which has less than 256 bytes, by the status of the call."""
         if status:
             raise failure(status)
-        return self._short[:self.length.value]
+        return self._short[: self.length.value]

@@ -30,7 +30,7 @@ class HistoryFile:
     def flush(self) -> None:
         """Writes what was appended."""
         while self._waiting:
-            del self._waiting[:self._file.write(self._waiting)]
+            del self._waiting[: self._file.write(self._waiting)]
 
     def end(self, entries: int) -> None:
         """Ends the history, which has so many entries, and closes the file. After an OSError it can be called again."""

@@ -20,15 +20,33 @@ class Layout:
 
     def column(self, name: str, records: Union[bytearray, memoryview]) -> memoryview:
         """A field of all records in a buffer, read and written in place."""
-        before = list(self.codes.values())[:list(self.codes).index(name)]
+        before = list(self.codes.values())[: list(self.codes).index(name)]
         first, width = calcsize("=" + "".join(before)), self.width(name)
-        return memoryview(records).cast("B").cast(self.codes[name])[first // width::self.size // width]
+        return memoryview(records).cast("B").cast(self.codes[name])[first // width :: self.size // width]
 
 
-PACKET = Layout(moment="Q", src="I", dst="I", word="I", sport="H", dport="H", length="H", number="H", kind="B", proto="B", reserved="2x")
+PACKET = Layout(
+    moment="Q", src="I", dst="I", word="I", sport="H", dport="H", length="H", number="H", kind="B", proto="B", reserved="2x"
+)
 FATE = Layout(at="Q", flow="Q", packet="Q", outcome="I", reserved="4x")
 DELIVERY = Layout(due="Q", packet="Q", flow="Q", start="Q", reserved="8x")
-FLOW = Layout(flow="Q", queued="Q", bytes="Q", lost="Q", full="Q", started="Q", discarded="Q", src="I", dst="I", sport="H", dport="H",
-              number="H", pipe="H", kind="B", proto="B", reserved="6x")
+FLOW = Layout(
+    flow="Q",
+    queued="Q",
+    bytes="Q",
+    lost="Q",
+    full="Q",
+    started="Q",
+    discarded="Q",
+    src="I",
+    dst="I",
+    sport="H",
+    dport="H",
+    number="H",
+    pipe="H",
+    kind="B",
+    proto="B",
+    reserved="6x",
+)
 FAULT = Layout(word="Q", kind="I", reserved="4x")
 VERDICT = Layout(entries="Q", first="Q", finding="I", reserved="4x")

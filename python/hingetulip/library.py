@@ -8,7 +8,13 @@ from pathlib import Path
 from typing import Iterator
 
 from hingetulip.errors import (
-    ClosedError, ExhaustedError, HingetulipError, HistoryError, OutOfMemoryError, RangeError, RefusedError,
+    ClosedError,
+    ExhaustedError,
+    HingetulipError,
+    HistoryError,
+    OutOfMemoryError,
+    RangeError,
+    RefusedError,
 )
 
 NAMES = ("libhingetulip.so.1", "libhingetulip.so")
@@ -46,12 +52,34 @@ class Handle(Structure):
     _fields_ = [("at", c_void_p), ("open", c_bool)]
 
 
-FUNCTIONS = ("dn_version", "dn_open", "dn_open_with_key", "dn_close", "dn_configure", "dn_submit", "dn_submit_many", "dn_advance",
-             "dn_collect", "dn_show", "dn_wake")
+FUNCTIONS = (
+    "dn_version",
+    "dn_open",
+    "dn_open_with_key",
+    "dn_close",
+    "dn_configure",
+    "dn_submit",
+    "dn_submit_many",
+    "dn_advance",
+    "dn_collect",
+    "dn_show",
+    "dn_wake",
+)
 # An older library lacks some of these: it has the first four from 1.2 on, the next two from 1.3 on and the others from 1.4 on. It
 # serves those who don't call them.
-LATER_FUNCTIONS = ("dn_reserve", "dn_submit_text", "dn_advance_text", "dn_collect_text", "dn_configure_text", "dn_read_packets",
-                   "dn_audit_open", "dn_audit_open_with_key", "dn_audit_feed", "dn_audit_finish", "dn_audit_close")
+LATER_FUNCTIONS = (
+    "dn_reserve",
+    "dn_submit_text",
+    "dn_advance_text",
+    "dn_collect_text",
+    "dn_configure_text",
+    "dn_read_packets",
+    "dn_audit_open",
+    "dn_audit_open_with_key",
+    "dn_audit_feed",
+    "dn_audit_finish",
+    "dn_audit_close",
+)
 
 
 def failure(status: int) -> HingetulipError:

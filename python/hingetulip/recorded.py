@@ -49,10 +49,24 @@ class RecordedShaper(Shaper):
                 self._note(self._text.written(CALLS.dn_configure_text, *asked))
             self._succeed(status)
 
-    def submit(self, moment: int, length: int, *, pipe: Optional[int] = None, queue: Optional[int] = None, src: int = 0, dst: int = 0,
-               proto: int = 0, sport: int = 0, dport: int = 0, word: Optional[int] = None) -> Fate:
+    def submit(
+        self,
+        moment: int,
+        length: int,
+        *,
+        pipe: Optional[int] = None,
+        queue: Optional[int] = None,
+        src: int = 0,
+        dst: int = 0,
+        proto: int = 0,
+        sport: int = 0,
+        dport: int = 0,
+        word: Optional[int] = None,
+    ) -> Fate:
         with self._noting:
-            fate = super().submit(moment, length, pipe=pipe, queue=queue, src=src, dst=dst, proto=proto, sport=sport, dport=dport, word=word)
+            fate = super().submit(
+                moment, length, pipe=pipe, queue=queue, src=src, dst=dst, proto=proto, sport=sport, dport=dport, word=word
+            )
             self._note(self._text.short(CALLS.dn_submit_text(*self._submit_text)))
             return fate
 

@@ -22,9 +22,22 @@ from hingetulip.records import Delivery, Fate, FlowStatus
 from hingetulip.shaper import NEITHER_OR_BOTH, NOTHING, SECRET, encoded, pack_moment, read_flow, unpackable
 
 BUSY, NO_ENTRY = 15, 18
-FUNCTIONS = ("dn_service_open", "dn_service_open_with_key", "dn_service_close", "dn_caller_close", "dn_caller_configure", "dn_caller_submit",
-             "dn_caller_advance", "dn_caller_collect", "dn_caller_deliveries", "dn_caller_show", "dn_caller_flows", "dn_caller_wake",
-             "dn_service_take", "dn_service_text")
+FUNCTIONS = (
+    "dn_service_open",
+    "dn_service_open_with_key",
+    "dn_service_close",
+    "dn_caller_close",
+    "dn_caller_configure",
+    "dn_caller_submit",
+    "dn_caller_advance",
+    "dn_caller_collect",
+    "dn_caller_deliveries",
+    "dn_caller_show",
+    "dn_caller_flows",
+    "dn_caller_wake",
+    "dn_service_take",
+    "dn_service_text",
+)
 # A library of before 1.3 lacks it. Entries are then written one by one.
 LATER_FUNCTIONS = ("dn_service_texts",)
 FIRST_ROOM, MOST_CALLERS = 16384, 15
@@ -129,8 +142,20 @@ class Caller:
             raise LineError(FAULT_KINDS[kind], word, text.decode("utf-8", "replace"))
         succeed(status)
 
-    def submit(self, moment: int, length: int, *, pipe: Optional[int] = None, queue: Optional[int] = None, src: int = 0, dst: int = 0,
-               proto: int = 0, sport: int = 0, dport: int = 0, word: Optional[int] = None) -> Fate:
+    def submit(
+        self,
+        moment: int,
+        length: int,
+        *,
+        pipe: Optional[int] = None,
+        queue: Optional[int] = None,
+        src: int = 0,
+        dst: int = 0,
+        proto: int = 0,
+        sport: int = 0,
+        dport: int = 0,
+        word: Optional[int] = None,
+    ) -> Fate:
         """A packet of `length` bytes arrives at a pipe or a queue at `moment` ns, as by Shaper.submit, and this is what becomes of it."""
         number, kind = (queue, 1) if pipe is None else (pipe, 0)
         if number is None or kind == 0 and queue is not None:
@@ -140,8 +165,9 @@ class Caller:
             try:
                 PACKET.record.pack_into(self._packet, 0, moment, src, dst, drawn, sport, dport, length, number, kind, proto)
             except StructError:
-                raise unpackable(moment=moment, src=src, dst=dst, word=drawn, sport=sport, dport=dport, length=length, number=number,
-                                 proto=proto) from None
+                raise unpackable(
+                    moment=moment, src=src, dst=dst, word=drawn, sport=sport, dport=dport, length=length, number=number, proto=proto
+                ) from None
             succeed(answered(self._calls.dn_caller_submit, self._self, byref(self._packet), byref(self._fate), self._holder))
             at, flow, packet, outcome = FATE.record.unpack(self._fate)
         return make_fate((QUEUED, at, flow, packet)) if outcome == 0 else read_fate(at, flow, packet, outcome)
@@ -210,10 +236,15 @@ class Service:
         self._handle, self._handles = Handle(), (Handle * callers)()
         self._text, self._texts = (c_char * FIRST_ROOM)(), texts_of(self._calls)
         high, low = SECRET.unpack(urandom(SECRET.size))
-        succeed(self._calls.dn_service_open_with_key(byref(self._handle), self._handles, c_size_t(len(self._handles)), c_uint64(high), c_uint64(low)))
+        succeed(
+            self._calls.dn_service_open_with_key(
+                byref(self._handle), self._handles, c_size_t(len(self._handles)), c_uint64(high), c_uint64(low)
+            )
+        )
         seeds, calls = Random(seed), loaded(PyDLL(LIBRARY))
-        self.callers = tuple(Caller(calls, byref(self._handles, number * sizeof(Handle)), number, seeds.getrandbits(64))
-                             for number in range(callers))
+        self.callers = tuple(
+            Caller(calls, byref(self._handles, number * sizeof(Handle)), number, seeds.getrandbits(64)) for number in range(callers)
+        )
 
     def history(self, path: Union[str, PathLike[str]]) -> None:
         """From now on what is taken out goes to this file, which is made anew. It has to be called before anything was taken."""
@@ -291,4 +322,4 @@ class Service:
                 continue
             succeed(status)
             if self._file is not None:
-                self._file.write(memoryview(self._text)[:size.value])
+                self._file.write(memoryview(self._text)[: size.value])

@@ -42,9 +42,26 @@ def unpackable(**fields: Any) -> Exception:
     return AssertionError(fields)
 
 
-def read_flow(flow: int, queued: int, size: int, lost: int, full: int, started: int, discarded: int, src: int, dst: int, sport: int,
-              dport: int, number: int, pipe: int, kind: int, proto: int) -> FlowStatus:
-    return FlowStatus(flow, number if kind else None, pipe, src, dst, proto, sport, dport, queued, size, lost, full, started, discarded)
+def read_flow(
+    flow: int,
+    queued: int,
+    size: int,
+    lost: int,
+    full: int,
+    started: int,
+    discarded: int,
+    src: int,
+    dst: int,
+    sport: int,
+    dport: int,
+    number: int,
+    pipe: int,
+    kind: int,
+    proto: int,
+) -> FlowStatus:
+    return FlowStatus(
+        flow, number if kind else None, pipe, src, dst, proto, sport, dport, queued, size, lost, full, started, discarded
+    )
 
 
 class Turn:
@@ -85,7 +102,7 @@ class Listing:
         if status:
             raise failure(status)
         count = self.count.value
-        return records[:self.size * count] if count else NOTHING
+        return records[: self.size * count] if count else NOTHING
 
 
 class Shaper:
@@ -159,8 +176,20 @@ class Shaper:
             raise LineError(FAULT_KINDS[kind], word, line.decode("utf-8", "replace"))
         return status
 
-    def submit(self, moment: int, length: int, *, pipe: Optional[int] = None, queue: Optional[int] = None, src: int = 0, dst: int = 0,
-               proto: int = 0, sport: int = 0, dport: int = 0, word: Optional[int] = None) -> Fate:
+    def submit(
+        self,
+        moment: int,
+        length: int,
+        *,
+        pipe: Optional[int] = None,
+        queue: Optional[int] = None,
+        src: int = 0,
+        dst: int = 0,
+        proto: int = 0,
+        sport: int = 0,
+        dport: int = 0,
+        word: Optional[int] = None,
+    ) -> Fate:
         """A packet of `length` bytes arrives at a pipe or a queue at `moment` ns, and this is what becomes of it.
 
         Addresses are numbers: 10.0.0.1 is 0x0a000001. The packet is lost where the low 31 bits of its word are below the loss rate
@@ -182,8 +211,9 @@ class Shaper:
             status = CALLS.dn_submit(*self._submitted)
             at, flow, packet, outcome = unpack_fate(self._fate)
         except StructError:
-            raise unpackable(moment=moment, src=src, dst=dst, word=word, sport=sport, dport=dport, length=length, number=number,
-                             proto=proto) from None
+            raise unpackable(
+                moment=moment, src=src, dst=dst, word=word, sport=sport, dport=dport, length=length, number=number, proto=proto
+            ) from None
         finally:
             lock.release()
         if status:
@@ -202,15 +232,24 @@ class Shaper:
         given, written = (byref((c_char * len(records)).from_buffer(records)) for records in (packets.records, fates))
         with self._turn:
             status = CALLS.dn_submit_many(self._self, given, c_size_t(count), written, c_size_t(count), byref(self._number))
-            answered = Fates(memoryview(fates)[:FATE.size * self._number.value])
+            answered = Fates(memoryview(fates)[: FATE.size * self._number.value])
         if status:
             error = failure(status)
             error.fates = answered
             raise error
         return answered
 
-    def reserve(self, *, pipe: Optional[int] = None, queue: Optional[int] = None, src: int = 0, dst: int = 0, proto: int = 0,
-                sport: int = 0, dport: int = 0) -> bool:
+    def reserve(
+        self,
+        *,
+        pipe: Optional[int] = None,
+        queue: Optional[int] = None,
+        src: int = 0,
+        dst: int = 0,
+        proto: int = 0,
+        sport: int = 0,
+        dport: int = 0,
+    ) -> bool:
         """Makes room for a packet to come, and tells whether it is there: it isn't before the first packet of a flow.
 
         The library then takes no memory for `submit` of such a packet, of any length, if at most `advance`, `collect`, `show` and

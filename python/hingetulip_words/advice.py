@@ -8,12 +8,23 @@ from typing import Sequence
 
 from hingetulip_words.values import FIELD_BITS, FORMS, Advice, fault_of, mask, mask_bits, wrong_form
 
-OPTIONS = {"pipe": ["bw", "delay", "queue", "plr", "buckets", "mask"],
-           "queue": ["pipe", "weight", "queue", "plr", "buckets", "mask"]}
+OPTIONS = {
+    "pipe": ["bw", "delay", "queue", "plr", "buckets", "mask"],
+    "queue": ["pipe", "weight", "queue", "plr", "buckets", "mask"],
+}
 OTHER_NAMES = {
-    "loss": "plr", "drop": "plr", "bandwidth": "bw", "rate": "bw", "speed": "bw", "latency": "delay", "lat": "delay",
+    "loss": "plr",
+    "drop": "plr",
+    "bandwidth": "bw",
+    "rate": "bw",
+    "speed": "bw",
+    "latency": "delay",
+    "lat": "delay",
     "limit": "queue",
-    "qlen": "queue", "slots": "queue", "prio": "weight", "netmask": "mask",
+    "qlen": "queue",
+    "slots": "queue",
+    "prio": "weight",
+    "netmask": "mask",
 }
 UNIT = re.compile(r"[KMGkmg]?(bit|bits|[Bb]yte|[Bb]ytes)/s|ms|K|KB|Kbytes?|[KMG]")
 UNKNOWN_ELSEWHERE = ("jitter", "duplicate", "reorder", "corrupt")
@@ -32,11 +43,12 @@ def first_word(text: str) -> Advice:
     if found := re.fullmatch(r"(pipe|queue)(\d+)", text):
         return Advice("no blank before the number", f"write {found[1]} {found[2]}", f"{found[1]} {found[2]}")
     if text in ("add", "-q", "-f") or text.isdigit():
-        return Advice("a rule of the firewall; here each packet names its pipe or queue itself",
-                      "leave this line out (`hinge ipfw` takes the lines out of such a file)")
+        return Advice(
+            "a rule of the firewall; here each packet names its pipe or queue itself",
+            "leave this line out (`hinge ipfw` takes the lines out of such a file)",
+        )
     if text == "sched":
-        return Advice("schedulers other than WF2Q+ are left out",
-                      "leave this line out; queues on a pipe share it by weight")
+        return Advice("schedulers other than WF2Q+ are left out", "leave this line out; queues on a pipe share it by weight")
     return Advice("no line begins so", "write pipe N config .. or queue N config pipe P ..")
 
 
@@ -61,8 +73,9 @@ def missing_value(text: str, following: str = "") -> Advice:
     if text != "mask":
         return Advice("its value is missing", FORMS.get(text, "write a number behind it"))
     bits = mask_bits(following) or "0xffffffff"
-    return Advice("a mask names the fields that tell flows apart",
-                  f"write mask src-ip {bits}, or dst-ip, src-port, dst-port, proto, all")
+    return Advice(
+        "a mask names the fields that tell flows apart", f"write mask src-ip {bits}, or dst-ip, src-port, dst-port, proto, all"
+    )
 
 
 def left_out(before: str, text: str) -> Advice:
@@ -81,16 +94,16 @@ def option_word(kind: str, before: str, text: str, more: Sequence[str] = ()) -> 
     options, other = OPTIONS.get(kind, []), "queue" if kind == "pipe" else "pipe"
     takes = f"a {kind} takes {', '.join(options)}"
     if "=" in text and text.partition("=")[0] in (*options, *more):
-        return Advice("a blank parts an option from its value", f"write {text.replace('=', ' ', 1)}",
-                      text.replace("=", " ", 1))
+        return Advice("a blank parts an option from its value", f"write {text.replace('=', ' ', 1)}", text.replace("=", " ", 1))
     if text in (";", ","):
-        return Advice("blanks alone part the words, and a line one command from the next",
-                      "begin a new line" if text == ";" else "leave it out")
+        return Advice(
+            "blanks alone part the words, and a line one command from the next",
+            "begin a new line" if text == ";" else "leave it out",
+        )
     if UNIT.fullmatch(text) and before.isdigit():
         return Advice("a number and its unit are one word", f"write {before}{text}")
     if text in OPTIONS[other]:
-        return Advice(f"an option of {other}s, and this line is of a {kind}",
-                      f"write it in the line of the {other}; {takes}")
+        return Advice(f"an option of {other}s, and this line is of a {kind}", f"write it in the line of the {other}; {takes}")
     if text.lower() in options:
         return Advice("keywords are lower case", f"write {text.lower()}", text.lower())
     if text in UNKNOWN_ELSEWHERE:
@@ -110,7 +123,7 @@ def advice(words: list[str], number: int, cause: str) -> Advice:
         return Advice("the queue's line names no pipe", f"write {text} {words[place + 1]} config pipe 1 ..")
     if cause == "missing value":
         return missing_value(text, words[place + 1] if place + 1 < len(words) else "")
-    if at >= 2 and "delete" in words[start + 1:start + 3]:
+    if at >= 2 and "delete" in words[start + 1 : start + 3]:
         return Advice("nothing stands behind a delete", "delete each in a line of its own")
     if at == 0:
         return first_word(text)

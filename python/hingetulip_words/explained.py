@@ -27,4 +27,4 @@ def replaced(line: str, fault: str) -> Optional[str]:
         return None
     place = int(cause[1]) - 1
     word = advice(words, place + 1, cause[2]).word
-    return None if word is None else " ".join([*words[:place], word, *words[place + 1:]])
+    return None if word is None else " ".join([*words[:place], word, *words[place + 1 :]])

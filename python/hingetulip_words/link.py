@@ -19,8 +19,7 @@ LIKE_ROOM = re.compile(r"\d+(pkts?|packets?|p|slots?|[km]?bytes?|kb|kib|mib)", r
 UNIT = re.compile(r"[kmg]?(bits?|bytes?|bps|b)(/s|ps)?|[munµ]?s|m?sec|usec|%", re.ASCII | re.IGNORECASE)
 LINE = ("ipfw", "pipe", "config")
 NETEMS = {"rate", "limit", "netem"}  # words that netem has, and no link
-LEFT_OUT = ("red", "gred", "ecn", "codel", "pie", "fq_codel", "fq_pie", "sched", "burst", "profile", "noerror",
-            "droptail")
+LEFT_OUT = ("red", "gred", "ecn", "codel", "pie", "fq_codel", "fq_pie", "sched", "burst", "profile", "noerror", "droptail")
 LIKE_A_LINE = Advice("a link has the options alone", "leave out all before them, or give the whole line by --line")
 WRITTEN = re.compile(r"write ([^,;()]+)")
 MOST_CORRECTIONS = 12  # of one text
@@ -29,8 +28,15 @@ MOST_JITTER = 1000  # ms: each has a pipe of its own
 CERTAIN = 2**31
 JITTER, DUPLICATE = "write jitter 5ms, a whole number from 1ms to 1000ms", "write duplicate 1%"
 MISSING = {"loss": "write loss 1%", "jitter": JITTER, "duplicate": DUPLICATE}
-NAMES = {"bw": "bandwidth", "delay": "delay", "queue": "queue limit", "plr": "loss rate", "weight": "weight",
-         "buckets": "number of buckets", "mask": "mask"}
+NAMES = {
+    "bw": "bandwidth",
+    "delay": "delay",
+    "queue": "queue limit",
+    "plr": "loss rate",
+    "weight": "weight",
+    "buckets": "number of buckets",
+    "mask": "mask",
+}
 
 
 class Place(Enum):
@@ -86,8 +92,7 @@ class Link(NamedTuple):
 def number_alone(word: str, following: str) -> tuple[str, Advice]:
     """Of a number without a unit, which may be the next word."""
     if not UNIT.fullmatch(following):
-        return word, Advice("a number without a unit",
-                            f"write {word}ms for a delay, {word}Mbit/s for a bandwidth or queue {word}")
+        return word, Advice("a number without a unit", f"write {word}ms for a delay, {word}Mbit/s for a bandwidth or queue {word}")
     joined = word + following
     if not (RATE.fullmatch(joined) or DELAY.fullmatch(joined)):
         joined = f"loss {joined}" if following == "%" else unknown(joined).word or joined
@@ -215,8 +220,7 @@ class Words:
         if word in LEFT_OUT:
             return WordError(word, left_out("", word))
         if self.before.isdigit() and UNIT.fullmatch(word):
-            return WordError(f"{self.before} {word}",
-                             Advice("a number and its unit are one word", f"write {self.before}{word}"))
+            return WordError(f"{self.before} {word}", Advice("a number and its unit are one word", f"write {self.before}{word}"))
         if word.isdigit():
             return WordError(*number_alone(word, self.rest[0] if self.rest else ""))
         is_value = word[:1].isdigit() or re.match(r"[-.]\d", word)
@@ -246,7 +250,7 @@ def corrected(text: str, place: Place = Place.RUN) -> Optional[str]:
     """The words of a link that a text means which isn't one: netem's, or these with each wrong word exchanged for what its refusal says."""
     text = " ".join(text.partition("#")[0].split())
     words = text.split()
-    netem = Netem(words[words.index("netem") + 1:] if "netem" in words else words).read()
+    netem = Netem(words[words.index("netem") + 1 :] if "netem" in words else words).read()
     if NETEMS & {*words} or (words[:1] == ["delay"] and len(netem.link) > 1):
         text = " ".join(netem.link) if netem.link and not netem.lacking + netem.others else text
     for _ in range(MOST_CORRECTIONS):

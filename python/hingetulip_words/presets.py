@@ -31,15 +31,13 @@ PRESETS = {
     "dsl": Preset("384Kbit/s 25ms queue 10", "1500Kbit/s 25ms queue 30", f"{PAGE} DSL"),
     "cable": Preset("1Mbit/s 14ms queue 20", "5Mbit/s 14ms queue 100", f"{PAGE} Cable"),
     "fibre": Preset("5Mbit/s 2ms queue 100", "20Mbit/s 2ms queue 420", f"{PAGE} FIOS"),
-    "satellite": Preset("10Mbit/s 20ms queue 210", "100Mbit/s 20ms queue 1000",
-                        "a low orbit, as Starlink describes its service"),
-    "geo": Preset("3Mbit/s 300ms queue 60", "25Mbit/s 300ms queue 520",
-                  "a geostationary orbit: 240 ms of way, and 60 ms on the ground"),
-    "lossy-wifi": Preset("33Mbit/s 1ms queue 690 loss 2%", "40Mbit/s 1ms queue 830 loss 2%",
-                         f"{APPLE} Wi-Fi, with losses"),
+    "satellite": Preset("10Mbit/s 20ms queue 210", "100Mbit/s 20ms queue 1000", "a low orbit, as Starlink describes its service"),
+    "geo": Preset(
+        "3Mbit/s 300ms queue 60", "25Mbit/s 300ms queue 520", "a geostationary orbit: 240 ms of way, and 60 ms on the ground"
+    ),
+    "lossy-wifi": Preset("33Mbit/s 1ms queue 690 loss 2%", "40Mbit/s 1ms queue 830 loss 2%", f"{APPLE} Wi-Fi, with losses"),
     "bad": Preset("1Mbit/s 500ms queue 20 loss 10%", "1Mbit/s 500ms queue 20 loss 10%", f"{APPLE} Very Bad Network"),
-    "lan": Preset("1Gbit/s queue 1000", "1Gbit/s queue 1000",
-                  "Gigabit Ethernet, whose delay is far below a millisecond"),
+    "lan": Preset("1Gbit/s queue 1000", "1Gbit/s queue 1000", "Gigabit Ethernet, whose delay is far below a millisecond"),
 }
 
 

@@ -7,15 +7,19 @@ from fractions import Fraction
 from typing import Callable, NamedTuple, Optional
 
 FORMS = {
-    "bw": "write 8Mbit/s, 300Kbit/s or 1MByte/s", "delay": "write whole milliseconds, as 20 or 20ms, up to 3600000",
+    "bw": "write 8Mbit/s, 300Kbit/s or 1MByte/s",
+    "delay": "write whole milliseconds, as 20 or 20ms, up to 3600000",
     "queue": "write packets, as 50 (1 to 10000), or 64Kbytes (1 to 1024)",
     "plr": "write a rate from 0 to 1, as 0.01 for 1 %",
-    "weight": "write 1 to 100", "buckets": "write 16 to 65536", "pipe": "write 1 to 65535",
+    "weight": "write 1 to 100",
+    "buckets": "write 16 to 65536",
+    "pipe": "write 1 to 65535",
 }
 LONGEST_WORD = 200  # letters; no value that is taken has as many
 FIELD_BITS = {"src-ip": 32, "dst-ip": 32, "src-port": 16, "dst-port": 16, "proto": 8}
-BANDWIDTH = re.compile(r"(\d+(?:\.\d+)?)([kmgt]?)i?"
-                       r"(b|bit|bits|byte|bytes|bps|b/s|bit/sec|bits/sec|bit/s|bits/s|byte/s|bytes/s|byte/sec|)")
+BANDWIDTH = re.compile(
+    r"(\d+(?:\.\d+)?)([kmgt]?)i?" r"(b|bit|bits|byte|bytes|bps|b/s|bit/sec|bits/sec|bit/s|bits/s|byte/s|bytes/s|byte/sec|)"
+)
 DELAY = re.compile(r"(-?)(\d+(?:\.\d+)?)(us|µs|usec|ns|s|sec|ms|msec|)")
 ROOM = re.compile(r"(\d+)(kib|mb|mbyte|mbytes|m|mib|b|byte|bytes|pkt|pkts|packet|packets|p|slots?|k|kb|kbytes?)")
 MOST_KBYTES = 1024
@@ -34,16 +38,26 @@ class Form(NamedTuple):
 NUMBER = r"(0|[1-9]\d*)"
 PERCENT = re.compile(r"(\d+(?:\.\d+)?)%", re.ASCII)
 TAKEN = {
-    "bw": Form(re.compile(NUMBER + "([kmg]?)(bits?/s|bytes?/s)?", re.ASCII | re.IGNORECASE), 0, 10**12, "a bandwidth is 0 to 1000Gbit/s"),
+    "bw": Form(
+        re.compile(NUMBER + "([kmg]?)(bits?/s|bytes?/s)?", re.ASCII | re.IGNORECASE), 0, 10**12, "a bandwidth is 0 to 1000Gbit/s"
+    ),
     "delay": Form(re.compile(NUMBER + "(ms)?", re.ASCII), 0, 3_600_000, "a delay is 0 to 3600000ms"),
-    "queue": Form(re.compile(NUMBER + "(kbytes?|kb|k)?", re.ASCII | re.IGNORECASE), 1, 10_000,
-                  "a queue has room for 1 to 10000 packets, or for 1 to 1024Kbytes"),
+    "queue": Form(
+        re.compile(NUMBER + "(kbytes?|kb|k)?", re.ASCII | re.IGNORECASE),
+        1,
+        10_000,
+        "a queue has room for 1 to 10000 packets, or for 1 to 1024Kbytes",
+    ),
     "plr": Form(re.compile(r"(?=\.?\d)\d{0,18}(\.\d{0,18})?", re.ASCII), 0, 1, "a loss rate is 0 to 1, as 0.01 for 1 %"),
     "weight": Form(re.compile(NUMBER, re.ASCII), 1, 100, "a weight is 1 to 100"),
     "buckets": Form(re.compile(NUMBER, re.ASCII), 16, 65_536, "buckets are 16 to 65536"),
     "pipe": Form(re.compile(NUMBER, re.ASCII), 1, 65_535, "pipes are 1 to 65535"),
-    **{field: Form(re.compile(NUMBER + r"|0[xX][\da-fA-F]+", re.ASCII), 0, 2**bits - 1, f"a mask of {field} has at most {bits} bits")
-       for field, bits in FIELD_BITS.items()},
+    **{
+        field: Form(
+            re.compile(NUMBER + r"|0[xX][\da-fA-F]+", re.ASCII), 0, 2**bits - 1, f"a mask of {field} has at most {bits} bits"
+        )
+        for field, bits in FIELD_BITS.items()
+    },
 }
 
 
@@ -65,7 +79,7 @@ def bandwidth(text: str) -> Advice:
     found = BANDWIDTH.fullmatch(text.lower())
     if not found:
         return Advice("not a bandwidth", FORMS["bw"])
-    is_bytes = "byte" in found[3] or "B" in text[len(found[1]) + len(found[2]):]
+    is_bytes = "byte" in found[3] or "B" in text[len(found[1]) + len(found[2]) :]
     value = Fraction(found[1]) * 1000 ** "_kmgt".index(found[2] or "_")
     for scale, letter in ((10**9, "G"), (10**6, "M"), (1000, "K"), (1, "")):
         if value and value % scale == 0:
@@ -81,17 +95,18 @@ def delay(text: str) -> Advice:
         return Advice("not a delay", FORMS["delay"])
     if found[1]:
         return Advice("a delay can't be negative", FORMS["delay"])
-    a_unit = {"u": Fraction(1, 1000), "µ": Fraction(1, 1000), "n": Fraction(1, 10**6),
-              "s": Fraction(1000)}.get(found[3][:1], Fraction(1))
+    a_unit = {"u": Fraction(1, 1000), "µ": Fraction(1, 1000), "n": Fraction(1, 10**6), "s": Fraction(1000)}.get(
+        found[3][:1], Fraction(1)
+    )
     value = Fraction(found[2]) * a_unit
     if value.denominator == 1:
         return Advice("not a delay", f"write {value}ms", f"{value}ms")
     near = max(1, round(value))
     if value < 1:
-        return Advice("dummynet has no delay below a millisecond, and no audit could judge one",
-                      "leave it out, or write 1ms", str(near))
-    return Advice("a delay is whole milliseconds, and this is none", f"write {int(value)}ms or {int(value) + 1}ms",
-                  str(near))
+        return Advice(
+            "dummynet has no delay below a millisecond, and no audit could judge one", "leave it out, or write 1ms", str(near)
+        )
+    return Advice("a delay is whole milliseconds, and this is none", f"write {int(value)}ms or {int(value) + 1}ms", str(near))
 
 
 def room(text: str) -> Advice:
@@ -103,8 +118,7 @@ def room(text: str) -> Advice:
         return Advice("not a queue limit", f"write {number}, which counts packets", str(number))
     kbytes = {"m": number * 1024, "k": number, "b": -(-number // 1024)}[unit]
     if kbytes > MOST_KBYTES:
-        return Advice("more than the 1024 Kbytes (or 10000 packets) that a queue has at most", "write 1024Kbytes",
-                      "1024Kbytes")
+        return Advice("more than the 1024 Kbytes (or 10000 packets) that a queue has at most", "write 1024Kbytes", "1024Kbytes")
     return Advice("not a queue limit", f"write {kbytes}Kbytes", f"{kbytes}Kbytes")
 
 

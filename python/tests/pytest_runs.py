@@ -58,9 +58,7 @@ class Done:
     def __init__(self, text: str, status: int) -> None:
         self.text, self.status = text, status
         last = text.strip().splitlines()[-1] if text.strip() else ""
-        self.counts = {
-            word: int(count) for count, word in re.findall(r"(\d+) (passed|failed|errors?|skipped|warnings?)", last)
-        }
+        self.counts = {word: int(count) for count, word in re.findall(r"(\d+) (passed|failed|errors?|skipped|warnings?)", last)}
 
 
 @unittest.skipIf(lacking("pytest"), "no pytest")
@@ -71,12 +69,23 @@ class Runs(unittest.TestCase):
         file = Path(folder.name) / "test_it.py"
         file.write_text(COMMON + dedent(body))
         env = {
-            **os.environ, "DUMMYNET": PROGRAM, "PYTHONPATH": str(TOP / "python"), "PYTHONDONTWRITEBYTECODE": "1",
-            "PYTEST_DISABLE_PLUGIN_AUTOLOAD": "1"
+            **os.environ,
+            "DUMMYNET": PROGRAM,
+            "PYTHONPATH": str(TOP / "python"),
+            "PYTHONDONTWRITEBYTECODE": "1",
+            "PYTEST_DISABLE_PLUGIN_AUTOLOAD": "1",
         }
         command = [
-            sys.executable, "-m", "pytest", "-p", "hinge.pytest_plugin", "-p", "no:cacheprovider",
-            f"--basetemp={folder.name}/tmp", *words, str(file)
+            sys.executable,
+            "-m",
+            "pytest",
+            "-p",
+            "hinge.pytest_plugin",
+            "-p",
+            "no:cacheprovider",
+            f"--basetemp={folder.name}/tmp",
+            *words,
+            str(file),
         ]
         done = subprocess.run(command, capture_output=True, text=True, env=env, cwd=folder.name)
         return Done(done.stdout + done.stderr, done.returncode)

@@ -20,17 +20,27 @@ from scenarios import STYLES  # noqa: E402
 from shaper_cases import histories  # noqa: E402
 
 __all__ = [
-    "STYLES", "FastDummynet", "LineFault", "answer", "bad_line", "deliveries", "model", "next_event", "packets_of",
-    "parse_line", "reply_of", "scenarios"
+    "STYLES",
+    "FastDummynet",
+    "LineFault",
+    "answer",
+    "bad_line",
+    "deliveries",
+    "model",
+    "next_event",
+    "packets_of",
+    "parse_line",
+    "reply_of",
+    "scenarios",
 ]
 
 SEED, SCENARIOS, CALLS = 35, 200, 45
-REFUSALS = {
-    "no such pipe": model.NoSuchPipe(), "pipe has queues": model.PipeHasQueues(), "no such queue": model.NoSuchQueue()
-}
+REFUSALS = {"no such pipe": model.NoSuchPipe(), "pipe has queues": model.PipeHasQueues(), "no such queue": model.NoSuchQueue()}
 REPLIES = {
-    hingetulip.Outcome.QUEUED: model.Queued, hingetulip.Outcome.LOST: model.Lost, hingetulip.Outcome.FULL: model.Full,
-    hingetulip.Outcome.NO_TARGET: model.NoTarget
+    hingetulip.Outcome.QUEUED: model.Queued,
+    hingetulip.Outcome.LOST: model.Lost,
+    hingetulip.Outcome.FULL: model.Full,
+    hingetulip.Outcome.NO_TARGET: model.NoTarget,
 }
 Scenario = tuple[hingetulip.Rule, list[model.Call], list[model.Reply]]
 
@@ -60,8 +70,15 @@ def submitted(shaper: hingetulip.Shaper, call: model.Submit) -> model.Reply:
     t, target = call.packet.tuple, {call.target.kind: call.target.number}
     return reply_of(
         shaper.submit(
-            call.moment, call.packet.len, **target, src=t.src, dst=t.dst, proto=t.proto, sport=t.sport, dport=t.dport,
-            word=call.packet.word
+            call.moment,
+            call.packet.len,
+            **target,
+            src=t.src,
+            dst=t.dst,
+            proto=t.proto,
+            sport=t.sport,
+            dport=t.dport,
+            word=call.packet.word,
         )
     )
 
@@ -69,10 +86,16 @@ def submitted(shaper: hingetulip.Shaper, call: model.Submit) -> model.Reply:
 def packets_of(calls: Sequence[model.Submit]) -> hingetulip.Packets:
     tuples = [call.packet.tuple for call in calls]
     packets = hingetulip.Packets(
-        len(calls), moment=[call.moment for call in calls], length=[call.packet.len for call in calls],
-        pipe=[call.target.number for call in calls], src=[t.src for t in tuples], dst=[t.dst for t in tuples],
-        proto=[t.proto for t in tuples], sport=[t.sport for t in tuples], dport=[t.dport for t in tuples],
-        word=[call.packet.word for call in calls]
+        len(calls),
+        moment=[call.moment for call in calls],
+        length=[call.packet.len for call in calls],
+        pipe=[call.target.number for call in calls],
+        src=[t.src for t in tuples],
+        dst=[t.dst for t in tuples],
+        proto=[t.proto for t in tuples],
+        sport=[t.sport for t in tuples],
+        dport=[t.dport for t in tuples],
+        word=[call.packet.word for call in calls],
     )
     for place, call in enumerate(calls):
         packets.kind[place] = call.target.kind == "queue"
@@ -93,12 +116,8 @@ def status(shaper: hingetulip.Shaper, masks: list[model.FiveTuple]) -> model.Rep
     told, found = [], shaper.show()
     for flow, mask in zip(found, masks):
         target = model.Target("pipe", flow.pipe) if flow.queue is None else model.Target("queue", flow.queue)
-        key = model.FlowKey(
-            target, flow.pipe, mask, model.FiveTuple(flow.src, flow.dst, flow.proto, flow.sport, flow.dport)
-        )
-        told.append(model.FlowStatus(
-                        flow.flow, key, flow.queued, flow.bytes, flow.lost, flow.full, flow.started, flow.discarded
-                    ))
+        key = model.FlowKey(target, flow.pipe, mask, model.FiveTuple(flow.src, flow.dst, flow.proto, flow.sport, flow.dport))
+        told.append(model.FlowStatus(flow.flow, key, flow.queued, flow.bytes, flow.lost, flow.full, flow.started, flow.discarded))
     return model.Status(tuple(told) if len(found) == len(masks) else ())
 
 

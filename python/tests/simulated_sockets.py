@@ -20,6 +20,7 @@ def udp(family: int = socket.AF_INET) -> socket.socket:
 
 def on(net: aio.Network, address: str, what: Awaitable[Any]) -> Any:
     """What a coroutine returns that runs on a host."""
+
     async def main() -> Any:
         return await net.hosts[address].create_task(what)
 

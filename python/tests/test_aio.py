@@ -21,6 +21,7 @@ MS = 10**6  # ns
 class Moments(unittest.TestCase):
     def test_after_an_hour(self) -> None:
         with network("bw 8Mbit/s delay 20ms") as net:
+
             async def main() -> Ends:
                 await asyncio.sleep(3600.000000123)
                 return await exchange(net, 1, 1)
@@ -63,9 +64,7 @@ class Moments(unittest.TestCase):
                 net.path(middle, leaf)
             links = [net.routes.next(near, far) for near, far in zip(leaves, leaves[1:])]
             self.assertEqual([net.links[near, middle] for near in leaves[:-1]], links)
-            self.assertEqual(
-                [net.links[middle, leaf] for leaf in leaves], [net.routes.next(middle, leaf) for leaf in leaves]
-            )
+            self.assertEqual([net.links[middle, leaf] for leaf in leaves], [net.routes.next(middle, leaf) for leaf in leaves])
             self.assertEqual([middle], list(net.routes.first))
         with aio.Network() as net:
             ring = [net.host(f"10.0.0.{n}") for n in range(5)]
@@ -117,8 +116,11 @@ class Moments(unittest.TestCase):
     def test_a_change_gives_the_whole_link(self) -> None:
         with network("bw 8Mbit/s delay 20ms plr 1 queue 5") as net:
             link = net.links[tuple(net.hosts.values())]
-            for words, line in (("plr 0", "plr 0"), ("bw 8Mbit/s mask src-ip 0xff", "bw 8Mbit/s mask src-ip 0xff"),
-                                ("loss 0.5% 4ms 1MByte/s", "plr 0.005 delay 4ms bw 1MByte/s")):
+            for words, line in (
+                ("plr 0", "plr 0"),
+                ("bw 8Mbit/s mask src-ip 0xff", "bw 8Mbit/s mask src-ip 0xff"),
+                ("loss 0.5% 4ms 1MByte/s", "plr 0.005 delay 4ms bw 1MByte/s"),
+            ):
                 link.change(words)
                 self.assertEqual(link.line, f"pipe 1 config {line}")
             for words in ("plr lots", "", " "):
@@ -129,6 +131,7 @@ class Moments(unittest.TestCase):
 
     def test_a_change_under_way(self) -> None:
         with network("delay 10ms") as net:
+
             async def main() -> Ends:
                 net.loop.call_later(2.5, lambda: net.links[tuple(net.hosts.values())].change("100ms"))
                 return await exchange(net, 5, 1)
@@ -139,8 +142,13 @@ class Moments(unittest.TestCase):
     def test_classes_share_a_link_by_weight(self) -> None:
         with aio.Network() as net:
             one, other = net.host("10.0.0.1"), net.host("10.0.0.2")
-            net.link(one, other, "8Mbit/s", classes={"heavy": "weight 3 queue 100", "light": "queue 100"},
-                     classify=lambda it: "heavy" if it.target[1] == 7 else "light")
+            net.link(
+                one,
+                other,
+                "8Mbit/s",
+                classes={"heavy": "weight 3 queue 100", "light": "queue 100"},
+                classify=lambda it: "heavy" if it.target[1] == 7 else "light",
+            )
 
             async def main() -> list[Ends]:
                 found = [await other.create_task(opened(local=("0.0.0.0", port))) for port in (7, 8)]
@@ -155,14 +163,18 @@ class Moments(unittest.TestCase):
             self.assertEqual(heavy + light, 40)
             self.assertAlmostEqual(heavy, 30, delta=2)  # one packet of each class more, at the ends of a share
 
-
     def test_jitter_overtakes_and_copies_come_twice(self) -> None:
         with tempfile.TemporaryDirectory() as folder:
             history = Path(folder) / "h"
             with aio.Network(history=history) as net:
                 one, other = net.host("10.0.0.1"), net.host("10.0.0.2")
-                net.link(one, other, "8Mbit/s 1ms", jitter=lambda it: {b"0": 10, b"1": 0, b"2": 5}[it.data[:1]],
-                         copies=lambda it: 2 if it.data[:1] == b"1" else 1)
+                net.link(
+                    one,
+                    other,
+                    "8Mbit/s 1ms",
+                    jitter=lambda it: {b"0": 10, b"1": 0, b"2": 5}[it.data[:1]],
+                    copies=lambda it: 2 if it.data[:1] == b"1" else 1,
+                )
 
                 async def main() -> Ends:
                     _, there = await other.endpoint(Ends, 7)
@@ -174,7 +186,5 @@ class Moments(unittest.TestCase):
 
                 got = net.run(main()).got
             done = subprocess.run([PROGRAM, "audit", history], capture_output=True, text=True)
-        self.assertEqual(
-            [(it[0][:1], it[2]) for it in got], [(b"1", 3 * MS), (b"1", 4 * MS), (b"2", 10 * MS), (b"0", 12 * MS)]
-        )
+        self.assertEqual([(it[0][:1], it[2]) for it in got], [(b"1", 3 * MS), (b"1", 4 * MS), (b"2", 10 * MS), (b"0", 12 * MS)])
         self.assertRegex(done.stdout, r"^lawful \d+\n$")

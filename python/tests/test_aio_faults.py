@@ -14,6 +14,7 @@ from simulated_hosts import Ends, network, opened
 class Faults(unittest.TestCase):
     def test_what_cannot_go_on(self) -> None:
         with network("") as net:
+
             async def waits() -> None:
                 await net.loop.create_future()
 
@@ -36,6 +37,7 @@ class Faults(unittest.TestCase):
         thread = threading.Thread(target=ended.wait, name="answers")
         thread.start()
         try:
+
             async def waits() -> None:
                 await asyncio.get_running_loop().create_future()
 
@@ -49,15 +51,14 @@ class Faults(unittest.TestCase):
 
     def test_names_the_hosts_of_those_who_wait(self) -> None:
         with network("") as net:
+
             async def waits() -> None:
                 await asyncio.Queue().get()
 
             async def main() -> None:
                 await net.hosts["10.0.0.2"].create_task(waits(), name="reader")
 
-            with self.assertRaisesRegex(
-                aio.Stuck, r"reader on 10\.0\.0\.2 waits in waits, .*await asyncio.Queue\(\).get\(\)"
-            ):
+            with self.assertRaisesRegex(aio.Stuck, r"reader on 10\.0\.0\.2 waits in waits, .*await asyncio.Queue\(\).get\(\)"):
                 net.run(main())
 
     def test_ports(self) -> None:
@@ -108,9 +109,7 @@ class Faults(unittest.TestCase):
                     ends.transport.sendto(b"to nobody")
                 with self.assertRaises(TypeError):
                     ends.transport.sendto("text", ("10.0.0.2", 1))
-                for data, host in (
-                    (bytes(65508), "10.0.0.2"), (b"x", "10.0.0.9"), (b"x", "10.9.9.9"), (bytes(65507), "10.0.0.2")
-                ):
+                for data, host in ((bytes(65508), "10.0.0.2"), (b"x", "10.0.0.9"), (b"x", "10.9.9.9"), (bytes(65507), "10.0.0.2")):
                     ends.transport.sendto(data, (host, 1))
                 await asyncio.sleep(1)
                 connected = await opened(remote=("10.0.0.2", 1))
@@ -168,6 +167,7 @@ class Loops(unittest.TestCase):
                 await asyncio.sleep(1)
 
         with aio.Network() as net:
+
             async def main() -> None:
                 for number in range(50):
                     net.loop.create_task(waits(number))

@@ -27,6 +27,7 @@ class Histories(unittest.TestCase):
         with tempfile.TemporaryDirectory() as folder:
             history = Path(folder) / "h"
             with network("bw 64Kbit/s plr 0.1 queue 2", history=history) as net:
+
                 async def main() -> None:
                     net.loop.call_later(0.1, lambda: net.links[tuple(net.hosts.values())].change("32Kbit/s plr 0.1 queue 2"))
                     await exchange(net, 200, 0.002)
@@ -40,19 +41,21 @@ class Histories(unittest.TestCase):
         self.assertEqual(lines[0], "dummynet-history,3")
         self.assertEqual([it for it in lines if it.startswith("#")], [])
         replies = [reply for call, reply in zip(lines, lines[1:]) if call.startswith("c,0,submit")]
-        self.assertEqual([it.row for it in dropped],
-                         [row for row, reply in enumerate(replies, 1) if not reply.startswith("r,queued")])
-
+        self.assertEqual(
+            [it.row for it in dropped], [row for row, reply in enumerate(replies, 1) if not reply.startswith("r,queued")]
+        )
 
     def test_lines_that_are_refused_or_say_nothing(self) -> None:
         with tempfile.TemporaryDirectory() as folder:
             history = Path(folder) / "h"
             with network("8Mbit/s", history=history) as net:
+
                 async def main() -> None:
                     await exchange(net, 3, 1)
                     for line, error in (
-                        ("queue 9 config pipe 999", RefusedError), ("pipe 7 delete", RefusedError),
-                        ("pipe 1 bad", LineError)
+                        ("queue 9 config pipe 999", RefusedError),
+                        ("pipe 7 delete", RefusedError),
+                        ("pipe 1 bad", LineError),
                     ):
                         with self.assertRaises(error):
                             net.obey(line)
@@ -67,7 +70,8 @@ class Histories(unittest.TestCase):
             [
                 ("c,0,configure,queue 9 config pipe 999", "r,no-such-pipe"),
                 ("c,0,configure,pipe delete 7", "r,no-such-pipe"),
-                ("c,0,configure,pipe 2 config delay 5", "r,configured"), ("c,0,configure,pipe delete 2", "r,deleted")
+                ("c,0,configure,pipe 2 config delay 5", "r,configured"),
+                ("c,0,configure,pipe delete 2", "r,deleted"),
             ],
             [pair for pair in zip(lines, lines[1:]) if pair[0].startswith("c,0,configure")][2:],
         )
@@ -79,12 +83,17 @@ class Recorded(unittest.TestCase):
             history = Path(folder) / "h"
             with RecordedShaper(history, seed=1) as shaper:
                 for line in (
-                    "pipe 1 config bw 8Mbit/s # a note", bytearray(b"queue 1 config pipe 1"), "# nothing",
-                    "queue delete 1", "pipe 1\rconfig\tbw\r8Mbit/s"
+                    "pipe 1 config bw 8Mbit/s # a note",
+                    bytearray(b"queue 1 config pipe 1"),
+                    "# nothing",
+                    "queue delete 1",
+                    "pipe 1\rconfig\tbw\r8Mbit/s",
                 ):
                     shaper.configure(line)
                 for line, error in (
-                    (b"pipe \xff", LineError), ("queue delete 1", RefusedError), ("queue 1 config pipe 9", RefusedError)
+                    (b"pipe \xff", LineError),
+                    ("queue delete 1", RefusedError),
+                    ("queue 1 config pipe 9", RefusedError),
                 ):
                     with self.assertRaises(error):
                         shaper.configure(line)
@@ -103,10 +112,12 @@ class Recorded(unittest.TestCase):
     def test_lines_are_written_in_their_canonical_form(self) -> None:
         lines = {
             "pipe 1 config bw\r8Mbit/s": "pipe 1 config bw 8000000bit/s",
-            "\tipfw pipe 2\rdelete # \"a\", b\r": "pipe delete 2",
+            '\tipfw pipe 2\rdelete # "a", b\r': "pipe delete 2",
             b"queue\t1 config weight 3 \r\r pipe 1 weight 1": "queue 1 config pipe 1",
             "queue 1 config pipe 9": "queue 1 config pipe 9",
-            "queue delete 7": "queue delete 7", "pipe 1 delete": "pipe delete 1", "queue 1 delete": "queue delete 1"
+            "queue delete 7": "queue delete 7",
+            "pipe 1 delete": "pipe delete 1",
+            "queue 1 delete": "queue delete 1",
         }
         replies = ("configured", "no-such-pipe", "configured", "no-such-pipe", "no-such-queue", "pipe-has-queues", "deleted")
         with tempfile.TemporaryDirectory() as folder:
@@ -126,7 +137,9 @@ class Recorded(unittest.TestCase):
             with RecordedShaper(history, seed=2) as shaper:
                 shaper.configure("pipe 1 config bw 8000000bit/s queue 20 plr 0.500000000000000000")
                 for i in range(300):
-                    shaper.submit(i * MS // 2, 65535 if i % 50 == 0 else 500, pipe=1 + i % 7 // 6, src=2**32 - 1 - i, dport=65535 - i)
+                    shaper.submit(
+                        i * MS // 2, 65535 if i % 50 == 0 else 500, pipe=1 + i % 7 // 6, src=2**32 - 1 - i, dport=65535 - i
+                    )
                     if i % 3 == 0:
                         shaper.advance(i * MS // 3)
                     if i % 40 == 0:

@@ -62,7 +62,7 @@ class ModulesImportedInARun(unittest.TestCase):
     def test_three_runs_by_a_seed_are_one(self) -> None:
         runs = {aio.run(self.main(), seed=5) for _ in range(3)}
         self.assertEqual(1, len(runs), runs)
-        (_, monotonic, moment), = runs
+        ((_, monotonic, moment),) = runs
         self.assertEqual((7.0, 1_700_000_007.0), (monotonic, moment))
         self.assertNotEqual(runs, {aio.run(self.main(), seed=6)})
 
@@ -77,7 +77,8 @@ class ModulesImportedInARun(unittest.TestCase):
         self.assertTrue(later.getaddrinfo("127.0.0.1", 9))
 
     def test_queues_of_threads_wait_by_the_real_clock(self) -> None:
-        done = run_alone("""
+        done = run_alone(
+            """
             import asyncio
             from hingetulip import aio
             async def main():
@@ -93,7 +94,8 @@ class ModulesImportedInARun(unittest.TestCase):
                 queue.Queue().get(timeout=0.01)
             except queue.Empty:
                 print("empty behind the run")
-            """)
+            """
+        )
         self.assertEqual(("empty in the run\nempty behind the run\n", ""), (done.stdout, done.stderr))
 
 
@@ -124,15 +126,23 @@ class Real(unittest.TestCase):
     def test_names_of_services(self) -> None:
         async def main() -> list[object]:
             aio.network().host("10.0.0.1", name="server")
-            found = [socket.getaddrinfo("server", port, type=kind)[0][1:] for port, kind in (
-                ("ntp", socket.SOCK_DGRAM), ("http", socket.SOCK_STREAM), (b"domain", 0), ("8080", 0))]
+            found = [
+                socket.getaddrinfo("server", port, type=kind)[0][1:]
+                for port, kind in (("ntp", socket.SOCK_DGRAM), ("http", socket.SOCK_STREAM), (b"domain", 0), ("8080", 0))
+            ]
             with self.assertRaises(socket.gaierror):
                 socket.getaddrinfo("server", "no-such-service")
             return [(int(kind), protocol, address) for kind, protocol, _, address in found]
 
-        self.assertEqual([
-            (socket.SOCK_DGRAM, 17, ("10.0.0.1", 123)), (socket.SOCK_STREAM, 6, ("10.0.0.1", 80)),
-            (socket.SOCK_DGRAM, 17, ("10.0.0.1", 53)), (socket.SOCK_DGRAM, 17, ("10.0.0.1", 8080))], aio.run(main()))
+        self.assertEqual(
+            [
+                (socket.SOCK_DGRAM, 17, ("10.0.0.1", 123)),
+                (socket.SOCK_STREAM, 6, ("10.0.0.1", 80)),
+                (socket.SOCK_DGRAM, 17, ("10.0.0.1", 53)),
+                (socket.SOCK_DGRAM, 17, ("10.0.0.1", 8080)),
+            ],
+            aio.run(main()),
+        )
 
     def test_packets_of_a_card_and_other_loops_are_refused(self) -> None:
         def sends() -> None:

@@ -53,8 +53,9 @@ with network("8Mbit/s 20ms plr 0.1", seed=5, history=sys.argv[1]) as net:
 def text_of_run(folder: str, hash_seed: str) -> str:
     """The history of a process of its own."""
     history = Path(folder) / f"h{hash_seed}"
-    subprocess.run([sys.executable, "-c", RUN.format(path=sys.path), history], check=True,
-                   env={**os.environ, "PYTHONHASHSEED": hash_seed})
+    subprocess.run(
+        [sys.executable, "-c", RUN.format(path=sys.path), history], check=True, env={**os.environ, "PYTHONHASHSEED": hash_seed}
+    )
     return history.read_text()
 
 
@@ -187,6 +188,7 @@ class Repeats(unittest.TestCase):
     def test_a_host_that_crashes_and_comes_back(self) -> None:
         """Of a question a second, those of the 2 s without the server get no answer. What was under way to it is
         lost."""
+
         async def main(net: aio.Network) -> list[int]:
             one, other = net.hosts["10.0.0.1"], net.hosts["10.0.0.2"]
             await other.create_task(opened(True, ("0.0.0.0", 7)))
@@ -222,6 +224,7 @@ class Repeats(unittest.TestCase):
 
     def test_an_mtu(self) -> None:
         """1,473 bytes of data are 1,501 with their headers. The second link's is smaller, and nobody is told."""
+
         async def main(net: aio.Network) -> tuple[Ends, Ends]:
             hosts = list(net.hosts.values())
             server = await hosts[2].create_task(opened(local=("0.0.0.0", 7)))

@@ -13,8 +13,17 @@ from unittest import mock
 
 import hingetulip
 from hingetulip import (
-    HISTORY_LIMIT, Audit, ClosedError, HingetulipError, HistoryError, InUseError, RangeError, Service, Verdict, audit,
-    audits
+    HISTORY_LIMIT,
+    Audit,
+    ClosedError,
+    HingetulipError,
+    HistoryError,
+    InUseError,
+    RangeError,
+    Service,
+    Verdict,
+    audit,
+    audits,
 )
 from hingetulip.recorded import RecordedShaper
 
@@ -41,9 +50,11 @@ VERDICTS = {
 }
 # With the number of the first bad record.
 BAD = {
-    b"": 1, LAWFUL.replace(b"end,3\n", b""): 9, LAWFUL.replace(b"end,3", b"end,4"): 9,
+    b"": 1,
+    LAWFUL.replace(b"end,3\n", b""): 9,
+    LAWFUL.replace(b"end,3", b"end,4"): 9,
     LAWFUL.replace(b"queued", b"quoted"): 5,
-    LAWFUL.replace(b"configured", b"deleted").replace(b"d,0,0,0,", b"d,0,0,"): 8
+    LAWFUL.replace(b"configured", b"deleted").replace(b"d,0,0,0,", b"d,0,0,"): 8,
 }
 
 
@@ -75,7 +86,7 @@ class Histories(unittest.TestCase):
     def test_parts_of_each_length(self) -> None:
         for history, verdict in VERDICTS.items():
             for step in range(1, len(history) + 1):
-                self.assertEqual(audit(history[at:at + step] for at in range(0, len(history), step)), verdict)
+                self.assertEqual(audit(history[at : at + step] for at in range(0, len(history), step)), verdict)
 
     def test_what_a_history_can_be(self) -> None:
         parts = LAWFUL.splitlines(keepends=True)

@@ -25,9 +25,7 @@ class Calls(unittest.TestCase):
 
     def test_the_four_fates(self) -> None:
         fates = [self.shaper.submit(5, 1000, pipe=1) for _ in range(3)]
-        self.assertEqual(
-            [Fate(Outcome.QUEUED, 5, 0, 0), Fate(Outcome.QUEUED, 5, 0, 1), Fate(Outcome.FULL, 5, 0, None)], fates
-        )
+        self.assertEqual([Fate(Outcome.QUEUED, 5, 0, 0), Fate(Outcome.QUEUED, 5, 0, 1), Fate(Outcome.FULL, 5, 0, None)], fates)
         self.assertEqual(Fate(Outcome.NO_TARGET, 7, None, None), self.shaper.submit(7, 1000, queue=1))
         self.shaper.configure("pipe 2 config plr 0.5")
         self.assertEqual(Fate(Outcome.LOST, 7, 1, None), self.shaper.submit(0, 1000, pipe=2, word=2**30 - 1))
@@ -51,20 +49,24 @@ class Calls(unittest.TestCase):
         self.assertTrue(self.shaper.reserve(pipe=9), "nothing is configured, so no room is needed")
         self.shaper.submit(0, 1000, pipe=1)
         self.shaper.submit(0, 1000, queue=3, dport=5)
-        self.assertEqual([True, True, False],
-                         [
-                             self.shaper.reserve(pipe=1, src=7), self.shaper.reserve(queue=3, dport=5),
-                             self.shaper.reserve(queue=3, dport=6)
-                         ])
-        self.assertEqual([
-                             FlowStatus(0, None, 1, 0, 0, 0, 0, 0, 0, 0, 0, 0, 1, 0),
-                             FlowStatus(1, 3, 1, 0, 0, 0, 0, 5, 0, 0, 0, 0, 1, 0),
-                         ],
-                         self.shaper.show())
+        self.assertEqual(
+            [True, True, False],
+            [self.shaper.reserve(pipe=1, src=7), self.shaper.reserve(queue=3, dport=5), self.shaper.reserve(queue=3, dport=6)],
+        )
+        self.assertEqual(
+            [
+                FlowStatus(0, None, 1, 0, 0, 0, 0, 0, 0, 0, 0, 0, 1, 0),
+                FlowStatus(1, 3, 1, 0, 0, 0, 0, 5, 0, 0, 0, 0, 1, 0),
+            ],
+            self.shaper.show(),
+        )
         for given, error in (
-            ({}, TypeError), ({"pipe": 1, "queue": 1}, TypeError), ({"pipe": 0}, RangeError),
-            ({"pipe": 2**16}, RangeError), ({"queue": 1, "src": -1}, RangeError),
-            ({"queue": 1, "dport": "1"}, TypeError)
+            ({}, TypeError),
+            ({"pipe": 1, "queue": 1}, TypeError),
+            ({"pipe": 0}, RangeError),
+            ({"pipe": 2**16}, RangeError),
+            ({"queue": 1, "src": -1}, RangeError),
+            ({"queue": 1, "dport": "1"}, TypeError),
         ):
             with self.assertRaises(error):
                 self.shaper.reserve(**given)  # type: ignore[arg-type]
@@ -74,11 +76,13 @@ class Calls(unittest.TestCase):
         for _ in range(3):
             self.shaper.submit(0, 1000, queue=3, src=0x0A000001, dst=2, proto=17, sport=4, dport=5)
         self.shaper.submit(0, 500, pipe=1)
-        self.assertEqual([
-                             FlowStatus(0, 3, 1, 1, 0, 17, 0, 1, 2, 2000, 0, 0, 1, 0),
-                             FlowStatus(1, None, 1, 0, 0, 0, 0, 0, 0, 0, 0, 0, 1, 0),
-                         ],
-                         self.shaper.show())
+        self.assertEqual(
+            [
+                FlowStatus(0, 3, 1, 1, 0, 17, 0, 1, 2, 2000, 0, 0, 1, 0),
+                FlowStatus(1, None, 1, 0, 0, 0, 0, 0, 0, 0, 0, 0, 1, 0),
+            ],
+            self.shaper.show(),
+        )
         self.shaper.configure("queue 3 delete")
         self.assertEqual((0, 0, 1, 2), self.shaper.show()[0][-6:-4] + self.shaper.show()[0][-2:])
 
@@ -106,8 +110,12 @@ class Calls(unittest.TestCase):
         for seed in (1, 1, 2):
             with Shaper(seed=seed) as shaper:
                 shaper.configure("pipe 1 config plr 0.5")
-                told.append(([shaper.submit(0, 1, pipe=1).outcome for _ in range(100)],
-                             list(shaper.submit_many(Packets(100, moment=0, length=1, pipe=1)).outcome)))
+                told.append(
+                    (
+                        [shaper.submit(0, 1, pipe=1).outcome for _ in range(100)],
+                        list(shaper.submit_many(Packets(100, moment=0, length=1, pipe=1)).outcome),
+                    )
+                )
         self.assertEqual(told[0], told[1])
         self.assertNotEqual(told[0], told[2])
         for outcomes in told[0]:
@@ -137,9 +145,13 @@ class Calls(unittest.TestCase):
 
         shaper = self.shaper
         for call in (
-            shaper.wake, shaper.show, shaper.close, lambda: shaper.submit(0, 1000, pipe=1),
-            lambda: shaper.configure("pipe 2 config"), lambda: shaper.collect(0),
-            lambda: shaper.submit_many(Packets(1, moment=0, length=1, pipe=1))
+            shaper.wake,
+            shaper.show,
+            shaper.close,
+            lambda: shaper.submit(0, 1000, pipe=1),
+            lambda: shaper.configure("pipe 2 config"),
+            lambda: shaper.collect(0),
+            lambda: shaper.submit_many(Packets(1, moment=0, length=1, pipe=1)),
         ):
             with self.assertRaises(InUseError):
                 shaper.submit(Meddling(call), 1000, pipe=1)  # type: ignore[arg-type]
@@ -188,11 +200,13 @@ class Batches(unittest.TestCase):
     def test_columns(self) -> None:
         packets = Packets(3, moment=array("Q", [0, 0, MS]), length=1000, pipe=1, word=0)
         fates = self.shaper.submit_many(packets)
-        self.assertEqual(([0, 0, MS], [0, 0, 0], [0, 1, 2], [0, 0, 0]),
-                         tuple(map(list, (fates.at, fates.flow, fates.packet, fates.outcome))))
+        self.assertEqual(
+            ([0, 0, MS], [0, 0, 0], [0, 1, 2], [0, 0, 0]), tuple(map(list, (fates.at, fates.flow, fates.packet, fates.outcome)))
+        )
         taken = self.shaper.collect_many(22 * MS)
-        self.assertEqual(([21 * MS, 22 * MS], [0, 1], [0, 0], [0, MS]),
-                         tuple(map(list, (taken.due, taken.packet, taken.flow, taken.start))))
+        self.assertEqual(
+            ([21 * MS, 22 * MS], [0, 1], [0, 0], [0, MS]), tuple(map(list, (taken.due, taken.packet, taken.flow, taken.start)))
+        )
         self.assertEqual(["<Packets: 3>", "<Fates: 3>", "<Deliveries: 2>"], list(map(repr, (packets, fates, taken))))
         packets.moment[:] = array("Q", [30 * MS] * 3)
         packets.length[2] = 500
@@ -224,7 +238,10 @@ class Batches(unittest.TestCase):
         for values in (dict(moment=-1), dict(length=65536), dict(src=[0, 2**32, 0]), dict(proto=256)):
             self.assertRaises(RangeError, Packets, 3, **{"moment": 0, "length": 1, "pipe": 1, **values})
         for values, error in (
-            (dict(moment=[1, 2]), ValueError), (dict(length=1.5), TypeError), (dict(sport=["x"] * 3), TypeError),
-            (dict(queue=1), TypeError), (dict(pipe=None), TypeError)
+            (dict(moment=[1, 2]), ValueError),
+            (dict(length=1.5), TypeError),
+            (dict(sport=["x"] * 3), TypeError),
+            (dict(queue=1), TypeError),
+            (dict(pipe=None), TypeError),
         ):
             self.assertRaises(error, Packets, 3, **{"moment": 0, "length": 1, "pipe": 1, **values})

@@ -26,11 +26,20 @@ class Faults(unittest.TestCase):
 
     def test_lines(self) -> None:
         for line, text, kind, word in (
-            ("pipe 1 config bw 8Mbps", "word 5 '8Mbps': not a bandwidth; write 8Mbit/s, in 'pipe 1 config bw 8Mbps'", "bad number", 5),
-            ("queue 1 config weight 3", "word 1 'queue': the queue's line names no pipe; write queue 1 config pipe 1 .., in"
-             " 'queue 1 config weight 3'", "needs a pipe", 1),
+            (
+                "pipe 1 config bw 8Mbps",
+                "word 5 '8Mbps': not a bandwidth; write 8Mbit/s, in 'pipe 1 config bw 8Mbps'",
+                "bad number",
+                5,
+            ),
+            (
+                "queue 1 config weight 3",
+                "word 1 'queue': the queue's line names no pipe; write queue 1 config pipe 1 .., in" " 'queue 1 config weight 3'",
+                "needs a pipe",
+                1,
+            ),
             (b"pipe 1 config # \xff", "not UTF-8, in 'pipe 1 config # \ufffd'", "not UTF-8", 0),
-            ("pipe \udcff", "not UTF-8, in 'pipe \ufffd\ufffd\ufffd'", "not UTF-8", 0)
+            ("pipe \udcff", "not UTF-8, in 'pipe \ufffd\ufffd\ufffd'", "not UTF-8", 0),
         ):
             with self.assertRaises(LineError) as raised:
                 self.shaper.configure(line)
@@ -44,8 +53,9 @@ class Faults(unittest.TestCase):
     def test_refusals(self) -> None:
         self.shaper.configure("queue 1 config pipe 1")
         for line, text in (
-            ("queue 2 config pipe 3", "no such pipe"), ("pipe 1 delete", "pipe has queues"),
-            ("queue 2 delete", "no such queue")
+            ("queue 2 config pipe 3", "no such pipe"),
+            ("pipe 1 delete", "pipe has queues"),
+            ("queue 2 delete", "no such queue"),
         ):
             with self.assertRaises(hingetulip.RefusedError) as raised:
                 self.shaper.configure(line)
@@ -53,9 +63,19 @@ class Faults(unittest.TestCase):
 
     def test_numbers(self) -> None:
         for values in (
-            dict(moment=-1), dict(moment=2**62 + 1), dict(moment=2**64), dict(length=0), dict(length=65536),
-            dict(pipe=0), dict(pipe=65536), dict(src=2**32), dict(dst=-1), dict(sport=65536), dict(dport=-1),
-            dict(proto=256), dict(word=2**32)
+            dict(moment=-1),
+            dict(moment=2**62 + 1),
+            dict(moment=2**64),
+            dict(length=0),
+            dict(length=65536),
+            dict(pipe=0),
+            dict(pipe=65536),
+            dict(src=2**32),
+            dict(dst=-1),
+            dict(sport=65536),
+            dict(dport=-1),
+            dict(proto=256),
+            dict(word=2**32),
         ):
             with self.subTest(values):
                 self.assertRaises(RangeError, self.shaper.submit, **{"moment": 0, "length": 1, "pipe": 1, **values})
@@ -75,9 +95,13 @@ class Faults(unittest.TestCase):
         self.shaper.close()
         packets = Packets(1, moment=0, length=1, pipe=1)
         for call in (
-            lambda: self.shaper.submit(0, 1, pipe=1), lambda: self.shaper.submit_many(packets),
-            lambda: self.shaper.collect(0), lambda: self.shaper.advance(0), self.shaper.show, self.shaper.wake,
-            lambda: self.shaper.configure(LINE)
+            lambda: self.shaper.submit(0, 1, pipe=1),
+            lambda: self.shaper.submit_many(packets),
+            lambda: self.shaper.collect(0),
+            lambda: self.shaper.advance(0),
+            self.shaper.show,
+            self.shaper.wake,
+            lambda: self.shaper.configure(LINE),
         ):
             self.assertRaises(hingetulip.ClosedError, call)
 
@@ -91,8 +115,11 @@ class Finding(unittest.TestCase):
         """Imports the module that lies in a folder, and prints where its library was found."""
         kept = {name: value for name, value in os.environ.items() if name not in ("HINGETULIP_LIBRARY", "PYTHONPATH")}
         return subprocess.run(
-            [sys.executable, "-c", "import hingetulip; print(hingetulip.LIBRARY)"], cwd=place, capture_output=True,
-            text=True, env={**kept, "PYTHONPATH": str(place), "PYTHONDONTWRITEBYTECODE": "1", **variables}
+            [sys.executable, "-c", "import hingetulip; print(hingetulip.LIBRARY)"],
+            cwd=place,
+            capture_output=True,
+            text=True,
+            env={**kept, "PYTHONPATH": str(place), "PYTHONDONTWRITEBYTECODE": "1", **variables},
         )
 
     def test_places(self) -> None:
@@ -105,9 +132,7 @@ class Finding(unittest.TestCase):
             done = self.run_at(module.parent, HINGETULIP_LIBRARY=str(top / "none.so"))
             self.assertIn("none.so", done.stderr)
             self.assertIn("HINGETULIP_LIBRARY can name it", done.stderr)
-            for place in (
-                top / "lib" / "libhingetulip.so", top / "lib" / "libhingetulip.so.1", module / "libhingetulip.so"
-            ):
+            for place in (top / "lib" / "libhingetulip.so", top / "lib" / "libhingetulip.so.1", module / "libhingetulip.so"):
                 place.symlink_to(Path(hingetulip.LIBRARY).resolve())
                 done = self.run_at(module.parent)
                 self.assertEqual((f"{place}\n", ""), (done.stdout, done.stderr))

@@ -59,15 +59,14 @@ class WithClock(unittest.TestCase):
             if not os.environ.get("HINGE_CLOCK"):
                 flags = ["-std=c17", "-O2", "-Wall", "-Wextra", "-Werror", "-shared", "-fPIC"]
                 subprocess.run(["cc", *flags, TOP / "hosts" / "clock.c", "-o", made], check=True)
-            env = {
-                **os.environ, "HINGE_CLOCK": made, "PYTHONPATH": str(TOP / "python"), "PYTHONDONTWRITEBYTECODE": "1"
-            }
+            env = {**os.environ, "HINGE_CLOCK": made, "PYTHONPATH": str(TOP / "python"), "PYTHONDONTWRITEBYTECODE": "1"}
             asked = [sys.executable, TOP / "python" / "hinge" / "__main__.py", "kernel", "--clock"]
             clock = subprocess.run(asked, env=env, stdout=subprocess.PIPE, text=True, check=True).stdout.strip()
             done = subprocess.run([sys.executable, "-c", ASKED], env={**env, "LD_PRELOAD": clock}, capture_output=True, text=True)
         self.assertEqual(done.stderr, "")
-        self.assertEqual(done.stdout.splitlines(),
-                         ["(1700000090000001000, 90000001000, 1700000090000001, 1700000090, True)", "True True"])
+        self.assertEqual(
+            done.stdout.splitlines(), ["(1700000090000001000, 90000001000, 1700000090000001, 1700000090, True)", "True True"]
+        )
 
 
 class Warnings(unittest.TestCase):

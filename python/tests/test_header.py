@@ -17,27 +17,54 @@ RUST, RUST_SERVICE, RUST_ERRORS = (
     (TOP / "rust" / "hingetulip" / "src" / f"{name}.rs").read_text() for name in ("raw", "raw_service", "error")
 )
 LEFT_OUT = {
-    "dn_open", "dn_configure_text", "dn_submit_text", "dn_advance_text", "dn_collect_text", "dn_read_packets", "dn_audit_open"
+    "dn_open",
+    "dn_configure_text",
+    "dn_submit_text",
+    "dn_advance_text",
+    "dn_collect_text",
+    "dn_read_packets",
+    "dn_audit_open",
 }
 DECLARED = (
     (RUST, HEADER, "dn_status", LEFT_OUT),
     (RUST_SERVICE, SERVICE_HEADER, "dn_service_status", {"dn_service_open", "dn_service_text"}),
 )
 WIDTHS = {"uint64_t": 8, "uint32_t": 4, "uint16_t": 2, "uint8_t": 1, "void *": 8, "bool": 1}
-KINDS = {"u64": "uint64_t", "u32": "uint32_t", "u16": "uint16_t", "u8": "uint8_t", "usize": "size_t", "c_void": "void",
-         "bool": "bool"}
+KINDS = {
+    "u64": "uint64_t",
+    "u32": "uint32_t",
+    "u16": "uint16_t",
+    "u8": "uint8_t",
+    "usize": "size_t",
+    "c_void": "void",
+    "bool": "bool",
+}
 EXCEPTIONS = {
-    "DN_EXHAUSTED": errors.ExhaustedError, "DN_NO_SUCH_PIPE": errors.RefusedError,
-    "DN_PIPE_HAS_QUEUES": errors.RefusedError, "DN_NO_SUCH_QUEUE": errors.RefusedError, "DN_CLOSED": errors.ClosedError,
-    "DN_MEMORY": errors.OutOfMemoryError, "DN_BAD_MOMENT": errors.RangeError, "DN_BAD_RULE": errors.RangeError,
-    "DN_BAD_KIND": errors.RangeError, "DN_BAD_NUMBER": errors.RangeError, "DN_BAD_LENGTH": errors.RangeError,
-    "DN_BAD_CALLER": errors.RangeError, "DN_BAD_OUTCOME": errors.RangeError, "DN_BAD_ROW": errors.RangeError,
-    "DN_TOO_LONG": errors.HistoryError, "DN_BAD_RECORD": errors.HistoryError
+    "DN_EXHAUSTED": errors.ExhaustedError,
+    "DN_NO_SUCH_PIPE": errors.RefusedError,
+    "DN_PIPE_HAS_QUEUES": errors.RefusedError,
+    "DN_NO_SUCH_QUEUE": errors.RefusedError,
+    "DN_CLOSED": errors.ClosedError,
+    "DN_MEMORY": errors.OutOfMemoryError,
+    "DN_BAD_MOMENT": errors.RangeError,
+    "DN_BAD_RULE": errors.RangeError,
+    "DN_BAD_KIND": errors.RangeError,
+    "DN_BAD_NUMBER": errors.RangeError,
+    "DN_BAD_LENGTH": errors.RangeError,
+    "DN_BAD_CALLER": errors.RangeError,
+    "DN_BAD_OUTCOME": errors.RangeError,
+    "DN_BAD_ROW": errors.RangeError,
+    "DN_TOO_LONG": errors.HistoryError,
+    "DN_BAD_RECORD": errors.HistoryError,
 }
 FAULTS = {
-    "DN_NOT_UTF8": "not UTF-8", "DN_UNKNOWN_WORD": "unknown word", "DN_MISSING_VALUE": "missing value",
-    "DN_NOT_A_NUMBER": "bad number", "DN_OUT_OF_RANGE": "out of range", "DN_LEFT_OUT": "left out",
-    "DN_NEEDS_PIPE": "needs a pipe"
+    "DN_NOT_UTF8": "not UTF-8",
+    "DN_UNKNOWN_WORD": "unknown word",
+    "DN_MISSING_VALUE": "missing value",
+    "DN_NOT_A_NUMBER": "bad number",
+    "DN_OUT_OF_RANGE": "out of range",
+    "DN_LEFT_OUT": "left out",
+    "DN_NEEDS_PIPE": "needs a pipe",
 }
 
 
@@ -83,15 +110,19 @@ def as_in_c(kind: str) -> str:
 
 def rust_fields(name: str, source: str) -> list[tuple[str, str]]:
     body = re.search(rf"#\[repr\(C\)\]\n(?:#\[derive\(.*\)\]\n)?pub struct {name} \{{(.*?)\n\}}", source, re.S)
-    return [
-        (as_in_c(kind), field) for field, kind in re.findall(r"^ +pub (\w+): (.+),$", body[1] if body else "", re.M)
-    ]
+    return [(as_in_c(kind), field) for field, kind in re.findall(r"^ +pub (\w+): (.+),$", body[1] if body else "", re.M)]
 
 
 class Header(unittest.TestCase):
     def test_structs(self) -> None:
-        layouts = {"dn_packet": layout.PACKET, "dn_fate": layout.FATE, "dn_delivery": layout.DELIVERY,
-                   "dn_flow": layout.FLOW, "dn_fault": layout.FAULT, "dn_verdict": layout.VERDICT}
+        layouts = {
+            "dn_packet": layout.PACKET,
+            "dn_fate": layout.FATE,
+            "dn_delivery": layout.DELIVERY,
+            "dn_flow": layout.FLOW,
+            "dn_fault": layout.FAULT,
+            "dn_verdict": layout.VERDICT,
+        }
         self.assertEqual({*re.findall(r"^struct (\w+) \{", HEADER, re.M)}, {*layouts, "dn_handle", "dn_audit"})
         for name, of_module in layouts.items():
             begin, found = 0, {}
@@ -124,9 +155,7 @@ class Header(unittest.TestCase):
         self.assertEqual({"DN_PIPE": 0, "DN_QUEUE": 1}, numbers("dn_kind"))
         self.assertEqual({"DN_LAWFUL": 0, "DN_DIFFERS": 1}, numbers("dn_finding"))
         self.assertIn(f"#define DN_HISTORY_LIMIT ((size_t){library.HISTORY_LIMIT})\n", HEADER)
-        self.assertEqual(
-            {name: library.FAULT_KINDS.index(text) for name, text in FAULTS.items()}, numbers("dn_fault_kind")
-        )
+        self.assertEqual({name: library.FAULT_KINDS.index(text) for name, text in FAULTS.items()}, numbers("dn_fault_kind"))
         self.assertIn(f"#define DN_VERSION {library.MAJORS[-1]}0", HEADER)
 
     def test_functions(self) -> None:
@@ -151,9 +180,7 @@ class Crate(unittest.TestCase):
             found = re.findall(r"^    pub fn (\w+)\((.*)\) -> u32;$", source, re.M)
             self.assertEqual({*declared} - {name for name, _ in found}, left_out)
             for name, given in found:
-                self.assertEqual(
-                    [(as_in_c(kind), one) for one, kind in re.findall(r"(\w+): ([^,]+)", given)], declared[name], name
-                )
+                self.assertEqual([(as_in_c(kind), one) for one, kind in re.findall(r"(\w+): ([^,]+)", given)], declared[name], name)
 
     def test_numbers(self) -> None:
         statuses: dict[str, int] = {}

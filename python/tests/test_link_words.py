@@ -13,7 +13,8 @@ from hingetulip_words.presets import PRESETS, preset, table
 from simulated_hosts import TOP
 
 WRONG = (
-    ("10mbps", "'10mbps': not a bandwidth; write 10Mbit/s"), ("10mbit", "'10mbit': not a bandwidth; write 10Mbit/s"),
+    ("10mbps", "'10mbps': not a bandwidth; write 10Mbit/s"),
+    ("10mbit", "'10mbit': not a bandwidth; write 10Mbit/s"),
     ("1.5Mbit/s", "'1.5Mbit/s': not a bandwidth; write 1500Kbit/s"),
     ("5Mbit/s 20 ms", "'20 ms': a number and its unit are one word; write 20ms"),
     ("delay 20 ms", "'20 ms': a number and its unit are one word; write 20ms"),
@@ -21,17 +22,15 @@ WRONG = (
     ("10Mbit/s,20ms", "'10Mbit/s,20ms': blanks alone part the words; write 10Mbit/s 20ms"),
     ("10Mbit/s; 20ms", "'10Mbit/s;': ends in ';', and blanks alone part the words; write 10Mbit/s"),
     ("20ms jitter 5ms", "'jitter': dummynet has no such option; leave it and its value out"),
-    ("latency 20", "'latency': no option; write delay"), ("rate 10Mbit/s", "'rate': no option; write bw"),
+    ("latency 20", "'latency': no option; write delay"),
+    ("rate 10Mbit/s", "'rate': no option; write bw"),
     (
         "100us",
         "'100us': dummynet has no delay below a millisecond, and no audit could judge one; leave it out, or write 1ms",
     ),
     (
         "delay 0.1",
-        (
-            "'delay 0.1': dummynet has no delay below a millisecond, and no audit could judge one; leave it out, or"
-            " write 1ms"
-        ),
+        ("'delay 0.1': dummynet has no delay below a millisecond, and no audit could judge one; leave it out, or" " write 1ms"),
     ),
     ("1.5ms", "'1.5ms': a delay is whole milliseconds, and this is none; write 1ms or 2ms"),
     ("2s", "'2s': not a delay; write 2000ms"),
@@ -54,7 +53,10 @@ WRONG = (
             "a pipe takes bw, delay, queue, plr, buckets, mask"
         ),
     ),
-    ("mask 5", "'mask 5': a mask names the fields that tell flows apart; write mask src-ip 0xffffffff, or dst-ip, src-port, dst-port, proto, all"),
+    (
+        "mask 5",
+        "'mask 5': a mask names the fields that tell flows apart; write mask src-ip 0xffffffff, or dst-ip, src-port, dst-port, proto, all",
+    ),
 )
 TWICE = (
     ("5Mbit/s bw 6Mbit/s", "'bw 6Mbit/s': a second bandwidth beside '5Mbit/s'; write one of them"),
@@ -88,12 +90,15 @@ class Words(unittest.TestCase):
     def test_short_words_and_those_in_full(self) -> None:
         wanted = "bw 5Mbit/s delay 20ms queue 100 plr 0.01"
         for text in (
-            "5Mbit/s 20ms queue 100 loss 1%", "bw 5Mbit/s delay 20ms queue 100 plr 0.01",
-            "bw 5Mbit/s  20ms queue 100 loss 1.0% # slow"
+            "5Mbit/s 20ms queue 100 loss 1%",
+            "bw 5Mbit/s delay 20ms queue 100 plr 0.01",
+            "bw 5Mbit/s  20ms queue 100 loss 1.0% # slow",
         ):
             self.assertEqual(in_full(read_link(text)), wanted)
-        self.assertEqual(in_full(read_link("20 queue 64Kbytes".replace("20", "delay 20") + " mask src-ip 0xff all")),
-                         "delay 20 queue 64Kbytes mask src-ip 0xff all")
+        self.assertEqual(
+            in_full(read_link("20 queue 64Kbytes".replace("20", "delay 20") + " mask src-ip 0xff all")),
+            "delay 20 queue 64Kbytes mask src-ip 0xff all",
+        )
         self.assertEqual(read_link("weight 3 loss 0.5%", "queue"), {"weight": "3", "plr": "0.005"})
         self.assertEqual(read_link(" "), {})
 
@@ -152,8 +157,9 @@ class Presets(unittest.TestCase):
 
     def test_the_page_has_the_same(self) -> None:
         page = (TOP / "docs" / "LINKS.md").read_text(encoding="utf-8")
-        self.assertEqual(re.findall(r"^\| `([\w-]+)` \| (\d.*?) \| (.*?) \| (.*) \|$", page, re.M),
-                         [(name, *it) for name, it in PRESETS.items()])
+        self.assertEqual(
+            re.findall(r"^\| `([\w-]+)` \| (\d.*?) \| (.*?) \| (.*) \|$", page, re.M), [(name, *it) for name, it in PRESETS.items()]
+        )
 
     def test_one_that_is_none(self) -> None:
         self.assertRaisesRegex(ValueError, "^'fiber': no preset; write fibre$", preset, "fiber")
@@ -167,8 +173,9 @@ class Presets(unittest.TestCase):
                 [it.line for it in (there, back)], [f"pipe {n} config bw 12Mbit/s delay 35ms queue 250" for n in (1, 2)]
             )
             there, back = net.path(net.host("10.0.0.3"), net.host("10.0.0.2"), back="5ms", preset="3g")
-            self.assertEqual([it.line for it in (there, back)],
-                             ["pipe 3 config bw 768Kbit/s delay 150ms queue 20", "pipe 4 config delay 5ms"])
+            self.assertEqual(
+                [it.line for it in (there, back)], ["pipe 3 config bw 768Kbit/s delay 150ms queue 20", "pipe 4 config delay 5ms"]
+            )
 
 
 if __name__ == "__main__":

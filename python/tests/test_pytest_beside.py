@@ -18,20 +18,27 @@ from simulated_hosts import PROGRAM, TOP
 def no_rooms() -> str:
     """Why this machine or this user can't have hosts, or nothing."""
     command = [sys.executable, "-m", "hinge", "run", "--quiet", "--", "true"]
-    tried = subprocess.run(command, capture_output=True, text=True,
-                           env={**os.environ, "DUMMYNET": PROGRAM, "PYTHONPATH": str(TOP / "python")})
+    tried = subprocess.run(
+        command, capture_output=True, text=True, env={**os.environ, "DUMMYNET": PROGRAM, "PYTHONPATH": str(TOP / "python")}
+    )
     return "" if tried.returncode == 0 else tried.stderr.strip()
 
 
 class Beside(Runs):
     @unittest.skipIf(lacking("xdist"), "no python3-pytest-xdist")
     def test_under_xdist(self) -> None:
-        done = self.run_pytest("""
+        done = self.run_pytest(
+            """
             @pytest.mark.parametrize("link_seed", range(1, 13))
             @pytest.mark.link("40ms plr 0.05")
             async def test_minutes(sim_net, link_seed):
                 assert await session(sim_net) >= 60
-            """, "-p", "xdist", "-n", "2")
+            """,
+            "-p",
+            "xdist",
+            "-n",
+            "2",
+        )
         self.assertGreater(done.counts.get("failed", 0), 5, done.text)
         self.assertEqual(sum(done.counts.values()), 12)
         self.assertEqual(len(re.findall(r"^seed \d+, lawful \d+: hinge look ", done.text, re.M)), done.counts["failed"])
@@ -61,7 +68,8 @@ class Beside(Runs):
         "no hinge-link: tools/release/hosts builds it",
     )
     def test_udp_paths(self) -> None:
-        done = self.run_pytest("""
+        done = self.run_pytest(
+            """
             @pytest.fixture
             def echo():
                 made = socket.socket(socket.AF_INET, socket.SOCK_DGRAM)
@@ -95,19 +103,19 @@ class Beside(Runs):
 
             def test_some(udp_path, echo):
                 assert exchange(udp_path(f"127.0.0.1:{echo}", "plr 0.5", "1ms", seed=5), 100) == 100
-            """)
+            """
+        )
         self.assertEqual(done.counts, {"failed": 1, "passed": 1}, done.text)
         section = done.text.partition("emulated link")[2]
         self.assertRegex(section, r"up: 100 came, \d+ delivered, \d+ lost")
-        self.assertRegex(
-            section, r"(?m)^  row  *\d+, \d+\.\d{9} s, 127\.0\.0\.1:\d+ > 127\.0\.0\.1:\d+, (29|30) bytes: lost$"
-        )
+        self.assertRegex(section, r"(?m)^  row  *\d+, \d+\.\d{9} s, 127\.0\.0\.1:\d+ > 127\.0\.0\.1:\d+, (29|30) bytes: lost$")
         self.assertRegex(section, r"(?m)^seed 5, lawful \d+: hinge look /.*/link1\.history$")
 
     def test_nets(self) -> None:
         if no_rooms() or shutil.which("ping") is None:
             self.skipTest(no_rooms() or "no ping")
-        done = self.run_pytest("""
+        done = self.run_pytest(
+            """
             def two(net, *link):
                 net.host("a", "echo what a says")
                 net.host("b")
@@ -129,7 +137,10 @@ class Beside(Runs):
             def test_no_word(net):
                 net.describe("hots a")
                 net.start()
-            """, "--strict-markers", "--link-seed=4")
+            """,
+            "--strict-markers",
+            "--link-seed=4",
+        )
         self.assertEqual(done.counts, {"failed": 3, "passed": 1}, done.text)
         failed, never, word = re.split(r"\n_{4,}", done.text)[1:]
         self.assertRegex(failed, r"CommandFailed: b: echo what b says; ping -c 1 -W 1 a: status 1\nE +what b says\n")
@@ -140,7 +151,5 @@ class Beside(Runs):
         self.assertRegex(section, r"(?m)^a printed last \(/.*/net/logs/a\.log\):\n  what a says$")
         self.assertRegex(section, r"(?m)^seed 4, lawful \d+: hinge look /.*/net/net\.history$")
         self.assertIn("NetError: the link: '1mss': ", never)
-        self.assertRegex(
-            word, r"NetError: /.*/described\.net line 1: 'hots': no word of a net, .*; did you mean 'host'\?"
-        )
+        self.assertRegex(word, r"NetError: /.*/described\.net line 1: 'hots': no word of a net, .*; did you mean 'host'\?")
         self.assertNotIn("def run(self", done.text)  # a test's own line is shown

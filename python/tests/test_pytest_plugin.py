@@ -12,7 +12,8 @@ from pytest_runs import Runs, lacking
 
 class Plugin(Runs):
     def test_marks_seeds_and_coroutines(self) -> None:
-        done = self.run_pytest("""
+        done = self.run_pytest(
+            """
             @pytest.mark.link("8Mbit/s 20ms plr 0.1", back="5ms")
             async def test_coroutine(sim_net, link_seed):
                 assert link_seed == 7 == sim_net.seed
@@ -29,17 +30,23 @@ class Plugin(Runs):
             def test_minutes(sim_net, link_seed):
                 sim_net.path(sim_net.host("10.0.0.1"), sim_net.host("10.0.0.2"), "40ms plr 0.05")
                 assert sim_net.run(session(sim_net)) >= 45 and sim_net.seed == link_seed
-            """, "--link-seed=7", "--strict-markers")
+            """,
+            "--link-seed=7",
+            "--strict-markers",
+        )
         self.assertEqual((done.counts, done.status), ({"passed": 33}, 0), done.text)
 
     def test_a_preset(self) -> None:
-        done = self.run_pytest("""
+        done = self.run_pytest(
+            """
             @pytest.mark.link(preset="dsl")
             def test_it(sim_net):
                 sim_net.path(sim_net.host("10.0.0.1"), sim_net.host("10.0.0.2"))
                 assert [link.line for link in sim_net.links.values()] == [
                     "pipe 1 config bw 384Kbit/s delay 25ms queue 10", "pipe 2 config bw 1500Kbit/s delay 25ms queue 30"]
-            """, "--strict-markers")
+            """,
+            "--strict-markers",
+        )
         self.assertEqual((done.counts, done.status), ({"passed": 1}, 0), done.text)
 
     def test_a_mark_that_says_what_it_does_not_take_is_refused(self) -> None:
@@ -57,9 +64,7 @@ class Plugin(Runs):
             'link(preset="ltee")': "'ltee': no preset; write lte",
             'simulated("lte")': "takes options by name alone",
         }
-        body = "".join(
-            f"@pytest.mark.{mark}\ndef test_{number}(sim_net):\n    pass\n" for number, mark in enumerate(rows)
-        )
+        body = "".join(f"@pytest.mark.{mark}\ndef test_{number}(sim_net):\n    pass\n" for number, mark in enumerate(rows))
         done = self.run_pytest(body, "--strict-markers")
         self.assertEqual(done.counts, {"errors": len(rows)}, done.text)
         for mark, text in rows.items():
@@ -67,7 +72,8 @@ class Plugin(Runs):
                 self.assertIn(text, done.text)
 
     def test_what_a_refusal_says_to_write_is_taken(self) -> None:
-        done = self.run_pytest("""
+        done = self.run_pytest(
+            """
             @pytest.mark.parametrize("marked", ["bw='10Mbit/s', delay='20ms'", "'20ms', queue=30", "loss='5%'", "x=1"])
             def test_it(marked):
                 from hinge.testing.marks import WrongMark, ends_of
@@ -76,11 +82,14 @@ class Plugin(Runs):
                     ends_of(eval(f"pytest.mark.link({marked})").mark)
                 written = str(refusal.value).partition("; write ")[2]
                 assert read_link(ends_of(eval(f"pytest.mark.{written}").mark).there)
-            """, "--strict-markers")
+            """,
+            "--strict-markers",
+        )
         self.assertEqual((done.counts, done.status), ({"passed": 4}, 0), done.text)
 
     def test_a_mark_that_nothing_takes_is_told(self) -> None:
-        done = self.run_pytest("""
+        done = self.run_pytest(
+            """
             pytestmark = pytest.mark.link("20ms")
 
             def test_of_a_module():
@@ -89,69 +98,80 @@ class Plugin(Runs):
             @pytest.mark.link("20ms")
             def test_of_its_own():
                 pass
-            """, "--strict-markers")
+            """,
+            "--strict-markers",
+        )
         self.assertEqual(done.counts, {"passed": 2, "warning": 1}, done.text)
         self.assertIn("the mark link is of no effect: no fixture of the test is sim_net, udp_path or net", done.text)
 
     def test_a_preset_in_capital_letters(self) -> None:
-        done = self.run_pytest("""
+        done = self.run_pytest(
+            """
             @pytest.mark.link(preset="Slow 3G")
             def test_it(sim_net):
                 sim_net.path(sim_net.host("10.0.0.1"), sim_net.host("10.0.0.2"))
                 assert {link.line[14:] for link in sim_net.links.values()} == {"bw 400Kbit/s delay 200ms queue 10"}
-            """, "--strict-markers")
+            """,
+            "--strict-markers",
+        )
         self.assertEqual((done.counts, done.status), ({"passed": 1}, 0), done.text)
 
     def test_a_failure_has_the_link(self) -> None:
-        done = self.run_pytest("""
+        done = self.run_pytest(
+            """
             async def test_all_come(sim_net):
                 sim_net.path(sim_net.host("10.0.0.1"), sim_net.host("10.0.0.2"), "20ms plr 0.3", "20ms")
                 assert await session(sim_net, 100) == 100
-            """)
+            """
+        )
         self.assertEqual(done.counts, {"failed": 1}, done.text)
         section = done.text.partition("emulated link")[2]
-        sent, lost = map(
-            int, re.search(r"10\.0\.0\.1 > 10\.0\.0\.2: (\d+) sent, (\d+) lost, 0 met a full queue", section).groups()
-        )
+        sent, lost = map(int, re.search(r"10\.0\.0\.1 > 10\.0\.0\.2: (\d+) sent, (\d+) lost, 0 met a full queue", section).groups())
         self.assertEqual(sent, 100)
         self.assertGreater(lost, 20)
         rows = re.findall(
-            r"^  row  *(\d+), (\d+)\.000000000 s, 10\.0\.0\.1:49152 > 10\.0\.0\.2:9, (?:29|30) bytes: lost$", section,
-            re.M
+            r"^  row  *(\d+), (\d+)\.000000000 s, 10\.0\.0\.1:49152 > 10\.0\.0\.2:9, (?:29|30) bytes: lost$", section, re.M
         )
         self.assertEqual(len(rows), 20)
         self.assertIn(f"  and {lost - 20} more\n", section)
         self.assertRegex(section, r"simulated time 100\.0\d+ s\nseed 1, lawful \d+: hinge look /.*/link\.history\n")
 
     def test_a_mark_without_words_is_refused(self) -> None:
-        done = self.run_pytest("""
+        done = self.run_pytest(
+            """
             @pytest.mark.link()
             def test_it(sim_net):
                 raise AssertionError
-            """)
+            """
+        )
         self.assertIn("the mark link has no words of a link; write link(", done.text)
 
     def test_a_stuck_test_names_who_waits(self) -> None:
-        done = self.run_pytest("""
+        done = self.run_pytest(
+            """
             async def test_stuck(sim_net):
                 await sim_net.host("10.0.0.1").create_task(asyncio.Event().wait(), name="reader")
-            """)
+            """
+        )
         self.assertEqual(done.counts, {"failed": 1}, done.text)
         self.assertRegex(done.text, r"Stuck: at 0\.0+ s nothing can happen any more")
         self.assertIn("reader on 10.0.0.1 waits", done.text)
 
     def test_a_history_that_is_not_lawful_is_an_error(self) -> None:
-        done = self.run_pytest("""
+        done = self.run_pytest(
+            """
             async def test_it(sim_net):
                 await session(sim_net)
                 sim_net._emulator.history.add(memoryview(b"c,0,advance,1\\nr,advanced,0\\n"))
-            """)
+            """
+        )
         self.assertEqual(done.counts.get("passed"), 1, done.text)
         self.assertEqual(done.counts.get("error"), 1, done.text)
         self.assertRegex(done.text, r"the history /.*/link\.history isn't lawful: ")
 
     def test_a_helper_with_the_network_stays_a_coroutine(self) -> None:
-        done = self.run_pytest("""
+        done = self.run_pytest(
+            """
             async def two_hosts(sim_net):
                 return sim_net.host("10.0.0.1"), sim_net.host("10.0.0.2")
 
@@ -164,7 +184,8 @@ class Plugin(Runs):
 
             async def test_helper(sim_net):
                 assert len(await two_hosts(sim_net)) == 2
-            """)
+            """
+        )
         self.assertEqual(done.counts, {"passed": 2}, done.text)
 
     def test_fixtures_that_are_coroutines(self) -> None:
@@ -214,8 +235,9 @@ class Plugin(Runs):
                 assert [round(it - ended[0]) for it in ended[:2]] == [0, 1] and len(ended) == 6
             """
         for words in (
-            (), ("-p", "pytest_asyncio.plugin", "--asyncio-mode=strict"),
-            ("-p", "pytest_asyncio.plugin", "--asyncio-mode=auto")
+            (),
+            ("-p", "pytest_asyncio.plugin", "--asyncio-mode=strict"),
+            ("-p", "pytest_asyncio.plugin", "--asyncio-mode=auto"),
         ):
             if words and lacking("pytest_asyncio"):
                 continue
@@ -223,7 +245,8 @@ class Plugin(Runs):
             self.assertEqual((done.counts.get("passed"), done.status), (6, 0), done.text)
 
     def test_a_fixture_that_fails_or_yields_twice(self) -> None:
-        done = self.run_pytest("""
+        done = self.run_pytest(
+            """
             @pytest.fixture
             async def twice(sim_net):
                 yield 1
@@ -242,13 +265,15 @@ class Plugin(Runs):
 
             async def test_of_a_failure(sim_net, twice):
                 assert twice == 2
-            """)
+            """
+        )
         self.assertEqual({"passed": 1, "failed": 1, "errors": 2}, done.counts, done.text)
         self.assertIn("the fixture twice yields more than once", done.text)
         self.assertIn("ValueError: not ready", done.text)
 
     def test_a_report_that_fails_ends_no_session(self) -> None:
-        done = self.run_pytest("""
+        done = self.run_pytest(
+            """
             async def test_no_report(sim_net):
                 sim_net.report = lambda: 1 / 0
                 assert False
@@ -258,13 +283,15 @@ class Plugin(Runs):
 
             async def test_next(sim_net):
                 assert await session(sim_net, 1) == 1
-            """)
+            """
+        )
         self.assertEqual(done.counts, {"passed": 1, "failed": 2}, done.text)
         self.assertIn("no report: ZeroDivisionError", done.text)
         self.assertIn("TypeError: a link is between two hosts, and '10.0.0.2' is none", done.text)
 
     def test_an_exception_that_nobody_takes_fails_its_test(self) -> None:
-        done = self.run_pytest("""
+        done = self.run_pytest(
+            """
             async def bad():
                 raise ValueError("in the task")
 
@@ -279,14 +306,17 @@ class Plugin(Runs):
             async def test_taken(sim_net):
                 with pytest.raises(ValueError):
                     await sim_net.host("10.0.0.1").create_task(bad())
-            """)
+            """
+        )
         self.assertEqual((done.counts["passed"], done.counts["errors"]), (3, 2), done.text)
         self.assertIn("nobody took an exception: server on 10.0.0.1: ValueError('in the task')", done.text)
         self.assertIn("nobody took an exception: Exception in callback", done.text)
 
     def test_a_line_that_cannot_be_obeyed(self) -> None:
-        done = self.run_pytest("""
+        done = self.run_pytest(
+            """
             def test_it(sim_net):
                 sim_net.path(sim_net.host("10.0.0.1"), sim_net.host("10.0.0.2"), "8Mbps")
-            """)
+            """
+        )
         self.assertIn("LineError: '8Mbps': not a bandwidth; write 8Mbit/s", done.text)

@@ -8,8 +8,18 @@ from random import Random
 
 import hingetulip
 from reference import (
-    STYLES, FastDummynet, LineFault, answer, bad_line, deliveries, model, next_event, packets_of, parse_line, reply_of,
-    scenarios
+    STYLES,
+    FastDummynet,
+    LineFault,
+    answer,
+    bad_line,
+    deliveries,
+    model,
+    next_event,
+    packets_of,
+    parse_line,
+    reply_of,
+    scenarios,
 )
 
 
@@ -21,9 +31,7 @@ class Scenarios(unittest.TestCase):
                     self.assertEqual(wanted, answer(shaper, call, wanted))
 
     def test_two_shapers_by_turns(self) -> None:
-        for (rule, calls, replies), (other_rule, other_calls, other_replies) in zip(
-            scenarios()[::2], scenarios()[1::2]
-        ):
+        for (rule, calls, replies), (other_rule, other_calls, other_replies) in zip(scenarios()[::2], scenarios()[1::2]):
             with hingetulip.Shaper(rule) as shaper, hingetulip.Shaper(other_rule) as other:
                 for call, wanted, other_call, other_wanted in zip(calls, replies, other_calls, other_replies):
                     self.assertEqual(wanted, answer(shaper, call, wanted))
@@ -38,9 +46,7 @@ class Scenarios(unittest.TestCase):
                 for kind, group in groupby(calls, type):
                     found = list(group)
                     if kind is model.Submit:
-                        self.assertEqual(
-                            [next(wanted) for _ in found], list(map(reply_of, shaper.submit_many(packets_of(found))))
-                        )
+                        self.assertEqual([next(wanted) for _ in found], list(map(reply_of, shaper.submit_many(packets_of(found)))))
                         most = max(most, len(found))
                         continue
                     for call in found:

@@ -19,7 +19,17 @@ from unittest import mock
 
 import hingetulip
 from hingetulip import (
-    ClosedError, Delivery, Fate, FlowStatus, InUseError, LineError, Outcome, RangeError, RefusedError, Service, Shaper
+    ClosedError,
+    Delivery,
+    Fate,
+    FlowStatus,
+    InUseError,
+    LineError,
+    Outcome,
+    RangeError,
+    RefusedError,
+    Service,
+    Shaper,
 )
 from hingetulip import history_file, service
 
@@ -44,16 +54,12 @@ class OneCaller(unittest.TestCase):
 
     def test_calls(self) -> None:
         fates = [self.caller.submit(5, 1000, pipe=1) for _ in range(3)]
-        self.assertEqual(
-            [Fate(Outcome.QUEUED, 5, 0, 0), Fate(Outcome.QUEUED, 5, 0, 1), Fate(Outcome.FULL, 5, 0, None)], fates
-        )
+        self.assertEqual([Fate(Outcome.QUEUED, 5, 0, 0), Fate(Outcome.QUEUED, 5, 0, 1), Fate(Outcome.FULL, 5, 0, None)], fates)
         self.assertEqual(Fate(Outcome.NO_TARGET, 7, None, None), self.caller.submit(7, 1000, queue=1))
         self.assertEqual(9, self.caller.advance(9))
         self.assertEqual(9, self.caller.advance(8))
         self.assertEqual([], self.caller.collect(21 * MS))
-        self.assertEqual(
-            [Delivery(21 * MS + 5, 0, 0, 5), Delivery(22 * MS + 5, 1, 0, MS + 5)], self.caller.collect(30 * MS)
-        )
+        self.assertEqual([Delivery(21 * MS + 5, 0, 0, 5), Delivery(22 * MS + 5, 1, 0, MS + 5)], self.caller.collect(30 * MS))
 
     def test_show(self) -> None:
         self.assertEqual([], self.caller.show())
@@ -61,11 +67,13 @@ class OneCaller(unittest.TestCase):
         for _ in range(3):
             self.caller.submit(0, 1000, queue=3, src=0x0A000001)
         self.caller.submit(0, 500, pipe=1)
-        self.assertEqual([
-                             FlowStatus(0, 3, 1, 1, 0, 0, 0, 0, 2, 2000, 0, 0, 1, 0),
-                             FlowStatus(1, None, 1, 0, 0, 0, 0, 0, 0, 0, 0, 0, 1, 0),
-                         ],
-                         self.caller.show())
+        self.assertEqual(
+            [
+                FlowStatus(0, 3, 1, 1, 0, 0, 0, 0, 2, 2000, 0, 0, 1, 0),
+                FlowStatus(1, None, 1, 0, 0, 0, 0, 0, 0, 0, 0, 0, 1, 0),
+            ],
+            self.caller.show(),
+        )
 
     def test_wake(self) -> None:
         self.assertIsNone(self.caller.wake())
@@ -88,9 +96,12 @@ class OneCaller(unittest.TestCase):
         ):
             self.assertRaises(RefusedError, call)
         for call in (
-            lambda: self.caller.submit(2**62 + 1, 1, pipe=1), lambda: self.caller.submit(0, 0, pipe=1),
-            lambda: self.caller.submit(0, 1, pipe=0), lambda: self.caller.submit(0, 65536, pipe=1),
-            lambda: self.caller.advance(-1), lambda: self.caller.collect(2**62 + 1)
+            lambda: self.caller.submit(2**62 + 1, 1, pipe=1),
+            lambda: self.caller.submit(0, 0, pipe=1),
+            lambda: self.caller.submit(0, 1, pipe=0),
+            lambda: self.caller.submit(0, 65536, pipe=1),
+            lambda: self.caller.advance(-1),
+            lambda: self.caller.collect(2**62 + 1),
         ):
             self.assertRaises(RangeError, call)
         self.assertRaises(TypeError, lambda: self.caller.submit(0, 1))
@@ -99,8 +110,12 @@ class OneCaller(unittest.TestCase):
         self.service.close()
         self.service.close()
         for call in (
-            lambda: self.caller.advance(0), lambda: self.caller.configure(LINE), lambda: self.caller.collect(0),
-            self.caller.show, self.caller.wake, self.service.take
+            lambda: self.caller.advance(0),
+            lambda: self.caller.configure(LINE),
+            lambda: self.caller.collect(0),
+            self.caller.show,
+            self.caller.wake,
+            self.service.take,
         ):
             self.assertRaises(ClosedError, call)
 
@@ -111,8 +126,9 @@ class OneCaller(unittest.TestCase):
             self.caller.advance(7)
             self.assertEqual(2, self.service.take())
             line = "pipe 1 config bw 8000000bit/s delay 20 queue 1"
-            self.assertEqual(f"dummynet-history,3\nc,0,configure,{line}\nr,configured\nc,0,advance,7\nr,advanced,7\n",
-                             path.read_text())
+            self.assertEqual(
+                f"dummynet-history,3\nc,0,configure,{line}\nr,configured\nc,0,advance,7\nr,advanced,7\n", path.read_text()
+            )
             self.service.close()
             self.assertTrue(path.read_text().endswith("r,advanced,7\nend,2\n"))
 
@@ -206,17 +222,18 @@ class OneCaller(unittest.TestCase):
 class AsOneShaper(unittest.TestCase):
     def test_two_callers_by_turns(self) -> None:
         rng = Random(1)
-        lines = ("pipe 1 config bw 8Mbit/s delay 20ms queue 5 mask src-ip 3", "pipe 2 config bw 1Mbit/s delay 3ms",
-                 "queue 1 config pipe 2 weight 3 mask dst-port 1")
+        lines = (
+            "pipe 1 config bw 8Mbit/s delay 20ms queue 5 mask src-ip 3",
+            "pipe 2 config bw 1Mbit/s delay 3ms",
+            "queue 1 config pipe 2 weight 3 mask dst-port 1",
+        )
         with Service(2) as opened, Shaper() as shaper:
             for line in lines:
                 opened.callers[0].configure(line)
                 shaper.configure(line)
             for turn in range(600):
                 caller, moment = rng.choice(opened.callers), turn * MS // 2
-                packet = dict(
-                    rng.choice(({"pipe": 1}, {"queue": 1})), src=rng.randrange(4), dport=rng.randrange(2), word=0
-                )
+                packet = dict(rng.choice(({"pipe": 1}, {"queue": 1})), src=rng.randrange(4), dport=rng.randrange(2), word=0)
                 self.assertEqual(shaper.submit(moment, 1000, **packet), caller.submit(moment, 1000, **packet))
                 self.assertEqual(shaper.wake(), rng.choice(opened.callers).wake())
                 if turn % 7 == 0:
@@ -249,11 +266,10 @@ class Header(unittest.TestCase):
         text = HEADER.read_text()
         self.assertEqual(sorted(re.findall(r"^uint32_t (\w+)\(", text, re.M)), sorted(service.FUNCTIONS + service.LATER_FUNCTIONS))
         statuses = dict(re.findall(r"(DN_\w+) = (\d+)", text))
-        self.assertEqual({
-                             "DN_BUSY": str(service.BUSY), "DN_BAD_COUNT": "16", "DN_UNWRITTEN": "17",
-                             "DN_NO_ENTRY": str(service.NO_ENTRY)
-                         },
-                         statuses)
+        self.assertEqual(
+            {"DN_BUSY": str(service.BUSY), "DN_BAD_COUNT": "16", "DN_UNWRITTEN": "17", "DN_NO_ENTRY": str(service.NO_ENTRY)},
+            statuses,
+        )
         front = f'#define DN_HISTORY_FRONT "{history_file.FRONT.decode().strip()}\\n"'
         self.assertIn(front, HEADER.with_name("hingetulip.h").read_text())  # which the header of services includes
 
@@ -269,9 +285,7 @@ def work(shared: Service, number: int) -> int:
             shown = caller.show()
             assert [flow.flow for flow in shown] == list(range(len(shown)))
         elif chosen < 0.7:
-            under_way += (
-                caller.submit(turn * MS, rng.randint(1, 1500), pipe=rng.randint(1, 2)).outcome is Outcome.QUEUED
-            )
+            under_way += caller.submit(turn * MS, rng.randint(1, 1500), pipe=rng.randint(1, 2)).outcome is Outcome.QUEUED
         else:
             under_way -= len(caller.collect(turn * MS))
     return under_way

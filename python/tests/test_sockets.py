@@ -74,6 +74,7 @@ class Calls(unittest.TestCase):
 
     def test_a_closed_port_answers_along_the_link(self) -> None:
         """The question has 29 bytes and the answer 28 more than it, at 8 Mbit/s and 20 ms each way."""
+
         async def main(net: aio.Network) -> tuple[list[int], int]:
             made, ends = udp(), await opened(remote=(OTHER, 9))
             made.connect((OTHER, 9))
@@ -125,11 +126,18 @@ class Calls(unittest.TestCase):
             one, second, third = udp(), udp(), udp()
             one.bind((ONE, 7))
             found = [
-                number(second.bind, ("", 7)), number(second.bind, (OTHER, 7)), number(second.bind, ("10.9.9.9", 7)),
-                number(one.bind, (ONE, 8)), number(second.send, b"x"), number(second.getpeername),
-                number(second.sendto, b"x" * 65508, (OTHER, 9)), number(second.sendto, b"x", ("10.9.9.9", 9)),
-                number(second.sendto, b"x", ("255.255.255.255", 9)), number(second.listen),
-                second.connect_ex(("10.0.0.2", 1)), number(second.sendto, b"x", (OTHER_OF_6, 9))
+                number(second.bind, ("", 7)),
+                number(second.bind, (OTHER, 7)),
+                number(second.bind, ("10.9.9.9", 7)),
+                number(one.bind, (ONE, 8)),
+                number(second.send, b"x"),
+                number(second.getpeername),
+                number(second.sendto, b"x" * 65508, (OTHER, 9)),
+                number(second.sendto, b"x", ("10.9.9.9", 9)),
+                number(second.sendto, b"x", ("255.255.255.255", 9)),
+                number(second.listen),
+                second.connect_ex(("10.0.0.2", 1)),
+                number(second.sendto, b"x", (OTHER_OF_6, 9)),
             ]
             third.setblocking(True)
             with self.assertRaisesRegex(aio.RealTimeError, "await loop.sock_recv"):
@@ -141,9 +149,24 @@ class Calls(unittest.TestCase):
 
         with both() as net:
             found = on(net, ONE, main(net))
-        self.assertEqual([errno.EADDRINUSE, errno.EADDRNOTAVAIL, errno.EADDRNOTAVAIL, errno.EINVAL, errno.EDESTADDRREQ,
-                          errno.ENOTCONN, errno.EMSGSIZE, errno.ENETUNREACH, errno.EACCES, errno.EOPNOTSUPP, 0,
-                          socket.EAI_ADDRFAMILY, errno.EBADF], found)
+        self.assertEqual(
+            [
+                errno.EADDRINUSE,
+                errno.EADDRNOTAVAIL,
+                errno.EADDRNOTAVAIL,
+                errno.EINVAL,
+                errno.EDESTADDRREQ,
+                errno.ENOTCONN,
+                errno.EMSGSIZE,
+                errno.ENETUNREACH,
+                errno.EACCES,
+                errno.EOPNOTSUPP,
+                0,
+                socket.EAI_ADDRFAMILY,
+                errno.EBADF,
+            ],
+            found,
+        )
 
     def test_outside_a_run_sockets_are_the_systems(self) -> None:
         aio.run(asyncio.sleep(1))
@@ -169,6 +192,7 @@ class Calls(unittest.TestCase):
 
     def test_names_and_options_before_a_socket_has_a_port(self) -> None:
         """Outside the tasks of hosts it keeps them for the host whose task uses it next."""
+
         async def ask(made: socket.socket) -> tuple[Any, Any]:
             made.sendto(b"x", (OTHER, 7))
             return made.getsockname(), made.getsockopt(socket.SOL_SOCKET, socket.SO_BROADCAST)
@@ -211,6 +235,7 @@ class Calls(unittest.TestCase):
 
     def test_what_a_transport_refuses(self) -> None:
         """As asyncio's own do: wrong calls raise, and the protocol is told what the system refuses. Nothing is sent."""
+
         async def main(net: aio.Network) -> list[Any]:
             server = await net.hosts[OTHER].create_task(opened(local=("0.0.0.0", 7)))
             free, bound, later = await opened(), await opened(remote=(OTHER, 7)), Ends()
@@ -243,9 +268,7 @@ class Calls(unittest.TestCase):
             self.assertIs(made, ends.transport.get_extra_info("socket"))
             self.assertGreater(made.fileno(), 0)
             net.loop.call_soon(ends.transport.close)
-            return made.getsockopt(socket.SOL_SOCKET, socket.SO_RCVBUF), made.getsockopt(
-                socket.IPPROTO_IP, socket.IP_TTL, 4
-            )
+            return made.getsockopt(socket.SOL_SOCKET, socket.SO_RCVBUF), made.getsockopt(socket.IPPROTO_IP, socket.IP_TTL, 4)
 
         with both() as net:
             self.assertEqual((5000, b"\x40\0\0\0"), on(net, ONE, main(net)))

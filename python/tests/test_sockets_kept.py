@@ -35,15 +35,24 @@ class Kept(unittest.TestCase):
         twisted, ifaddr, aioice = (types.ModuleType(name) for name in ("twisted.internet.base", "ifaddr", "aioice.ice"))
         own = lambda *_: ["of the machine"]  # noqa: E731
         twisted.ReactorBase, ifaddr.IP, ifaddr.Adapter, ifaddr.get_adapters, aioice.get_host_addresses = (
-            ReactorBase, Ip, Adapter, own, own
+            ReactorBase,
+            Ip,
+            Adapter,
+            own,
+            own,
         )
         modules = {module.__name__: module for module in (twisted, ifaddr, aioice)}
 
         async def main(net: aio.Network) -> list[Any]:
             await asyncio.sleep(5)
             (adapter,) = ifaddr.get_adapters()
-            return [ReactorBase.seconds() - time.time(), adapter.name, [it.ip for it in adapter.ips],
-                    aioice.get_host_addresses(True, False), aioice.get_host_addresses(use_ipv4=True, use_ipv6=True)]
+            return [
+                ReactorBase.seconds() - time.time(),
+                adapter.name,
+                [it.ip for it in adapter.ips],
+                aioice.get_host_addresses(True, False),
+                aioice.get_host_addresses(use_ipv4=True, use_ipv6=True),
+            ]
 
         with mock.patch.dict(sys.modules, modules), both() as net:
             found = on(net, ONE, main(net))
@@ -58,9 +67,7 @@ class Groups(unittest.TestCase):
         made = udp()
         made.setsockopt(socket.SOL_SOCKET, socket.SO_REUSEADDR, 1)
         made.bind(("", port))
-        made.setsockopt(
-            socket.IPPROTO_IP, socket.IP_ADD_MEMBERSHIP, socket.inet_aton(self.GROUP[0]) + socket.inet_aton(interface)
-        )
+        made.setsockopt(socket.IPPROTO_IP, socket.IP_ADD_MEMBERSHIP, socket.inet_aton(self.GROUP[0]) + socket.inet_aton(interface))
         return made
 
     def test_a_group_goes_over_each_link_of_its_host(self) -> None:
@@ -69,13 +76,9 @@ class Groups(unittest.TestCase):
                 return self.member()
 
             members = [await net.hosts[f"10.0.0.{n}"].create_task(listen()) for n in (1, 1, 2, 3, 4)]
-            members[1].setsockopt(
-                socket.IPPROTO_IP, socket.IP_DROP_MEMBERSHIP, socket.inet_aton(self.GROUP[0]) + bytes(4)
-            )
+            members[1].setsockopt(socket.IPPROTO_IP, socket.IP_DROP_MEMBERSHIP, socket.inet_aton(self.GROUP[0]) + bytes(4))
             members[0].sendto(b"to all", self.GROUP)
-            members[3].setsockopt(
-                socket.IPPROTO_IP, socket.IP_DROP_MEMBERSHIP, socket.inet_aton(self.GROUP[0]) + bytes(4)
-            )
+            members[3].setsockopt(socket.IPPROTO_IP, socket.IP_DROP_MEMBERSHIP, socket.inet_aton(self.GROUP[0]) + bytes(4))
             await asyncio.sleep(1)
             quiet = members[0]
             quiet.setsockopt(socket.IPPROTO_IP, socket.IP_MULTICAST_LOOP, 0)
@@ -98,11 +101,13 @@ class Groups(unittest.TestCase):
             async def listen() -> socket.socket:
                 made = udp(socket.AF_INET6)
                 made.bind(("::", 5353))
-                made.setsockopt(socket.IPPROTO_IPV6, socket.IPV6_JOIN_GROUP,
-                                socket.inet_pton(socket.AF_INET6, "ff02::fb") + bytes(4))
+                made.setsockopt(
+                    socket.IPPROTO_IPV6, socket.IPV6_JOIN_GROUP, socket.inet_pton(socket.AF_INET6, "ff02::fb") + bytes(4)
+                )
                 with self.assertRaises(OSError):
-                    made.setsockopt(socket.IPPROTO_IPV6, socket.IPV6_JOIN_GROUP,
-                                    socket.inet_pton(socket.AF_INET6, "ff02::fb") + bytes(4))
+                    made.setsockopt(
+                        socket.IPPROTO_IPV6, socket.IPV6_JOIN_GROUP, socket.inet_pton(socket.AF_INET6, "ff02::fb") + bytes(4)
+                    )
                 return made
 
             member = await net.hosts[OTHER].create_task(listen())

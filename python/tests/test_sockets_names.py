@@ -17,11 +17,10 @@ MS = 10**6  # ns
 class SecondNames(unittest.TestCase):
     def test_ipv6_and_a_dual_stack_socket(self) -> None:
         """1,000 bytes of IPv6 have 952 of data. A socket of IPv6 takes both, and has an IPv4 address in its own way."""
+
         async def main(net: aio.Network) -> list[Any]:
             loop, made = asyncio.get_running_loop(), udp(socket.AF_INET6)
-            server = (await net.hosts[OTHER].create_task(loop.create_datagram_endpoint(lambda: Ends(True), ("::", 7))))[
-                1
-            ]
+            server = (await net.hosts[OTHER].create_task(loop.create_datagram_endpoint(lambda: Ends(True), ("::", 7))))[1]
             made.setsockopt(socket.IPPROTO_IPV6, socket.IPV6_V6ONLY, 0)
             made.bind(("::", 5000, 0, 0))
             ends = (await loop.create_datagram_endpoint(Ends, sock=made))[1]
@@ -55,9 +54,11 @@ class SecondNames(unittest.TestCase):
     def test_names(self) -> None:
         async def main(net: aio.Network) -> list[Any]:
             return [
-                socket.gethostname(), socket.gethostbyname("other"), [it[4] for it in socket.getaddrinfo("other", 9)],
+                socket.gethostname(),
+                socket.gethostbyname("other"),
+                [it[4] for it in socket.getaddrinfo("other", 9)],
                 [it[4] for it in socket.getaddrinfo("other", 9, socket.AF_INET6)],
-                [it[4] for it in await asyncio.get_running_loop().getaddrinfo("224.0.0.251", 9)]
+                [it[4] for it in await asyncio.get_running_loop().getaddrinfo("224.0.0.251", 9)],
             ]
 
         with both() as net:

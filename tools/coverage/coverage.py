@@ -34,7 +34,9 @@ FOLDERS = {"run": "python/tests/run", "kit": "python/tests/kit_tests", "simulate
 PYTEST = ["-m", "pytest", "-q", "-p", "no:cacheprovider"]
 SUITES = {  # each by its words behind those of Python; PROGRAM is that of the repository
     "module": [*PYTEST, "python/tests", *(f"--ignore={folder}" for folder in FOLDERS.values())],
-    **{name: [*PYTEST, folder] for name, folder in FOLDERS.items()}, "examples": ["tools/gate/examples.py", "PROGRAM"]}
+    **{name: [*PYTEST, folder] for name, folder in FOLDERS.items()},
+    "examples": ["tools/gate/examples.py", "PROGRAM"],
+}
 FIGURES = ("num_statements", "covered_lines", "num_branches", "covered_branches")  # as coverage.py names them
 LONGEST = 1800  # s of a suite
 OPTIONS = """[run]
@@ -84,7 +86,9 @@ def build(name: str, folder: Path, library: Path) -> Path:
 
 def environment(folder: Path, python: str) -> dict[str, str]:
     """Names the hosts, and has each Python count."""
-    library = Path(subprocess.run([TOP / "tools" / "release" / "library"], stdout=subprocess.PIPE, text=True, check=True).stdout.strip())
+    library = Path(
+        subprocess.run([TOP / "tools" / "release" / "library"], stdout=subprocess.PIPE, text=True, check=True).stdout.strip()
+    )
     hosts = {f"HINGE_{name.upper()}": str(build(name, folder, library)) for name in HOSTS}
     start = {**os.environ, "PYTHONUSERBASE": str(folder / "user")}
     asked = [python, "-c", "import coverage, site; print(site.getusersitepackages(), coverage.__path__[0])"]
@@ -100,7 +104,11 @@ def environment(folder: Path, python: str) -> dict[str, str]:
     (packages / "coverage_start.pth").write_text("import coverage_start\n")
     (folder / "options").write_text(OPTIONS.format(folder=folder, top=TOP))
     start["PATH"] = f"{folder / 'bin'}:{os.environ['PATH']}"
-    named = {"HINGE_LONG": "yes", "COVERAGE_PROCESS_START": str(folder / "options"), "HINGETULIP_LIBRARY": f"{library}/libhingetulip.so.1"}
+    named = {
+        "HINGE_LONG": "yes",
+        "COVERAGE_PROCESS_START": str(folder / "options"),
+        "HINGETULIP_LIBRARY": f"{library}/libhingetulip.so.1",
+    }
     return {**start, **hosts, **named, "DUMMYNET": os.environ.get("DUMMYNET", f"{TOP}/dummynet")}
 
 

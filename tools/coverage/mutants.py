@@ -8,12 +8,24 @@ import tokenize
 from pathlib import Path
 from typing import Iterator, NamedTuple
 
-IN_BOTH = {"<": "<=", "<=": "<", ">": ">=", ">=": ">", "==": "!=", "!=": "==", "+": "-", "-": "+",
-           "+=": "-=", "-=": "+="}
-IN_C = {**IN_BOTH, "&&": "||", "||": "&&", "*": "+", "|": "&", "&": "|", "<<": ">>", ">>": "<<",
-        "true": "false", "false": "true", "++": "--", "break": "continue", "if (": "if (!", "while (": "while (!"}
-IN_PYTHON = {**IN_BOTH, "and": "or", "or": "and", "True": "False", "False": "True", "//": "*", "not": "",
-             "break": "continue"}
+IN_BOTH = {"<": "<=", "<=": "<", ">": ">=", ">=": ">", "==": "!=", "!=": "==", "+": "-", "-": "+", "+=": "-=", "-=": "+="}
+IN_C = {
+    **IN_BOTH,
+    "&&": "||",
+    "||": "&&",
+    "*": "+",
+    "|": "&",
+    "&": "|",
+    "<<": ">>",
+    ">>": "<<",
+    "true": "false",
+    "false": "true",
+    "++": "--",
+    "break": "continue",
+    "if (": "if (!",
+    "while (": "while (!",
+}
+IN_PYTHON = {**IN_BOTH, "and": "or", "or": "and", "True": "False", "False": "True", "//": "*", "not": "", "break": "continue"}
 UNREAD = re.compile(r"""/\*.*?\*/|//[^\n]*|"(?:\\.|[^"\\\n])*"|'(?:\\.|[^'\\\n])+'|^\#[^\n]*""", re.S | re.M)
 BETWEEN = r"(?<= )(?:<=|>=|==|!=|&&|\|\||<<|>>|\+=|-=|[<>+*|&-])(?= )"  # the spaces of an operator of two
 TOKEN = re.compile(BETWEEN + r"|\+\+|\bif \(|\bwhile \(|\b(?:true|false|break|\d+)\b")
@@ -28,12 +40,12 @@ class Mutant(NamedTuple):
     new: str
 
     def applied(self, text: str) -> str:
-        return text[:self.begin] + self.new + text[self.end:]
+        return text[: self.begin] + self.new + text[self.end :]
 
     def lines(self, text: str) -> tuple[int, str, str]:
         """The number of its line, and the line before and behind the change."""
         first, last = text.rfind("\n", 0, self.begin) + 1, text.find("\n", self.end)
-        changed = text[first:self.begin] + self.new + text[self.end:last]
+        changed = text[first : self.begin] + self.new + text[self.end : last]
         return text.count("\n", 0, self.begin) + 1, text[first:last].strip(), changed.strip()
 
 

@@ -65,7 +65,8 @@ TESTS = {  # by the beginning of a path, the first that fits: the tests that are
     "python/hinge/testing/": "module pytest_plugin",
     "python/hinge/pytest_plugin.py": "module pytest_plugin",
     "python/hinge/simulated/": "",
-    "python/hinge/": "kit hinge, kit outputs, kit check, kit pictures"}
+    "python/hinge/": "kit hinge, kit outputs, kit check, kit pictures",
+}
 CAGE = """mount --bind "$0" "$0" && mount --bind "$0/tmp" /tmp && mount -o remount,bind,ro / &&
 ulimit -v 8388608 && cd "$0/top" && exec "$@" """
 NOTHING: Any = {"stdin": subprocess.DEVNULL, "stdout": subprocess.DEVNULL, "stderr": subprocess.DEVNULL}
@@ -101,8 +102,14 @@ class Copy:
         library = os.environ.get("HINGETULIP_LIBRARY") or f"{TOP}/release/libhingetulip.so.1"
         self.archive = Path(library).with_name("libhingetulip.a")
         program = os.environ.get("DUMMYNET") or f"{TOP}/release/dummynet"
-        self.env = {**os.environ, "HOME": str(folder / "home"), "HINGETULIP_LIBRARY": library, "DUMMYNET": program,
-                    "PYTHONPATH": str(self.top / "python"), "PYTHONDONTWRITEBYTECODE": "1"}
+        self.env = {
+            **os.environ,
+            "HOME": str(folder / "home"),
+            "HINGETULIP_LIBRARY": library,
+            "DUMMYNET": program,
+            "PYTHONPATH": str(self.top / "python"),
+            "PYTHONDONTWRITEBYTECODE": "1",
+        }
         self.env |= {f"HINGE_{name.upper()}": str(folder / host) for name, host in HOSTS.items()}
         rooms = ["unshare", "--mount", "--pid", "--fork", "--kill-child", "--mount-proc"]
         self.cage = [*rooms, "sh", "-c", CAGE, str(folder)] if os.geteuid() == 0 else []

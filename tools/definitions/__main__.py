@@ -67,8 +67,11 @@ def table(program: str, *numbers: str) -> int:
 
 def main(words: list[str]) -> int:
     commands: dict[str, tuple[Callable[..., int], range]] = {
-        "audit": (audit, range(1, 2)), "gate": (gate, range(3, 4)), "wrong": (table, range(1, 200)),
-        "checks": (checks.main, range(1))}
+        "audit": (audit, range(1, 2)),
+        "gate": (gate, range(3, 4)),
+        "wrong": (table, range(1, 200)),
+        "checks": (checks.main, range(1)),
+    }
     if words[:1] == [] or words[0] not in commands or len(words) - 1 not in commands[words[0]][1]:
         print(__doc__, file=sys.stderr)
         return USAGE

@@ -40,11 +40,19 @@ RIGHT = [
     Entry("c,0,advance,5", ["r,advanced,1000000"]),
 ]
 FAULTY = [
-    "f = (a", "f = a)", "f (a = b", "f = record { a = 1 b = 2 }", "f = elim a [ ]", "f = let a in b", "f = λ . a",
+    "f = (a",
+    "f = a)",
+    "f (a = b",
+    "f = record { a = 1 b = 2 }",
+    "f = elim a [ ]",
+    "f = let a in b",
+    "f = λ . a",
     "f = ",
 ]
 NO_HISTORIES = [
-    "", "dummynet-history,9\nend,0\n", f"dummynet-live,1\n{PIPE}\nr,configured\nend,2\n",
+    "",
+    "dummynet-history,9\nend,0\n",
+    f"dummynet-live,1\n{PIPE}\nr,configured\nend,2\n",
     "dummynet-live,1\nr,configured\nend,0\n",
 ]
 
@@ -66,8 +74,11 @@ def reading(tally: Tally) -> None:
     small = Definitions({"Small": read(SMALL, {})})
     for name, given in (("misnamed", 1), ("least", data("None"))):
         tally.equal(f"'{name}' is refused", True, refused(NotUnderstood, lambda: apply(small.value("Small", name), given)))
-    tally.equal("equal lists are one, and others aren't", (True, False),
-                (to_list([1, 2]) is to_list([1, 2]), to_list([1, 2]) is to_list([2, 1])))
+    tally.equal(
+        "equal lists are one, and others aren't",
+        (True, False),
+        (to_list([1, 2]) is to_list([1, 2]), to_list([1, 2]) is to_list([2, 1])),
+    )
 
 
 def histories(tally: Tally) -> None:
@@ -84,8 +95,8 @@ def histories(tally: Tally) -> None:
     tally.equal("a right history", None, emulator.difference("Ordered", RIGHT))
     for place, entry in enumerate(RIGHT):
         for number, told in enumerate(entry.reply):
-            other = [*entry.reply[:number], told[:-1] + "7", *entry.reply[number + 1:]]
-            difference = emulator.difference("Ordered", [*RIGHT[:place], Entry(entry.call, other), *RIGHT[place + 1:]])
+            other = [*entry.reply[:number], told[:-1] + "7", *entry.reply[number + 1 :]]
+            difference = emulator.difference("Ordered", [*RIGHT[:place], Entry(entry.call, other), *RIGHT[place + 1 :]])
             tally.equal(f"'{told}' changed", place, difference.place if difference else None)
     first, again, other = (session(Random(seed), 40) for seed in (1, 1, 2))
     tally.equal("a session by its seed", (True, False), (first == again, first == other))

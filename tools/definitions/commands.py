@@ -9,10 +9,12 @@ from values import NONE, Data, Value, data, record, some
 FIELDS = ("src", "dst", "proto", "sport", "dport")
 MASKS = {"src-ip": "src", "dst-ip": "dst", "proto": "proto", "src-port": "sport", "dst-port": "dport"}
 ALL = {"src": 2**32 - 1, "dst": 2**32 - 1, "proto": 2**8 - 1, "sport": 2**16 - 1, "dport": 2**16 - 1}
-LINE = re.compile(r"(?P<kind>pipe|queue) (?:delete (?P<gone>\d+)|(?P<number>\d+) config(?: pipe (?P<pipe>\d+))?"
-                  r"(?: bw (?P<bw>\d+)bit/s)?(?: delay (?P<delay>\d+))?(?: weight (?P<weight>\d+))?"
-                  r"(?: queue (?P<limit>\d+)(?P<unit>Kbytes)?)?(?: plr (?P<plr>[\d.]+))?"
-                  r"(?: buckets (?P<buckets>\d+))?(?: mask (?P<mask>.*))?)")
+LINE = re.compile(
+    r"(?P<kind>pipe|queue) (?:delete (?P<gone>\d+)|(?P<number>\d+) config(?: pipe (?P<pipe>\d+))?"
+    r"(?: bw (?P<bw>\d+)bit/s)?(?: delay (?P<delay>\d+))?(?: weight (?P<weight>\d+))?"
+    r"(?: queue (?P<limit>\d+)(?P<unit>Kbytes)?)?(?: plr (?P<plr>[\d.]+))?"
+    r"(?: buckets (?P<buckets>\d+))?(?: mask (?P<mask>.*))?)"
+)
 DIGITS = 18  # of a loss rate, behind its point
 UNIT: int = 10**DIGITS
 
@@ -50,6 +52,7 @@ def command(text: str) -> Value:
 
     def number(name: str, default: int) -> int:
         return int(given[name] or default)
+
     limit = data("Limit.Kbytes" if given["unit"] else "Limit.Slots", number("limit", 50))
     buckets = some(int(given["buckets"])) if given["buckets"] else NONE
     rest = (limit, loss(given["plr"] or "0"), buckets, mask(given["mask"] or ""))

@@ -13,10 +13,14 @@ from records import Entry, read_history
 
 CALLS = 40  # in a session
 # Calls at the ends of the ranges, and one beyond each. The program refuses the latter.
-CONFIGURES = [f"configure,pipe 1 config {option}" for option in
-              ("delay 3600000", "delay 3600001", "queue 10000", "queue 10001", "queue 1024Kbytes", "queue 1025Kbytes")]
-PACKETS = [f"submit,pipe,1,10.0.0.1,10.0.0.2,17,1,2,{length},0,{moment}" for length, moment in
-           ((65535, 0), (65536, 0), (1, 2**62), (1, 2**62 + 1))]
+CONFIGURES = [
+    f"configure,pipe 1 config {option}"
+    for option in ("delay 3600000", "delay 3600001", "queue 10000", "queue 10001", "queue 1024Kbytes", "queue 1025Kbytes")
+]
+PACKETS = [
+    f"submit,pipe,1,10.0.0.1,10.0.0.2,17,1,2,{length},0,{moment}"
+    for length, moment in ((65535, 0), (65536, 0), (1, 2**62), (1, 2**62 + 1))
+]
 MOMENTS = [f"{kind},{moment}" for kind in ("advance", "collect") for moment in (2**62, 2**62 + 1)]
 ENDS = [f"c,0,{call}" for call in CONFIGURES + PACKETS + MOMENTS]
 

@@ -7,8 +7,17 @@ from random import Random
 LIMITS = ("", "", " queue 1", " queue 2", " queue 3", " queue 1Kbytes", " queue 2Kbytes", " queue 3Kbytes")
 LOSSES = ("", "", "", " plr 0.25" + 16 * "0", " plr 0.5" + 17 * "0")  # a quarter and a half of 2^31
 WORDS = (0, 2**29 - 1, 2**29, 2**30 - 1, 2**30, 2**31 - 1, 2**31, 2**31 + 2**29, 2**32 - 1)
-MASKS = ("", "", " mask src-ip 0x00000001", " mask src-ip 0x00000003", " mask dst-ip 0x00000001",
-         " mask dst-port 0x0001", " mask src-port 0x0001", " mask proto 0x01", " mask all")
+MASKS = (
+    "",
+    "",
+    " mask src-ip 0x00000001",
+    " mask src-ip 0x00000003",
+    " mask dst-ip 0x00000001",
+    " mask dst-port 0x0001",
+    " mask src-port 0x0001",
+    " mask proto 0x01",
+    " mask all",
+)
 BANDWIDTHS = ("", " bw 8000000bit/s", " bw 800000bit/s", " bw 300000bit/s", " bw 7777777bit/s", " bw 7bit/s")
 LENGTHS = (1, 40, 512, 1000, 1024, 1500, 65535)
 WEIGHTS = ("", " weight 2", " weight 3", " weight 7", " weight 100")

@@ -11,8 +11,24 @@ from typing import Optional
 
 from prelude import SIGNS, WORDS
 from source import Constructor, Spec
-from syntax import (Apply, ConsPattern, Elim, EmptyList, Equation, Expression, Field, Infix, Lambda, Let, Name,
-                    NamePattern, NilPattern, Number, Pattern, Record)
+from syntax import (
+    Apply,
+    ConsPattern,
+    Elim,
+    EmptyList,
+    Equation,
+    Expression,
+    Field,
+    Infix,
+    Lambda,
+    Let,
+    Name,
+    NamePattern,
+    NilPattern,
+    Number,
+    Pattern,
+    Record,
+)
 from tokens import NotUnderstood
 from values import KEPT, NIL, Data, Function, Value, apply, are_kept, data, record
 
@@ -99,6 +115,7 @@ class Compiler:
                         memory[arguments] = result
                     return result
             raise NotUnderstood(f"no equation of {name} fits")
+
         if not arity:
             return run()
         self.definitions.memories.append(memory)
@@ -140,6 +157,7 @@ class Compiler:
 
             def successor(value: Value, variables: Variables) -> Optional[Variables]:
                 return inner(value - 1, variables) if isinstance(value, int) and value > 0 else None
+
             return successor, scope
         if pattern.parts:
             raise NotUnderstood(f"{name} is no constructor in {self.file}")
@@ -157,6 +175,7 @@ class Compiler:
             if not isinstance(value, Data) or value.constructor != constructor:
                 return None
             return all_match(matches, value.parts, variables)
+
         return whole, scope
 
     def code(self, expression: Expression, scope: Scope) -> Code:
@@ -191,6 +210,7 @@ class Compiler:
             if not known:
                 known.append(self.definitions.value(self.file, name))
             return known[0]
+
         return look_up
 
     def infix(self, expression: Infix, scope: Scope) -> Code:
@@ -230,6 +250,7 @@ class Compiler:
                 assert isinstance(old, Data) and isinstance(old.constructor, tuple)
                 known.update(zip(old.constructor, old.parts))
             return record({**known, **{name: value(variables) for name, value in fields}})
+
         return make
 
     def elim(self, expression: Elim, scope: Scope) -> Code:
@@ -246,4 +267,5 @@ class Compiler:
                 if found is not None:
                     return body(found)
             raise NotUnderstood("no case fits")
+
         return choose

@@ -2,12 +2,44 @@
 
 from __future__ import annotations
 
-from syntax import (Apply, ConsPattern, Elim, EmptyList, Equation, Expression, Field, Infix, Lambda, Let, Name,
-                    NamePattern, NilPattern, Number, NumberPattern, Pattern, Record)
+from syntax import (
+    Apply,
+    ConsPattern,
+    Elim,
+    EmptyList,
+    Equation,
+    Expression,
+    Field,
+    Infix,
+    Lambda,
+    Let,
+    Name,
+    NamePattern,
+    NilPattern,
+    Number,
+    NumberPattern,
+    Pattern,
+    Record,
+)
 from tokens import NotUnderstood, Token, tokens
 
-BINDING = {"→": 0, "×": 1, "≡": 2, "≤": 2, "<": 2, "||": 3, "&&": 4, "++": 5, "∷": 6, "+": 7, "-": 7,
-           "*": 8, "/": 8, "%": 8, "^": 9}
+BINDING = {
+    "→": 0,
+    "×": 1,
+    "≡": 2,
+    "≤": 2,
+    "<": 2,
+    "||": 3,
+    "&&": 4,
+    "++": 5,
+    "∷": 6,
+    "+": 7,
+    "-": 7,
+    "*": 8,
+    "/": 8,
+    "%": 8,
+    "^": 9,
+}
 TO_THE_RIGHT = {"→", "×", "++", "∷", "^"}
 KEYWORDS = {"let", "in", "elim", "record"}
 
@@ -26,7 +58,7 @@ class Parser:
         """The next token's text, which has to be this one if one is given."""
         token = self.next
         if text and token.text != text or token.kind == "end":
-            near = " ".join(token.text for token in self.tokens[max(0, self.place - 6):self.place + 6])
+            near = " ".join(token.text for token in self.tokens[max(0, self.place - 6) : self.place + 6])
             raise NotUnderstood(f"{text or 'more'} wanted near: {near}")
         self.place += 1
         return token.text

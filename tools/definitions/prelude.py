@@ -12,9 +12,11 @@ WORDS: dict[str, Value] = {"true": True, "false": False, "None": NONE, "zero": 0
 
 def word(arity: int, name: str = "") -> Callable[[Callable[..., Any]], Callable[..., Any]]:
     """Gives a word its meaning: the function below, by its own name or another."""
+
     def keep(function: Callable[..., Any]) -> Callable[..., Any]:
         WORDS[name or function.__name__] = Function(arity, function)
         return function
+
     return keep
 
 
@@ -113,7 +115,7 @@ SIGNS: dict[str, Callable[..., Any]] = {
     "*": lambda a, b: a * b,
     "/": lambda a, b: a // b if b else 0,
     "%": lambda a, b: a % b if b else a,
-    "^": lambda a, b: a ** b,
+    "^": lambda a, b: a**b,
     "++": lambda a, b: to_list(items(a), b),
     "≡": lambda a, b: a == b,
     "≤": lambda a, b: a <= b,

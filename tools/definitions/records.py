@@ -8,9 +8,19 @@ from commands import FIELDS, NotCanonical, command
 from values import Data, Value, data, items, record
 
 RULES = {"dummynet-history,2": "Free", "dummynet-history,3": "Ordered", "dummynet-live,1": "Ordered"}
-WORDS = {"Configured": "configured", "NoSuchPipe": "no-such-pipe", "Deleted": "deleted",
-         "PipeHasQueues": "pipe-has-queues", "NoSuchQueue": "no-such-queue", "Exhausted": "exhausted", "Queued": "queued",
-         "Lost": "lost", "Full": "full", "NoTarget": "no-target", "Advanced": "advanced"}
+WORDS = {
+    "Configured": "configured",
+    "NoSuchPipe": "no-such-pipe",
+    "Deleted": "deleted",
+    "PipeHasQueues": "pipe-has-queues",
+    "NoSuchQueue": "no-such-queue",
+    "Exhausted": "exhausted",
+    "Queued": "queued",
+    "Lost": "lost",
+    "Full": "full",
+    "NoTarget": "no-target",
+    "Advanced": "advanced",
+}
 COUNTS = ("queued", "bytes", "lost", "full", "started", "discarded")
 DELIVERY = ("packet", "flow", "start", "due")
 

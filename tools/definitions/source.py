@@ -45,8 +45,10 @@ def declared(sources: Path) -> dict[str, dict[str, int]]:
     for path in sorted(sources.glob("*.rt")):
         text = re.sub(r"^ *//.*\n", "", path.read_text(), flags=re.M)
         for name, body in ENUM.findall(text):
-            found[name] = {variant: len([part for part in (parts or fields).split(",") if part.strip()])
-                           for variant, parts, fields in VARIANT.findall(body)}
+            found[name] = {
+                variant: len([part for part in (parts or fields).split(",") if part.strip()])
+                for variant, parts, fields in VARIANT.findall(body)
+            }
     return found
 
 

@@ -6,8 +6,9 @@ import re
 from typing import NamedTuple
 
 # A field stands at once behind what it is a field of: the dot of `λ p. p.len` before a space is a sign.
-TOKEN = re.compile(r"(?P<number>\d+)|(?P<name>[^\W\d][\w']*)|(?P<field>\.[^\W\d]\w*)"
-                   r"|(?P<sign>\+\+|&&|\|\||[][(){};=λ↦|∷+*/%^.,<≤≡×→⊤⊥:-])")
+TOKEN = re.compile(
+    r"(?P<number>\d+)|(?P<name>[^\W\d][\w']*)|(?P<field>\.[^\W\d]\w*)" r"|(?P<sign>\+\+|&&|\|\||[][(){};=λ↦|∷+*/%^.,<≤≡×→⊤⊥:-])"
+)
 
 
 class NotUnderstood(Exception):
@@ -31,6 +32,6 @@ def tokens(text: str) -> list[Token]:
         token = TOKEN.match(text, place)
         if token is None or token.lastgroup is None:
             raise NotUnderstood(f"no token: {text[place:place + 40]}")
-        found.append(Token(token.lastgroup, token.group()[token.lastgroup == "field":]))
+        found.append(Token(token.lastgroup, token.group()[token.lastgroup == "field" :]))
         place = token.end()
     return [*found, Token("end", "")]

@@ -26,8 +26,7 @@ class Function:
 
     __slots__ = ("arity", "run", "arguments", "is_kept")
 
-    def __init__(self, arity: int, run: Callable[..., Value], arguments: tuple[Value, ...] = (),
-                 is_kept: bool = True) -> None:
+    def __init__(self, arity: int, run: Callable[..., Value], arguments: tuple[Value, ...] = (), is_kept: bool = True) -> None:
         self.arity, self.run, self.arguments, self.is_kept = arity, run, arguments, is_kept
 
 
@@ -86,7 +85,7 @@ def apply(function: Value, *arguments: Value) -> Value:
     if len(whole) == function.arity:
         return function.run(*whole)
     if len(whole) > function.arity:
-        return apply(function.run(*whole[:function.arity]), *whole[function.arity:])
+        return apply(function.run(*whole[: function.arity]), *whole[function.arity :])
     is_kept = function.is_kept and are_kept(arguments)
     more = KEPT.get((function.run, *whole)) if is_kept else None
     if more is None:

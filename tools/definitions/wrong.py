@@ -74,7 +74,7 @@ def what_is_given(program: str) -> Given:
 def try_share(tally: Tally, program: str, seed: int) -> None:
     """Each row of a share of the seed is seen, except those that can't be."""
     given = what_is_given(program)
-    for number in all_numbers()[seed % SHARES::SHARES]:
+    for number in all_numbers()[seed % SHARES :: SHARES]:
         tried = row(number)
         if tried.wrong not in UNSEEN:
             what = seen(tried, given).what

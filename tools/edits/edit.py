@@ -64,7 +64,7 @@ def edited_functions(crate: Path, pairs: tuple[Pair, ...]) -> frozenset[Function
     found: set[Function] = set()
     for pair in pairs:
         text = texts[pair.file]
-        line = text[:text.find(pair.old)].count("\n") + 1
+        line = text[: text.find(pair.old)].count("\n") + 1
         function: Optional[Function] = function_at(crate, pair.file, line)
         is_whole = pair.new.count("fn ") != pair.old.count("fn ")
         if function is None or is_whole or not is_body(text, function, line):
@@ -76,10 +76,10 @@ def edited_functions(crate: Path, pairs: tuple[Pair, ...]) -> frozenset[Function
 
 def is_body(text: str, function: Function, line: int) -> bool:
     """Whether a line of a function is of its body, and not of its signature or its clauses."""
-    lines = [one.rstrip() for one in text.split("\n")[function.first - 1:function.last]]
+    lines = [one.rstrip() for one in text.split("\n")[function.first - 1 : function.last]]
     depth = len(lines[0]) - len(lines[0].lstrip())
     # A body opens on a line of the function's own depth: alone, or behind the signature.
-    opens = (place for place, one in enumerate(lines) if one.endswith("{") and one[depth:depth + 1] != " ")
+    opens = (place for place, one in enumerate(lines) if one.endswith("{") and one[depth : depth + 1] != " ")
     return line > function.first + next(opens, 0) or len(lines) == 1
 
 

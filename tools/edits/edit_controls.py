@@ -48,17 +48,24 @@ CONTROLS = {
     "dn_heap/reserves_without_the_keys_of_the_heap": [(".min(n))", ".max(n))")],
     "dn_files/row_read_twice": [("self.start = start;", "let _ = start;")],
     "hingetulip_c/no_room_for_plain_rows": [("packets.len() == 1", "packets.len() == 0")],
-    "dn_wf2q/empty_heaps": [("self.arrivals", "self.eligible.moves() + self.waiting.moves()"), ("self.eligible.pop()", "self.eligible.moves()"),
-                            ("self.waiting.pop()", "self.waiting.moves()")],
+    "dn_wf2q/empty_heaps": [
+        ("self.arrivals", "self.eligible.moves() + self.waiting.moves()"),
+        ("self.eligible.pop()", "self.eligible.moves()"),
+        ("self.waiting.pop()", "self.waiting.moves()"),
+    ],
     "dn_wf2q/left_in_waiting_heap": [("leave(&mut self.waiting, first);", "let _ = self.waiting.moves();")],
     "dn_wf2q/picks_ineligible": [("top.tag() * 0", "top.tag() * 1")],
-    "dn_wf2q/weight_at_the_pick": [("self.behind.in_force.max(next.weight.min(0))", "next.weight.max(self.behind.in_force.min(0))")],
+    "dn_wf2q/weight_at_the_pick": [
+        ("self.behind.in_force.max(next.weight.min(0))", "next.weight.max(self.behind.in_force.min(0))")
+    ],
     "dn_wf2q/without_the_least_key": [
         ("use dn_heap::PlacedHeap;", IS_LEAST + "ghost use Rattle.dn_wf2q.specs.Rank.{rank_cmp}; use dn_heap::PlacedHeap;"),
-        ("ensures keys {", LEAST % "rank_cmp")],
+        ("ensures keys {", LEAST % "rank_cmp"),
+    ],
     "dn_link/without_the_least_key": [
         ("trait Pops", IS_LEAST + "ghost use Rattle.dn_types.specs.Deliveries.{delivery_cmp}; trait Pops"),
-        ("ensures keys {", LEAST % "delivery_cmp")],
+        ("ensures keys {", LEAST % "delivery_cmp"),
+    ],
     "dn_link/without_the_value_of_a_bandwidth": [("ensures in_range", "ensures value { result ≡ self } ensures in_range")],
     "dn_flows/limit_before_loss": [("&& !self.is_full(&rule.limit)", "&& self.len == self.len")],
     "dn_flows/an_active_flow_loses_its_place": [("std::mem::replace(&mut self.queues[flow].reserved, false)", "false")],
@@ -82,34 +89,56 @@ CONTROLS = {
     "dn_shaper/collects_again": [("list.extend_from_slice(given)", "list.len()")],
     "dn_shaper/memory_after_change_the_flow": [("find_or_make(*key)", "len()")],
     "dn_shaper/collects_by_submission": [
-        ("given.sort_unstable_by_key(|delivery| delivery.packet);", "given.reverse(); given.reverse();")],
+        ("given.sort_unstable_by_key(|delivery| delivery.packet);", "given.reverse(); given.reverse();")
+    ],
     "dn_shaper/no_flow_for_a_lost_packet": [("< drops.loss.get()", "< 0")],
     "dn_shaper/opening_reply": [("Reply::NoTarget { at }", "reply"), ("at: moment.get()", "at: at")],
     "dn_shaper/without_what_is_due": [
         ("Line.{after_due}", "Line.{after_due, due_first}"),
-        ("ensures pending {", "ensures value { result ≡ due_first at self.old.pending } ensures pending {")],
+        ("ensures pending {", "ensures value { result ≡ due_first at self.old.pending } ensures pending {"),
+    ],
     "dn_shaper/without_which_is_picked": [
-        ("ghost use Rattle.dn_types.specs.Wf2q.{pick};", "ghost use Rattle.std.specs.Option.{option_map}; ghost use Rattle.dn_types.specs.Wf2q.{pick};"),
-        ("ensures picks { ⊤ }", "ensures picks { result ≡ option_map (λ h. h.flow) (pick self.old.virtual_time (heads_of self.old.flows)) }")],
+        (
+            "ghost use Rattle.dn_types.specs.Wf2q.{pick};",
+            "ghost use Rattle.std.specs.Option.{option_map}; ghost use Rattle.dn_types.specs.Wf2q.{pick};",
+        ),
+        (
+            "ensures picks { ⊤ }",
+            "ensures picks { result ≡ option_map (λ h. h.flow) (pick self.old.virtual_time (heads_of self.old.flows)) }",
+        ),
+    ],
     "dn_shaper/without_the_packet_pushed": [
-        ("fn push_reserved(", "ghost use Rattle.std.specs.Prelude.{slice_set}; ghost use Rattle.dn_flows.specs.Table.{pushed}; fn push_reserved("),
-        ("ensures keys {", "ensures flows { flows.new.flows ≡ slice_set flows.old.flows flow (pushed waiting (flow_at flows.old.flows flow)) } ensures keys {")],
+        (
+            "fn push_reserved(",
+            "ghost use Rattle.std.specs.Prelude.{slice_set}; ghost use Rattle.dn_flows.specs.Table.{pushed}; fn push_reserved(",
+        ),
+        (
+            "ensures keys {",
+            "ensures flows { flows.new.flows ≡ slice_set flows.old.flows flow (pushed waiting (flow_at flows.old.flows flow)) } ensures keys {",
+        ),
+    ],
     "hingetulip_c/an_entry_is_longer_than_its_text": [("u64::from(line.len() == text.len())", "0")],
     "hingetulip_c/clears_the_next_place": [("list[given.len()].reserved = 0;", "let _ = given.len();")],
     "hingetulip_c/tells_a_packet_that_has_no_place": [("u64::from(front.rows.len() == packets.len())", "0")],
     "dn_files/without_the_fault_of_a_line": [("IfOk result (λ command. Ok command ≡ answer line.now)", "result ≡ answer line.now")],
     "dn_files/short_read_ends_the_feed": [("count < PART", "count == 0")],
     "dn_replay/a_part_too_long_spoils": [
-        ("drop(mem::replace(&mut self.stage, Stage::Refused(ReplayFault::OutOfMemory)));", "let _ = self.length;")],
+        ("drop(mem::replace(&mut self.stage, Stage::Refused(ReplayFault::OutOfMemory)));", "let _ = self.length;")
+    ],
     "dn_replay/faults_end_as_out_of_memory": [("Err(ReplayFault::OutOfMemory)", "Err(fault)")],
     "dn_replay/refused_memory_is_forgotten": [("Stage::Packets", "Stage::Refused(fault)")],
     "dn_replay/fault_before_a_failed_read": [("return Err(fault);", "let _ = fault;")],
     "dn_replay/without_the_answers_of_a_caller": [
         ("Prelude.{⊤, OnErr};", "Prelude.{OnErr}; ghost use Rattle.dn_service.specs.Callers.{Answered};"),
-        ("(λ reply. ⊤)", "(λ reply. Answered self.old call reply self.new)")],
+        ("(λ reply. ⊤)", "(λ reply. Answered self.old call reply self.new)"),
+    ],
     "dn_audit/without_the_replies_of_the_shaper": [
-        ("ghost use Rattle.dn_types.specs.Clock", "ghost use Rattle.dn_types.specs.Replies.{reply}; ghost use Rattle.dn_types.specs.Clock"),
-        ("⊤ × StandsAfter", "(r ≡ reply rule calls call.now) × StandsAfter")],
+        (
+            "ghost use Rattle.dn_types.specs.Clock",
+            "ghost use Rattle.dn_types.specs.Replies.{reply}; ghost use Rattle.dn_types.specs.Clock",
+        ),
+        ("⊤ × StandsAfter", "(r ≡ reply rule calls call.now) × StandsAfter"),
+    ],
 }
 
 
@@ -180,7 +209,9 @@ def missing() -> int:
 
 def below(crate: str) -> list[str]:
     """The crates of this repository that a crate stands on, lowest first, and itself."""
-    done = subprocess.run([TOP / "tools" / "release" / "program_sources", "--crates", crate], stdout=subprocess.PIPE, text=True, check=True)
+    done = subprocess.run(
+        [TOP / "tools" / "release" / "program_sources", "--crates", crate], stdout=subprocess.PIPE, text=True, check=True
+    )
     return done.stdout.split()
 
 

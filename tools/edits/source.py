@@ -31,7 +31,7 @@ class Function:
         """Whether a name that the prover prints, without its crate's, is of the function or of a closure in it."""
         parts = tuple(CLOSURE.sub(r"\1", part) for part in name.split("::") if part != "fn")
         places = range(len(parts) - len(self.path) + 1) if self.path[0][:1].isupper() else range(1)
-        return any(parts[place:place + len(self.path)] == self.path for place in places)
+        return any(parts[place : place + len(self.path)] == self.path for place in places)
 
 
 def module_of(file: str) -> tuple[str, ...]:

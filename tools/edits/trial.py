@@ -142,6 +142,7 @@ def batches(edits: list[Edit]) -> list[list[Edit]]:
 def meet(one: Edit, other: Edit) -> bool:
     """Whether two edits are of one function, or one writes or changes a text that the other seeks."""
     pairs = [(mine, its) for mine in one.pairs for its in other.pairs if mine.file == its.file]
-    sought = any(mine.old in theirs or its.old in ours for mine, its in pairs
-                 for theirs, ours in ((its.old, mine.old), (its.new, mine.new)))
+    sought = any(
+        mine.old in theirs or its.old in ours for mine, its in pairs for theirs, ours in ((its.old, mine.old), (its.new, mine.new))
+    )
     return sought or bool(one.functions & other.functions)

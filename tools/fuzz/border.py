@@ -64,11 +64,33 @@ MEMORY, MEMORY_TIMES = 1 << 27, 3000  # bytes of memory that an input may take, 
 OUTPUT, OUTPUT_TIMES = 1 << 20, 4000  # the same of what is written
 STATUSES = {0, 1, 2, 3, 4, 6}
 NUMBERS = [0, 1, 2, 4, 12, 28, 255, 256, 1500, 65535, 65536, 2**28, 2**31 - 1, 2**31, 2**32 - 4, 2**32 - 1]
-TEXTS = [b",", b"\n", b"\x1b[31m", b"\0", b"\xff", b"%", b"fe80::1%\x1b[2J", b"9" * 5000, b'"', b"-1", b"[" * 2000, b"{}", b"null", b"#,host,",
-         b"#,pipe,1,", b"c,0,submit,pipe,1,", b"up 1ms", b"outage 1s lossy", b"1e999", b"\xc2\x9b31m"]
+TEXTS = [
+    b",",
+    b"\n",
+    b"\x1b[31m",
+    b"\0",
+    b"\xff",
+    b"%",
+    b"fe80::1%\x1b[2J",
+    b"9" * 5000,
+    b'"',
+    b"-1",
+    b"[" * 2000,
+    b"{}",
+    b"null",
+    b"#,host,",
+    b"#,pipe,1,",
+    b"c,0,submit,pipe,1,",
+    b"up 1ms",
+    b"outage 1s lossy",
+    b"1e999",
+    b"\xc2\x9b31m",
+]
 MEMORY_FOLDER = "/dev/shm"
 CONFIG = "pipe 1 config bw 8Mbit/s\n"
-ROWS = "moment,target,number,src,dst,proto,sport,dport,len,word\n" + "".join(f"{n},pipe,1,240.0.0.1,240.0.0.2,17,1,2,1000,0\n" for n in range(9))
+ROWS = "moment,target,number,src,dst,proto,sport,dport,len,word\n" + "".join(
+    f"{n},pipe,1,240.0.0.1,240.0.0.2,17,1,2,1000,0\n" for n in range(9)
+)
 
 
 class TooLong(Exception):
@@ -140,7 +162,9 @@ def run_of(folder: str) -> Control:
     """A run whose host takes every line."""
     plan = Plan()
     plan.link("pipe 1 config delay 5"), plan.link("pipe 2 config delay 5")
-    made = Control(f"{folder}/socket", plan, Page(), lambda moment, words: plan.event([moment, *words.split()]), lambda: {"came": 0})
+    made = Control(
+        f"{folder}/socket", plan, Page(), lambda moment, words: plan.event([moment, *words.split()]), lambda: {"came": 0}
+    )
     made.lines.ask = lambda text, until=None, is_wanted=None: Answer(5, "", "pipe 1 config\npipe 1 config")  # type: ignore
     return made
 
@@ -204,8 +228,15 @@ def nets(data: bytes, rng: random.Random) -> None:
 
 
 TARGETS: dict[str, Callable[[bytes, random.Random], None]] = {
-    "captures": captures, "control": control, "addresses": addresses, "histories": histories, "summaries": summaries, "nets": nets,
-    "timelines": timelines, "traces": traces, "frames": frames
+    "captures": captures,
+    "control": control,
+    "addresses": addresses,
+    "histories": histories,
+    "summaries": summaries,
+    "nets": nets,
+    "timelines": timelines,
+    "traces": traces,
+    "frames": frames,
 }
 
 
@@ -223,19 +254,19 @@ def changed(data: bytes, rng: random.Random, others: list[bytes]) -> bytes:
         if kind == 0 and found:
             found[at % len(found)] = rng.randrange(256)
         elif kind == 1:
-            found[at:at + 4] = struct.pack(rng.choice("<>") + "I", rng.choice(NUMBERS))
+            found[at : at + 4] = struct.pack(rng.choice("<>") + "I", rng.choice(NUMBERS))
         elif kind == 2:
             found[at:at] = rng.choice(TEXTS)
         elif kind == 3:
-            del found[at:at + size]
+            del found[at : at + size]
         elif kind == 4:
-            found[at:at] = found[begin % (len(found) + 1):][:size]
+            found[at:at] = found[begin % (len(found) + 1) :][:size]
         elif kind == 5:
             found[at:] = other[begin:]
         elif kind == 6 and rng.random() < 0.3:
             del found[at:]
         else:
-            found[at:at + size] = other[begin:begin + size]
+            found[at : at + size] = other[begin : begin + size]
     return gzip.compress(bytes(found), 1) if packed else bytes(found)
 
 
@@ -275,7 +306,9 @@ def prepared(folder: str) -> None:
     __import__("numpy")
     os.chdir(folder)
     Path("c").write_text(CONFIG), Path("p").write_text(ROWS)
-    program = os.environ.setdefault("DUMMYNET", str(TOP / "release" / "dummynet"))  # without the wrapper, which looks at all sources
+    program = os.environ.setdefault(
+        "DUMMYNET", str(TOP / "release" / "dummynet")
+    )  # without the wrapper, which looks at all sources
     with open("r", "wb") as report:
         subprocess.run([program, "replay", "c", "p"], stdout=report, check=True)
 

@@ -63,7 +63,10 @@ def faults(name: str, count: int, seed: int, folder: Path) -> str:
     words = [built(name, folder), *limits, f"-artifact_prefix={folder}/{name}-", found, kept]
     done = subprocess.run(words, stdout=subprocess.PIPE, stderr=subprocess.STDOUT, text=True, errors="replace", env=WITHOUT_LEAKS)
     figures = dict(line.split(":")[-2:] for line in done.stdout.splitlines() if line.startswith("stat::"))
-    print(f"{name}: {figures.get('number_of_executed_units', '?').strip()} inputs, {len(list(kept.iterdir()))} of them kept, seed {seed}", flush=True)
+    print(
+        f"{name}: {figures.get('number_of_executed_units', '?').strip()} inputs, {len(list(kept.iterdir()))} of them kept, seed {seed}",
+        flush=True,
+    )
     return "" if done.returncode == 0 else "\n".join(done.stdout.splitlines()[-40:])
 
 
@@ -71,7 +74,12 @@ def keep(name: str, folder: Path) -> None:
     """Replaces the kept inputs by a least set that reaches as much."""
     least, kept = folder / f"{name}-least", HERE / "corpus" / name
     least.mkdir(exist_ok=True)
-    subprocess.run([folder / name, "-merge=1", *LIMITS, least, kept, folder / f"{name}-found"], stderr=subprocess.DEVNULL, check=True, env=WITHOUT_LEAKS)
+    subprocess.run(
+        [folder / name, "-merge=1", *LIMITS, least, kept, folder / f"{name}-found"],
+        stderr=subprocess.DEVNULL,
+        check=True,
+        env=WITHOUT_LEAKS,
+    )
     for path in kept.iterdir():
         path.unlink()
     for path in least.iterdir():

@@ -27,8 +27,10 @@ sys.path.insert(0, str(Path(__file__).resolve().parents[1]))
 from edits.kept import folder  # noqa: E402
 
 SUITE, PACKAGES = "bookworm", "git,python3,iputils-ping"
-INSIDE = ('mount --make-rprivate / && mount -t proc proc "$0/proc" && mount -t sysfs sys "$0/sys" && mount --rbind /dev "$0/dev" && '
-          'exec chroot "$0" sh -c "$1"')
+INSIDE = (
+    'mount --make-rprivate / && mount -t proc proc "$0/proc" && mount -t sysfs sys "$0/sys" && mount --rbind /dev "$0/dev" && '
+    'exec chroot "$0" sh -c "$1"'
+)
 HOSTS = "127.0.0.1 localhost\n"  # as each installer and each container has it, and a root that was only unpacked hasn't
 MOST, LONGEST = 120, 1500  # s of a processor, and by a clock
 NOBODY = "/usr/bin/setpriv --reuid=65534 --regid=65534 --clear-groups"

@@ -19,7 +19,15 @@ KIT = Path(__file__).resolve().parents[2] / "python" / "hinge"
 BORDER = ("border/", "outputs.py")
 OPTIONS = "options.py"
 NAMES = ("print", "open", "input")
-CALLS = ("json.load", "json.loads", "sys.stdout.write", "sys.stderr.write", "sys.stdout.writelines", "sys.stderr.writelines", "os.fdopen")
+CALLS = (
+    "json.load",
+    "json.loads",
+    "sys.stdout.write",
+    "sys.stderr.write",
+    "sys.stdout.writelines",
+    "sys.stderr.writelines",
+    "os.fdopen",
+)
 METHODS = ("read_text", "read_bytes", "write_text", "write_bytes", "recv", "recv_into", "recvmsg", "recvfrom", "accept", "makefile")
 STREAMS = ("sys.stdin",)
 OWN, OUTPUT, SYSTEM, HOST = "a file of its own", "within `written`", "the system's own", "the host's own line"
@@ -66,8 +74,11 @@ def dotted(node: ast.expr) -> str:
 def namespaces(name: str, tree: ast.AST) -> Iterator[str]:
     """Where a module takes what argparse made of a command line: commands make options of it, which have types."""
     if not name.startswith("commands/") and not name.endswith(OPTIONS):
-        yield from (f"line {node.lineno}: argparse.Namespace: commands/ make options of it" for node in ast.walk(tree)
-                    if isinstance(node, ast.Attribute) and dotted(node) == "argparse.Namespace")
+        yield from (
+            f"line {node.lineno}: argparse.Namespace: commands/ make options of it"
+            for node in ast.walk(tree)
+            if isinstance(node, ast.Attribute) and dotted(node) == "argparse.Namespace"
+        )
 
 
 def crossings(tree: ast.AST) -> Iterator[tuple[int, str]]:
@@ -95,7 +106,11 @@ def main() -> int:
         found = list(crossings(tree))
         allowed = ALLOWED.get(name, {})
         used |= {(name, what) for _, what in found}
-        tally.note(name, *(f"line {line}: {what}: python/hinge/border has it" for line, what in found if what not in allowed), *namespaces(name, tree))
+        tally.note(
+            name,
+            *(f"line {line}: {what}: python/hinge/border has it" for line, what in found if what not in allowed),
+            *namespaces(name, tree),
+        )
     given = {(name, what) for name, reasons in ALLOWED.items() for what in reasons}
     tally.note("what is allowed", *(f"{name}: {what} isn't there any more" for name, what in sorted(given - used)))
     return tally.end()

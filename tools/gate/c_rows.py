@@ -24,13 +24,19 @@ LAST = "4611686018427387904,queue,65535,255.255.255.255,0.0.0.0,255,65535,0,6553
 QUOTED = '"5","pipe",1,"10.0.0.1",10.0.0.2,17,3,4,1000,"9"\r\n'
 OTHER = PLAIN.replace("\n", "\r")  # ends in a return alone
 CASES = {
-    "no row": (1, "", ""), "a row": (1, PLAIN, PLAIN), "the greatest numbers": (3, LAST + PLAIN, LAST + PLAIN),
-    "quotes": (2, QUOTED + PLAIN + QUOTED, 3 * PLAIN), "no line feed at the end": (2, PLAIN + PLAIN[:-1], 2 * PLAIN),
-    "returns alone": (2, 2 * OTHER, 2 * PLAIN), "returns alone, and too little room": (1, 2 * OTHER, "room 2\n"),
-    "no room": (0, 3 * PLAIN, "room 3\n"), "an empty line": (4, f"{PLAIN}\n{PLAIN}", 2 * PLAIN),
+    "no row": (1, "", ""),
+    "a row": (1, PLAIN, PLAIN),
+    "the greatest numbers": (3, LAST + PLAIN, LAST + PLAIN),
+    "quotes": (2, QUOTED + PLAIN + QUOTED, 3 * PLAIN),
+    "no line feed at the end": (2, PLAIN + PLAIN[:-1], 2 * PLAIN),
+    "returns alone": (2, 2 * OTHER, 2 * PLAIN),
+    "returns alone, and too little room": (1, 2 * OTHER, "room 2\n"),
+    "no room": (0, 3 * PLAIN, "room 3\n"),
+    "an empty line": (4, f"{PLAIN}\n{PLAIN}", 2 * PLAIN),
     "a row of nine": (4, f"{PLAIN}{PLAIN[2:]}", f"{PLAIN}bad 2 0\n"),
     "a bad length": (4, 2 * PLAIN + PLAIN.replace("1000", "0"), f"{2 * PLAIN}bad 3 9\n"),
-    "a bad moment": (1, "x" + PLAIN, "bad 1 1\n"), "a bad row behind returns": (9, OTHER + "y" + PLAIN, "bad 2 1\n"),
+    "a bad moment": (1, "x" + PLAIN, "bad 1 1\n"),
+    "a bad row behind returns": (9, OTHER + "y" + PLAIN, "bad 2 1\n"),
 }
 
 

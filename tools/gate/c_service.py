@@ -37,8 +37,15 @@ CALLS = 120  # of a caller
 FEW, MANY = 100_000, 1_000_000  # calls
 MOST_GROWN = 3 * 1024  # KiB
 COMMON = ["-std=c99", "-g", "-O1", "-Wall", "-Wextra", "-Werror", "-fno-sanitize-recover=all", "-pthread"]
-KINDS = {"queued": "queued", "lost": "lost", "full": "full", "no-target": "without target", "no-such-pipe": "refused", "pipe-has-queues": "refused",
-         "no-such-queue": "refused"}
+KINDS = {
+    "queued": "queued",
+    "lost": "lost",
+    "full": "full",
+    "no-target": "without target",
+    "no-such-pipe": "refused",
+    "pipe-has-queues": "refused",
+    "no-such-queue": "refused",
+}
 SUPPRESSIONS = HEADER.parent / "hingetulip.tsan"
 TOLD = ("calls", "queued", "lost", "full", "without target", "delivered", "refused", "shown")
 
@@ -65,7 +72,18 @@ def line_of(rng: Random, call: Call) -> str:
         return f"f {spell(rng, call.command)}"
     if isinstance(call, Submit):
         packet, key = call.packet, call.packet.tuple
-        numbers = (call.moment, int(call.target.kind == "queue"), call.target.number, key.src, key.dst, key.proto, key.sport, key.dport, packet.len, packet.word)
+        numbers = (
+            call.moment,
+            int(call.target.kind == "queue"),
+            call.target.number,
+            key.src,
+            key.dst,
+            key.proto,
+            key.sport,
+            key.dport,
+            packet.len,
+            packet.word,
+        )
         return " ".join(map(str, ("p", *numbers)))
     return "s" if isinstance(call, Show) else f"{'a' if isinstance(call, Advance) else 'c'} {call.moment}"
 
@@ -99,7 +117,10 @@ def told_by(history: str) -> dict[int, Counter[str]]:
 def wanted(history: str, threads: int) -> str:
     """What the program has to print."""
     counts = told_by(history)
-    return "".join(f"caller {number}: {', '.join(f'{counts.get(number, Counter())[word]} {word}' for word in TOLD)}\n" for number in range(threads))
+    return "".join(
+        f"caller {number}: {', '.join(f'{counts.get(number, Counter())[word]} {word}' for word in TOLD)}\n"
+        for number in range(threads)
+    )
 
 
 def tried(tally: Tally, name: str, made: Path, place: Path, audit: str, calls: list[Path]) -> int:
@@ -131,7 +152,20 @@ def races(tally: Tally, place: Path, compiler: str, linked: list[str | Path]) ->
     """Two threads: reports of the library alone, none of them by the file of suppressions, and one of the program's own race."""
     for word, wanted in (("", (True, 0)), ("-DRACE", (True, 1))):
         made = place / "service_races"
-        subprocess.run([compiler, *COMMON, *word.split(), "-fsanitize=thread", f"-I{HEADER}", "-o", made, SOURCES / "service_races.c", *linked], check=True)
+        subprocess.run(
+            [
+                compiler,
+                *COMMON,
+                *word.split(),
+                "-fsanitize=thread",
+                f"-I{HEADER}",
+                "-o",
+                made,
+                SOURCES / "service_races.c",
+                *linked,
+            ],
+            check=True,
+        )
         found = []
         for options in ("", f"suppressions={SUPPRESSIONS}"):
             done = subprocess.run([made], env={**os.environ, "TSAN_OPTIONS": options}, capture_output=True, text=True)
@@ -147,8 +181,10 @@ def main(audit: str, seed: str, count: str) -> int:
     print(f"seed {seed}", flush=True)
     with TemporaryDirectory() as folder:
         place = Path(folder)
-        programs = {"addresses": threads(place, "addresses", "-fsanitize=address,undefined", static),
-                    "threads": threads(place, "threads", "-fsanitize=thread", shared, f"-Wl,-rpath,{shared.parent}")}
+        programs = {
+            "addresses": threads(place, "addresses", "-fsanitize=address,undefined", static),
+            "threads": threads(place, "threads", "-fsanitize=thread", shared, f"-Wl,-rpath,{shared.parent}"),
+        }
         for number in range(int(count)):
             calls = [place / f"calls{thread}" for thread in range(rng.randint(1, MOST_CALLERS))]
             for one in calls:
@@ -156,7 +192,22 @@ def main(audit: str, seed: str, count: str) -> int:
             for name, made in programs.items():
                 entries += tried(tally, f"run {number}, {name}", made, place, audit, calls)
         made = place / "service_memory"
-        subprocess.run(["gcc", "-std=c99", "-O2", "-Wall", "-Wextra", "-Werror", f"-I{HEADER}", "-o", made, SOURCES / "service_memory.c", static], check=True)
+        subprocess.run(
+            [
+                "gcc",
+                "-std=c99",
+                "-O2",
+                "-Wall",
+                "-Wextra",
+                "-Werror",
+                f"-I{HEADER}",
+                "-o",
+                made,
+                SOURCES / "service_memory.c",
+                static,
+            ],
+            check=True,
+        )
         flat(tally, made, place / "history", audit)
         for compiler in filter(shutil.which, ("gcc", "clang")):
             races(tally, place, compiler, [static])

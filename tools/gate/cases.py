@@ -49,8 +49,11 @@ def faults_of(program: list[str], case: Case, more: Iterable[str] = ()) -> list[
             return [f"no end within {SECONDS} s"]
         files = {file.name: file.read_bytes() for file in Path(place).iterdir() if file.is_file()}
     wanted = case.files | case.wanted.files
-    faults = [f"file {name}: {first_difference(wanted.get(name, b''), files.get(name, b''))}"
-              for name in sorted(wanted.keys() | files.keys()) if wanted.get(name) != files.get(name)]
+    faults = [
+        f"file {name}: {first_difference(wanted.get(name, b''), files.get(name, b''))}"
+        for name in sorted(wanted.keys() | files.keys())
+        if wanted.get(name) != files.get(name)
+    ]
     if done.returncode != case.wanted.status:
         faults.append(f"status: want {case.wanted.status}, got {done.returncode} (standard error {shortened(done.stderr)})")
     is_text_wanted = case.wanted.stdout or case.wanted.stderr  # that of help and usage is a library's

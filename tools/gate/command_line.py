@@ -26,12 +26,16 @@ PACKETS = HEADER + ROW
 REPORT = "event,row,flow,packet,at,start,due\nout,1,0,0,0,0,1000000\n"
 LOST = HEADER + ROW.replace("pipe,1", "pipe,7")
 LOST_REPORT = "event,row,flow,packet,at,start,due\nnone,1,,,0,,\n"
-HISTORY = ("dummynet-history,3\nc,0,configure,pipe 1 config bw 8000000bit/s\nr,configured\n"
-           "c,0,submit,pipe,1,10.0.0.1,10.0.0.2,17,1000,2000,1000,0,0\nr,queued,0,0,0\n"
-           "c,0,collect,4611686018427387904\nr,delivered,4611686018427387904,1\nd,0,0,0,1000000\nend,3\n")
-LOST_HISTORY = ("dummynet-history,3\nc,0,configure,pipe 1 config bw 8000000bit/s\nr,configured\n"
-                "c,0,submit,pipe,7,10.0.0.1,10.0.0.2,17,1000,2000,1000,0,0\nr,no-target,0\n"
-                "c,0,collect,4611686018427387904\nr,delivered,4611686018427387904,0\nend,3\n")
+HISTORY = (
+    "dummynet-history,3\nc,0,configure,pipe 1 config bw 8000000bit/s\nr,configured\n"
+    "c,0,submit,pipe,1,10.0.0.1,10.0.0.2,17,1000,2000,1000,0,0\nr,queued,0,0,0\n"
+    "c,0,collect,4611686018427387904\nr,delivered,4611686018427387904,1\nd,0,0,0,1000000\nend,3\n"
+)
+LOST_HISTORY = (
+    "dummynet-history,3\nc,0,configure,pipe 1 config bw 8000000bit/s\nr,configured\n"
+    "c,0,submit,pipe,7,10.0.0.1,10.0.0.2,17,1000,2000,1000,0,0\nr,no-target,0\n"
+    "c,0,collect,4611686018427387904\nr,delivered,4611686018427387904,0\nend,3\n"
+)
 TRANSCRIPT = HISTORY.replace("dummynet-history,3", "dummynet-live,1")
 CHANGED = HISTORY.replace("r,queued,0,0,0", "r,queued,0,0,1")
 FILES = {"c": CONFIG, "p": PACKETS, "h": HISTORY}
@@ -65,6 +69,7 @@ def replay(*words: str) -> list[str]:
 
 
 MARK = "\ufeff"
+# fmt: off
 FORMS = [
     Case("joined input", [], 0, REPORT, stdin=f"{CONFIG}--\n{PACKETS}"),
     Case("no input", [], 0, REPORT.partition("\n")[0] + "\n"),
@@ -108,7 +113,9 @@ FORMS = [
     Case("CR LF in a history", ["audit", "h"], 0, "lawful 3\n", files={"h": HISTORY.replace("\n", "\r\n")}),
     Case("a byte order mark before packets", replay(), 0, REPORT, files={"c": CONFIG, "p": MARK + PACKETS}),
 ]
+# fmt: on
 LOST_FILES = {"c": CONFIG, "p": LOST}
+# fmt: off
 TARGETS = [
     Case("no row of a joined input has a target", [], 0, LOST_REPORT, stdin=f"{CONFIG}--\n{LOST}"),
     *[Case(f"no row has a target, {how}", replay(*words), 0, LOST_REPORT, files=LOST_FILES)
@@ -125,6 +132,8 @@ TARGETS = [
     Case("a row that is lost has a target", replay(), 0, LOST_REPORT.replace("none,1,,,0", "lost,1,0,,0"), files={"c": "pipe 1 config plr 1\n", "p": PACKETS}),
     Case("no row has a target, and a history in no folder", replay("--history", "no/new"), 6, LOST_REPORT, "cannot write history\n", files=LOST_FILES),
 ]
+# fmt: on
+# fmt: off
 FAULTS = [
     fault("a byte order mark before a configuration", replay(), 3, "config line 1, word 1: unknown word",
           files={"c": MARK + CONFIG, "p": PACKETS}),
@@ -158,9 +167,11 @@ FAULTS = [
     Case("a faulty replay leaves an older history", replay("--history", "old"), 4, "", "packet row 1, field 0: bad\n",
          files={"c": CONFIG, "p": HEADER + "0\n", "old": OLDER}),
 ]
+# fmt: on
 SAME = "error: --history FILE would overwrite CONFIG or PACKETS\n"
 LIMITED = "error: --most-packets BYTES can't be used with --callers N\n"
 THREADED = "error: --threads N can't be used with --callers N\n"
+# fmt: off
 USAGES = [
     *[Case(f"usage: {' '.join(words)}", words, 2, "", None)
       for words in (["nothing"], ["--nothing"], ["replay"], ["replay", "c"], replay("more"), replay("--callers", "0"), replay("--callers", "17"),
@@ -177,11 +188,17 @@ USAGES = [
       for names, name, word in ((["c", "p"], "c", "configuration"), (["c", "p"], "p", "packets"), (["none", "p"], "none", "missing file"),
                               (["c", "p", "--callers", "2"], "p", "packets of two callers"))],
 ]
+# fmt: on
 
 
 def run(program: str, words: list[str], place: str, stdin: str, **how: object) -> subprocess.CompletedProcess[bytes]:
-    return subprocess.run([program, *words], cwd=place, input=stdin.encode("utf-8", "surrogateescape"), timeout=120,
-                          **{"stdout": subprocess.PIPE, "stderr": subprocess.PIPE, **how})  # type: ignore[call-overload, no-any-return]
+    return subprocess.run(
+        [program, *words],
+        cwd=place,
+        input=stdin.encode("utf-8", "surrogateescape"),
+        timeout=120,
+        **{"stdout": subprocess.PIPE, "stderr": subprocess.PIPE, **how},
+    )  # type: ignore[call-overload, no-any-return]
 
 
 def laid(place: Path, files: dict[str, str]) -> None:
@@ -193,37 +210,55 @@ def judged(tally: Tally, program: str, case: Case) -> None:
     with TemporaryDirectory() as folder:
         laid(Path(folder), case.files)
         done = run(program, case.words, folder, case.stdin)
-        found = {it.name: it.read_bytes().decode() for it in Path(folder).iterdir() if it.name not in case.files or it.name in case.made}
-        left = {name: (Path(folder) / name).read_bytes().decode("utf-8", "surrogateescape") for name in case.files if name not in case.made}
+        found = {
+            it.name: it.read_bytes().decode() for it in Path(folder).iterdir() if it.name not in case.files or it.name in case.made
+        }
+        left = {
+            name: (Path(folder) / name).read_bytes().decode("utf-8", "surrogateescape")
+            for name in case.files
+            if name not in case.made
+        }
     told = done.stdout.decode(), done.stderr.decode()
-    tally.note(case.name,
-               "" if done.returncode == case.status else f"status: want {case.status}, got {done.returncode} {told}",
-               "" if case.stdout in (None, told[0]) else f"standard output: want {case.stdout!r}, got {told[0]!r}",
-               "" if case.stderr in (None, told[1]) else f"standard error: want {case.stderr!r}, got {told[1]!r}",
-               "" if found == case.made else f"files: want {case.made}, got {found}",
-               "" if left == {n: t for n, t in case.files.items() if n not in case.made} else "a file that it reads was changed")
+    tally.note(
+        case.name,
+        "" if done.returncode == case.status else f"status: want {case.status}, got {done.returncode} {told}",
+        "" if case.stdout in (None, told[0]) else f"standard output: want {case.stdout!r}, got {told[0]!r}",
+        "" if case.stderr in (None, told[1]) else f"standard error: want {case.stderr!r}, got {told[1]!r}",
+        "" if found == case.made else f"files: want {case.made}, got {found}",
+        "" if left == {n: t for n, t in case.files.items() if n not in case.made} else "a file that it reads was changed",
+    )
 
 
 def texts(tally: Tally, program: str) -> None:
     """Help and version, and the words of the usage fault that is the program's own."""
     with TemporaryDirectory() as folder:
-        for words, wanted in ((["--version"], ["dummynet 2.", "rattle-kit"]), (["-V"], ["dummynet 2.", "rattle-kit"]),
-                              (["--help"], ["CONFIG", "PACKETS", "HISTORY", "Example:", "replay", "audit", "live"]), (["-h"], ["Usage: dummynet"]),
-                              (["help"], ["Usage: dummynet"]), (["replay", "--help"], ["CONFIG", "PACKETS", "--callers", "--history", "--most-packets", "--threads"]),
-                              (["help", "replay"], ["CONFIG"]), (["audit", "--help"], ["HISTORY", "--most-history", "live"])):
+        for words, wanted in (
+            (["--version"], ["dummynet 2.", "rattle-kit"]),
+            (["-V"], ["dummynet 2.", "rattle-kit"]),
+            (["--help"], ["CONFIG", "PACKETS", "HISTORY", "Example:", "replay", "audit", "live"]),
+            (["-h"], ["Usage: dummynet"]),
+            (["help"], ["Usage: dummynet"]),
+            (["replay", "--help"], ["CONFIG", "PACKETS", "--callers", "--history", "--most-packets", "--threads"]),
+            (["help", "replay"], ["CONFIG"]),
+            (["audit", "--help"], ["HISTORY", "--most-history", "live"]),
+        ):
             done = run(program, words, folder, "")
             lacking = [text for text in wanted if text not in done.stdout.decode()]
             tally.equal(" ".join(words), (0, b"", []), (done.returncode, done.stderr, lacking))
         laid(Path(folder), FILES)
         done = run(program, replay("--history", "p"), folder, "")
-        tally.equal("the words of a history over packets", SAME, done.stderr.decode()[:len(SAME)])
+        tally.equal("the words of a history over packets", SAME, done.stderr.decode()[: len(SAME)])
         tally.equal("its own usage", True, "\nUsage: dummynet replay [OPTIONS] <CONFIG> <PACKETS>\n" in done.stderr.decode())
         done = run(program, replay("--most-packets", "9", "--callers", "2"), folder, "")
-        tally.equal("the words of a limit of callers", LIMITED, done.stderr.decode()[:len(LIMITED)])
+        tally.equal("the words of a limit of callers", LIMITED, done.stderr.decode()[: len(LIMITED)])
         done = run(program, replay("--threads", "2", "--callers", "2"), folder, "")
-        tally.equal("the words of threads of callers", THREADED, done.stderr.decode()[:len(THREADED)])
+        tally.equal("the words of threads of callers", THREADED, done.stderr.decode()[: len(THREADED)])
         done = run(program, [os.fsdecode(b"\xff")], folder, "")
-        tally.equal("an argument that isn't UTF-8", (2, b"", b"error: an argument isn't UTF-8\n"), (done.returncode, done.stdout, done.stderr))
+        tally.equal(
+            "an argument that isn't UTF-8",
+            (2, b"", b"error: an argument isn't UTF-8\n"),
+            (done.returncode, done.stdout, done.stderr),
+        )
 
 
 def devices(tally: Tally, program: str) -> None:
@@ -254,10 +289,16 @@ def devices(tally: Tally, program: str) -> None:
         tally.equal("a history after the report in one pipe", (REPORT + HISTORY).encode(), done.stdout)
         with open(Path(folder) / "both", "wb") as both:
             done = run(program, replay("--history", "both"), folder, "", stdout=both)
-        tally.equal("a history over the report", (6, REPORT, OTHER), (done.returncode, (Path(folder) / "both").read_text(), done.stderr.decode()))
+        tally.equal(
+            "a history over the report",
+            (6, REPORT, OTHER),
+            (done.returncode, (Path(folder) / "both").read_text(), done.stderr.decode()),
+        )
         for name, form, begun in (("", "", b""), (" of a live session", "live", b"dummynet-live,1\n")):
             done = subprocess.run(["sh", "-c", f'exec "$0" {form} <&-', program], cwd=folder, capture_output=True)
-            tally.equal(f"standard input{name} closed", (6, begun, b"cannot read input\n"), (done.returncode, done.stdout, done.stderr))
+            tally.equal(
+                f"standard input{name} closed", (6, begun, b"cannot read input\n"), (done.returncode, done.stdout, done.stderr)
+            )
 
 
 def short_writes(tally: Tally, program: str) -> None:
@@ -269,16 +310,29 @@ def short_writes(tally: Tally, program: str) -> None:
     with TemporaryDirectory() as folder:
         laid(Path(folder), {"c": CONFIG, "p": rows})
         ample = run(program, replay("--history", "whole"), folder, "")
-        whole = {"report": ample.stdout, "history": (Path(folder) / "whole").read_bytes(), "session": run(program, ["live"], folder, "".join(packed)).stdout}
-        for name, words, what, fault in (("a history", replay("--history", "cut"), "history", "history"),
-                                         ("a history of callers", replay("--callers", "1", "--history", "cut"), "history", "history"),
-                                         ("a report", replay(), "report", "report"), ("a joined input's report", [], "report", "report"),
-                                         ("a live session", ["live"], "session", "history")):
+        whole = {
+            "report": ample.stdout,
+            "history": (Path(folder) / "whole").read_bytes(),
+            "session": run(program, ["live"], folder, "".join(packed)).stdout,
+        }
+        for name, words, what, fault in (
+            ("a history", replay("--history", "cut"), "history", "history"),
+            ("a history of callers", replay("--callers", "1", "--history", "cut"), "history", "history"),
+            ("a report", replay(), "report", "report"),
+            ("a joined input's report", [], "report", "report"),
+            ("a live session", ["live"], "session", "history"),
+        ):
             stdin = "".join(packed) if words == ["live"] else f"{CONFIG}--\n{rows}"
             cut = Path(folder) / "cut"
             with open(os.devnull if "--history" in words else cut, "wb") as out:
-                done = subprocess.run([*limited, *words], cwd=folder, input=stdin.encode(), stdout=out, stderr=subprocess.PIPE, timeout=120)
-            tally.equal(f"{name} that is cut", (6, f"cannot write {fault}\n".encode(), whole[what][:512]), (done.returncode, done.stderr, cut.read_bytes()))
+                done = subprocess.run(
+                    [*limited, *words], cwd=folder, input=stdin.encode(), stdout=out, stderr=subprocess.PIPE, timeout=120
+                )
+            tally.equal(
+                f"{name} that is cut",
+                (6, f"cannot write {fault}\n".encode(), whole[what][:512]),
+                (done.returncode, done.stderr, cut.read_bytes()),
+            )
             tally.equal(f"{name} has more bytes", True, len(whole[what]) > 512)
 
 
@@ -291,10 +345,15 @@ def links(tally: Tally, program: str) -> None:
                 link(Path(folder) / name, Path(folder) / f"{name}.link")
             for name in ("c", "p"):
                 done = run(program, replay("--history", f"{name}.link"), folder, "")
-                tally.equal(f"a history over {kind} to {name}", (6, b"", OTHER.encode(), FILES[name]),
-                            (done.returncode, done.stdout, done.stderr, (Path(folder) / name).read_text()))
+                tally.equal(
+                    f"a history over {kind} to {name}",
+                    (6, b"", OTHER.encode(), FILES[name]),
+                    (done.returncode, done.stdout, done.stderr, (Path(folder) / name).read_text()),
+                )
             done = run(program, replay("--history", "old.link"), folder, "")
-            tally.equal(f"a history over {kind} to an older one", (0, HISTORY), (done.returncode, (Path(folder) / "old").read_text()))
+            tally.equal(
+                f"a history over {kind} to an older one", (0, HISTORY), (done.returncode, (Path(folder) / "old").read_text())
+            )
     with TemporaryDirectory() as folder:
         laid(Path(folder), FILES)
         os.symlink("new", Path(folder) / "link")
@@ -307,9 +366,14 @@ def full_disks(tally: Tally, program: str) -> None:
     limited = ["sh", "-c", "trap '' XFSZ; ulimit -f 1; exec \"$@\"", "sh", program]
     with TemporaryDirectory() as folder:
         laid(Path(folder), {"c": CONFIG, "p": HEADER + ROW * 40, "old": HISTORY})
-        done = subprocess.run([*limited, *replay("--history", "old")], cwd=folder, stdout=subprocess.PIPE, stderr=subprocess.PIPE, timeout=120)
-        tally.equal("a longer history on a full disk", (6, b"cannot write history\n", HISTORY),
-                    (done.returncode, done.stderr, (Path(folder) / "old").read_text()))
+        done = subprocess.run(
+            [*limited, *replay("--history", "old")], cwd=folder, stdout=subprocess.PIPE, stderr=subprocess.PIPE, timeout=120
+        )
+        tally.equal(
+            "a longer history on a full disk",
+            (6, b"cannot write history\n", HISTORY),
+            (done.returncode, done.stderr, (Path(folder) / "old").read_text()),
+        )
 
 
 def rights(tally: Tally, program: str) -> None:
@@ -323,9 +387,12 @@ def rights(tally: Tally, program: str) -> None:
         laid(Path(folder), {**FILES, "old": OLDER})
         own = shutil.copy(program, folder)
         os.chmod(own, 0o755)
-        for name, words, told in (("c", replay(), (6, b"", b"cannot read config\n")), ("p", replay(), (6, b"", b"cannot read packets\n")),
-                                  ("h", ["audit", "h"], (6, b"", b"cannot read history\n")),
-                                  ("old", replay("--history", "old"), (6, REPORT.encode(), b"cannot write history\n"))):
+        for name, words, told in (
+            ("c", replay(), (6, b"", b"cannot read config\n")),
+            ("p", replay(), (6, b"", b"cannot read packets\n")),
+            ("h", ["audit", "h"], (6, b"", b"cannot read history\n")),
+            ("old", replay("--history", "old"), (6, REPORT.encode(), b"cannot write history\n")),
+        ):
             (Path(folder) / name).chmod(0)
             done = subprocess.run([*drop, own, *words], cwd=folder, capture_output=True, stdin=subprocess.DEVNULL)
             tally.equal(f"no right to {name}", told, (done.returncode, done.stdout, done.stderr))

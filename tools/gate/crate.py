@@ -42,11 +42,23 @@ class Cargo:
     """Cargo with a folder of its own for what it builds."""
 
     def __init__(self, place: Path) -> None:
-        self.env = {**os.environ, "CARGO_TARGET_DIR": str(place / "target"), "RUSTFLAGS": "-D warnings", "RUSTDOCFLAGS": "-D warnings"}
+        self.env = {
+            **os.environ,
+            "CARGO_TARGET_DIR": str(place / "target"),
+            "RUSTFLAGS": "-D warnings",
+            "RUSTDOCFLAGS": "-D warnings",
+        }
 
     def run(self, folder: Path, *words: str, **more: str) -> Done[str]:
-        return subprocess.run(["cargo", *words, "--offline"], cwd=folder, env={**self.env, **more}, stdin=subprocess.DEVNULL, stdout=subprocess.PIPE,
-                              stderr=subprocess.STDOUT, text=True)
+        return subprocess.run(
+            ["cargo", *words, "--offline"],
+            cwd=folder,
+            env={**self.env, **more},
+            stdin=subprocess.DEVNULL,
+            stdout=subprocess.PIPE,
+            stderr=subprocess.STDOUT,
+            text=True,
+        )
 
 
 def copied(place: Path) -> Path:
@@ -67,7 +79,9 @@ def of_the_sources(tally: Tally, cargo: Cargo, crate: Path, library: str) -> Non
         done = cargo.run(crate, *words, HINGETULIP_LIB=library)
         tally.note(name, "" if done.returncode == 0 else done.stdout)
     done = cargo.run(crate, "build", HINGETULIP_LIB=str(crate / "src"))
-    tally.note("no library", "" if done.returncode and "libhingetulip.a isn't there: HINGETULIP_LIB names" in done.stdout else done.stdout)
+    tally.note(
+        "no library", "" if done.returncode and "libhingetulip.a isn't there: HINGETULIP_LIB names" in done.stdout else done.stdout
+    )
 
 
 def as_packed(tally: Tally, cargo: Cargo, place: Path) -> None:

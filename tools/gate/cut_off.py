@@ -95,7 +95,9 @@ class Kills:
         env = {**self.env, "PYTHONPATH": f"{TOP / 'python'}:{TOP / 'python/tests/run'}", "DUMMYNET": self.program}
         env |= {"LD_PRELOAD": str(self.preload), "KILL_AT": str(kill_at)} if kill_at else {}
         with open(self.place / "out", "wb") as out:
-            done = subprocess.run(case.words, cwd=self.place, input=case.stdin.encode(), stdout=out, stderr=subprocess.DEVNULL, env=env, timeout=120)
+            done = subprocess.run(
+                case.words, cwd=self.place, input=case.stdin.encode(), stdout=out, stderr=subprocess.DEVNULL, env=env, timeout=120
+            )
         return done.returncode
 
     def audit(self, history: bytes) -> str:
@@ -105,7 +107,11 @@ class Kills:
 
     def faults(self, case: Case, whole: dict[str, bytes]) -> list[str]:
         """What is wrong with the files that a kill left."""
-        found = [f"{name} is no front of the whole" for name in case.files if case.repeats and not whole[name].startswith(self.content(name))]
+        found = [
+            f"{name} is no front of the whole"
+            for name in case.files
+            if case.repeats and not whole[name].startswith(self.content(name))
+        ]
         history = self.content(case.history)
         return found + [self.audit(mended(history))] * (history.count(b"\nc,") > 1)
 

@@ -29,9 +29,19 @@ FIRST, LOOP, THREADS, SIMULATION = (EXAMPLES / name for name in ("first.c", "sim
 PROGRAM = os.environ.get("DUMMYNET", TOP / "release" / "dummynet")
 HELPERS = "tests tests/run tests/kit_tests tests/simulated"  # the folders of python/ that pytest searches, without python/ itself
 WARNINGS = ["-Wall", "-Wextra", "-Werror"]
-INSTALLED = ["include/hingetulip.h", "include/hingetulip_service.h", "lib/cmake/Hingetulip/HingetulipConfig.cmake",
-             "lib/cmake/Hingetulip/HingetulipConfigVersion.cmake", "lib/libhingetulip.a", "lib/libhingetulip.so", "lib/libhingetulip.so.1", "lib/pkgconfig/hingetulip.pc",
-             "share/hingetulip/hingetulip.tsan", "share/hingetulip/installed", "share/man/man3/hingetulip.3"]
+INSTALLED = [
+    "include/hingetulip.h",
+    "include/hingetulip_service.h",
+    "lib/cmake/Hingetulip/HingetulipConfig.cmake",
+    "lib/cmake/Hingetulip/HingetulipConfigVersion.cmake",
+    "lib/libhingetulip.a",
+    "lib/libhingetulip.so",
+    "lib/libhingetulip.so.1",
+    "lib/pkgconfig/hingetulip.pc",
+    "share/hingetulip/hingetulip.tsan",
+    "share/hingetulip/installed",
+    "share/man/man3/hingetulip.3",
+]
 AROUND = "#include <hingetulip.h>\n#include <stdio.h>\n#include <string.h>\nint main(void)\n{\n%s\nreturn 0;\n}\n"
 Done = subprocess.CompletedProcess  # of a program that was run
 
@@ -42,12 +52,24 @@ class Prefix:
     def __init__(self, folder: Path, place: Path) -> None:
         self.folder, self.place = folder, place
         kept = {name: value for name, value in os.environ.items() if name != "HINGETULIP_LIBRARY"}
-        self.env = {**kept, "PKG_CONFIG_PATH": f"{folder}/lib/pkgconfig", "LD_LIBRARY_PATH": f"{folder}/lib", "PYTHONPATH": f"{folder}/lib/python",
-                    "PYTHONDONTWRITEBYTECODE": "1"}
+        self.env = {
+            **kept,
+            "PKG_CONFIG_PATH": f"{folder}/lib/pkgconfig",
+            "LD_LIBRARY_PATH": f"{folder}/lib",
+            "PYTHONPATH": f"{folder}/lib/python",
+            "PYTHONDONTWRITEBYTECODE": "1",
+        }
 
     def run(self, *words: object) -> Done[str]:
-        return subprocess.run(list(map(str, words)), cwd=self.place, env=self.env, stdin=subprocess.DEVNULL, stdout=subprocess.PIPE,
-                              stderr=subprocess.STDOUT, text=True)
+        return subprocess.run(
+            list(map(str, words)),
+            cwd=self.place,
+            env=self.env,
+            stdin=subprocess.DEVNULL,
+            stdout=subprocess.PIPE,
+            stderr=subprocess.STDOUT,
+            text=True,
+        )
 
     def built(self, source: Path, *flags: str) -> Done[str]:
         """A program of a C file, built as the page says, and run."""
@@ -80,7 +102,11 @@ def from_c(tally: Tally, prefix: Prefix) -> None:
     source = prefix.place / "example.c"
     source.write_text(AROUND % (example[1] if example else "").replace("\\e", "\\"))
     done = prefix.built(source, *WARNINGS)
-    tally.equal("the example of hingetulip(3)", (0, "packet 0 left at 21000 us\npacket 1 left at 22000 us\n"), (done.returncode, done.stdout))
+    tally.equal(
+        "the example of hingetulip(3)",
+        (0, "packet 0 left at 21000 us\npacket 1 left at 22000 us\n"),
+        (done.returncode, done.stdout),
+    )
     [sample] = blocks("c", README.read_text())
     source.write_text(AROUND % (sample.replace("#include <hingetulip.h>\n", "") + 'printf("%d\\n", fate.outcome == DN_QUEUED);'))
     done = prefix.built(source, *WARNINGS)
@@ -96,7 +122,9 @@ def from_python(tally: Tally, prefix: Prefix) -> None:
     tally.equal("the page's simulation", (0, printed_after("aimd.py")), (done.returncode, done.stdout))
     # The prefix has the module, and the clone hinge, whose plugin of pytest is tried too.
     env = {**prefix.env, "PYTHONPATH": f"{prefix.env['PYTHONPATH']}:{TOP / 'python'}"}
-    pytests.count(tally, sorted(f"tests/{it.name}" for it in (TOP / "python" / "tests").glob("test_*.py")), env, "-o", f"pythonpath={HELPERS}")
+    pytests.count(
+        tally, sorted(f"tests/{it.name}" for it in (TOP / "python" / "tests").glob("test_*.py")), env, "-o", f"pythonpath={HELPERS}"
+    )
 
 
 def manual(tally: Tally, prefix: Prefix) -> None:
@@ -113,9 +141,17 @@ def tried(tally: Tally, folder: Path, place: Path) -> None:
     prefix = Prefix(folder, place)
     pages = [TOP / name for name in ("LICENSE", "NOTICE", "README.md", "CHANGELOG.md")] + list((TOP / "docs").glob("*.md"))
     module_pages = [f"share/doc/hingetulip/{it.relative_to(TOP)}" for it in pages]
-    module = [f"lib/{it.relative_to(TOP)}" for package in ("hingetulip", "hingetulip_words")
-              for it in (TOP / "python" / package).rglob("*") if it.suffix in (".py", ".typed")]
-    tally.equal("what is installed", sorted(INSTALLED + module + module_pages), sorted(str(it.relative_to(folder)) for it in folder.rglob("*") if not it.is_dir()))
+    module = [
+        f"lib/{it.relative_to(TOP)}"
+        for package in ("hingetulip", "hingetulip_words")
+        for it in (TOP / "python" / package).rglob("*")
+        if it.suffix in (".py", ".typed")
+    ]
+    tally.equal(
+        "what is installed",
+        sorted(INSTALLED + module + module_pages),
+        sorted(str(it.relative_to(folder)) for it in folder.rglob("*") if not it.is_dir()),
+    )
     if shutil.which("pkg-config"):
         from_c(tally, prefix)
     else:

@@ -33,7 +33,10 @@ def main(program: str) -> int:
             tally.note(f"{made.name} by tools/release/examples.py", "" if is_same else "differs")
     with open(EXAMPLES / "first.txt", "rb") as first:
         done = subprocess.run([program], stdin=first, capture_output=True, text=True)
-    tally.note("the report in examples/README.md", "" if f"< examples/first.txt\n{done.stdout}```" in (EXAMPLES / "README.md").read_text() else "isn't what first.txt gives")
+    tally.note(
+        "the report in examples/README.md",
+        "" if f"< examples/first.txt\n{done.stdout}```" in (EXAMPLES / "README.md").read_text() else "isn't what first.txt gives",
+    )
     return tally.end()
 
 

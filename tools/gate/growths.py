@@ -18,13 +18,17 @@ from pathlib import Path
 from tally import Tally
 
 TOP = Path(__file__).resolve().parent.parent.parent
-ENDED = re.compile(r"^(\S+): each of \d+ growths refused in turn, .* made again in (\d+) runs; (fails|passes) without memory$", re.M)
+ENDED = re.compile(
+    r"^(\S+): each of \d+ growths refused in turn, .* made again in (\d+) runs; (fails|passes) without memory$", re.M
+)
 
 
 def main(crate: str, tests: str, in_a_row: str = "1") -> int:
     tally = Tally()
     words = [TOP / "tools" / "gate" / "refused_growths.sh", crate, tests]
-    done = subprocess.run(words, stdout=subprocess.PIPE, stderr=subprocess.STDOUT, text=True, env={**os.environ, "REFUSE_IN_A_ROW": in_a_row})
+    done = subprocess.run(
+        words, stdout=subprocess.PIPE, stderr=subprocess.STDOUT, text=True, env={**os.environ, "REFUSE_IN_A_ROW": in_a_row}
+    )
     print(done.stdout, end="")
     broken = re.findall(r"^(\S+) fails where growth ", done.stdout, re.M)
     ended = ENDED.findall(done.stdout)
@@ -34,7 +38,9 @@ def main(crate: str, tests: str, in_a_row: str = "1") -> int:
         tally.note(f"{crate}, {tests}", f"status {done.returncode}, {len(ended)} tests")
     tally.note(f"{crate}, {tests}, want of memory", "" if "fails" in [without for _, _, without in ended] else "no test sees it")
     if in_a_row != "1":
-        tally.note(f"{crate}, {tests}, a call made again", "" if any(int(again) for _, again, _ in ended) else "no test makes one again")
+        tally.note(
+            f"{crate}, {tests}, a call made again", "" if any(int(again) for _, again, _ in ended) else "no test makes one again"
+        )
     return tally.end()
 
 

@@ -27,11 +27,16 @@ def said(*words: str | Path) -> str:
 def lacking(file: Path, guarded: bool) -> list[str]:
     """What a file lacks of the words of tools/release/hardened."""
     dynamic, headers, names = said("readelf", "-dW", file), said("readelf", "-lW", file), said("readelf", "--dyn-syms", "-W", file)
-    found = {"bound before main": "NOW" in dynamic or "BIND_NOW" in dynamic, "read-only tables": "GNU_RELRO" in headers,
-             "a stack without code": re.search(r"GNU_STACK.* RW ", headers) is not None,
-             "its place drawn": re.search(r"\bDYN\b", said("readelf", "-hW", file)) is not None}
+    found = {
+        "bound before main": "NOW" in dynamic or "BIND_NOW" in dynamic,
+        "read-only tables": "GNU_RELRO" in headers,
+        "a stack without code": re.search(r"GNU_STACK.* RW ", headers) is not None,
+        "its place drawn": re.search(r"\bDYN\b", said("readelf", "-hW", file)) is not None,
+    }
     if guarded:
-        found.update({"guards of the stack": GUARD in names, "checked copies": CHECKED.search(names.replace(GUARD, "")) is not None})
+        found.update(
+            {"guards of the stack": GUARD in names, "checked copies": CHECKED.search(names.replace(GUARD, "")) is not None}
+        )
     return [name for name, is_there in found.items() if not is_there]
 
 
@@ -40,8 +45,12 @@ def main() -> int:
     with TemporaryDirectory() as place:
         folder = Path(place)
         subprocess.run([TOP / "tools" / "release" / "hosts", folder], stdout=subprocess.DEVNULL, check=True)
-        for file, guarded in ((folder / "hinge-link", True), (folder / "hinge-clock.so", False),
-                              (TOP / "release" / "dummynet", False), (TOP / "release" / "libhingetulip.so.1", False)):
+        for file, guarded in (
+            (folder / "hinge-link", True),
+            (folder / "hinge-clock.so", False),
+            (TOP / "release" / "dummynet", False),
+            (TOP / "release" / "libhingetulip.so.1", False),
+        ):
             tally.equal(f"{file.name} lacks", [], lacking(file, guarded))
         library = said("readelf", "-lW", TOP / "release" / "libhingetulip.so.1")
         tally.note("data of a thread", "the library has some" if re.search(r"^ +TLS ", library, re.M) else "")

@@ -49,14 +49,25 @@ def run(program: str, words: list[str], place: str, key: dict[str, str]) -> tupl
 def forms_of_flows(program: str, place: str) -> dict[str, tuple[list[str], str]]:
     """Each form of the program to which the key is handed, over the flows that were chosen: its words and its input."""
     config, packets = f"{place}/config", f"{place}/packets"
-    replay, history, calls, joined = ["replay", config, packets], f"{place}/chosen.history", f"{place}/chosen.calls", f"{place}/chosen.joined"
+    replay, history, calls, joined = (
+        ["replay", config, packets],
+        f"{place}/chosen.history",
+        f"{place}/chosen.calls",
+        f"{place}/chosen.joined",
+    )
     Path(joined).write_text(f"{Path(config).read_text()}--\n{Path(packets).read_text()}")
     subprocess.run([program, *replay, "--history", history], check=True, stdout=subprocess.DEVNULL)
     told = Path(history).read_text().splitlines(keepends=True)
     Path(calls).write_text("".join(line for line in told if line.startswith("c,")))
     new, none = f"{place}/new.history", "/dev/null"
-    return {"two files": (replay, none), "two files and a history": ([*replay, "--history", new], none), "callers": ([*replay, "--callers", "1"], none),
-            "a joined input": ([], joined), "an audit": (["audit", history], none), "a live session": (["live"], calls)}
+    return {
+        "two files": (replay, none),
+        "two files and a history": ([*replay, "--history", new], none),
+        "callers": ([*replay, "--callers", "1"], none),
+        "a joined input": ([], joined),
+        "an audit": (["audit", history], none),
+        "a live session": (["live"], calls),
+    }
 
 
 def count_known_key(tally: Tally, program: str, place: str) -> None:
@@ -67,7 +78,10 @@ def count_known_key(tally: Tally, program: str, place: str) -> None:
     for name, (words, stdin) in forms_of_flows(program, place).items():
         known, other = (counted([program, *words], stdin, LD_PRELOAD=f"{place}/given.so", KEY=key) for key in ("0", "1"))
         print(f"{name}: {FLOWS} flows chosen for the key 0 take {known} instructions with it, and {other} with another", flush=True)
-        tally.note(f"a known key, {name}", "" if known >= LEAST * other else f"the flows chosen for it cost less than {LEAST} times as much")
+        tally.note(
+            f"a known key, {name}",
+            "" if known >= LEAST * other else f"the flows chosen for it cost less than {LEAST} times as much",
+        )
 
 
 def main(program: str) -> int:
@@ -77,7 +91,9 @@ def main(program: str) -> int:
     with TemporaryDirectory() as place:
         history = f"{place}/history"
         words = ["replay", config, packets, "--history", history]
-        subprocess.run(["cc", "-O2", "-shared", "-fPIC", "-x", "c", "-o", f"{place}/given.so", "-"], input=GIVEN.encode(), check=True)
+        subprocess.run(
+            ["cc", "-O2", "-shared", "-fPIC", "-x", "c", "-o", f"{place}/given.so", "-"], input=GIVEN.encode(), check=True
+        )
         histories = set()
         for key in KEYS:
             tally.equal(f"the report with the key of bytes {key}", (0, report, b""), run(program, words, place, {"KEY": key}))

@@ -32,8 +32,12 @@ KIB, WIDE = 1024, 8_000
 VERSION = b"dummynet-history,3\n"
 # What a record that is none begins with, what follows many times, and how many bytes of memory a byte an audit takes at most.
 BAD_RECORDS: dict[str, tuple[bytes, bytes, int]] = {
-    "commas": (b"", b",", 30), "commas behind a field in quotes": (b'"a"', b",", 30), "one field in quotes": (b'"', b"x", 9),
-    "line feeds": (b"", b"\n", 9), "carriage returns": (b"", b"\r", 9), "short records": (b"", b"x\r", 9),
+    "commas": (b"", b",", 30),
+    "commas behind a field in quotes": (b'"a"', b",", 30),
+    "one field in quotes": (b'"', b"x", 9),
+    "line feeds": (b"", b"\n", 9),
+    "carriage returns": (b"", b"\r", 9),
+    "short records": (b"", b"x\r", 9),
 }
 AUDIT_BY_LIBRARY = """
 import sys
@@ -62,39 +66,46 @@ def counted(words: list[str], stdin: str = os.devnull, status: int = 0, **more: 
 @cache
 def session(kind: str) -> Cost:
     """A live session of chosen calls."""
+
     @cache
     def cost(program: str, count: int) -> int:
         with TemporaryDirectory() as folder:
             sessions.write(kind, count, Path(folder, "calls"))
             return counted([program, "live"], f"{folder}/calls")
+
     return cost
 
 
 @cache
 def replay(kind: str, times: int = 1, status: int = 0, *more: str) -> Cost:
     """A replay of a packet file. A long one would be read by several threads."""
+
     @cache
     def cost(program: str, count: int) -> int:
         with TemporaryDirectory() as folder:
             inputs.write(kind, count * times, Path(folder))
             return counted([program, "replay", f"{folder}/config", f"{folder}/packets", *more], status=status)
+
     return cost
 
 
 @cache
 def lines(end: bytes) -> Cost:
     """A live session of short calls, whose lines have this end."""
+
     @cache
     def cost(program: str, count: int) -> int:
         with TemporaryDirectory() as folder:
             Path(folder, "calls").write_bytes((b"c,0,advance,1" + end) * count)
             return counted([program, "live"], f"{folder}/calls")
+
     return cost
 
 
 @cache
 def entries(end: bytes) -> Cost:
     """An audit of the shortest entries, whose lines have this end."""
+
     @cache
     def cost(program: str, count: int) -> int:
         with TemporaryDirectory() as folder:
@@ -102,6 +113,7 @@ def entries(end: bytes) -> Cost:
             history = Path(folder, "history")
             history.write_bytes(history.read_bytes().replace(b"\n", end))
             return counted([program, "audit", str(history)])
+
     return cost
 
 
@@ -111,22 +123,34 @@ def digits(field: str, threads: str) -> Cost:
 
 
 CASES: dict[str, Cost] = {
-    "flows with chosen keys": replay("chosen"), "flows of one deleted queue": session("queue-delete"),
-    "deletes that reach no flow": session("idle-deletes"), "flows beside deletes and arrivals by turns": session("delete-turns"),
-    "pipes that are deleted one by one": session("emptied-pipes"), "links beside deletes of another pipe": session("emptied-turns"),
-    "deletes of a queue with a new flow": session("reset-queue"), "deletes of a queue with a new mask": session("reset-masks"),
-    "deletes of a pipe with a new flow": session("reset-pipe"), "deletes of a flow that has sent all": session("reset-sent"),
-    "KiB of digits as a moment": digits("moment", "1"), "KiB of digits as an address": digits("address", "1"),
+    "flows with chosen keys": replay("chosen"),
+    "flows of one deleted queue": session("queue-delete"),
+    "deletes that reach no flow": session("idle-deletes"),
+    "flows beside deletes and arrivals by turns": session("delete-turns"),
+    "pipes that are deleted one by one": session("emptied-pipes"),
+    "links beside deletes of another pipe": session("emptied-turns"),
+    "deletes of a queue with a new flow": session("reset-queue"),
+    "deletes of a queue with a new mask": session("reset-masks"),
+    "deletes of a pipe with a new flow": session("reset-pipe"),
+    "deletes of a flow that has sent all": session("reset-sent"),
+    "KiB of digits as a moment": digits("moment", "1"),
+    "KiB of digits as an address": digits("address", "1"),
     "KiB of digits, by four threads,": digits("moment", "4"),
-    "rows that end in CR LF": replay("returns"), "rows behind a byte order mark": replay("mark"),
-    "rows behind one in quotes": replay("quoted-first"), "rows in quotes": replay("quoted"),
-    "entries that end in CR LF": entries(b"\r\n"), "live lines that end in CR LF": lines(b"\r\n"),
+    "rows that end in CR LF": replay("returns"),
+    "rows behind a byte order mark": replay("mark"),
+    "rows behind one in quotes": replay("quoted-first"),
+    "rows in quotes": replay("quoted"),
+    "entries that end in CR LF": entries(b"\r\n"),
+    "live lines that end in CR LF": lines(b"\r\n"),
 }
 # A form of rows, entries or lines, the plainest one, and at most how many times its instructions.
 RATIOS: list[tuple[str, Cost, float]] = [
-    ("rows that end in CR LF", replay("plain"), 1.3), ("rows behind a byte order mark", replay("plain"), 1.05),
-    ("rows behind one in quotes", replay("plain"), 1.05), ("rows in quotes", replay("plain"), 2.0),
-    ("entries that end in CR LF", entries(b"\n"), 1.3), ("live lines that end in CR LF", lines(b"\n"), MOST),
+    ("rows that end in CR LF", replay("plain"), 1.3),
+    ("rows behind a byte order mark", replay("plain"), 1.05),
+    ("rows behind one in quotes", replay("plain"), 1.05),
+    ("rows in quotes", replay("plain"), 2.0),
+    ("entries that end in CR LF", entries(b"\n"), 1.3),
+    ("live lines that end in CR LF", lines(b"\n"), MOST),
 ]
 
 
@@ -175,7 +199,9 @@ def compare_memory(program: str, tally: Tally) -> None:
     """A row of commas takes no more memory than one of letters."""
     letters, commas, behind = (memory(program, *row) for row in ((b"", b"x"), (b"", b","), (b"\r\n", b",")))
     print(f"{WIDE} KiB of letters take {letters} KiB of memory, of commas {commas}, and behind an empty line {behind}")
-    tally.note("the memory of a row of commas", "" if max(commas, behind) <= 1.1 * letters else "more than that of a row of letters")
+    tally.note(
+        "the memory of a row of commas", "" if max(commas, behind) <= 1.1 * letters else "more than that of a row of letters"
+    )
 
 
 def main(program: str) -> int:

@@ -29,7 +29,12 @@ REFUSED = 6  # the status of `hinge net` where the system doesn't allow it
 STRICT = ["cc", "-O2", "-Wall", "-Wextra", "-Werror"]
 ROUND = 0.01  # s of 2 x 5 ms
 # By name: the program without which it is left out, and what the main command prints last.
-NETS = {"etcd": ("etcd", "consistent"), "redis": ("redis-server", "consistent"), "weights": ("iperf3", "as weighted"), "ospf": ("bird", "converged")}
+NETS = {
+    "etcd": ("etcd", "consistent"),
+    "redis": ("redis-server", "consistent"),
+    "weights": ("iperf3", "as weighted"),
+    "ospf": ("bird", "converged"),
+}
 
 
 def environment(program: str, folder: Path) -> dict[str, str]:
@@ -58,7 +63,13 @@ def nets(tally: Tally, program: str, folder: Path) -> None:
 
 def net(tally: Tally, program: str, folder: Path, name: str, last_line: str) -> None:
     env, session = environment(program, folder), folder / name
-    net = subprocess.run([HINGE, "net", TOP / "examples" / "net" / f"{name}.net", "--transcripts", session], env=env, capture_output=True, text=True, timeout=300)
+    net = subprocess.run(
+        [HINGE, "net", TOP / "examples" / "net" / f"{name}.net", "--transcripts", session],
+        env=env,
+        capture_output=True,
+        text=True,
+        timeout=300,
+    )
     if net.returncode == REFUSED:
         print(f"the net {name}: skipped: {net.stderr.strip()}")
         return
@@ -67,7 +78,11 @@ def net(tally: Tally, program: str, folder: Path, name: str, last_line: str) -> 
     tally.equal("the audit of its links", (0, "lawful"), (audit.returncode, audit.stdout.partition(" ")[0]))
     if subprocess.run(["/usr/bin/python3", "-c", "import numpy"], capture_output=True).returncode == 0:
         paths = subprocess.run([HINGE, "look", session], env=env, capture_output=True, text=True)
-        tally.equal("the audit of what is between them", (0, "lawful between links"), (paths.returncode, (paths.stdout.splitlines() or [paths.stderr])[-1]))
+        tally.equal(
+            "the audit of what is between them",
+            (0, "lawful between links"),
+            (paths.returncode, (paths.stdout.splitlines() or [paths.stderr])[-1]),
+        )
 
 
 def free_port() -> int:
@@ -82,7 +97,14 @@ def example(tally: Tally, program: str, folder: Path) -> None:
     with socket(AF_INET, SOCK_DGRAM) as server, socket(AF_INET, SOCK_DGRAM) as client:
         server.bind(("127.0.0.1", 0))
         client.settimeout(5), server.settimeout(5)
-        words = [sys.executable, "host.py", str(port), f"127.0.0.1:{server.getsockname()[1]}", "pipe 1 config delay 5", "pipe 2 config delay 5"]
+        words = [
+            sys.executable,
+            "host.py",
+            str(port),
+            f"127.0.0.1:{server.getsockname()[1]}",
+            "pipe 1 config delay 5",
+            "pipe 2 config delay 5",
+        ]
         host = subprocess.Popen(words, cwd=LIVE, env={**os.environ, "DUMMYNET": program})
         took = []
         for number in range(20):  # the first can be lost or late, where it doesn't listen yet
@@ -106,7 +128,9 @@ def page(tally: Tally, program: str, folder: Path) -> None:
     """What the pages show of a session in Python and of one without a clock is what they print."""
     text = (TOP / "docs" / "EMBEDDING.md").read_text()
     [(source, printed)] = re.findall(r"```\n(from session .*?)```\n\n```\n(.*?)```", text, re.S)
-    done = subprocess.run([sys.executable, "-c", source], cwd=LIVE, env={**os.environ, "DUMMYNET": program}, capture_output=True, text=True)
+    done = subprocess.run(
+        [sys.executable, "-c", source], cwd=LIVE, env={**os.environ, "DUMMYNET": program}, capture_output=True, text=True
+    )
     tally.equal("the session in Python", (printed, ""), (done.stdout, done.stderr))
     text = (TOP / "docs" / "FILES.md").read_text()
     [(source, printed)] = re.findall(r"\$ ./dummynet live <<END\n(.*?)END\n(.*?)```", text, re.S)
@@ -148,11 +172,30 @@ def in_c(tally: Tally, program: str, folder: Path) -> None:
 
 UNKNOWN = "word 1: unknown word"
 LINES = [  # a configuration line as a file has it, and what a host by session.h or session.py is told of it
-    (b"pipe 1 config bw 8Mbit/s", "obeyed"), (b"  ", "obeyed"), (b"", "obeyed"), (b"\t\r", "obeyed"), (b" # a note", "obeyed"), (b"\r", "obeyed"),
-    (b"next", UNKNOWN), (b"next\r", UNKNOWN), (b"next\rc,0,show", UNKNOWN), (b'"next"', UNKNOWN), (b"c,0,show", UNKNOWN), (b"c,0,collect,9", UNKNOWN),
-    (b"c,0,submit,pipe,1,10.0.0.1,10.0.0.2,17,1000,2000,1000,0,0", UNKNOWN), (b"#,next", "obeyed"), (b"pipe 1 config\r", "obeyed"),
-    (b"\0", UNKNOWN), (b"\0pipe 1 config", UNKNOWN), (b" \0 # a note", UNKNOWN), (b"pipe 1 config\0", "word 3: unknown word"),
-    (b"pipe 1 config bw 3x", "word 5: bad number"), (b"queue 1 config pipe 9", "no-such-pipe"), (b"pipe 1 \xff", "not UTF-8"), (b"pipe 1 delete", "obeyed")]
+    (b"pipe 1 config bw 8Mbit/s", "obeyed"),
+    (b"  ", "obeyed"),
+    (b"", "obeyed"),
+    (b"\t\r", "obeyed"),
+    (b" # a note", "obeyed"),
+    (b"\r", "obeyed"),
+    (b"next", UNKNOWN),
+    (b"next\r", UNKNOWN),
+    (b"next\rc,0,show", UNKNOWN),
+    (b'"next"', UNKNOWN),
+    (b"c,0,show", UNKNOWN),
+    (b"c,0,collect,9", UNKNOWN),
+    (b"c,0,submit,pipe,1,10.0.0.1,10.0.0.2,17,1000,2000,1000,0,0", UNKNOWN),
+    (b"#,next", "obeyed"),
+    (b"pipe 1 config\r", "obeyed"),
+    (b"\0", UNKNOWN),
+    (b"\0pipe 1 config", UNKNOWN),
+    (b" \0 # a note", UNKNOWN),
+    (b"pipe 1 config\0", "word 3: unknown word"),
+    (b"pipe 1 config bw 3x", "word 5: bad number"),
+    (b"queue 1 config pipe 9", "no-such-pipe"),
+    (b"pipe 1 \xff", "not UTF-8"),
+    (b"pipe 1 delete", "obeyed"),
+]
 
 
 def lines_in_c(tally: Tally, program: str, folder: Path) -> None:
@@ -160,14 +203,21 @@ def lines_in_c(tally: Tally, program: str, folder: Path) -> None:
     if shutil.which("cc") is None:
         print("configuration lines of a session in C: skipped, since there is no cc on the path")
         return
-    done = subprocess.run([*STRICT, "-o", folder / "lines", TOP / "tools" / "gate" / "session_lines.c"], capture_output=True, text=True)
+    done = subprocess.run(
+        [*STRICT, "-o", folder / "lines", TOP / "tools" / "gate" / "session_lines.c"], capture_output=True, text=True
+    )
     tally.equal("session_lines.c compiled", (0, ""), (done.returncode, done.stderr))
-    session = subprocess.run([folder / "lines"], env={**os.environ, "DUMMYNET": program}, input=b"\n".join(line for line, _ in LINES), stdout=subprocess.PIPE,
-                             timeout=120)
+    session = subprocess.run(
+        [folder / "lines"],
+        env={**os.environ, "DUMMYNET": program},
+        input=b"\n".join(line for line, _ in LINES),
+        stdout=subprocess.PIPE,
+        timeout=120,
+    )
     told = session.stdout.decode().splitlines()
     for (line, wanted), got in zip(LINES, told):
         tally.equal(f"{line!r} by session.h", f"{wanted}; #,next", got)
-    tally.equal("the end of the session", (4, ["more than one line"]), (session.returncode, told[len(LINES):]))
+    tally.equal("the end of the session", (4, ["more than one line"]), (session.returncode, told[len(LINES) :]))
 
 
 IN_PYTHON = """
@@ -185,9 +235,20 @@ with Session(program()) as session:
 
 def lines_in_python(tally: Tally, program: str, folder: Path) -> None:
     """The same lines in Python, as far as they are text, and two at once."""
-    lines = [(line.decode(), wanted) for line, wanted in [*LINES, (b"pipe 1 config\npipe 2 config", "more than one line")] if b"\xff" not in line]
-    done = subprocess.run([sys.executable, "-c", IN_PYTHON], cwd=LIVE, env={**os.environ, "DUMMYNET": program}, input=repr([line for line, _ in lines]),
-                          capture_output=True, text=True, timeout=120)
+    lines = [
+        (line.decode(), wanted)
+        for line, wanted in [*LINES, (b"pipe 1 config\npipe 2 config", "more than one line")]
+        if b"\xff" not in line
+    ]
+    done = subprocess.run(
+        [sys.executable, "-c", IN_PYTHON],
+        cwd=LIVE,
+        env={**os.environ, "DUMMYNET": program},
+        input=repr([line for line, _ in lines]),
+        capture_output=True,
+        text=True,
+        timeout=120,
+    )
     tally.equal("the session in Python at its end", (0, "", len(lines)), (done.returncode, done.stderr, done.stdout.count("\n")))
     for (line, wanted), got in zip(lines, done.stdout.splitlines()):
         tally.equal(f"{line!r} by session.py", f"{wanted.replace('-', ' ')}; next", got)

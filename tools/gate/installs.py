@@ -56,7 +56,15 @@ def run(*words: object, cwd: Path = TOP, **more: str) -> Done[str]:
     for name in ("DUMMYNET", "PYTHONPATH", "HINGETULIP_LIBRARY"):
         if name not in more:
             env.pop(name, None)
-    return subprocess.run(list(map(str, words)), cwd=cwd, env=env, stdin=subprocess.DEVNULL, stdout=subprocess.PIPE, stderr=subprocess.STDOUT, text=True)
+    return subprocess.run(
+        list(map(str, words)),
+        cwd=cwd,
+        env=env,
+        stdin=subprocess.DEVNULL,
+        stdout=subprocess.PIPE,
+        stderr=subprocess.STDOUT,
+        text=True,
+    )
 
 
 def done(tally: Tally, name: str, *words: object, cwd: Path = TOP, wanted: int = 0, **more: str) -> str:
@@ -140,7 +148,10 @@ def pages(tally: Tally, place: Path, folder: Path) -> None:
             wanted = next((status for begin, status in STATUSES.items() if line.startswith(begin)), 0)
             done(tally, f"{page}: {line}", "sh", "-c", line, cwd=folder, wanted=wanted, PATH=f"{place}/bin:{os.environ['PATH']}")
     for left in sorted(it.name + "/" * it.is_dir() for it in folder.iterdir() if not it.is_symlink()):
-        tally.note(f"git ignores {left}", "" if run("git", "check-ignore", "-q", left).returncode == 0 else "in a clone it would be a new file")
+        tally.note(
+            f"git ignores {left}",
+            "" if run("git", "check-ignore", "-q", left).returncode == 0 else "in a clone it would be a new file",
+        )
 
 
 def behind_a_link(tally: Tally, place: Path, folder: Path) -> None:
@@ -179,7 +190,9 @@ def wheel(tally: Tally, copy: Path, place: Path) -> None:
         kept = file.read_text()
         file.write_text("of others\n")
         refused = run(sys.executable, "-c", code, cwd=place)
-        tally.note(f"a wheel of other {name}", "" if refused.returncode and "isn't of these sources" in refused.stdout else refused.stdout)
+        tally.note(
+            f"a wheel of other {name}", "" if refused.returncode and "isn't of these sources" in refused.stdout else refused.stdout
+        )
         file.write_text(kept)
 
 
@@ -198,9 +211,11 @@ def by_pip(tally: Tally, copy: Path, place: Path) -> None:
     tally.equal("hinge --version", f"hinge {VERSION}\n", done(tally, "hinge", venv / "bin" / "hinge", "--version", cwd=place))
     told = done(tally, "hinge docs", venv / "bin" / "hinge", "docs", "LIVE", cwd=place)
     tally.equal("a page by pip", (TOP / "docs" / "LIVE.md").read_text(), told)
-    for module, name, where_it_is in (("program", "dummynet", "bin/dummynet"),
-                                      ("program", "clock", f"{Path(modules).parent}/hinge-clock.so"),
-                                      ("run.host", "program", f"{Path(modules).parent}/run/hinge-link")):
+    for module, name, where_it_is in (
+        ("program", "dummynet", "bin/dummynet"),
+        ("program", "clock", f"{Path(modules).parent}/hinge-clock.so"),
+        ("run.host", "program", f"{Path(modules).parent}/run/hinge-link"),
+    ):
         told = done(tally, f"hinge.{module}", own, "-c", f"from hinge.{module} import {name}; print({name}())", cwd=place)
         tally.equal("a program that hinge takes", f"{venv / where_it_is}\n", told)
     if run(own, "-c", "import numpy, matplotlib, plotly").returncode:
@@ -228,10 +243,28 @@ def by_each_python(tally: Tally, copy: Path, place: Path) -> None:
             print(f"Python 3.{minor}: skipped, since it isn't there, or has no pip")
             continue
         done(tally, f"an environment of {interpreter}", interpreter, "-m", "venv", venv)
-        done(tally, f"pip install by {interpreter}", venv / "bin" / "pip", "-q", "--disable-pip-version-check", "install", "--no-index", copy / "python")
-        told = done(tally, f"import by {interpreter}", venv / "bin" / "python", "-c", "import hingetulip.aio as it; print(it.__file__)", cwd=place)
+        done(
+            tally,
+            f"pip install by {interpreter}",
+            venv / "bin" / "pip",
+            "-q",
+            "--disable-pip-version-check",
+            "install",
+            "--no-index",
+            copy / "python",
+        )
+        told = done(
+            tally,
+            f"import by {interpreter}",
+            venv / "bin" / "python",
+            "-c",
+            "import hingetulip.aio as it; print(it.__file__)",
+            cwd=place,
+        )
         tally.note(f"the module by {interpreter}", "" if told.startswith(f"{venv}/") else told)
-        tally.equal(f"hinge by {interpreter}", f"hinge {VERSION}\n", done(tally, "hinge", venv / "bin" / "hinge", "--version", cwd=place))
+        tally.equal(
+            f"hinge by {interpreter}", f"hinge {VERSION}\n", done(tally, "hinge", venv / "bin" / "hinge", "--version", cwd=place)
+        )
 
 
 def glibc(tally: Tally, copy: Path, place: Path) -> None:
@@ -270,7 +303,11 @@ def with_pkg_config(tally: Tally, prefix: Path, lib: str, place: Path) -> None:
     done(tally, "cc", "cc", TOP / "examples" / "embed" / "first.c", *shlex.split(flags), "-o", program)
     told = done(tally, "first", program, LD_LIBRARY_PATH=f"{prefix}/{lib}")
     tally.equal(f"first.c by pkg-config from {lib}", 7, told.count("\n"))
-    tally.equal("the version by pkg-config", f"{VERSION}\n", done(tally, "pkg-config", "pkg-config", "--modversion", "hingetulip", PKG_CONFIG_PATH=path))
+    tally.equal(
+        "the version by pkg-config",
+        f"{VERSION}\n",
+        done(tally, "pkg-config", "pkg-config", "--modversion", "hingetulip", PKG_CONFIG_PATH=path),
+    )
 
 
 def in_prefix(tally: Tally, copy: Path, place: Path) -> None:
@@ -280,9 +317,22 @@ def in_prefix(tally: Tally, copy: Path, place: Path) -> None:
     tally.equal("hinge in a prefix", f"hinge {VERSION}\n", done(tally, "hinge", prefix / "bin" / "hinge", "--version", cwd=place))
     told = done(tally, "hinge docs", prefix / "bin" / "hinge", "docs", "LIVE", cwd=place)
     tally.equal("a page in a prefix", (TOP / "docs" / "LIVE.md").read_text(), told)
-    module = done(tally, "the module", sys.executable, "-B", "-c", "import hingetulip; print(hingetulip.LIBRARY)", cwd=place, PYTHONPATH=f"{prefix}/lib/python")
+    module = done(
+        tally,
+        "the module",
+        sys.executable,
+        "-B",
+        "-c",
+        "import hingetulip; print(hingetulip.LIBRARY)",
+        cwd=place,
+        PYTHONPATH=f"{prefix}/lib/python",
+    )
     tally.equal("its library", f"{prefix}/lib/libhingetulip.so.1\n", module)
-    tally.equal("the program", f"dummynet {VERSION}", " ".join(done(tally, "dummynet", prefix / "bin" / "dummynet", "--version").split()[:2]))
+    tally.equal(
+        "the program",
+        f"dummynet {VERSION}",
+        " ".join(done(tally, "dummynet", prefix / "bin" / "dummynet", "--version").split()[:2]),
+    )
     simulated(tally, prefix / "bin" / "hinge", place)
     with_cmake(tally, prefix, place)
     where_installed(tally, prefix)
@@ -291,7 +341,16 @@ def in_prefix(tally: Tally, copy: Path, place: Path) -> None:
     tally.equal("./install twice", trees[0], contents(prefix))
     done(tally, "./install without a folder", copy / "install", wanted=2)
     uninstalled(tally, copy, prefix)
-    done(tally, "./install below DESTDIR", copy / "install", "--all", "/usr", DESTDIR=str(root), LIBDIR=MULTIARCH, PYTHONDIR="lib/python3/dist-packages")
+    done(
+        tally,
+        "./install below DESTDIR",
+        copy / "install",
+        "--all",
+        "/usr",
+        DESTDIR=str(root),
+        LIBDIR=MULTIARCH,
+        PYTHONDIR="lib/python3/dist-packages",
+    )
     with_pkg_config(tally, root / "usr", MULTIARCH, place)
     tally.equal("a list of what is installed below DESTDIR", False, (root / "usr" / "share" / "hingetulip" / "installed").exists())
 

@@ -28,8 +28,11 @@ CAPTURE = TOP / "python" / "tests" / "kit_data" / "mixed.pcap"
 HINGE = [sys.executable, str(TOP / "hinge")]
 OLD = b"old\n"
 LONG_AGO = 3600  # s
-INPUTS = [["packets", str(CAPTURE), "-o", "p.csv", "--index", "i.csv"], ["sweep", "plan", "study", "p.csv", "c", "--set", "bw=1Mbit/s,2Mbit/s"],
-          ["sweep", "run", "study", "-P", "1"]]
+INPUTS = [
+    ["packets", str(CAPTURE), "-o", "p.csv", "--index", "i.csv"],
+    ["sweep", "plan", "study", "p.csv", "c", "--set", "bw=1Mbit/s,2Mbit/s"],
+    ["sweep", "run", "study", "-P", "1"],
+]
 COMMANDS = {  # with what each writes
     "packets": (["packets", str(CAPTURE), "-o", "out.csv", "--index", "out.index"], ["out.csv", "out.index"]),
     "capture": (["look", "p.csv", "r", "--capture", str(CAPTURE), "--index", "i.csv", "-o", "out.pcap"], ["out.pcap"]),
@@ -37,7 +40,10 @@ COMMANDS = {  # with what each writes
     "picture": (["look", "p.csv", "r", "-o", "out.svg"], ["out.svg"]),
     "gather": (["sweep", "gather", "study", "-o", "out.csv"], ["out.csv"]),
     "sweep": (["sweep", "run", "study", "1", "2"], ["study/run-1.csv", "study/run-2.csv"]),
-    "plan": (["sweep", "plan", "study", "p.csv", "c", "--set", "bw=1Mbit/s,2Mbit/s"], ["study/study.json", "study/link.config", "study/packets.csv"]),
+    "plan": (
+        ["sweep", "plan", "study", "p.csv", "c", "--set", "bw=1Mbit/s,2Mbit/s"],
+        ["study/study.json", "study/link.config", "study/packets.csv"],
+    ),
     "ipfw": (["ipfw", "s.sh", "-o", "out.config"], ["out.config"]),
 }
 
@@ -48,7 +54,12 @@ class Place:
     def __init__(self, folder: Path, program: str) -> None:
         self.folder, self.temporary = folder / "work", folder / "temporary"
         self.folder.mkdir(), self.temporary.mkdir()
-        self.environment = {**os.environ, "TMPDIR": str(self.temporary), "DUMMYNET": program, "MPLCONFIGDIR": str(folder / "matplotlib")}
+        self.environment = {
+            **os.environ,
+            "TMPDIR": str(self.temporary),
+            "DUMMYNET": program,
+            "MPLCONFIGDIR": str(folder / "matplotlib"),
+        }
         (self.folder / "c").write_text("pipe 1 config bw {bw}\n"), (self.folder / "d").write_text("pipe 1 config bw 1Mbit/s\n")
         (self.folder / "s.sh").write_text("ipfw pipe 1 config bw 1Mbit/s\n")
         for words in INPUTS:
@@ -57,7 +68,9 @@ class Place:
             subprocess.run([program, "replay", "d", "p.csv"], cwd=self.folder, stdout=report, check=True)
 
     def start(self, words: list[str]) -> subprocess.Popen[bytes]:
-        return subprocess.Popen([*HINGE, *words], cwd=self.folder, env=self.environment, stdout=subprocess.DEVNULL, stderr=subprocess.PIPE)
+        return subprocess.Popen(
+            [*HINGE, *words], cwd=self.folder, env=self.environment, stdout=subprocess.DEVNULL, stderr=subprocess.PIPE
+        )
 
     def run(self, words: list[str]) -> float:
         """The seconds that a command takes."""
@@ -119,7 +132,9 @@ def main() -> int:
             took = place.run(words)
             new = place.read(outputs)
             place.run(words)
-            tally.note(name, *(f"{one}: other bytes each time" for one, old, now in zip(outputs, new, place.read(outputs)) if old != now))
+            tally.note(
+                name, *(f"{one}: other bytes each time" for one, old, now in zip(outputs, new, place.read(outputs)) if old != now)
+            )
             for count in range(asked.kills // len(COMMANDS) + (at < asked.kills % len(COMMANDS))):
                 number = (signal.SIGTERM, signal.SIGKILL)[count % 2]
                 after = took * rng.uniform(0.2, 1.0)

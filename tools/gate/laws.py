@@ -36,7 +36,10 @@ def main(seed: str) -> int:
     rows = rows_of(int(seed))
     print(f"rows {', '.join(map(str, rows))}", flush=True)
     with_file = [row for row in rows if wrong_definitions.ROWS[row - 1][0] in refuted]
-    for script, numbers in (("refuted_laws.py", with_file), ("wrong_definitions.py", [row for row in rows if row not in with_file])):
+    for script, numbers in (
+        ("refuted_laws.py", with_file),
+        ("wrong_definitions.py", [row for row in rows if row not in with_file]),
+    ):
         if numbers:
             words = [sys.executable, str(LAWS / script), *map(str, numbers)]
             done = subprocess.run(words, stdout=subprocess.PIPE, stderr=subprocess.STDOUT, text=True, errors="replace")

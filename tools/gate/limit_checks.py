@@ -49,8 +49,12 @@ FILLED = (
     Filled("packet file of one record of commas", "packets", PACKETS, HEADER, b",", BAD_RECORD),
     Filled("history of empty lines", "history", AUDIT, b"dummynet-history,3\nend,0\n", b"\n", (b"lawful 0\n", b"", 0)),
 )
-ENDLESS = (("input", []), ("config", ["replay", "/dev/zero", "empty"]), ("packets", ["replay", "empty", "/dev/zero"]),
-           ("history", ["audit", "/dev/zero"]))
+ENDLESS = (
+    ("input", []),
+    ("config", ["replay", "/dev/zero", "empty"]),
+    ("packets", ["replay", "empty", "/dev/zero"]),
+    ("history", ["audit", "/dev/zero"]),
+)
 
 
 def too_long(source: str) -> Outcome:

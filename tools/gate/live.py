@@ -29,6 +29,7 @@ from spelling import spell  # noqa: E402
 
 SUBMIT = b"c,0,submit,pipe,1,10.0.0.1,10.0.0.2,17,1000,2000,1000,0,%d"
 # A line, and what is said of it behind its number.
+# fmt: off
 BAD = [
     (b"hello", "1,word 1: unknown word"), (b"r,queued,0,0,0", "1,word 1: unknown word"), (b"next ", "1,word 1: unknown word"),
     (b"pipe 1 config bw", "1,word 4: missing value"), (b"pipe 1 config bw 3x", "1,word 5: bad number"),
@@ -45,10 +46,24 @@ BAD = [
     (b"c,0,show\rc,0,show", "0,not one record"), (b"c,0,show\rc,0,show\r", "0,not one record"), (b"c,0,shows\r", "3,bad field"),
     (b"next\rc,0,show", "0,not one record"), (b"\"next\"\rnext", "0,not one record"),
 ]
+# fmt: on
 # Lines that mean something else, or the same, with a carriage return behind them.
 RETURNED = [
-    b"", b"\r", b"next", b"c,0,show", b"c,0,show\r", b"\rc,0,show", b"c,0,show\rnext", b'"c",0,show', b"pipe 2 config",
-    b"# a note", b"\xef\xbb\xbfc,0,show", b"\xef\xbb\xbf", b"\xefc,0,show", b"c,0,configure,\xef\xbb\xbf", b"," * 20,
+    b"",
+    b"\r",
+    b"next",
+    b"c,0,show",
+    b"c,0,show\r",
+    b"\rc,0,show",
+    b"c,0,show\rnext",
+    b'"c",0,show',
+    b"pipe 2 config",
+    b"# a note",
+    b"\xef\xbb\xbfc,0,show",
+    b"\xef\xbb\xbf",
+    b"\xefc,0,show",
+    b"c,0,configure,\xef\xbb\xbf",
+    b"," * 20,
 ]
 
 
@@ -148,7 +163,9 @@ def devices(tally: Tally, program: str) -> None:
     with open("/dev/full", "wb") as full:
         tally.equal("a full device", (None, b"cannot write history\n", 6), told(program, b"", stdout=full))
     done = subprocess.run(["sh", "-c", 'exec "$0" live <&-', program], capture_output=True)
-    tally.equal("standard input closed", (b"dummynet-live,1\n", b"cannot read input\n", 6), (done.stdout, done.stderr, done.returncode))
+    tally.equal(
+        "standard input closed", (b"dummynet-live,1\n", b"cannot read input\n", 6), (done.stdout, done.stderr, done.returncode)
+    )
     done = subprocess.run([program, "live", "more"], capture_output=True, input=b"")
     tally.equal("a word too many", (b"", 2), (done.stdout, done.returncode))
 
@@ -159,7 +176,10 @@ def audits(tally: Tally, program: str, data: bytes) -> None:
     count = out.rpartition(b"end,")[2].strip().decode()
     with TemporaryDirectory() as folder:
         path = Path(folder) / "session"
-        for name, text, line, status in (("as it stands", out, f"lawful {count}", 0), ("with one byte changed", out.replace(b"r,queued,0,0,0", b"r,queued,0,0,1", 1), "differs 1", 1)):
+        for name, text, line, status in (
+            ("as it stands", out, f"lawful {count}", 0),
+            ("with one byte changed", out.replace(b"r,queued,0,0,0", b"r,queued,0,0,1", 1), "differs 1", 1),
+        ):
             path.write_bytes(text)
             done = subprocess.run([program, "audit", path], capture_output=True, text=True)
             tally.equal(f"the audit of a session {name}", (f"{line}\n", "", status), (done.stdout, done.stderr, done.returncode))
@@ -168,8 +188,24 @@ def audits(tally: Tally, program: str, data: bytes) -> None:
 def main(program: str, seed: str, count: str) -> int:
     tally, rng = Tally(), Random(int(seed))
     print(f"seed {seed}", flush=True)
-    lines = [b"next", b"pipe 1 config bw 8Mbit/s queue 1", SUBMIT % 0, b"next", b"", b"# a note", SUBMIT % 0, SUBMIT % 0, b"hello", b"next",
-             b"c,1,collect,1000000", b"next", b"c,1,collect,2000000", b"next", b'"c",0,show', b"pipe 1 delete\r"]
+    lines = [
+        b"next",
+        b"pipe 1 config bw 8Mbit/s queue 1",
+        SUBMIT % 0,
+        b"next",
+        b"",
+        b"# a note",
+        SUBMIT % 0,
+        SUBMIT % 0,
+        b"hello",
+        b"next",
+        b"c,1,collect,1000000",
+        b"next",
+        b"c,1,collect,2000000",
+        b"next",
+        b'"c",0,show',
+        b"pipe 1 delete\r",
+    ]
     byte_by_byte(tally, program, lines)
     bad_lines(tally, program)
     returned_lines(tally, program)

@@ -39,12 +39,17 @@ def options(text: str) -> list[str]:
 
 def named(tally: Tally, text: str, whose: str, words: list[str]) -> None:
     for word in words:
-        tally.note(f"{whose} {word}", "" if re.search(rf"(?<![\w-]){re.escape(word)}(?![\w-])", text) else "the manual page doesn't name it")
+        tally.note(
+            f"{whose} {word}",
+            "" if re.search(rf"(?<![\w-]){re.escape(word)}(?![\w-])", text) else "the manual page doesn't name it",
+        )
 
 
 def of_dummynet(tally: Tally, program: str) -> None:
     text = page(tally, "dummynet.1")
-    for line in re.findall(r"^\| `([^`]+)` \|", (TOP / "docs" / "FILES.md").read_text().partition("\n## Faults\n")[2].partition("\n## ")[0], re.M):
+    for line in re.findall(
+        r"^\| `([^`]+)` \|", (TOP / "docs" / "FILES.md").read_text().partition("\n## Faults\n")[2].partition("\n## ")[0], re.M
+    ):
         tally.note(f"fault line {line}", "" if line in text else "the manual page doesn't name it")
     named(tally, text, "dummynet", options(printed(program, "replay", "--help")))
 
@@ -58,11 +63,15 @@ def of_hinge(tally: Tally) -> None:
     for command in commands:
         told = printed(*hinge, command, "--help")
         example = re.split(r"\nexamples?:\n", told)[-1]
-        tally.note(f"the example of hinge {command}", "" if re.search(rf"^  hinge {command}( |$)", example, re.M) else f"got {example!r}")
+        tally.note(
+            f"the example of hinge {command}", "" if re.search(rf"^  hinge {command}( |$)", example, re.M) else f"got {example!r}"
+        )
         tally.equal(f"hinge help {command}", told, printed(*hinge, "help", command))
         steps = re.findall(r"^    ([a-z]+) ", told.partition("positional arguments:")[2].partition("options:")[0], re.M)
         for words in [[command], *([command, step] for step in steps)]:
-            named(tally, text, f"hinge {' '.join(words)}", options(re.split(r"\nexamples?:\n", printed(*hinge, *words, "--help"))[0]))
+            named(
+                tally, text, f"hinge {' '.join(words)}", options(re.split(r"\nexamples?:\n", printed(*hinge, *words, "--help"))[0])
+            )
 
 
 def main(program: str) -> int:

@@ -85,7 +85,10 @@ def main(program: str) -> int:
             for in_a_row in (1, 2):
                 faults, growths, wants = faults_of_form(program, words, place, refusing, in_a_row)
                 tally.note(name, *faults, "" if wants else "no run ended with status 5")
-                print(f"{name}: each of {growths} growths refused in turn, {in_a_row} in a row; {wants} runs ended with status 5", flush=True)
+                print(
+                    f"{name}: each of {growths} growths refused in turn, {in_a_row} in a row; {wants} runs ended with status 5",
+                    flush=True,
+                )
     return tally.end()
 
 

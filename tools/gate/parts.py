@@ -147,6 +147,7 @@ def parts(fresh: Optional[int], program: str) -> list[Part]:
         Part("the border of the kit", [python, "tools/gate/border.py"]),
         Part("types of Python", [python, "tools/gate/python_types.py"], "mypy"),
         Part("unused names of Python", [python, "tools/gate/linter.py"], "pyflakes3"),
+        Part("the form of Python", [python, "tools/gate/linter.py", "--format"], "black", is_long=True),
         Part("the source archive", [python, "tools/gate/archive.py"], "git"),
         Part("what grows", [python, "tools/gate/growth.py"], "git"),
         Part("samples of the READMEs", [python, "tools/gate/samples.py"]),

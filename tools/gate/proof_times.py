@@ -19,8 +19,27 @@ from typing import NamedTuple, Optional
 
 CRATES = Path(__file__).resolve().parent.parent.parent / "crates"
 FILE = re.compile(r"Rattle-\w+-proofs\.(.+?)\.([A-Z][A-Za-z]*)(?:\.Mir)?(?:\.decls)?\.oantt")
-PARTS = {"Answers", "Code", "Given", "Goals", "Invariants", "Key", "Kinds", "Layout", "Lts", "Met", "Named", "Proof",
-         "Reads", "Statement", "Symbol", "TheLaws", "TheLink", "Tie", "View"}
+PARTS = {
+    "Answers",
+    "Code",
+    "Given",
+    "Goals",
+    "Invariants",
+    "Key",
+    "Kinds",
+    "Layout",
+    "Lts",
+    "Met",
+    "Named",
+    "Proof",
+    "Reads",
+    "Statement",
+    "Symbol",
+    "TheLaws",
+    "TheLink",
+    "Tie",
+    "View",
+}
 SEARCH = {"Answers", "Proof"}
 
 

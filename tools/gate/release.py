@@ -95,12 +95,17 @@ def main(program: str) -> int:
     sources = said(TOP / "tools" / "release" / "program_sources")
     names = ["dummynet", *(name for name in (STATIC, SHARED, *HOSTS) if (RELEASE / name).is_file()), *kernel(tally)]
     anew = "tools/release/release makes it anew from what ./check or ./build has built"
-    tally.note("sources", "" if (RELEASE / "sources").read_text() == sources else f"the release was built from other sources; {anew}")
+    tally.note(
+        "sources", "" if (RELEASE / "sources").read_text() == sources else f"the release was built from other sources; {anew}"
+    )
     sums = "".join(f"{sha256((RELEASE / name).read_bytes()).hexdigest()}  {name}\n" for name in names)
     tally.equal("checksums", sums, (RELEASE / "SHA256SUMS").read_text())
     library = said(TOP / "tools" / "release" / "program_sources", LIBRARY)
     is_same = (RELEASE / "library-sources").read_text() == library
-    tally.note("sources of the library", "" if is_same else f"the released library was built from other sources; {anew}, with ./build --lib before it")
+    tally.note(
+        "sources of the library",
+        "" if is_same else f"the released library was built from other sources; {anew}, with ./build --lib before it",
+    )
     if shutil.which("rt") is None:
         print("there is no rt on the path, so the release's bytes aren't compared")
         return tally.end()

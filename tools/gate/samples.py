@@ -29,7 +29,15 @@ LINK = re.compile(r"\]\((?!http)([^)\s#]*)#?([^)\s]*)\)")
 # Libraries have a sample each, and so has a crate of tests.
 WITH_SAMPLES = ("dn_", "test_shaper")
 # Samples that are on the page alone. That of dn_laws is the contract of a law.
-WITHOUT_TEST = {("dn_service", 1), ("dn_service", 2), ("dn_service", 3), ("dn_service", 4), ("dn_shaper", 1), ("dn_files", 3), ("dn_laws", 1)}
+WITHOUT_TEST = {
+    ("dn_service", 1),
+    ("dn_service", 2),
+    ("dn_service", 3),
+    ("dn_service", 4),
+    ("dn_shaper", 1),
+    ("dn_files", 3),
+    ("dn_laws", 1),
+}
 
 
 class Code(NamedTuple):
@@ -70,7 +78,10 @@ def counted(tally: Tally) -> None:
     lines, emulation, service = [cell.strip() for cell in rows[2].split("|")][3:6]
     told = f"believe {lines} lines of definitions: {emulation} of the emulation"
     readme = " ".join((TOP / "README.md").read_text().split())
-    tally.note("README.md", "" if told in readme and f"and {service} of the service" in readme else f"isn't {told} and {service} of the service")
+    tally.note(
+        "README.md",
+        "" if told in readme and f"and {service} of the service" in readme else f"isn't {told} and {service} of the service",
+    )
 
 
 def anchors(page: Path) -> set[str]:
@@ -112,8 +123,11 @@ def main() -> int:
             if (crate, number) in WITHOUT_TEST and (crate, number) not in sources:
                 continue
             code = sources.pop((crate, number), Code("", set()))
-            tally.note(f"{crate}/README.md, sample {number}", "" if bare(code.text) == bare(USE.sub("", sample)) else "isn't what a test has",
-                       *(f"the test doesn't use {owner}::{name}" for owner, name in sorted(names(sample) - code.used)))
+            tally.note(
+                f"{crate}/README.md, sample {number}",
+                "" if bare(code.text) == bare(USE.sub("", sample)) else "isn't what a test has",
+                *(f"the test doesn't use {owner}::{name}" for owner, name in sorted(names(sample) - code.used)),
+            )
     for crate, number in sorted(sources):
         tally.note(f"{crate}/README.md, sample {number}", "isn't there, and the sources have it")
     return tally.end()

@@ -24,12 +24,14 @@ BITS = 32
 
 def number_of(data: bytes) -> int:
     """libFuzzer takes 0 for no seed."""
-    return int(sha256(data).hexdigest()[:BITS // 4], 16) or 1
+    return int(sha256(data).hexdigest()[: BITS // 4], 16) or 1
 
 
 def of_files(*patterns: str) -> int:
     files = sorted({path for pattern in patterns for path in TOP.glob(pattern) if path.is_file()})
-    return number_of(b"".join(b"%s %s\n" % (str(path.relative_to(TOP)).encode(), sha256(path.read_bytes()).digest()) for path in files))
+    return number_of(
+        b"".join(b"%s %s\n" % (str(path.relative_to(TOP)).encode(), sha256(path.read_bytes()).digest()) for path in files)
+    )
 
 
 def of_programs() -> int:

@@ -66,7 +66,10 @@ def run(tally: Tally, program: str, calls: int, folder: str) -> float:
     # The last caller also configures the pipe.
     tally.equal(f"entries of {calls} calls", {k: rounds + (k == THREADS - 1) for k in range(THREADS)}, dict(entries_of(history)))
     tally.equal(f"audit of {calls} calls", (0, f"lawful {rounds * THREADS + 1}\n"), verdict(program, history))
-    print(f"{calls} calls by {THREADS} threads: a history of {history.stat().st_size >> 20} MiB, and {taken:.1f} MiB in memory", flush=True)
+    print(
+        f"{calls} calls by {THREADS} threads: a history of {history.stat().st_size >> 20} MiB, and {taken:.1f} MiB in memory",
+        flush=True,
+    )
     return taken
 
 

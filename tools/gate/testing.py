@@ -39,8 +39,12 @@ def python() -> Optional[str]:
 def environment(place: Path) -> dict[str, str]:
     """What names the library of the present sources, and what is built from C where there is a compiler."""
     library = subprocess.run([TOP / "tools" / "release" / "library"], stdout=subprocess.PIPE, text=True, check=True).stdout.strip()
-    named = {"HINGETULIP_LIBRARY": f"{TOP / library}/libhingetulip.so.1", "PYTHONPATH": str(TOP / "python"),
-             "PYTHONDONTWRITEBYTECODE": "1", "PYTEST_DISABLE_PLUGIN_AUTOLOAD": "1"}
+    named = {
+        "HINGETULIP_LIBRARY": f"{TOP / library}/libhingetulip.so.1",
+        "PYTHONPATH": str(TOP / "python"),
+        "PYTHONDONTWRITEBYTECODE": "1",
+        "PYTEST_DISABLE_PLUGIN_AUTOLOAD": "1",
+    }
     if shutil.which("cc"):
         subprocess.run([TOP / "tools" / "release" / "hosts", place], check=True, stdout=subprocess.DEVNULL)
         named.update(HINGE_LINK=str(place / "hinge-link"), HINGE_CLOCK=str(place / "hinge-clock.so"))
@@ -58,7 +62,9 @@ class Pytest:
         options = ["-v", "-rs", "-p", "hinge.pytest_plugin", "-p", "no:cacheprovider", f"--basetemp={self.place / folder}"]
         words = [self.interpreter, "-m", "pytest", *options, *files]
         env = {**self.env, "LD_PRELOAD": self.env["HINGE_CLOCK"]} if "HINGE_CLOCK" in self.env else self.env
-        return subprocess.run(list(map(str, words)), cwd=self.place, env=env, stdout=subprocess.PIPE, stderr=subprocess.STDOUT, text=True).stdout
+        return subprocess.run(
+            list(map(str, words)), cwd=self.place, env=env, stdout=subprocess.PIPE, stderr=subprocess.STDOUT, text=True
+        ).stdout
 
     def no_rooms(self) -> str:
         """Why this machine or this user can't have namespaces, or nothing."""
@@ -93,7 +99,10 @@ def examples(tally: Tally, pytest: Pytest) -> None:
             pytest.run(f"again-{file.stem}", file)
             first, again = (pytest.histories(f"{run}-{file.stem}") for run in ("first", "again"))
             ran = any(outcome == "PASSED" for _, outcome in outcomes)
-            tally.note(f"two runs of {file.name}", "" if first == again and bool(first) == ran else f"differ, of {len(first)} and {len(again)} histories")
+            tally.note(
+                f"two runs of {file.name}",
+                "" if first == again and bool(first) == ran else f"differ, of {len(first)} and {len(again)} histories",
+            )
 
 
 def of_page(tally: Tally, pytest: Pytest) -> None:

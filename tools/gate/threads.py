@@ -47,9 +47,12 @@ class Packets(NamedTuple):
 
 def rows(random: Random) -> list[str]:
     """Plain rows, some of a pipe or a queue that isn't configured, and some earlier than the row before."""
-    return [f"{max(0, 20_000 * i - random.choice((0, 0, 0, 90_000)))},{random.choice(('pipe', 'pipe', 'queue'))},"
-            f"{random.randint(1, 6)},10.0.0.{random.randint(1, 9)},10.0.1.1,17,"
-            f"{random.randrange(65_536)},9,{random.randint(40, 1500)},{random.getrandbits(32)}" for i in range(ROWS)]
+    return [
+        f"{max(0, 20_000 * i - random.choice((0, 0, 0, 90_000)))},{random.choice(('pipe', 'pipe', 'queue'))},"
+        f"{random.randint(1, 6)},10.0.0.{random.randint(1, 9)},10.0.1.1,17,"
+        f"{random.randrange(65_536)},9,{random.randint(40, 1500)},{random.getrandbits(32)}"
+        for i in range(ROWS)
+    ]
 
 
 def with_others(plain: list[str], line: str, places: list[int]) -> str:
@@ -75,7 +78,7 @@ def long_files(random: Random) -> Iterator[Packets]:
     yield Packets("empty lines", with_others(plain, "\n", some))
     yield Packets("faults in all parts", with_others(plain, "7,pipe,1,10.0.0.1,10.0.0.2,17,1,2,0,0", some))
     yield Packets("a fault in the last row", with_others(plain, "7", [ROWS - 1]))
-    yield Packets("no header", text[len(HEADER):])
+    yield Packets("no header", text[len(HEADER) :])
     yield Packets("a header alone", HEADER)
     yield Packets("nothing", "")
 

@@ -18,6 +18,7 @@ from tally import Tally
 TOP = Path(__file__).resolve().parent.parent.parent
 VERSION = (TOP / "VERSION").read_text().strip()
 
+
 def found(path: Path, pattern: str) -> str:
     """The first text of a file that a pattern has in brackets."""
     match = re.search(pattern, path.read_text(), re.M) if path.is_file() else None

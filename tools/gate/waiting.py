@@ -42,8 +42,7 @@ TEXTS = {
     "bell.rt": [
         "if self.word.load(Ordering::SeqCst) == 0 { self.word.store(1, Ordering::SeqCst); } }",
         "{ self.word.park(rt, 1); self.raise(); }",
-        "if self.word.load(Ordering::SeqCst) != 0 && self.word.swap(0, Ordering::SeqCst) != 0 "
-        "{ self.word.wake_one(); } }",
+        "if self.word.load(Ordering::SeqCst) != 0 && self.word.swap(0, Ordering::SeqCst) != 0 " "{ self.word.wake_one(); } }",
     ],
     "patience.rt": [
         "{ spin(*turns); self.spun += 1; if self.spun == SPINS.len() { bell.raise(); } }",
@@ -151,7 +150,7 @@ class Model(NamedTuple):
 
 
 def with_caller(state: State, place: int, caller: Caller) -> State:
-    return state._replace(callers=(*state.callers[:place], caller, *state.callers[place + 1:]))
+    return state._replace(callers=(*state.callers[:place], caller, *state.callers[place + 1 :]))
 
 
 def roused(caller: Caller) -> Caller:

@@ -20,9 +20,22 @@ from tempfile import TemporaryDirectory
 from tally import Tally
 
 TOP = Path(__file__).resolve().parent.parent.parent
-SCRIPTS = ("dummynet", "build", "tools/release/program_sources", "tools/release/build_program.py", "tools/release/link_library.py",
-           "tools/release/library", "tools/release/release", "crates.txt", "HANDLES", "VERSION",
-           "crates/hingetulip_c/include/hingetulip.h", "crates/hingetulip_c/include/hingetulip_service.h", "LICENSE", "NOTICE")
+SCRIPTS = (
+    "dummynet",
+    "build",
+    "tools/release/program_sources",
+    "tools/release/build_program.py",
+    "tools/release/link_library.py",
+    "tools/release/library",
+    "tools/release/release",
+    "crates.txt",
+    "HANDLES",
+    "VERSION",
+    "crates/hingetulip_c/include/hingetulip.h",
+    "crates/hingetulip_c/include/hingetulip_service.h",
+    "LICENSE",
+    "NOTICE",
+)
 PRETENDED = """#!/bin/sh
 crate=$(basename "$PWD")
 case $1 in
@@ -37,7 +50,7 @@ for below in ../*; do [ -d "$below/out/rlib" ] || { echo "$below isn't built"; e
 [ "$1" = lib ] || { printf '#!/bin/sh\\necho built "$@"\\n' >out/dummynet; chmod 755 out/dummynet; }
 """
 STRIP = '#!/bin/sh\n[ "$1" = -o ] && cp "$3" "$2"\n'  # as what is pretended to be built is no executable of the system's
-RELEASE = "#!/bin/sh\necho release \"$@\"\n"
+RELEASE = '#!/bin/sh\necho release "$@"\n'
 
 
 class Copy:
@@ -71,12 +84,22 @@ class Copy:
         self.calls.write_text("")
         path = os.environ["PATH"].split(":")
         plain = [folder for folder in path if not (Path(folder) / "rt").exists()]
-        env = {**os.environ, "PATH": ":".join([str(self.tools)] * has_rt + [str(self.plain), *plain]), "CALLS": str(self.calls), "FAILS": fails,
-               "TMPDIR": str(self.temporary), "KIT": str(self.kit)}
-        return subprocess.run([str(self.top / script), *words], cwd="/", env=env, capture_output=True, text=True, stdin=subprocess.DEVNULL)
+        env = {
+            **os.environ,
+            "PATH": ":".join([str(self.tools)] * has_rt + [str(self.plain), *plain]),
+            "CALLS": str(self.calls),
+            "FAILS": fails,
+            "TMPDIR": str(self.temporary),
+            "KIT": str(self.kit),
+        }
+        return subprocess.run(
+            [str(self.top / script), *words], cwd="/", env=env, capture_output=True, text=True, stdin=subprocess.DEVNULL
+        )
 
     def sources(self) -> str:
-        return subprocess.run([self.top / "tools" / "release" / "program_sources"], capture_output=True, text=True, check=True).stdout
+        return subprocess.run(
+            [self.top / "tools" / "release" / "program_sources"], capture_output=True, text=True, check=True
+        ).stdout
 
     def release(self, sources: str) -> None:
         (self.top / "release").mkdir(exist_ok=True)
@@ -96,22 +119,32 @@ def which_program(tally: Tally, copy: Copy) -> None:
     """The program of the present sources: the release, then the one that was built here."""
     copy.release(copy.sources())
     done = copy.run("a", "b c", has_rt=False)
-    tally.equal("a release of these sources needs no toolchain", (0, "release a b c\n", ""), (done.returncode, done.stdout, done.stderr))
+    tally.equal(
+        "a release of these sources needs no toolchain", (0, "release a b c\n", ""), (done.returncode, done.stdout, done.stderr)
+    )
     done = copy.run(script="build")
     tally.equal("./build builds beside a release", 0, done.returncode)
-    tally.equal("./build builds each crate once", sorted(copy.crates), sorted(w.split()[1] for w in copy.calls.read_text().splitlines()))
+    tally.equal(
+        "./build builds each crate once", sorted(copy.crates), sorted(w.split()[1] for w in copy.calls.read_text().splitlines())
+    )
     count = len(copy.crates)
     told = re.findall(rf"(?m)^dummynet: \d+ of {count} crates built \(\w+\), \d+\.\d minutes of about \d+$", done.stderr)
     tally.equal("./build tells of each crate", count, len(told))
     done = copy.run("x", has_rt=False)
-    tally.equal("the program that was built goes before the release", (0, "built x\n", ""), (done.returncode, done.stdout, done.stderr))
+    tally.equal(
+        "the program that was built goes before the release", (0, "built x\n", ""), (done.returncode, done.stdout, done.stderr)
+    )
     for crate in ("dn_types/src/lib.rt", "dummynet/src/main.rt"):
         os.utime(copy.top / "crates" / crate)
     copy.change("crates/dn_link/src/lib.rt", "// A comment.")
     copy.change("crates/test_parts/src/lib.rt")
     (copy.top / "crates.txt").write_text((copy.top / "crates.txt").read_text() + "# a note\ntest_more: dn_types\n")
     done = copy.run("x")
-    tally.equal("a touched file, a comment, a test and another crate build nothing", ("built x\n", ""), (done.stdout, copy.calls.read_text()))
+    tally.equal(
+        "a touched file, a comment, a test and another crate build nothing",
+        ("built x\n", ""),
+        (done.stdout, copy.calls.read_text()),
+    )
     link = copy.top.parent / "link"
     link.symlink_to(copy.top / "dummynet")
     done = subprocess.run([link, "x"], cwd="/", capture_output=True, text=True)

@@ -113,9 +113,14 @@ def entries(size: int) -> Iterator[str]:
 
 # The configuration, None for a history, and the packets.
 KINDS: dict[str, tuple[str | None, Callable[[int], Iterator[str]]]] = {
-    "chosen": (ALL, partial(chosen, False)), "spread": (ALL, partial(chosen, True)), "known": (ALL, known),
-    "rows": (ROOMY, rows), "flows": ("pipe 1 config mask all\n", flows), "entries": (None, entries),
-    "moment": (PLAIN, partial(digits, "")), "address": (PLAIN, partial(digits, "0,pipe,1,10.0.0.")),
+    "chosen": (ALL, partial(chosen, False)),
+    "spread": (ALL, partial(chosen, True)),
+    "known": (ALL, known),
+    "rows": (ROOMY, rows),
+    "flows": ("pipe 1 config mask all\n", flows),
+    "entries": (None, entries),
+    "moment": (PLAIN, partial(digits, "")),
+    "address": (PLAIN, partial(digits, "0,pipe,1,10.0.0.")),
     **{kind: (ROOMY, partial(form, kind)) for kind in ("plain", "returns", "mark", "quoted-first", "quoted")},
 }
 

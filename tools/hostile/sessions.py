@@ -98,8 +98,12 @@ def many_links(links: int) -> Iterator[str]:
 
 
 KINDS: dict[str, Callable[[int], Iterator[str]]] = {
-    "queue-delete": queue_delete, "delete-turns": delete_turns, "emptied-pipes": emptied_pipes,
-    "emptied-turns": emptied_turns, "idle-deletes": idle_deletes, "many-links": many_links,
+    "queue-delete": queue_delete,
+    "delete-turns": delete_turns,
+    "emptied-pipes": emptied_pipes,
+    "emptied-turns": emptied_turns,
+    "idle-deletes": idle_deletes,
+    "many-links": many_links,
     **{f"reset-{kind}": partial(reset_flows, kind) for kind in ("queue", "masks", "pipe", "sent")},
 }
 

@@ -15,7 +15,9 @@ from pathlib import Path
 from typing import Dict, Iterable, Iterator, NamedTuple, Tuple
 
 NAME = r"([A-Za-z_][\w'\-]*)"
-DEFINITION = re.compile(r"^(?:(?:abbrev|unfoldable|record|data)\s+(?:pub\s+)?|pub\s+(?:record|data|abbrev)\s+(?:pub\s+)?|pub\s+)" + NAME)
+DEFINITION = re.compile(
+    r"^(?:(?:abbrev|unfoldable|record|data)\s+(?:pub\s+)?|pub\s+(?:record|data|abbrev)\s+(?:pub\s+)?|pub\s+)" + NAME
+)
 IMPORT = re.compile(r"use\s+Rattle\.(\w+)\.specs\.([\w.]+?)\.\{([^}]*)\}", re.S)
 WORD = re.compile(r"[A-Za-z_][\w'\-]*")
 SKIPPED = re.compile(r"\s*(--|use |pub use |pub mod |mod |module |$)")
@@ -94,7 +96,7 @@ def file_of(top: Path, crate: str, title: str) -> tuple[str, str]:
 def clause_lines(text: str, name: str) -> Iterator[str]:
     """The lines of a function's clauses: behind its signature, up to the brace of its body or the semicolon of a trait's method."""
     inside = False
-    for line in text[re.search(rf"\bfn {name}\b", text).start():].splitlines():
+    for line in text[re.search(rf"\bfn {name}\b", text).start() :].splitlines():
         inside = inside or line.strip().startswith(("requires", "ensures"))
         if line.strip() == "{":
             return
@@ -126,7 +128,9 @@ def row(name: str, definitions: Definitions, found: set[Key]) -> str:
 
 def main(top: Path) -> None:
     definitions, every = read_specs(top), set()
-    print("| Promise | Definitions | Lines | of emulation | of the service | of formats | Characters |\n|---|---|---|---|---|---|---|")
+    print(
+        "| Promise | Definitions | Lines | of emulation | of the service | of formats | Characters |\n|---|---|---|---|---|---|---|"
+    )
     for title, crate in HEADLINES:
         text, name = file_of(top, crate, title)
         words = [word for line in clause_lines(text, name) for word in WORD.findall(line)]

@@ -59,8 +59,11 @@ def read_laws(top: Path, definitions: Definitions) -> Dict[Clause, Set[str]]:
     """The words of dn_types that each clause of the laws uses."""
     text = "".join(path.read_text() for path in sorted((top / "crates" / "dn_laws" / "src").glob("*.rt")))
     imports = imports_of(text)
-    return {(function, name): {key[2] for key in used_by(definitions, {imports[w] for w in WORD.findall(law) if w in imports})}
-            for function, contract in CONTRACT.findall(text) for name, law in CLAUSE.findall(contract)}
+    return {
+        (function, name): {key[2] for key in used_by(definitions, {imports[w] for w in WORD.findall(law) if w in imports})}
+        for function, contract in CONTRACT.findall(text)
+        for name, law in CLAUSE.findall(contract)
+    }
 
 
 def read_table(text: str) -> List[Row]:
@@ -93,8 +96,11 @@ def faults_of(row: Row, laws: Dict[Clause, Set[str]], definitions: Definitions, 
     if not row.clauses:
         return [f"`{word}` has no law and isn't plain" for word in row.words if not is_plain(definitions, word, plain)]
     missing = [f"no clause `{clause}` of `{function}`" for function, clause in row.clauses if (function, clause) not in laws]
-    idle = [f"`{clause}` of `{function}` uses no word of its row" for function, clause in row.clauses
-            if (function, clause) in laws and not laws[function, clause] & set(row.words)]
+    idle = [
+        f"`{clause}` of `{function}` uses no word of its row"
+        for function, clause in row.clauses
+        if (function, clause) in laws and not laws[function, clause] & set(row.words)
+    ]
     used = set().union(*(laws.get(clause, set()) for clause in row.clauses))
     return missing + idle + [f"no law of its row uses `{word}`" for word in row.words if word not in used]
 
@@ -114,7 +120,9 @@ def main(arguments: List[str]) -> int:
     told = [word for row in rows for word in row.words]
     faults = [fault for row in rows for fault in faults_of(row, laws, definitions, plain)]
     faults += [f"the table lacks `{word}`" for word in sorted(reached - set(told))]
-    faults += [f"no law uses `{word}`, or it is there twice" for word in sorted(set(told)) if word not in reached or told.count(word) > 1]
+    faults += [
+        f"no law uses `{word}`, or it is there twice" for word in sorted(set(told)) if word not in reached or told.count(word) > 1
+    ]
     print(*faults, sep="\n", end="\n" if faults else "")
     print(f"{len(reached & set(told))} passed, {len(faults)} failed")
     return 1 if faults else 0

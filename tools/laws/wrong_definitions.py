@@ -24,42 +24,57 @@ import sys
 import tempfile
 
 TOP = os.path.dirname(os.path.dirname(os.path.dirname(os.path.abspath(__file__))))
-SET_ASIDE = ['Cases', 'ExamplesDeletes', 'ExamplesLinks', 'ExamplesWf2q', 'ShortListsFlows', 'ShortListsWf2q',
-             'Witnesses', 'FairWitness', 'LawWitnesses', 'DeleteWitnesses', 'DividedWitnesses', 'MergeWitnesses',
-             'PartWitnesses', 'ReadingWitnesses', 'ReplyWitnesses', 'WaitWitnesses']
+SET_ASIDE = [
+    "Cases",
+    "ExamplesDeletes",
+    "ExamplesLinks",
+    "ExamplesWf2q",
+    "ShortListsFlows",
+    "ShortListsWf2q",
+    "Witnesses",
+    "FairWitness",
+    "LawWitnesses",
+    "DeleteWitnesses",
+    "DividedWitnesses",
+    "MergeWitnesses",
+    "PartWitnesses",
+    "ReadingWitnesses",
+    "ReplyWitnesses",
+    "WaitWitnesses",
+]
 
 # Texts of the rows in which what a command is told isn't what is done, and of those in which the clock goes otherwise.
 SETTING_AFTER = "-- What is in force for a command's subject once"
-OBEYED_AS_TOLD = '(setting_after (command_reply (settings calls)'
-OBEYED_OTHERWISE = '(setting_after (obeyed (settings calls)'
-TOLD = 'reply_to_command calls command = command_reply (settings calls)'
-TOLD_OTHERWISE = 'reply_to_command calls command = obeyed (settings calls)'
-IMPORTS_TOLD = 'Configuration.{settings, reply_to_command}'
-IMPORTS_BOTH = 'Configuration.{settings, queue_numbers, command_reply}'
-REPLIED = 'counted_reply rule calls (Configure command) = reply_to_command calls command'
-REPLIED_ALONE = ('counted_reply rule calls (Configure command) = '
-                 'command_reply (settings calls) (queue_numbers calls) command')
-NEVER_OBEYED = '''abbrev pub obeyed : Settings → List ℕ → Command → Reply
+OBEYED_AS_TOLD = "(setting_after (command_reply (settings calls)"
+OBEYED_OTHERWISE = "(setting_after (obeyed (settings calls)"
+TOLD = "reply_to_command calls command = command_reply (settings calls)"
+TOLD_OTHERWISE = "reply_to_command calls command = obeyed (settings calls)"
+IMPORTS_TOLD = "Configuration.{settings, reply_to_command}"
+IMPORTS_BOTH = "Configuration.{settings, queue_numbers, command_reply}"
+REPLIED = "counted_reply rule calls (Configure command) = reply_to_command calls command"
+REPLIED_ALONE = "counted_reply rule calls (Configure command) = " "command_reply (settings calls) (queue_numbers calls) command"
+NEVER_OBEYED = """abbrev pub obeyed : Settings → List ℕ → Command → Reply
 obeyed settings queues command = NoSuchPipe
 
-'''
-OBEYED_ONCE = '''abbrev pub once : Bool → Reply → Reply
+"""
+OBEYED_ONCE = """abbrev pub once : Bool → Reply → Reply
 once true Configured = NoSuchPipe
 once there r = r
 
 abbrev pub obeyed : Settings → List ℕ → Command → Reply
 obeyed settings queues command = once (is_some (settings (subject command))) (command_reply settings queues command)
 
-'''
-NAMED = ('(Submit target packet moment) = moment', '(Advance moment) = moment', '(Collect moment) = moment')
-AT_NAMED = 'max (effective_moment calls) moment'
-TICKED = '''abbrev pub ticked : ℕ → ℕ
+"""
+NAMED = ("(Submit target packet moment) = moment", "(Advance moment) = moment", "(Collect moment) = moment")
+AT_NAMED = "max (effective_moment calls) moment"
+TICKED = """abbrev pub ticked : ℕ → ℕ
 ticked moment = moment / 1000000 * 1000000
 
-'''
+"""
 
 # What is wrong, the file, the right text, the wrong text (or as many of each as there are places to change), and the
 # function and the clause of the law that is false of it. A row of several files has a tuple of each of the first three.
+# fmt: off
 ROWS = [
     ('weights count for nothing', 'Flows', 'pipe = pipe; weight = weight;', 'pipe = pipe; weight = 1;',
      'laws_of_shares', 'tags'),
@@ -357,72 +372,73 @@ ROWS = [
     ('a Kbyte has 2,048 bytes', 'Drops', 'nat_lt (count * 1024) (sum lengths)', 'nat_lt (count * 2048) (sum lengths)',
      'laws_of_waiting', 'kbytes'),
 ]
+# fmt: on
 
 
 def in_one_crate(text):
     """A text of dn_laws as one of dn_types, for the copy that has both."""
-    return text.replace('Rattle.dn_laws.', 'Rattle.dn_types.').replace('use dn_types::', 'use crate::')
+    return text.replace("Rattle.dn_laws.", "Rattle.dn_types.").replace("use dn_types::", "use crate::")
 
 
 def add_the_laws(crate):
     """Puts the files of dn_laws into the copy of dn_types, so that a wrong definition meets its law first."""
-    top = os.path.join(TOP, 'crates', 'dn_laws')
+    top = os.path.join(TOP, "crates", "dn_laws")
     for folder, folders, names in os.walk(top):
-        folders[:] = [name for name in folders if name != 'out']
+        folders[:] = [name for name in folders if name != "out"]
         for name in names:
             path = os.path.relpath(os.path.join(folder, name), top)
-            if not name.endswith(('.antt', '.rt')) or path == os.path.join('src', 'lib.rt'):
+            if not name.endswith((".antt", ".rt")) or path == os.path.join("src", "lib.rt"):
                 continue
             with open(os.path.join(folder, name)) as file:
                 text = in_one_crate(file.read())
             os.makedirs(os.path.dirname(os.path.join(crate, path)), exist_ok=True)
-            with open(os.path.join(crate, path), 'a' if name == 'Lib.antt' else 'w') as file:
+            with open(os.path.join(crate, path), "a" if name == "Lib.antt" else "w") as file:
                 file.write(text)
-    with open(os.path.join(crate, 'src', 'lib.rt'), 'a') as file:
-        file.write('pub mod determined;\npub mod laws;\npub mod merging;\n')
+    with open(os.path.join(crate, "src", "lib.rt"), "a") as file:
+        file.write("pub mod determined;\npub mod laws;\npub mod merging;\n")
 
 
 def set_aside(proofs):
     """Takes what computes at single points out of the copy."""
-    library = os.path.join(proofs, 'Lib.antt')
+    library = os.path.join(proofs, "Lib.antt")
     with open(library) as file:
         text = file.read()
     for name in SET_ASIDE:
-        text = re.sub('^(pub )?mod %s\n' % name, '', text, flags=re.M)
-        if os.path.exists(os.path.join(proofs, name + '.antt')):
-            os.remove(os.path.join(proofs, name + '.antt'))
-    with open(library, 'w') as file:
+        text = re.sub("^(pub )?mod %s\n" % name, "", text, flags=re.M)
+        if os.path.exists(os.path.join(proofs, name + ".antt")):
+            os.remove(os.path.join(proofs, name + ".antt"))
+    with open(library, "w") as file:
         file.write(text)
-    shutil.rmtree(os.path.join(proofs, 'Cases'), ignore_errors=True)
+    shutil.rmtree(os.path.join(proofs, "Cases"), ignore_errors=True)
 
 
 def copy_of_the_crate(folder):
     """A copy of dn_types that has the laws too, without what computes at single points."""
-    crate = os.path.join(folder, 'crates', 'dn_types')
-    shutil.copytree(os.path.join(TOP, 'crates', 'dn_types'), crate, ignore=shutil.ignore_patterns('out', 'must-fail'))
-    shutil.copy(os.path.join(TOP, 'HANDLES'), folder)
-    with open(os.path.join(folder, 'crates.txt'), 'w') as own:
-        own.write('dn_types:\n')
+    crate = os.path.join(folder, "crates", "dn_types")
+    shutil.copytree(os.path.join(TOP, "crates", "dn_types"), crate, ignore=shutil.ignore_patterns("out", "must-fail"))
+    shutil.copy(os.path.join(TOP, "HANDLES"), folder)
+    with open(os.path.join(folder, "crates.txt"), "w") as own:
+        own.write("dn_types:\n")
     add_the_laws(crate)
-    set_aside(os.path.join(crate, 'proofs'))
+    set_aside(os.path.join(crate, "proofs"))
     return crate
 
 
 def check(crate, function):
     """The functions that are not proved, the first lemma that was refused, and whether the check was finished."""
-    command = os.environ.get('RT', 'rt').split() + ['check', '--only', function]
+    command = os.environ.get("RT", "rt").split() + ["check", "--only", function]
     told = subprocess.run(command, cwd=crate, stdout=subprocess.PIPE, stderr=subprocess.STDOUT, text=True).stdout
-    unproved = re.findall(r'^fn dn_types::(?:laws|determined)::(\w+): (?!proved)', told, flags=re.M)
-    proved = re.findall(r'^fn dn_types::(?:laws|determined)::(\w+): proved', told, flags=re.M)
-    refused = re.search(r'proofs/(\w+)\.antt:\d+:\d+: error: `([^`]+)`', told)
-    return set(unproved), refused.group(1) + '.' + refused.group(2) if refused else '', len(unproved) + len(proved) > 0
+    unproved = re.findall(r"^fn dn_types::(?:laws|determined)::(\w+): (?!proved)", told, flags=re.M)
+    proved = re.findall(r"^fn dn_types::(?:laws|determined)::(\w+): proved", told, flags=re.M)
+    refused = re.search(r"proofs/(\w+)\.antt:\d+:\d+: error: `([^`]+)`", told)
+    return set(unproved), refused.group(1) + "." + refused.group(2) if refused else "", len(unproved) + len(proved) > 0
 
 
 def changed(text, old, new):
     """The text of a spec with the wrong definition in the place of the right one."""
     for before, after in zip(*((old, new) if isinstance(old, tuple) else ((old,), (new,)))):
         if before not in text:
-            sys.exit('the text to change is not there: ' + before)
+            sys.exit("the text to change is not there: " + before)
         text = text.replace(before, after)
     return text
 
@@ -434,15 +450,15 @@ def wrongly_defined(crate, row):
     changes, kept = zip(names, old, new) if isinstance(names, tuple) else [(names, old, new)], {}
     try:
         for name, before, after in changes:
-            spec = os.path.join(crate, 'specs', name + '.antt')
+            spec = os.path.join(crate, "specs", name + ".antt")
             with open(spec) as file:
                 kept[spec] = file.read()
-            with open(spec, 'w') as file:
+            with open(spec, "w") as file:
                 file.write(changed(kept[spec], before, after))
         yield
     finally:
         for spec, right in kept.items():
-            with open(spec, 'w') as file:
+            with open(spec, "w") as file:
                 file.write(right)
 
 
@@ -450,20 +466,20 @@ def try_row(crate, row):
     """What was refused, and whether the row went as it should."""
     function = row[4]
     with wrongly_defined(crate, row):
-        unproved, refused, finished = check(crate, function or 'laws')
+        unproved, refused, finished = check(crate, function or "laws")
     if function is None:
         return refused, finished
     refuses = finished and function in unproved
-    return refused if refuses else 'not refused', refuses
+    return refused if refuses else "not refused", refuses
 
 
 def refuted_rows():
     """The names of the rows with a file in tools/laws/refuted: each file begins with one."""
-    folder = os.path.join(TOP, 'tools', 'laws', 'refuted')
+    folder = os.path.join(TOP, "tools", "laws", "refuted")
     names = set()
     for name in os.listdir(folder):
         with open(os.path.join(folder, name)) as file:
-            names.add(file.readline().strip().replace('-- Wrong: ', ''))
+            names.add(file.readline().strip().replace("-- Wrong: ", ""))
     return names
 
 
@@ -471,39 +487,39 @@ def print_table(rows):
     """The functions in the order of their first row, and with each clause the definitions that it refuses."""
     by_function, refuted = {}, refuted_rows()
     for wrong, _, _, _, function, clause in rows:
-        clauses = by_function.setdefault('`%s`' % function if function else 'none: pinned by examples alone', {})
-        clauses.setdefault('`%s`: ' % clause if clause else '', []).append(wrong + ' *' * (wrong not in refuted))
-    print('| Law | Clause: wrong definitions of which it is false |\n|---|---|')
+        clauses = by_function.setdefault("`%s`" % function if function else "none: pinned by examples alone", {})
+        clauses.setdefault("`%s`: " % clause if clause else "", []).append(wrong + " *" * (wrong not in refuted))
+    print("| Law | Clause: wrong definitions of which it is false |\n|---|---|")
     for function, clauses in by_function.items():
-        print('| %s | %s |' % (function, '. '.join(clause + '; '.join(wrongs) for clause, wrongs in clauses.items())))
+        print("| %s | %s |" % (function, ". ".join(clause + "; ".join(wrongs) for clause, wrongs in clauses.items())))
 
 
 def main(arguments):
-    if '--list' in arguments:
+    if "--list" in arguments:
         for place, row in enumerate(ROWS, 1):
             print(place, row[0])
         return 0
-    if '--table' in arguments:
+    if "--table" in arguments:
         print_table(ROWS)
         return 0
-    rows = [ROWS[int(argument) - 1] for argument in arguments if argument != '--determined'] or ROWS
-    if '--determined' in arguments:
-        rows = [row[:4] + ('laws_hold', '') for row in rows]
+    rows = [ROWS[int(argument) - 1] for argument in arguments if argument != "--determined"] or ROWS
+    if "--determined" in arguments:
+        rows = [row[:4] + ("laws_hold", "") for row in rows]
     with tempfile.TemporaryDirectory() as folder:
         crate = copy_of_the_crate(folder)
-        unproved, _, finished = check(crate, 'laws_hold' if '--determined' in arguments else 'laws')
+        unproved, _, finished = check(crate, "laws_hold" if "--determined" in arguments else "laws")
         if unproved or not finished:
-            print('the laws are not proved of the right definitions:', ', '.join(sorted(unproved)))
+            print("the laws are not proved of the right definitions:", ", ".join(sorted(unproved)))
             return 1
         passed = []
         for row in rows:
             told, good = try_row(crate, row)
-            print('%s: %s' % (row[0], told), file=sys.stderr, flush=True)
+            print("%s: %s" % (row[0], told), file=sys.stderr, flush=True)
             passed += [row] if good else []
     print_table(passed)
-    print('\n%d tried, %d not refused' % (len(rows), len(rows) - len(passed)))
+    print("\n%d tried, %d not refused" % (len(rows), len(rows) - len(passed)))
     return 0 if len(passed) == len(rows) else 1
 
 
-if __name__ == '__main__':
+if __name__ == "__main__":
     sys.exit(main(sys.argv[1:]))

@@ -51,17 +51,31 @@ class Ran(NamedTuple):
 @lru_cache(maxsize=None)
 def environment() -> dict[str, str]:
     """What names the module and the library of the present sources, if no other one is named."""
-    more = {"PYTHONPATH": os.pathsep.join([str(TOP / "python"), *filter(None, [os.environ.get("PYTHONPATH")])]),
-            "PYTHONDONTWRITEBYTECODE": "1", "PYTEST_DISABLE_PLUGIN_AUTOLOAD": "1"}
+    more = {
+        "PYTHONPATH": os.pathsep.join([str(TOP / "python"), *filter(None, [os.environ.get("PYTHONPATH")])]),
+        "PYTHONDONTWRITEBYTECODE": "1",
+        "PYTEST_DISABLE_PLUGIN_AUTOLOAD": "1",
+    }
     if "HINGETULIP_LIBRARY" not in os.environ:
-        library = subprocess.run([TOP / "tools" / "release" / "library"], stdout=subprocess.PIPE, text=True, check=True).stdout.strip()
+        library = subprocess.run(
+            [TOP / "tools" / "release" / "library"], stdout=subprocess.PIPE, text=True, check=True
+        ).stdout.strip()
         more["HINGETULIP_LIBRARY"] = f"{TOP / library}/libhingetulip.so.1"
     return {**os.environ, **more}
 
 
 def ran(interpreter: str, file: Path, seeds: int, hash_seed: str) -> Ran:
     with TemporaryDirectory() as folder:
-        options = ["-q", "-rs", "-p", "hinge.pytest_plugin", "-p", "no:cacheprovider", f"--basetemp={folder}/run", f"--seeds={seeds}"]
+        options = [
+            "-q",
+            "-rs",
+            "-p",
+            "hinge.pytest_plugin",
+            "-p",
+            "no:cacheprovider",
+            f"--basetemp={folder}/run",
+            f"--seeds={seeds}",
+        ]
         env = {**environment(), "PYTHONHASHSEED": hash_seed}
         begun = resource.getrusage(resource.RUSAGE_CHILDREN).ru_utime
         done = subprocess.run([interpreter, "-m", "pytest", *options, str(file)], cwd=HERE, env=env, capture_output=True, text=True)
@@ -80,10 +94,16 @@ def tried(tally: Tally, interpreter: str, file: Path, seeds: int) -> None:
         print(f"{name}: skipped, since there is {lacks[1]}")
         return
     equal = sum(again.histories.get(name) == text for name, text in first.histories.items())
-    print(f"{name}: {first.passed} of {seeds} passed, {equal} equal, {first.simulated:,.0f} simulated s in "
-          f"{first.took:.1f} s of processor time", flush=True)
-    tally.note(f"{name}, tests that passed", "" if first.passed == seeds and not first.status else first.text,
-               "" if again.passed == seeds and not again.status else again.text)
+    print(
+        f"{name}: {first.passed} of {seeds} passed, {equal} equal, {first.simulated:,.0f} simulated s in "
+        f"{first.took:.1f} s of processor time",
+        flush=True,
+    )
+    tally.note(
+        f"{name}, tests that passed",
+        "" if first.passed == seeds and not first.status else first.text,
+        "" if again.passed == seeds and not again.status else again.text,
+    )
     tally.note(f"{name}, two processes", "" if equal == seeds else f"{equal} of {seeds} histories are equal")
 
 

@@ -13,6 +13,7 @@ from twisted.names import common, dns, server as names_server  # noqa: E402
 class Known(common.ResolverBase):
     def _lookup(self, name, cls, type, timeout):
         from twisted.internet import defer
+
         return defer.succeed(([dns.RRHeader(name, dns.A, payload=dns.Record_A("192.0.2.1"))], [], []))
 
 

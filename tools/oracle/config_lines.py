@@ -7,7 +7,16 @@ from dataclasses import dataclass
 from typing import Optional
 
 from model import (
-    ALL_BITS, DEFAULT_LIMIT, NO_BITS, Command, DeletePipe, DeleteQueue, FiveTuple, Limit, Pipe, Queue,
+    ALL_BITS,
+    DEFAULT_LIMIT,
+    NO_BITS,
+    Command,
+    DeletePipe,
+    DeleteQueue,
+    FiveTuple,
+    Limit,
+    Pipe,
+    Queue,
 )
 
 UNKNOWN_WORD = "unknown word"
@@ -17,9 +26,7 @@ OUT_OF_RANGE = "out of range"
 LEFT_OUT = "left out"
 NEEDS_PIPE = "needs a pipe"
 
-LEFT_OUT_WORDS = frozenset(
-    "red gred ecn codel pie fq_codel fq_pie sched burst profile noerror src-ip6 dst-ip6 flow-id".split()
-)
+LEFT_OUT_WORDS = frozenset("red gred ecn codel pie fq_codel fq_pie sched burst profile noerror src-ip6 dst-ip6 flow-id".split())
 MASK_FIELDS = {  # word -> (name of the field, greatest value)
     "dst-ip": ("dst", 2**32 - 1),
     "src-ip": ("src", 2**32 - 1),

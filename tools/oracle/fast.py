@@ -12,9 +12,35 @@ from dataclasses import dataclass, field
 from typing import Optional, Union
 
 from model import (
-    ORDERED, Advance, Advanced, Call, Collect, Command, Configure, Configured, DeletePipe, Deleted,
-    Delivered, Delivery, Entry, FlowKey, FlowStatus, Full, Lost, NoSuchPipe, NoSuchQueue, NoTarget, Pipe, PipeHasQueues,
-    Queue, Queued, Reply, Show, Status, Submit, masked,
+    ORDERED,
+    Advance,
+    Advanced,
+    Call,
+    Collect,
+    Command,
+    Configure,
+    Configured,
+    DeletePipe,
+    Deleted,
+    Delivered,
+    Delivery,
+    Entry,
+    FlowKey,
+    FlowStatus,
+    Full,
+    Lost,
+    NoSuchPipe,
+    NoSuchQueue,
+    NoTarget,
+    Pipe,
+    PipeHasQueues,
+    Queue,
+    Queued,
+    Reply,
+    Show,
+    Status,
+    Submit,
+    masked,
 )
 
 
@@ -244,8 +270,11 @@ class FastDummynet:
         if isinstance(c, Configure):
             return self.configure(c.command)
         if isinstance(c, Show):
-            return Status(tuple(FlowStatus(f.number, f.key, len(f.queue), f.bytes, f.lost, f.full, f.started,
-                                           f.discarded) for f in self.flows))
+            return Status(
+                tuple(
+                    FlowStatus(f.number, f.key, len(f.queue), f.bytes, f.lost, f.full, f.started, f.discarded) for f in self.flows
+                )
+            )
         self.clock = max(self.clock, c.moment)
         self.settle()
         if isinstance(c, Advance):

@@ -8,8 +8,26 @@ from typing import Iterable, Optional
 from config_lines import LineFault, parse_line, read_number
 from csv_bytes import read_records
 from model import (
-    MAX_LEN, MAX_MOMENT, MAX_NUMBER, Command, Delivered, Delivery, Entry, FiveTuple, Full, Lost, NoSuchPipe,
-    NoSuchQueue, NoTarget, Packet, PipeHasQueues, Queued, Reply, Row, Submit, Target,
+    MAX_LEN,
+    MAX_MOMENT,
+    MAX_NUMBER,
+    Command,
+    Delivered,
+    Delivery,
+    Entry,
+    FiveTuple,
+    Full,
+    Lost,
+    NoSuchPipe,
+    NoSuchQueue,
+    NoTarget,
+    Packet,
+    PipeHasQueues,
+    Queued,
+    Reply,
+    Row,
+    Submit,
+    Target,
 )
 
 PACKET_HEADER = "moment,target,number,src,dst,proto,sport,dport,len,word"
@@ -65,7 +83,7 @@ def split_joined(data: bytes) -> tuple[bytes, bytes]:
         end = data.find(b"\n", at)
         line = data[at:] if end < 0 else data[at:end]
         if line == b"--" or (line == b"--\r" and end >= 0):
-            return data[:at], b"" if end < 0 else data[end + 1:]
+            return data[:at], b"" if end < 0 else data[end + 1 :]
         if end < 0:
             break
         at = end + 1

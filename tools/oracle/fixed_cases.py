@@ -25,6 +25,7 @@ def two_queues(weight: int, other: int) -> str:
     return f"pipe 1 config bw 8Mbit/s\nqueue 1 config pipe 1 weight {weight}\nqueue 2 config pipe 1 weight {other}"
 
 
+# fmt: off
 SMALL_REPLAYS = {
     "header": "--\n" + HEADER,
     "no-packets": "--\n",
@@ -41,7 +42,9 @@ SMALL_REPLAYS = {
     "loss-of-none": joined("pipe 1 config plr 0", row()),
     "held": joined("pipe 1 config delay 1", row(LAST_MOMENT)),
 }
+# fmt: on
 
+# fmt: off
 LINES = (
     "pipe 0 config", "queue 1 config weight 101 pipe 1", "queue 1 config weight 5", "pipe 1 config red 0.002/3/7/0.1",
     "pipe 1 config bw 1.5Mbit/s", "pipe 1 config bw tun0", "pipe 1 config bw", "ipfw pipe 1 config weight 3",
@@ -52,7 +55,9 @@ LINES = (
     "sched 1 config type wf2q+", "pipe 1 config queue " + "9" * 10000, "pipe 1 config bw 1000G", "pipe 1 config bw 1M bw 2M",
     "pipe 1 config mask all", "pipe 1 config delay 3600001", "\u00e9", "--x", " --", "-- ",
 )
+# fmt: on
 
+# fmt: off
 EDGES_OF_THE_FORMATS = {
     "carriage-returns": "pipe 1 config\r\n--\r\n" + HEADER.replace("\n", "\r\n") + row(),
     "separator-last": "pipe 1 config\n--",
@@ -70,10 +75,22 @@ EDGES_OF_THE_FORMATS = {
     "header-after-blank": "--\n " + HEADER,
     "eleven-fields": joined("pipe 1 config", row().rstrip() + ",\n"),
 }
+# fmt: on
 
 ROWS = (
-    "0,pipe,1,10.0.0.1,10.0\n", row(LAST_MOMENT + 1), row(LAST_MOMENT), row(5, "queue", 9), row("x"), row(target="PIPE"),
-    row(number=0), row(number=65536), row(length=0), row(length=65536), row(word=2**32), row("00"), row(number="+1"),
+    "0,pipe,1,10.0.0.1,10.0\n",
+    row(LAST_MOMENT + 1),
+    row(LAST_MOMENT),
+    row(5, "queue", 9),
+    row("x"),
+    row(target="PIPE"),
+    row(number=0),
+    row(number=65536),
+    row(length=0),
+    row(length=65536),
+    row(word=2**32),
+    row("00"),
+    row(number="+1"),
 )
 
 FIELDS = row().rstrip().split(",")
@@ -81,10 +98,11 @@ BAD_FIELDS = {"empty": "", "letter": "x", "accent": "\u00e9", "minus": "-0", "di
 
 
 def with_field(place: int, text: str) -> str:
-    return ",".join([*FIELDS[:place], text, *FIELDS[place + 1:]]) + "\n"
+    return ",".join([*FIELDS[:place], text, *FIELDS[place + 1 :]]) + "\n"
 
 
 # Name and standard input.
+# fmt: off
 JOINED = {
     **SMALL_REPLAYS,
     **{f"line-{i:02}": line + "\n" for i, line in enumerate(LINES)},
@@ -93,11 +111,13 @@ JOINED = {
     **{f"field-{i}-{name}": joined("pipe 1 config", with_field(i, text))
        for i in range(len(FIELDS)) for name, text in BAD_FIELDS.items()},
 }
+# fmt: on
 
 LONG_LINE = b"#" + b"x" * 1_048_575
 HEADER_BYTES = HEADER.encode()
 
 # Name, the words after `replay`, and the files.
+# fmt: off
 REPLAYS = {
     "files-empty": (("c", "p"), {"c": b"", "p": b""}),
     "files-header": (("c", "p"), {"c": b"", "p": HEADER_BYTES}),
@@ -111,6 +131,7 @@ REPLAYS = {
     "longest-config": (("c", "p"), {"c": LONG_LINE, "p": b""}),
     "too-long-config": (("c", "p"), {"c": LONG_LINE + b"x", "p": b""}),
 }
+# fmt: on
 
 # Inputs that never end.
 ENDLESS = {
@@ -136,16 +157,29 @@ def delivered(moment: int, items: str) -> str:
 
 
 STATUS = "c,0,show\nr,status,1\nf,0,pipe,1,1,0.0.0.0,0.0.0.0,0,0,0,0.0.0.0,0.0.0.0,0,0,0,0,0,0,0,1,0\n"
-ONE_CALLER = ("dummynet-history,3\n" + configured("pipe 1 config bw 8000000bit/s") + queued(0, 0)
-              + delivered(1_000_000, "0,0,0,1000000") + STATUS + "end,4\n")
+ONE_CALLER = (
+    "dummynet-history,3\n"
+    + configured("pipe 1 config bw 8000000bit/s")
+    + queued(0, 0)
+    + delivered(1_000_000, "0,0,0,1000000")
+    + STATUS
+    + "end,4\n"
+)
 
 TRANSCRIPT = ONE_CALLER.replace("dummynet-history,3", "dummynet-live,1")
 
 # The packets of a link overtake each other, as in histories of versions 1 and 2 alone.
-OVERTAKING = (configured("pipe 1 config bw 8Mbit/s delay 50") + queued(0, 0) + configured("pipe 1 config bw 8Mbit/s")
-              + queued(2_000_000, 1) + delivered(3_000_000, "1,0,2000000,3000000") + "end,5\n")
+OVERTAKING = (
+    configured("pipe 1 config bw 8Mbit/s delay 50")
+    + queued(0, 0)
+    + configured("pipe 1 config bw 8Mbit/s")
+    + queued(2_000_000, 1)
+    + delivered(3_000_000, "1,0,2000000,3000000")
+    + "end,5\n"
+)
 
 # Name and history file.
+# fmt: off
 AUDITS = {
     "one-caller": ONE_CALLER,
     "one-caller-version-2": ONE_CALLER.replace("history,3", "history,2"),
@@ -176,9 +210,24 @@ AUDITS = {
     **{f"remark-in-version-{v}": f"dummynet-history,{v}\n#\nend,0\n" for v in (1, 2, 3)},
     "remark-after-end": ONE_CALLER + "#\n",
 }
+# fmt: on
 
 # Command lines that give nothing to do.
-USAGES = (("replay",), ("replay", "c"), ("replay", "c", "p", "q"), ("nothing",), ("--nothing",), ("--help",), ("--version",), ("replay", "--help"),
-          ("replay", "c", "p", "--history", "c"), ("replay", "c", "p", "--history", "p"),
-          ("audit",), ("audit", "c", "p"), ("audit", "--history", "c"), ("audit", "--help"),
-          *(("replay", "c", "p", "--callers", n) for n in ("0", "17", "x", "1.5", "18446744073709551616")), ("replay", "c", "p", "--callers"))
+USAGES = (
+    ("replay",),
+    ("replay", "c"),
+    ("replay", "c", "p", "q"),
+    ("nothing",),
+    ("--nothing",),
+    ("--help",),
+    ("--version",),
+    ("replay", "--help"),
+    ("replay", "c", "p", "--history", "c"),
+    ("replay", "c", "p", "--history", "p"),
+    ("audit",),
+    ("audit", "c", "p"),
+    ("audit", "--history", "c"),
+    ("audit", "--help"),
+    *(("replay", "c", "p", "--callers", n) for n in ("0", "17", "x", "1.5", "18446744073709551616")),
+    ("replay", "c", "p", "--callers"),
+)

@@ -5,8 +5,28 @@ from __future__ import annotations
 from typing import Iterable
 
 from model import (
-    FREE, Advance, Advanced, Call, Collect, Configure, Configured, Deleted, Delivered, Exhausted, FiveTuple, FlowStatus,
-    Full, Lost, NoSuchPipe, NoSuchQueue, NoTarget, PipeHasQueues, Queued, Reply, Status, Submit,
+    FREE,
+    Advance,
+    Advanced,
+    Call,
+    Collect,
+    Configure,
+    Configured,
+    Deleted,
+    Delivered,
+    Exhausted,
+    FiveTuple,
+    FlowStatus,
+    Full,
+    Lost,
+    NoSuchPipe,
+    NoSuchQueue,
+    NoTarget,
+    PipeHasQueues,
+    Queued,
+    Reply,
+    Status,
+    Submit,
 )
 from printing import command_text
 
@@ -44,8 +64,10 @@ def call_text(caller: int, c: Call) -> str:
 def status_text(f: FlowStatus, version: int) -> str:
     """The record of a flow. Version 1 doesn't tell how many packets were discarded."""
     k = f.key
-    text = (f"f,{f.flow},{k.target.kind},{k.target.number},{k.pipe},{tuple_text(k.mask)},{tuple_text(k.tuple)},"
-            f"{f.queued},{f.bytes},{f.lost},{f.full},{f.started}")
+    text = (
+        f"f,{f.flow},{k.target.kind},{k.target.number},{k.pipe},{tuple_text(k.mask)},{tuple_text(k.tuple)},"
+        f"{f.queued},{f.bytes},{f.lost},{f.full},{f.started}"
+    )
     return text if version == 1 else f"{text},{f.discarded}"
 
 

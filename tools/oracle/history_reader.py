@@ -10,9 +10,35 @@ from fast import first_difference
 from files import ReplayFault, address_of, kind_of, number_of, text_of
 from history import BARE_REPLIES, NUMBERED_REPLIES
 from model import (
-    FREE, MAX_CALLERS, MAX_LEN, MAX_MOMENT, MAX_NUMBER, MAX_U64, ORDERED, Advance, Call, Collect, Command, Configure,
-    Deleted, DeletePipe, DeleteQueue, Delivered, Delivery, Entry, FiveTuple, FlowKey, FlowStatus, NoSuchQueue, Packet,
-    PipeHasQueues, Reply, Show, Status, Submit, Target,
+    FREE,
+    MAX_CALLERS,
+    MAX_LEN,
+    MAX_MOMENT,
+    MAX_NUMBER,
+    MAX_U64,
+    ORDERED,
+    Advance,
+    Call,
+    Collect,
+    Command,
+    Configure,
+    Deleted,
+    DeletePipe,
+    DeleteQueue,
+    Delivered,
+    Delivery,
+    Entry,
+    FiveTuple,
+    FlowKey,
+    FlowStatus,
+    NoSuchQueue,
+    Packet,
+    PipeHasQueues,
+    Reply,
+    Show,
+    Status,
+    Submit,
+    Target,
 )
 
 VERSIONS = {(b"dummynet-history", b"1"): 1, (b"dummynet-history", b"2"): 2, (b"dummynet-history", b"3"): 3}
@@ -62,8 +88,13 @@ class HistoryReader:
 
     def five(self, fields: list[bytes]) -> FiveTuple:
         src, dst, proto, sport, dport = fields
-        return FiveTuple(self.known(address_of(src)), self.known(address_of(dst)), self.number(proto, 0, 255),
-                         self.number(sport, 0, 65535), self.number(dport, 0, 65535))
+        return FiveTuple(
+            self.known(address_of(src)),
+            self.known(address_of(dst)),
+            self.number(proto, 0, 255),
+            self.number(sport, 0, 65535),
+            self.number(dport, 0, 65535),
+        )
 
     def read(self) -> tuple[str, list[Entry]]:
         """The rule of the file's version, and the entries."""

@@ -10,7 +10,21 @@ from fast import FastDummynet
 from files import address_of, kind_of, number_of, text_of
 from history import call_text, reply_lines
 from model import (
-    MAX_CALLERS, MAX_LEN, MAX_MOMENT, MAX_NUMBER, ORDERED, Advance, Call, Collect, Command, Configure, FiveTuple, Packet, Show, Submit, Target,
+    MAX_CALLERS,
+    MAX_LEN,
+    MAX_MOMENT,
+    MAX_NUMBER,
+    ORDERED,
+    Advance,
+    Call,
+    Collect,
+    Command,
+    Configure,
+    FiveTuple,
+    Packet,
+    Show,
+    Submit,
+    Target,
 )
 
 LINE_LIMIT = 65_536
@@ -66,8 +80,12 @@ class Record:
         if kind is None:
             raise BadLine(4, "bad field")
         target = Target(kind, self.number(5, 1, MAX_NUMBER))
-        five = FiveTuple(self.address(6), self.address(7), self.number(8, 0, 255), self.number(9, 0, 65535), self.number(10, 0, 65535))
-        return Submit(target, Packet(five, self.number(11, 1, MAX_LEN), self.number(12, 0, 2**32 - 1)), self.number(13, 0, MAX_MOMENT))
+        five = FiveTuple(
+            self.address(6), self.address(7), self.number(8, 0, 255), self.number(9, 0, 65535), self.number(10, 0, 65535)
+        )
+        return Submit(
+            target, Packet(five, self.number(11, 1, MAX_LEN), self.number(12, 0, 2**32 - 1)), self.number(13, 0, MAX_MOMENT)
+        )
 
 
 def command_of(line: bytes, field: int) -> Optional[Command]:

@@ -232,8 +232,19 @@ class Exhausted:
 
 
 Reply = Union[
-    Configured, NoSuchPipe, Deleted, PipeHasQueues, NoSuchQueue, Queued, Lost, Full,
-    NoTarget, Advanced, Delivered, Status, Exhausted,
+    Configured,
+    NoSuchPipe,
+    Deleted,
+    PipeHasQueues,
+    NoSuchQueue,
+    Queued,
+    Lost,
+    Full,
+    NoTarget,
+    Advanced,
+    Delivered,
+    Status,
+    Exhausted,
 ]
 
 

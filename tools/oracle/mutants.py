@@ -29,11 +29,14 @@ GIVEN = "return Delivered(self.clock, tuple(found))"
 FIND, DATACLASSES = "flow = self.flow_of.get(key)", "from dataclasses import dataclass"
 KEPT, DISCARD = "self.queues[c.number] = c\n", "    def discard(self, flow: Flow) -> None:\n        flow.last_f = 0"
 OF_QUEUE = "f.key.target.number == c.number"
-NEW_WEIGHTS = KEPT + f"""\
+NEW_WEIGHTS = (
+    KEPT
+    + f"""\
             for f in self.flows:
                 if f.key.target.kind == "queue" and {OF_QUEUE} and f.number in self.link_of_flow:
                     self.link(f).sched.reweigh(f, c.weight)
 """
+)
 SUM = """\
     def reweigh(self, flow: Flow, weight: int) -> None:
         if flow.number in self.heads:
@@ -74,8 +77,13 @@ WRONG: dict[str, tuple[Change, ...]] = {
     "NoEligibility": ((RAISE + MOVE, "while self.waiting:"),),
     "ByArrival": (picked("(x[0], self.heads[x[1]].packet)"),),  # ties in F by packet number
     "TiesByHighFlow": (picked("(x[0], -x[1])"),),
-    "NoRaise": ((RAISE + MOVE, "raised = self.v if self.eligible else max(self.v, self.waiting[0][0])\n"
-                               "        while self.waiting and self.waiting[0][0] <= raised:"),),  # it isn't kept
+    "NoRaise": (
+        (
+            RAISE + MOVE,
+            "raised = self.v if self.eligible else max(self.v, self.waiting[0][0])\n"
+            "        while self.waiting and self.waiting[0][0] <= raised:",
+        ),
+    ),  # it isn't kept
     "StrictEligibility": (picked("(self.heads[x[1]].s >= self.v, x)"),),  # S = V only if nothing else is eligible
     "KeepsFinishTimes": ((BEGIN, "self.v = 0"),),
     "KeepsV": ((BEGIN, "self.epoch += 1"),),
@@ -85,37 +93,52 @@ WRONG: dict[str, tuple[Change, ...]] = {
     "RoundsCostUp": ((COST, "w.f = w.s - (-(w.len * 65536) // w.weight)"),),
     "KeepsDiscardedFinish": ((DISCARD, DISCARD.replace("flow.last_f = 0", "pass")),),
     "LimitBeforeSettling": (
-        ("def settle(self) -> None:", "def settle(self) -> None:\n"
-         "        self.before = {f.number: (len(f.queue), f.bytes) for f in self.flows}"),
+        (
+            "def settle(self) -> None:",
+            "def settle(self) -> None:\n" "        self.before = {f.number: (len(f.queue), f.bytes) for f in self.flows}",
+        ),
         (KBYTES, "self.before.get(flow.number, (0, 0))[1] > conf.limit.kbytes"),
-        (SLOTS, "self.before.get(flow.number, (0, 0))[0] >= conf.limit.slots")),
+        (SLOTS, "self.before.get(flow.number, (0, 0))[0] >= conf.limit.slots"),
+    ),
     "CountsNewPacket": (  # a queue in bytes is full if the new packet doesn't fit
-        ("if self.is_full(flow, conf):", "if (self.is_full(flow, conf) if conf.limit.kbytes is None\n"
-         "                else flow.bytes + c.packet.len > conf.limit.kbytes * 1024):"),),
+        (
+            "if self.is_full(flow, conf):",
+            "if (self.is_full(flow, conf) if conf.limit.kbytes is None\n"
+            "                else flow.bytes + c.packet.len > conf.limit.kbytes * 1024):",
+        ),
+    ),
     "FullAtLimit": ((KBYTES, "flow.bytes >= conf.limit.kbytes"),),
     "LimitBeforeLoss": ((IS_LOST, IS_LOST.replace(":", " and not self.is_full(flow, conf):")),),
     "NoFlowForLost": (
         ("flow = self.find_or_make(", "known = len(self.flows)\n        flow = self.find_or_make("),
-        (LOSE, LOSE + "            if len(self.flows) > known:\n"
-         "                del self.flow_of[self.flows.pop().key]\n")),
+        (LOSE, LOSE + "            if len(self.flows) > known:\n" "                del self.flow_of[self.flows.pop().key]\n"),
+    ),
     "SumOfNewWeights": ((KEPT, NEW_WEIGHTS), (DISCARD, SUM + DISCARD)),  # and not on the stamps
     "WeightAtPick": ((KEPT, NEW_WEIGHTS), (DISCARD, SUM + TAGS + DISCARD)),
     "DueOverAllLinks": (("link.last_due", "self.newest"), ("self.accepted = 0", "self.accepted = self.newest = 0")),
     "OtherRule": (("self.rule == ORDERED", "self.rule != ORDERED"),),
     "DeleteForgetsLastDue": (after(CLEAR, "link.last_due = 0"),),
     "DeleteForgetsFree": (after(CLEAR, "link.free = link.free if link.backlog else 0"),),
-    "DeleteTakesWayward": (after(CLEAR, "self.delay_line = [d for d in self.delay_line if d.flow != flow.number]\n"
-                                        "        heapq.heapify(self.delay_line)"),),
+    "DeleteTakesWayward": (
+        after(
+            CLEAR,
+            "self.delay_line = [d for d in self.delay_line if d.flow != flow.number]\n" "        heapq.heapify(self.delay_line)",
+        ),
+    ),
     "DeleteReachesOldPipeNot": (  # only the flows on the queue's present pipe
         ("del self.queues[c.number]", "pipe = self.queues.pop(c.number).pipe"),
-        (OF_QUEUE, f"{OF_QUEUE} and f.key.pipe == pipe")),
+        (OF_QUEUE, f"{OF_QUEUE} and f.key.pipe == pipe"),
+    ),
     "BusyWithoutFree": (("link.sched.idle() and link.free <= self.clock", "link.sched.idle()"),),
     "RoundsDown": (("-(-(length * 8 * 10**9) // bw)", "length * 8 * 10**9 // bw"),),
     "StartsAtArrival": (("self.start(link, link.free)", "self.start(link, self.clock)"),),
-    "StrictFree": (("self.busy_links[0][0] <= self.clock", "self.busy_links[0][0] < self.clock"),
-                   ("link.backlog and link.free <= self.clock", "link.backlog and link.free < self.clock")),
-    "NoMonotoneClock": (("self.clock = max(self.clock, c.moment)",
-                         "self.clock = c.moment if isinstance(c, Submit) else max(self.clock, c.moment)"),),
+    "StrictFree": (
+        ("self.busy_links[0][0] <= self.clock", "self.busy_links[0][0] < self.clock"),
+        ("link.backlog and link.free <= self.clock", "link.backlog and link.free < self.clock"),
+    ),
+    "NoMonotoneClock": (
+        ("self.clock = max(self.clock, c.moment)", "self.clock = c.moment if isinstance(c, Submit) else max(self.clock, c.moment)"),
+    ),
     "CollectAgain": ((GIVEN, f"for d in found[:1]:\n            heapq.heappush(self.delay_line, d)\n        {GIVEN}"),),
     "CollectBySubmission": ((GIVEN, GIVEN.replace("found", "sorted(found, key=lambda d: d.packet)")),),
     "CollectStrict": (("self.delay_line[0].due <= self.clock", "self.delay_line[0].due < self.clock"),),

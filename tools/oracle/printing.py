@@ -6,8 +6,13 @@ from config_lines import LOSS_OF_ALL
 from model import ALL_BITS, NO_BITS, Command, DeletePipe, DeleteQueue, FiveTuple, Pipe
 
 # The order of a printed mask, with the hexadecimal digits of each field.
-PRINTED_MASK = (("dst-ip", "dst", 8), ("src-ip", "src", 8), ("dst-port", "dport", 4), ("src-port", "sport", 4),
-               ("proto", "proto", 2))
+PRINTED_MASK = (
+    ("dst-ip", "dst", 8),
+    ("src-ip", "src", 8),
+    ("dst-port", "dport", 4),
+    ("src-port", "sport", 4),
+    ("proto", "proto", 2),
+)
 
 
 def mask_words(mask: FiveTuple) -> list[str]:

@@ -14,10 +14,22 @@ from model import FREE, MAX_U64, ORDERED, Call, Configure
 from scenarios import Style, random_calls
 from spelling import spell
 
-FIRST_RECORDS = (b"dummynet-history,1", b"dummynet-history,2", b"dummynet-history,3", b"dummynet-history,4",
-                 b"dummynet-history,03", b"dummynet-history", b"dummynet-live,1", b"dummynet-live,2", b"dummynet-live", b"dummynet-history,3,", b"Dummynet-history,3", b"")
+FIRST_RECORDS = (
+    b"dummynet-history,1",
+    b"dummynet-history,2",
+    b"dummynet-history,3",
+    b"dummynet-history,4",
+    b"dummynet-history,03",
+    b"dummynet-history",
+    b"dummynet-live,1",
+    b"dummynet-live,2",
+    b"dummynet-live",
+    b"dummynet-history,3,",
+    b"Dummynet-history,3",
+    b"",
+)
 FURTHER_RECORDS = (b"#", b"#,next,7", b"", b"c,0,show", b"r,configured", b"d,0,0,0,0", b"x", b'""', b"end,0", b" ")
-REMARKS = ("#", "#,next,7", "#,bad,3,1,word 1: unknown word", "\"#\",x")
+REMARKS = ("#", "#,next,7", "#,bad,3,1,word 1: unknown word", '"#",x')
 OTHER_NAMES = {
     b"configured": (b"no-such-pipe", b"deleted", b"exhausted"),
     b"no-such-pipe": (b"configured", b"no-such-queue"),
@@ -105,7 +117,7 @@ def changed_history(rng: Random, records: list[bytes]) -> list[bytes]:
     replies = [i for i, x in enumerate(records) if x[:2] in (b"r,", b"d,", b"f,")]
     at = rng.choice(replies) if kind == "reply" else rng.randrange(len(records))
     change = other_reply if kind == "reply" else damaged_record
-    changed = [*records[:at], change(rng, records[at]), *records[at + 1:]]
+    changed = [*records[:at], change(rng, records[at]), *records[at + 1 :]]
     if kind == "record" and rng.random() < 0.15:
         changed.insert(rng.randrange(len(changed)), rng.choice(FURTHER_RECORDS))
     return changed
@@ -120,4 +132,4 @@ def random_history(rng: Random, style: Style) -> bytes:
     data = b"".join(record + end for record in records)
     if rng.random() < 0.05:
         data = "\ufeff".encode() + data
-    return data[:rng.randrange(len(data))] if rng.random() < 0.05 else data
+    return data[: rng.randrange(len(data))] if rng.random() < 0.05 else data

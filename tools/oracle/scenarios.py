@@ -10,8 +10,25 @@ from random import Random
 from typing import Optional
 
 from model import (
-    ALL_BITS, DEFAULT_LIMIT, NO_BITS, Advance, Call, Collect, Command, Configure, DeletePipe, DeleteQueue, FiveTuple,
-    Limit, Packet, Pipe, Queue, Row, Show, Submit, Target,
+    ALL_BITS,
+    DEFAULT_LIMIT,
+    NO_BITS,
+    Advance,
+    Call,
+    Collect,
+    Command,
+    Configure,
+    DeletePipe,
+    DeleteQueue,
+    FiveTuple,
+    Limit,
+    Packet,
+    Pipe,
+    Queue,
+    Row,
+    Show,
+    Submit,
+    Target,
 )
 
 TX = 1_000_000  # 1,000 bytes at 8 Mbit/s
@@ -42,6 +59,7 @@ LARGE = (DEFAULT_LIMIT, Limit(100, None), Limit(None, 1024))
 EVEN = (0, 0, 0, 0, 0, TX // 2, TX, TX, 3 * TX)
 LOW_BYTE = FiveTuple(dst=3)
 
+# fmt: off
 STYLES = (
     # Ties in F and in S, and heads that are not yet eligible.
     Style("ties", (8_000_000,), (0,), (1, 1, 1, 2), (1000, 1000, 1000, 2000, 500), LARGE, (0,), (NO_BITS,),
@@ -87,19 +105,34 @@ STYLES = (
     Style("mixed", (8_000_000, 16_000_000, 0, 300_000), (0, 0, 1, 50), (1, 1, 2, 3, 10, 100), (1000, 1000, 1500, 64, 1),
           LARGE + (Limit(2, None), Limit(None, 1)), (0, 0, 0, 2**30), (NO_BITS, NO_BITS, LOW_BYTE), EVEN, 3, 5, 0.2),
 )
+# fmt: on
 
 
 # ---- Commands, packets, calls ---------------------------------------------------------------------------------
 
 
 def random_pipe(rng: Random, style: Style, number: int) -> Pipe:
-    return Pipe(number, rng.choice(style.bws), rng.choice(style.delays), rng.choice(style.limits),
-                rng.choice(style.losses), rng.choice((None, None, None, 64)), rng.choice(style.masks))
+    return Pipe(
+        number,
+        rng.choice(style.bws),
+        rng.choice(style.delays),
+        rng.choice(style.limits),
+        rng.choice(style.losses),
+        rng.choice((None, None, None, 64)),
+        rng.choice(style.masks),
+    )
 
 
 def random_queue(rng: Random, style: Style, number: int) -> Queue:
-    return Queue(number, rng.randint(1, style.pipes), rng.choice(style.weights), rng.choice(style.limits),
-                 rng.choice(style.losses), None, rng.choice(style.masks))
+    return Queue(
+        number,
+        rng.randint(1, style.pipes),
+        rng.choice(style.weights),
+        rng.choice(style.limits),
+        rng.choice(style.losses),
+        None,
+        rng.choice(style.masks),
+    )
 
 
 def first_commands(rng: Random, style: Style) -> list[Command]:
@@ -109,8 +142,13 @@ def first_commands(rng: Random, style: Style) -> list[Command]:
 
 
 def random_packet(rng: Random, style: Style) -> Packet:
-    t = FiveTuple(0x0A000001 + rng.choice((0, 0, 1)), 0x0A000002 + rng.choice((0, 0, 1, 2)), rng.choice((17, 17, 6)),
-                  1000 + rng.choice((0, 0, 1)), 2000 + rng.choice((0, 0, 2)))
+    t = FiveTuple(
+        0x0A000001 + rng.choice((0, 0, 1)),
+        0x0A000002 + rng.choice((0, 0, 1, 2)),
+        rng.choice((17, 17, 6)),
+        1000 + rng.choice((0, 0, 1)),
+        2000 + rng.choice((0, 0, 2)),
+    )
     word = rng.choice((0, 0, 2**31, 2**30 - 1, 2**30, 2**31 - 1, 2**32 - 1, 214748363, 214748364, rng.randrange(2**32)))
     if style.losses == (0,):
         word = rng.randrange(2**32)
@@ -187,7 +225,9 @@ def random_calls(rng: Random, style: Style, count: int, callers: int, deletes: b
                 back = commands.get((Queue, number))
             else:
                 if rng.random() < 0.5:  # free the pipe of its queues first
-                    calls += [Configure(DeleteQueue(q.number)) for q in commands.values() if isinstance(q, Queue) and q.pipe == number]
+                    calls += [
+                        Configure(DeleteQueue(q.number)) for q in commands.values() if isinstance(q, Queue) and q.pipe == number
+                    ]
                 calls.append(Configure(DeletePipe(number)))
                 back = commands.get((Pipe, number))
             if rng.random() < 0.3:
@@ -197,7 +237,9 @@ def random_calls(rng: Random, style: Style, count: int, callers: int, deletes: b
                     back = commands[(type(back), number)] = changed(rng, style, back)
                 calls.append(Configure(back))
                 if isinstance(back, Pipe):
-                    calls += [Configure(q) for q in commands.values() if isinstance(q, Queue) and q.pipe == number and rng.random() < 0.8]
+                    calls += [
+                        Configure(q) for q in commands.values() if isinstance(q, Queue) and q.pipe == number and rng.random() < 0.8
+                    ]
     if rng.random() < 0.8:
         calls.append(Collect(rng.choice((2**62, min(moments.now + 100 * TX, 2**62), moments.now))))
     if rng.random() < 0.3:

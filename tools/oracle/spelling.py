@@ -93,7 +93,7 @@ def spell(rng: Random, c: Command) -> str:
     else:
         words += [kind, str(c.number), "config"] + " ".join(spelled_options(rng, c)).split()
     text = "".join(w + rng.choice((" ", " ", " ", "  ", "\t", " \r ")) for w in words[:-1]) + words[-1]
-    text = rng.choice(("", "", "", " ", "\t")) + text + rng.choice(("", "", "", " ", "\r", "# note", " # a, \"b\" #c"))
+    text = rng.choice(("", "", "", " ", "\t")) + text + rng.choice(("", "", "", " ", "\r", "# note", ' # a, "b" #c'))
     assert parse_line(text) == c, (text, c)
     return text
 
@@ -106,12 +106,30 @@ def any_mask(rng: Random) -> FiveTuple:
 
 def any_command(rng: Random, pipes: list[int]) -> Command:
     """A pipe or queue line with values of the whole ranges; the queue's pipe is one of these."""
-    limit = rng.choice((DEFAULT_LIMIT, Limit(rng.choice((1, 49, 51, 10000, rng.randint(1, 10000))), None),
-                        Limit(None, rng.choice((1, 50, 1024, rng.randint(1, 1024))))))
+    limit = rng.choice(
+        (
+            DEFAULT_LIMIT,
+            Limit(rng.choice((1, 49, 51, 10000, rng.randint(1, 10000))), None),
+            Limit(None, rng.choice((1, 50, 1024, rng.randint(1, 1024)))),
+        )
+    )
     loss = rng.choice((0, 1, 2, 2**31 - 1, 2**31, rng.randint(0, 2**31)))
     buckets = rng.choice((None, 16, 65536, rng.randint(16, 65536)))
     number = rng.choice((1, 2, 3, 65535, rng.randint(1, 65535)))
     if not pipes or rng.random() < 0.6:
-        bw = rng.choice((0, 1, 8, 10**3, 8 * 10**6, 10**9, 10**12, 10**12 - 1, rng.randint(0, 10**12), 8000 * rng.randint(1, 10**6)))
+        bw = rng.choice(
+            (
+                0,
+                1,
+                8,
+                10**3,
+                8 * 10**6,
+                10**9,
+                10**12,
+                10**12 - 1,
+                rng.randint(0, 10**12),
+                8000 * rng.randint(1, 10**6),
+            )
+        )
         return Pipe(number, bw, rng.choice((0, 1, 3_600_000, rng.randint(0, 3_600_000))), limit, loss, buckets, any_mask(rng))
     return Queue(number, rng.choice(pipes), rng.choice((1, 2, 100, rng.randint(1, 100))), limit, loss, buckets, any_mask(rng))

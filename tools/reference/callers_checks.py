@@ -31,7 +31,7 @@ def faults(config: bytes, packets: bytes, callers: int, text: bytes, history: by
     rule, entries = HistoryReader(history).read()
     commands = [c for c in (read_line(i, line) for i, line in enumerate(split_lines(config), 1)) if c is not None]
     submits = [Submit(row.target, row.packet, row.moment) for row in read_packets(packets)]
-    head, rest, last = entries[:len(commands)], entries[len(commands):-1], entries[-1]
+    head, rest, last = entries[: len(commands)], entries[len(commands) : -1], entries[-1]
     rights = {
         "the history is lawful by the rule Ordered": rule == ORDERED and first_difference(entries, rule) is None,
         "caller 0 configures first": [(e.caller, e.call) for e in head] == [(0, Configure(c)) for c in commands],

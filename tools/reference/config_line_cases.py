@@ -22,12 +22,25 @@ from printing import command_text  # noqa: E402
 from scenarios import STYLES  # noqa: E402
 from spelling import any_command, spell  # noqa: E402
 
-FAULTS = {"unknown word": "UnknownWord", "missing value": "MissingValue", "bad number": "BadNumber",
-          "out of range": "OutOfRange", "left out": "LeftOut", "needs a pipe": "NeedsPipe"}
+FAULTS = {
+    "unknown word": "UnknownWord",
+    "missing value": "MissingValue",
+    "bad number": "BadNumber",
+    "out of range": "OutOfRange",
+    "left out": "LeftOut",
+    "needs a pipe": "NeedsPipe",
+}
 NINES = "9" * 10_000
-EXTREMES = (f"pipe 1 config queue {NINES}", f"pipe 1 config queue {NINES}x", f"pipe 1 config bw {NINES}Gbit/s",
-            f"pipe 1 config plr 0.{NINES}", f"pipe 1 config mask dst-ip 0x{'0' * 10_000}",
-            "pipe 1 config bw 1\u212abit/s", "pipe 1 config queue 1\u212a", "#" + "a" * 1_048_575)
+EXTREMES = (
+    f"pipe 1 config queue {NINES}",
+    f"pipe 1 config queue {NINES}x",
+    f"pipe 1 config bw {NINES}Gbit/s",
+    f"pipe 1 config plr 0.{NINES}",
+    f"pipe 1 config mask dst-ip 0x{'0' * 10_000}",
+    "pipe 1 config bw 1\u212abit/s",
+    "pipe 1 config queue 1\u212a",
+    "#" + "a" * 1_048_575,
+)
 
 
 def answer(line: str) -> str:

@@ -88,7 +88,9 @@ def try_seed(tally: Tally, program: str, folder: str, seed: int) -> None:
     effective = [f"{at},{row.fields}" for at, row in zip(accumulate((row.moment for row in rows), max), rows)]
     for pipe in sorted({pipe for pipe, _ in lines}):
         places = {place for place, row in enumerate(rows) if row.pipe == pipe}
-        part = report_of(program, folder, [line for of, line in lines if of == pipe], [effective[place] for place in sorted(places)])
+        part = report_of(
+            program, folder, [line for of, line in lines if of == pipe], [effective[place] for place in sorted(places)]
+        )
         wanted = [event for event in whole if int(event["row"]) - 1 in places]
         for field in ("row", "flow", "packet"):
             wanted = ranked(wanted, field)

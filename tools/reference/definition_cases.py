@@ -34,8 +34,23 @@ IMPORTS = (
     (f"{DECLARED}.command.Command.TheVariants", ("Pipe", "Queue", "DeletePipe", "DeleteQueue")),
     (f"{DECLARED}.rule.Rule.TheVariants", ("Free", "Ordered")),
     (f"{DECLARED}.limit.Limit.TheVariants", ("Slots", "Kbytes")),
-    (f"{DECLARED}.reply.Reply.TheVariants",
-     ("Configured", "NoSuchPipe", "Queued", "Lost", "Full", "NoTarget", "Advanced", "Delivered", "Status", "Deleted", "PipeHasQueues", "NoSuchQueue")),
+    (
+        f"{DECLARED}.reply.Reply.TheVariants",
+        (
+            "Configured",
+            "NoSuchPipe",
+            "Queued",
+            "Lost",
+            "Full",
+            "NoTarget",
+            "Advanced",
+            "Delivered",
+            "Status",
+            "Deleted",
+            "PipeHasQueues",
+            "NoSuchQueue",
+        ),
+    ),
 )
 
 
@@ -120,7 +135,9 @@ def cases(seeds, count: int, size: int):
                 continue
             for n in hit:
                 del left[n]
-            taken.append(f"\n-- {style.name}" + (f"; refuses {', '.join(hit)}" if hit else "") + "\n" + theorem(f"case_{found}", rule, calls))
+            taken.append(
+                f"\n-- {style.name}" + (f"; refuses {', '.join(hit)}" if hit else "") + "\n" + theorem(f"case_{found}", rule, calls)
+            )
             found += 1
         yield seed, taken
     print(f"wrong bodies that no list refuses: {sorted(left)}", file=sys.stderr)
@@ -131,7 +148,9 @@ def file_text(taken) -> str:
     words = set(body.replace("(", " ").replace(")", " ").split())
     plain = lambda w: {"[]": "[]", "◌∷◌": "∷", "◌⇒◌": "⇒"}.get(w, w.split()[-1])
     uses = [f"use {file}.{{{', '.join(w for w in names if plain(w) in words)}}}\n" for file, names in IMPORTS]
-    head = "-- Random lists of calls with the replies of an independent reference, written by tools/reference/definition_cases.py.\n"
+    head = (
+        "-- Random lists of calls with the replies of an independent reference, written by tools/reference/definition_cases.py.\n"
+    )
     return head + "".join(uses) + body
 
 

@@ -29,10 +29,22 @@ from random_histories import random_history  # noqa: E402
 from scenarios import STYLES, Style, first_commands, random_rows  # noqa: E402
 from spelling import spell  # noqa: E402
 
-REFUSED_LINES = (b"queue 1 config pipe 4444", b"pipe 4444 delete", b"queue delete 4444", b"pipe delete 1", b"pipe 1 delete",
-                 b"queue 1 delete")
-LINES_NOT_TEXT = (b"pipe 1 config \xff", b"# \xc3\x28", b"\xed\xa0\x80", b"pipe 1 config # \xf8\x88\x80\x80\x80", b"\xc0\xaf",
-                  b"\xef\xbb\xbfpipe 1 config")
+REFUSED_LINES = (
+    b"queue 1 config pipe 4444",
+    b"pipe 4444 delete",
+    b"queue delete 4444",
+    b"pipe delete 1",
+    b"pipe 1 delete",
+    b"queue 1 delete",
+)
+LINES_NOT_TEXT = (
+    b"pipe 1 config \xff",
+    b"# \xc3\x28",
+    b"\xed\xa0\x80",
+    b"pipe 1 config # \xf8\x88\x80\x80\x80",
+    b"\xc0\xaf",
+    b"\xef\xbb\xbfpipe 1 config",
+)
 
 
 @dataclass(frozen=True)

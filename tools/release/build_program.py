@@ -33,9 +33,29 @@ FAILED = 70
 USAGE = 2
 LANES = max(1, min(4, len(os.sched_getaffinity(0))))
 # About the minutes that a crate's first check takes on four cores, by which the time that is left is told.
-MINUTES = {"dn_types": 2.3, "dn_text": 0.6, "dn_config": 2.0, "dn_records": 1.5, "dn_heap": 1.3, "dn_flows": 1.7, "dn_link": 1.2,
-           "dn_wf2q": 2.9, "dn_shaper": 3.7, "dn_laws": 2.0, "dn_merge": 1.0, "dn_parts": 1.5, "dn_service": 2.2,
-           "dn_files": 2.6, "dn_history": 2.5, "dn_live": 2.0, "dn_audit": 1.5, "dn_replay": 4.5, "dn_command": 1.0, PROGRAM: 2.5, LIBRARY: 2.0}
+MINUTES = {
+    "dn_types": 2.3,
+    "dn_text": 0.6,
+    "dn_config": 2.0,
+    "dn_records": 1.5,
+    "dn_heap": 1.3,
+    "dn_flows": 1.7,
+    "dn_link": 1.2,
+    "dn_wf2q": 2.9,
+    "dn_shaper": 3.7,
+    "dn_laws": 2.0,
+    "dn_merge": 1.0,
+    "dn_parts": 1.5,
+    "dn_service": 2.2,
+    "dn_files": 2.6,
+    "dn_history": 2.5,
+    "dn_live": 2.0,
+    "dn_audit": 1.5,
+    "dn_replay": 4.5,
+    "dn_command": 1.0,
+    PROGRAM: 2.5,
+    LIBRARY: 2.0,
+}
 
 
 class BuildFault(Exception):
@@ -137,7 +157,7 @@ class Builder:
         running: dict[Future[bool], str] = {}
         with ThreadPoolExecutor(LANES) as pool:
             while len(done) < len(self.below):
-                ready = [n for n in self.below if n not in started and done.issuperset(self.below[n])][:LANES - len(running)]
+                ready = [n for n in self.below if n not in started and done.issuperset(self.below[n])][: LANES - len(running)]
                 jobs = max(1, LANES // max(1, len(running) + len(ready)))
                 for name in ready:
                     started[name] = time.monotonic()

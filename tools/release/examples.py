@@ -123,24 +123,55 @@ def unlimited(rng: Random) -> Iterator[Packet]:
 
 
 EXAMPLES = (
-    Example("dsl", "# A DSL line: 16 Mbit/s towards the house, 1 Mbit/s from it\n"
-            "pipe 1 config bw 16Mbit/s delay 12ms queue 60\npipe 2 config bw 1Mbit/s delay 12ms queue 30\n", dsl),
-    Example("cable", "# A cable modem: 100 Mbit/s down, 10 Mbit/s up, queues by bytes\n"
-            "pipe 1 config bw 100Mbit/s delay 8ms queue 50Kbytes\npipe 2 config bw 10Mbit/s delay 8ms queue 50Kbytes\n", cable),
+    Example(
+        "dsl",
+        "# A DSL line: 16 Mbit/s towards the house, 1 Mbit/s from it\n"
+        "pipe 1 config bw 16Mbit/s delay 12ms queue 60\npipe 2 config bw 1Mbit/s delay 12ms queue 30\n",
+        dsl,
+    ),
+    Example(
+        "cable",
+        "# A cable modem: 100 Mbit/s down, 10 Mbit/s up, queues by bytes\n"
+        "pipe 1 config bw 100Mbit/s delay 8ms queue 50Kbytes\npipe 2 config bw 10Mbit/s delay 8ms queue 50Kbytes\n",
+        cable,
+    ),
     Example("satellite", "# One way over a geostationary satellite\npipe 1 config bw 2Mbit/s delay 270ms queue 40\n", satellite),
-    Example("mobile", "# A mobile link that loses two packets in a hundred, by their random words\n"
-            "pipe 1 config bw 12Mbit/s delay 35ms queue 100 plr 0.02\n", mobile),
-    Example("bufferbloat", "# A long queue that an upload and a call share\npipe 1 config bw 2Mbit/s delay 10ms queue 100\n",
-            bulk_and_voice(to_pipe)),
-    Example("fair", "# The cure: a queue for each sender, by a mask, and each has its share\npipe 1 config bw 2Mbit/s delay 10ms\n"
-            "queue 1 config pipe 1 queue 100 mask src-ip 0xffffffff\n", bulk_and_voice(to_queue)),
-    Example("weights", "# Three classes share 6 Mbit/s as 3 : 2 : 1\npipe 1 config bw 6Mbit/s\nqueue 1 config pipe 1 weight 3 queue 100\n"
-            "queue 2 config pipe 1 weight 2 queue 100\nqueue 3 config pipe 1 weight 1 queue 100\n", weights),
-    Example("bytes", "# A queue of 8 Kbytes: it takes a packet while what waits isn't more than that\n"
-            "pipe 1 config bw 4Mbit/s queue 8Kbytes\n", byte_limit),
+    Example(
+        "mobile",
+        "# A mobile link that loses two packets in a hundred, by their random words\n"
+        "pipe 1 config bw 12Mbit/s delay 35ms queue 100 plr 0.02\n",
+        mobile,
+    ),
+    Example(
+        "bufferbloat",
+        "# A long queue that an upload and a call share\npipe 1 config bw 2Mbit/s delay 10ms queue 100\n",
+        bulk_and_voice(to_pipe),
+    ),
+    Example(
+        "fair",
+        "# The cure: a queue for each sender, by a mask, and each has its share\npipe 1 config bw 2Mbit/s delay 10ms\n"
+        "queue 1 config pipe 1 queue 100 mask src-ip 0xffffffff\n",
+        bulk_and_voice(to_queue),
+    ),
+    Example(
+        "weights",
+        "# Three classes share 6 Mbit/s as 3 : 2 : 1\npipe 1 config bw 6Mbit/s\nqueue 1 config pipe 1 weight 3 queue 100\n"
+        "queue 2 config pipe 1 weight 2 queue 100\nqueue 3 config pipe 1 weight 1 queue 100\n",
+        weights,
+    ),
+    Example(
+        "bytes",
+        "# A queue of 8 Kbytes: it takes a packet while what waits isn't more than that\n"
+        "pipe 1 config bw 4Mbit/s queue 8Kbytes\n",
+        byte_limit,
+    ),
     Example("policed", "# An uplink that holds nothing back: one packet may wait\npipe 1 config bw 5Mbit/s queue 1\n", policed),
-    Example("leased", "# A leased line of 2,048 kbit/s each way\npipe 1 config bw 2048Kbit/s delay 3ms\n"
-            "pipe 2 config bw 2048Kbit/s delay 3ms\n", leased),
+    Example(
+        "leased",
+        "# A leased line of 2,048 kbit/s each way\npipe 1 config bw 2048Kbit/s delay 3ms\n"
+        "pipe 2 config bw 2048Kbit/s delay 3ms\n",
+        leased,
+    ),
     Example("unlimited", "# Delay alone: no bandwidth, so no packet waits\npipe 1 config delay 100ms\n", unlimited),
 )
 

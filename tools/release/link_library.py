@@ -18,8 +18,19 @@ from tempfile import TemporaryDirectory
 
 STATIC, SHARED = "libhingetulip.a", "libhingetulip.so.1"
 VERSIONS = {
-    "HINGETULIP_1.0": ("dn_version", "dn_open", "dn_open_with_key", "dn_close", "dn_configure", "dn_submit", "dn_submit_many", "dn_advance",
-                       "dn_collect", "dn_show", "dn_wake"),
+    "HINGETULIP_1.0": (
+        "dn_version",
+        "dn_open",
+        "dn_open_with_key",
+        "dn_close",
+        "dn_configure",
+        "dn_submit",
+        "dn_submit_many",
+        "dn_advance",
+        "dn_collect",
+        "dn_show",
+        "dn_wake",
+    ),
     "HINGETULIP_1.1": ("dn_service_*", "dn_caller_*"),
     "HINGETULIP_1.2": ("dn_reserve", "dn_submit_text", "dn_advance_text", "dn_collect_text"),
     "HINGETULIP_1.3": ("dn_configure_text", "dn_read_packets", "dn_service_texts"),
@@ -66,9 +77,20 @@ def link(archive: Path, folder: Path) -> None:
         static, shared, names = (Path(place) / name for name in (STATIC, SHARED, "names"))
         run("ar", "-M", text=f"create {static}\naddlib {archive}\naddlib {kit_archive()}\nsave\nend\n")
         names.write_text(version_script())
-        run("cc", "-shared", "-o", shared, f"-Wl,-soname,{SHARED}", f"-Wl,--version-script,{names}", "-Wl,-z,defs",
-            "-Wl,-z,relro,-z,now", "-Wl,--gc-sections",
-            "-Wl,--whole-archive", static, "-Wl,--no-whole-archive")
+        run(
+            "cc",
+            "-shared",
+            "-o",
+            shared,
+            f"-Wl,-soname,{SHARED}",
+            f"-Wl,--version-script,{names}",
+            "-Wl,-z,defs",
+            "-Wl,-z,relro,-z,now",
+            "-Wl,--gc-sections",
+            "-Wl,--whole-archive",
+            static,
+            "-Wl,--no-whole-archive",
+        )
         static.replace(folder / STATIC)
         shared.replace(folder / SHARED)
 

@@ -70,7 +70,9 @@ def text() -> str:
         if file is not None:
             by_text.setdefault(file.read_text(encoding="utf-8").strip(), []).append(f"{name}{version_of(folder, name)}")
     without = [name for name, file in files.items() if file is None]
-    head = f"{BEGIN}. Their licences follow. {', '.join(without)} are of the toolchain itself, and come without a text of their own."
+    head = (
+        f"{BEGIN}. Their licences follow. {', '.join(without)} are of the toolchain itself, and come without a text of their own."
+    )
     parts = ["\n".join(textwrap.wrap(head, 115)), *(f"---- {', '.join(names)}\n\n{body}" for body, names in by_text.items())]
     return "\n\n".join(parts) + "\n"
 
@@ -80,7 +82,9 @@ def main() -> int:
     wanted = f"{before.rstrip()}\n\n{text()}"
     if sys.argv[1:] == ["--check"]:
         same = NOTICE.read_text(encoding="utf-8") == wanted
-        print("1 passed, 0 failed" if same else "NOTICE isn't of these crates: tools/release/notices.py writes it\n0 passed, 1 failed")
+        print(
+            "1 passed, 0 failed" if same else "NOTICE isn't of these crates: tools/release/notices.py writes it\n0 passed, 1 failed"
+        )
         return 0 if same else 1
     NOTICE.write_text(wanted, encoding="utf-8")
     return 0

@@ -56,8 +56,7 @@ def asked_at(path: str, order: Order, patience: float = PATIENCE) -> tuple[Reply
     return reply, lines.doors
 
 
-def ask(path: str, patience: float = PATIENCE, *, change: str | None = None, status: bool = False,
-        end: bool = False) -> Reply:
+def ask(path: str, patience: float = PATIENCE, *, change: str | None = None, status: bool = False, end: bool = False) -> Reply:
     return asked_at(path, Order(change=change, status=status, end=end), patience)[0]
 
 

@@ -40,8 +40,7 @@ def untrusted(name: Name, status: int = ROWS, what: str = "") -> Iterator[None]:
         text = error.strerror or what or str(error)
         raise Fault(f"{told_name(name)}: {text}", FILES if error.errno else status) from error
     except (RecursionError, MemoryError) as error:
-        raise Fault(f"{told_name(name)}: {TOO_DEEP if isinstance(error, RecursionError) else TOO_LARGE}",
-                    status) from None
+        raise Fault(f"{told_name(name)}: {TOO_DEEP if isinstance(error, RecursionError) else TOO_LARGE}", status) from None
     except Exception as error:
         note_defect()
         why = f"{type(error).__name__}: {error}"[:MOST_TOLD].rstrip(": ")
@@ -142,6 +141,9 @@ class Unpacked:
         data: bytes = self.file.read(size)
         self.count += len(data)
         if self.count > self.FREE + self.TIMES * self.packed.count:
-            raise Fault(f"{self.name}: it unpacks to more than {self.TIMES} times its length; if that is right, "
-                        "`zcat FILE |` before hinge, and `-` as its name, read it", ROWS)
+            raise Fault(
+                f"{self.name}: it unpacks to more than {self.TIMES} times its length; if that is right, "
+                "`zcat FILE |` before hinge, and `-` as its name, read it",
+                ROWS,
+            )
         return data

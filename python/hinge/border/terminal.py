@@ -11,9 +11,7 @@ from typing import TextIO, cast
 
 def printable(text: str) -> str:
     """A line that may name a file or quote one, without what a terminal would obey."""
-    return text if text.isprintable() else "".join(
-        letter if letter.isprintable() else f"\\x{ord(letter):02x}" for letter in text
-    )
+    return text if text.isprintable() else "".join(letter if letter.isprintable() else f"\\x{ord(letter):02x}" for letter in text)
 
 
 def lines(text: str) -> str:

@@ -53,8 +53,9 @@ def read_frames(file: IO[bytes]) -> CaptureFile:
 def capture_file(name: str) -> Iterator[CaptureFile]:
     """A capture of any form, which editcap writes as a classic pcap file with nanoseconds first."""
     with read_again(name) as capture, unnamed() as (plain, place):
-        process = subprocess.run([path_of_program("editcap", "wireshark-common"), "-F", "nsecpcap", capture.path, place],
-                              capture_output=True, text=True)
+        process = subprocess.run(
+            [path_of_program("editcap", "wireshark-common"), "-F", "nsecpcap", capture.path, place], capture_output=True, text=True
+        )
         is_there = os.fstat(plain.fileno()).st_size >= FILE_HEADER.size
         if not is_there or (process.returncode != 0 and "cut short" not in process.stderr):
             raise Fault(f"{capture.name}: {' '.join(process.stderr.split())[:300]}", ROWS)

@@ -97,14 +97,14 @@ class Blocks:
         """What a block of so many bytes has behind its kind and length, without the length at its end."""
         if not 12 <= length <= LONGEST:
             raise self.bad()
-        return whole(self.file, length - 8 + -length % 4)[:length - 12]
+        return whole(self.file, length - 8 + -length % 4)[: length - 12]
 
     def interface(self, body: bytes) -> CaptureInterface:
         link_type, _, most = struct.unpack_from(self.order + "HHI", body)
         result, at = CaptureInterface(link_type, most or LONGEST), 8
         while at + 4 <= len(body):
             code, length = struct.unpack_from(self.order + "HH", body, at)
-            value, at = body[at + 4:at + 4 + length], at + 4 + length + -length % 4
+            value, at = body[at + 4 : at + 4 + length], at + 4 + length + -length % 4
             if code == 0:
                 break
             if code == TIME_RESOLUTION:
@@ -118,13 +118,13 @@ class Blocks:
         if kind == SIMPLE_PACKET:
             [length] = struct.unpack_from(self.order + "I", body)
             one = self.interfaces[0]
-            return RawFrame(None, length, one.link_type, body[4:4 + min(length, one.most)])
+            return RawFrame(None, length, one.link_type, body[4 : 4 + min(length, one.most)])
         if kind not in (PACKET, OLD_PACKET):
             return None
         fields = "IIIII" if kind == PACKET else "HxxIIII"
         number, high, low, part, length = struct.unpack_from(self.order + fields, body)
         one = self.interfaces[number]
-        return RawFrame(one.time(high, low), length, one.link_type, body[20:20 + part])
+        return RawFrame(one.time(high, low), length, one.link_type, body[20 : 20 + part])
 
 
 def whole(file: Readable, size: int) -> bytes:

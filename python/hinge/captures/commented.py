@@ -34,8 +34,7 @@ def comment(text: str) -> bytes:
 
 def write_head(out: BinaryIO, link_type: int) -> None:
     out.write(block(SECTION, struct.pack("<IHHq", BYTE_ORDER, 1, 0, UNKNOWN_LENGTH)))
-    out.write(block(INTERFACE,
-                    struct.pack("<HHI", link_type, 0, 0) + option(TIME_RESOLUTION, NANOSECONDS) + option(END, b"")))
+    out.write(block(INTERFACE, struct.pack("<HHI", link_type, 0, 0) + option(TIME_RESOLUTION, NANOSECONDS) + option(END, b"")))
 
 
 def write_commented(capture: CaptureFile, frames: Integers, tell: Callable[[int], str], out: BinaryIO) -> int:
@@ -45,9 +44,8 @@ def write_commented(capture: CaptureFile, frames: Integers, tell: Callable[[int]
         rows.setdefault(frame, []).append(row)
     write_head(out, capture.link_type)
     for number, record in enumerate(capture.records, 1):
-        data = capture.data[record.begin:record.end]
+        data = capture.data[record.begin : record.end]
         comments = b"".join(comment(tell(row)) for row in rows.get(number, [])[:MOST_COMMENTS])
         head = struct.pack("<IIIII", 0, record.time >> 32, record.time & 0xFFFFFFFF, len(data), record.length)
-        out.write(block(PACKET,
-                        head + data + bytes(-len(data) % 4) + (comments + option(END, b"") if comments else b"")))
+        out.write(block(PACKET, head + data + bytes(-len(data) % 4) + (comments + option(END, b"") if comments else b"")))
     return len(rows)

@@ -50,5 +50,5 @@ def write_arrivals(capture: CaptureFile, replay: Replay, frames: Integers, path:
         write_header(out, capture.link_type)
         for moment, frame in arrival:
             record = records[frame - 1]
-            write_frame(out, began + moment, record.length, capture.data[record.begin:record.end])
+            write_frame(out, began + moment, record.length, capture.data[record.begin : record.end])
     return len(arrival)

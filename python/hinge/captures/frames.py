@@ -59,10 +59,16 @@ def internet4(data: bytes) -> Optional[Internet]:
     if own < 20 or 0 < length < own or own > len(data):
         return None
     is_later = number_at(data, 6) & 0x1FFF
-    transport = b"" if is_later else data[own:length or len(data)]
-    return Internet(socket.inet_ntop(socket.AF_INET, data[12:16]), socket.inet_ntop(socket.AF_INET, data[16:20]),
-                    data[9], length, own,
-                    data[1] >> 2, transport)
+    transport = b"" if is_later else data[own : length or len(data)]
+    return Internet(
+        socket.inet_ntop(socket.AF_INET, data[12:16]),
+        socket.inet_ntop(socket.AF_INET, data[16:20]),
+        data[9],
+        length,
+        own,
+        data[1] >> 2,
+        transport,
+    )
 
 
 def internet6(data: bytes) -> Optional[Internet]:
@@ -73,15 +79,14 @@ def internet6(data: bytes) -> Optional[Internet]:
     src, dst = socket.inet_ntop(socket.AF_INET6, data[8:24]), socket.inet_ntop(socket.AF_INET6, data[24:40])
     # what is behind the header of another one isn't
     is_known = payload or following == HOP_BY_HOP and is_jumbo(data[40:])
-    proto, transport = behind_extensions(data[40:40 + (payload or len(data))],
-                                         following) if is_known else (following, b"")
+    proto, transport = behind_extensions(data[40 : 40 + (payload or len(data))], following) if is_known else (following, b"")
     return Internet(src, dst, proto, payload and payload + 40, 40, (number_at(data, 0) >> 6) & 0x3F, transport)
 
 
 def is_jumbo(options: bytes) -> bool:
     """Whether hop-by-hop options, as far as the capture has them, say that it is a packet of more than 65,535 bytes."""
     at = 2
-    while at + 1 < len(options[:8 * (options[1] + 1)]) and options[at] != JUMBO:
+    while at + 1 < len(options[: 8 * (options[1] + 1)]) and options[at] != JUMBO:
         at += 1 if options[at] == PADDING else 2 + options[at + 1]
     return at + 1 < len(options) and options[at] == JUMBO
 
@@ -116,7 +121,7 @@ def frame_of(capture: str, place: int, raw: RawFrame) -> Optional[Frame]:
     inner = LINKS[raw.link_type](raw.data)
     if inner is None:
         return None
-    result = (internet6 if inner.is_six else internet4)(raw.data[inner.begin:])
+    result = (internet6 if inner.is_six else internet4)(raw.data[inner.begin :])
     if result is None:
         return None
     if raw.time is None:
@@ -124,5 +129,4 @@ def frame_of(capture: str, place: int, raw: RawFrame) -> Optional[Frame]:
     # of more than 65,535 bytes, or one that the card was still to cut
     length = result.length or raw.length - inner.begin
     sport, dport, header = ports(result)
-    return Frame(place, raw.time, result.src, result.dst, result.proto, sport, dport, length, result.header + header,
-                 result.dscp)
+    return Frame(place, raw.time, result.src, result.dst, result.proto, sport, dport, length, result.header + header, result.dscp)

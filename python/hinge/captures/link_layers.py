@@ -24,7 +24,7 @@ FAMILIES = {2: False, 10: True, 24: True, 28: True, 30: True}  # of BSD, macOS a
 
 def number_at(data: bytes, at: int, size: int = 2) -> int:
     """A number in network order, -1 where the frame was cut before its end."""
-    return int.from_bytes(data[at:at + size], "big") if at + size <= len(data) else -1
+    return int.from_bytes(data[at : at + size], "big") if at + size <= len(data) else -1
 
 
 def by_version(data: bytes, at: int) -> Optional[Inner]:
@@ -46,7 +46,7 @@ def behind_kind(data: bytes, at: int, kind: int) -> Optional[Inner]:
 
 
 def behind_llc(data: bytes, at: int) -> Optional[Inner]:
-    return behind_kind(data, at + 8, number_at(data, at + 6)) if data[at:at + 6] == SNAP else None
+    return behind_kind(data, at + 8, number_at(data, at + 6)) if data[at : at + 6] == SNAP else None
 
 
 def behind_labels(data: bytes, at: int) -> Optional[Inner]:
@@ -61,7 +61,7 @@ def behind_labels(data: bytes, at: int) -> Optional[Inner]:
 def behind_ppp(data: bytes, at: int) -> Optional[Inner]:
     """Behind a PPP header, with or without the address and control of HDLC; a protocol whose first byte is odd has only
     that one."""
-    if data[at:at + 2] == b"\xff\x03":
+    if data[at : at + 2] == b"\xff\x03":
         at += 2
     is_short = at < len(data) and data[at] & 1
     kind, at = (data[at], at + 1) if is_short else (number_at(data, at), at + 2)

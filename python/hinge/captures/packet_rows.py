@@ -125,9 +125,11 @@ class Meetings:
         for target, pairs in self.both.items():
             first, second = min(pairs)
             others = f" and of {len(pairs) - 1:,} other pairs" if len(pairs) > 1 else ""
-            yield (f"both directions of {first} and {second}{others} go to {target.replace(',', ' ')}, where they wait "
-                   f"for each other; "
-                   f"--from {first} gives each direction a pipe")
+            yield (
+                f"both directions of {first} and {second}{others} go to {target.replace(',', ' ')}, where they wait "
+                f"for each other; "
+                f"--from {first} gives each direction a pipe"
+            )
 
 
 class TargetWords:
@@ -167,9 +169,12 @@ class PacketRows:
         cutter = Cutter(self.card, frames[0].time if frames else 0)
         for packet, target in in_order(self.sent(frames, cutter), cutter.began):
             if packet.moment > LAST_MOMENT:
-                raise Fault(f"frame {packet.frame.number} of the capture comes {packet.moment:,} ns after the first packet, "
-                            f"later than 2^62 ns, "
-                            "the last moment of a packet file: its time is wrong, or that of the first", ROWS)
+                raise Fault(
+                    f"frame {packet.frame.number} of the capture comes {packet.moment:,} ns after the first packet, "
+                    f"later than 2^62 ns, "
+                    "the last moment of a packet file: its time is wrong, or that of the first",
+                    ROWS,
+                )
             yield packet, target
         self.counts["split"] = cutter.split
 
@@ -191,8 +196,9 @@ class PacketRows:
         self.row += 1
         self.counts["cut"] += on_link > MAX_LEN
         word = self.words.next(target)
-        return (f"{packet.moment},{target},{src},{dst},{frame.proto},{frame.sport},{frame.dport},"
-                f"{min(on_link, MAX_LEN)},{word}\n")
+        return (
+            f"{packet.moment},{target},{src},{dst},{frame.proto},{frame.sport},{frame.dport}," f"{min(on_link, MAX_LEN)},{word}\n"
+        )
 
     def write(self, items: Iterable[tuple[Packet, str]], out: TextIO, index: TextIO | None) -> None:
         """A row for each packet, and in the index its frame."""

@@ -14,8 +14,13 @@ WAYS = {"up": 0, "down": 1}
 PROTOCOLS = {"icmp": (1, 58), "icmp6": (58,), "tcp": (6,), "udp": (17,)}  # icmp is that of IPv4 and that of IPv6
 PORTS = {"port": "port", "sport": "sport", "src-port": "sport", "dport": "dport", "dst-port": "dport"}
 NETS = ("src", "dst", "host")
-DSCP = {"be": 0, "le": 1, "ef": 46, **{f"cs{n}": 8 * n for n in range(8)},
-        **{f"af{n}{m}": 8 * n + 2 * m for n in range(1, 5) for m in range(1, 4)}}
+DSCP = {
+    "be": 0,
+    "le": 1,
+    "ef": 46,
+    **{f"cs{n}": 8 * n for n in range(8)},
+    **{f"af{n}{m}": 8 * n + 2 * m for n in range(1, 5) for m in range(1, 4)},
+}
 WORDS = ("any", *WAYS, *PROTOCOLS, "proto", *NETS, *PORTS, "dscp")
 HELP = "[up|down] [tcp|udp|icmp|icmp6|proto N] [src|dst|host NET] [port|sport|dport N[-M]] [dscp N]"
 TARGET = re.compile(r"(pipe|queue)\s+([1-9]\d{0,4})\Z", re.ASCII)
@@ -115,14 +120,17 @@ class RuleReader:
             self.short.way = WAYS[word]
         elif word in PROTOCOLS or word == "proto":
             self.once("protocol", word)
-            self.short.protocols = PROTOCOLS[word] if word in PROTOCOLS else (number_of(self.value(word), 255,
-                                                                                        "no protocol from 0 to 255"),)
+            self.short.protocols = (
+                PROTOCOLS[word] if word in PROTOCOLS else (number_of(self.value(word), 255, "no protocol from 0 to 255"),)
+            )
         elif word == "dscp":
             self.once(word, word)
             text = self.value(word)
-            self.short.dscp = DSCP[text.lower()] if text.lower() in DSCP else number_of(text, 63,
-                                                                                        "no DSCP from 0 to 63, and no "
-                                                                                        "name of one, as ef or af41")
+            self.short.dscp = (
+                DSCP[text.lower()]
+                if text.lower() in DSCP
+                else number_of(text, 63, "no DSCP from 0 to 63, and no " "name of one, as ef or af41")
+            )
         elif word in NETS:
             self.once(word, word)
             self.short.nets[word] = address_net(self.value(word))

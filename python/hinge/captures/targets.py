@@ -57,8 +57,7 @@ def first_of_two() -> Test:
     """Whether the sender is the one of two hosts that sent the first packet between them; frames are asked about in
     order of time."""
     firsts: dict[tuple[str, str], str] = {}
-    return lambda frame: firsts.setdefault((min(frame.src, frame.dst), max(frame.src, frame.dst)),
-                                           frame.src) == frame.src
+    return lambda frame: firsts.setdefault((min(frame.src, frame.dst), max(frame.src, frame.dst)), frame.src) == frame.src
 
 
 def read_rule(text: str) -> MapRule:
@@ -83,9 +82,9 @@ def directions(text: str) -> list[MapRule]:
     kind, colon, name = text.partition(":")
     if kind == "if" and colon and name:
         literal = name.replace("\\", "\\\\").replace('"', '\\"')
-        one = MapRule("pipe,1",
-                      filter=f"frame.interface_id == {name}" if name.isdigit()
-                      else f'frame.interface_name == "{literal}"')
+        one = MapRule(
+            "pipe,1", filter=f"frame.interface_id == {name}" if name.isdigit() else f'frame.interface_name == "{literal}"'
+        )
     elif text == "first":
         one = MapRule("pipe,1", (first_of_two(),))
     else:

@@ -42,15 +42,19 @@ def refuse_bad(filters: list[str]) -> None:
     with unnamed() as (empty, path):
         write_header(empty, ETHERNET)
         empty.flush()
-        tries = [subprocess.Popen(tshark(path, "-Y", text), stdout=subprocess.DEVNULL, stderr=subprocess.PIPE,
-                                  text=True) for text in filters]
+        tries = [
+            subprocess.Popen(tshark(path, "-Y", text), stdout=subprocess.DEVNULL, stderr=subprocess.PIPE, text=True)
+            for text in filters
+        ]
         report = [trial.communicate()[1] for trial in tries]
     for text, trial, errors in zip(filters, tries, report):
         if trial.returncode != 0:
-            cause = " ".join(line.strip() for line in errors.splitlines() if line.strip(" ^~")
-                             and not line.startswith("Running as"))
-            raise Fault(f"--map {text!r}: neither the short words of a rule nor a display filter of Wireshark: "
-                        f"{cause[:300]}", USAGE)
+            cause = " ".join(
+                line.strip() for line in errors.splitlines() if line.strip(" ^~") and not line.startswith("Running as")
+            )
+            raise Fault(
+                f"--map {text!r}: neither the short words of a rule nor a display filter of Wireshark: " f"{cause[:300]}", USAGE
+            )
 
 
 class Matches:

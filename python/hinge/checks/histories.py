@@ -20,8 +20,7 @@ class HistoryRecords:
     def __init__(self, data: bytes) -> None:
         lines = data.decode("utf-8", "replace").splitlines()
         is_live = data.startswith(b"dummynet-live,")
-        self.list = [(number, line) for number,
-                     line in enumerate(lines, 1) if line and not (is_live and line.startswith("#"))]
+        self.list = [(number, line) for number, line in enumerate(lines, 1) if line and not (is_live and line.startswith("#"))]
         self.is_whole = data.endswith((b"\n", b"\r"))
 
     def calls(self) -> list[int]:
@@ -43,29 +42,34 @@ def bad_record(name: str, records: HistoryRecords, number: int) -> tuple[str, st
     lines = records.list
     if number > len(lines):
         where = f"{name}:{lines[-1][0] if lines else 1}"
-        return (where,
-                "the history was cut: behind this record it has no `end`; the session was killed, or still goes on")
+        return (where, "the history was cut: behind this record it has no `end`; the session was killed, or still goes on")
     line, text = lines[number - 1]
     line_of_text = f"record {number} {text[:SHOWN]!r}"
     if number > 1 and lines[number - 2][1].startswith("end,"):
         return f"{name}:{line}", f"{line_of_text} stands behind the end; keep one session a file"
     if text.startswith("end,"):
-        return (f"{name}:{line}",
-                f"{line_of_text}: there are {len(records.calls())} entries, or the last has no reply; records were taken away "
-                f"or added")
+        return (
+            f"{name}:{line}",
+            f"{line_of_text}: there are {len(records.calls())} entries, or the last has no reply; records were taken away "
+            f"or added",
+        )
     if number == len(lines) and not records.is_whole:
-        return (f"{name}:{line}",
-                f"{line_of_text}: the history was cut within this record; the session was killed, or still goes on")
+        return (
+            f"{name}:{line}",
+            f"{line_of_text}: the history was cut within this record; the session was killed, or still goes on",
+        )
     if text.startswith("#"):
-        return (f"{name}:{line}",
-                f"{line_of_text}: a remark, which only the transcript of a live session has; leave it out, or begin the file "
-                f"with dummynet-live,1")
+        return (
+            f"{name}:{line}",
+            f"{line_of_text}: a remark, which only the transcript of a live session has; leave it out, or begin the file "
+            f"with dummynet-live,1",
+        )
     return f"{name}:{line}", f"{line_of_text}: not a record here; the file was edited"
 
 
 def other_reply(name: str, records: HistoryRecords, entry: int) -> tuple[str, str]:
     """Where the reply stands that isn't the emulator's, and which one is."""
-    calls = records.calls()[:entry + 1]
+    calls = records.calls()[: entry + 1]
     (_, call), (line, reply) = records.list[calls[-1]], records.list[calls[-1] + 1]
     right = records.right_reply(calls)
     text = f"{reply[:SHOWN]!r} isn't the emulator's reply to {call[:SHOWN]!r} (entry {entry})"

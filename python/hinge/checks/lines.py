@@ -44,8 +44,7 @@ def session_of(lines: Iterable[bytes]) -> bytes:
 def judged_lines(lines: list[bytes]) -> Iterator[Verdict]:
     """The verdict of each line that asks for something."""
     records = session_of(lines).decode("utf-8", "replace").splitlines()
-    bad = {int(fields[2]): fields[4] for fields in (record.split(",", 4) for record in records) if fields[:2]
-           == ["#", "bad"]}
+    bad = {int(fields[2]): fields[4] for fields in (record.split(",", 4) for record in records) if fields[:2] == ["#", "bad"]}
     calls = iter([record for record in records if record[:2] in ("c,", "r,")])
     for number, line in enumerate(lines, 1):
         if number in bad:
@@ -104,15 +103,14 @@ class LineCheck:
         before = self.found.faults
         for verdict in judged_lines(self.lines):
             if self.found.faults - before == MOST_FAULTS:
-                self.found.warn(f"{self.name}:{verdict.line}",
-                                f"{MOST_FAULTS} faults; the lines from here on weren't looked at")
+                self.found.warn(f"{self.name}:{verdict.line}", f"{MOST_FAULTS} faults; the lines from here on weren't looked at")
                 return
             self.one(verdict)
 
     def one(self, verdict: Verdict) -> None:
         where = f"{self.name}:{verdict.line}"
         words = words_of(self.lines[verdict.line - 1].decode("utf-8", "replace"))
-        own = words[words[:1] == ["ipfw"]:]
+        own = words[words[:1] == ["ipfw"] :]
         if verdict.name == "bad":
             self.found.fault(where, self.wrong(words, verdict.text), CONFIGURATION)
             self.spoilt[" ".join(own[:2])] = verdict.line
@@ -139,8 +137,11 @@ class LineCheck:
         if verdict.name != "no-such-pipe":
             return f"no such queue: queue {words[-1]} isn't configured here; leave this line out"
         pipe = f"pipe {words[4] if words[1] != 'delete' and len(words) > 4 else words[-1]}"
-        because = (f" (line {self.spoilt[pipe]}, which is of it, has a fault)" if pipe in self.spoilt
-                   else "; a pipe's line stands above those of its queues")
+        because = (
+            f" (line {self.spoilt[pipe]}, which is of it, has a fault)"
+            if pipe in self.spoilt
+            else "; a pipe's line stands above those of its queues"
+        )
         return f"no such pipe: {pipe} isn't configured here{because}"
 
     def warn_of_second(self, where: str, words: list[str]) -> None:
@@ -170,6 +171,8 @@ def unlikely(name: str, word: str) -> str | None:
         return f"delay {word} is {ms / 1000:g} s; delays are in ms"
     if name in FIELD_BITS and is_number(word) and int(word) & (int(word) + 1):
         whole = hex((1 << FIELD_BITS[name]) - 1)
-        return (f"mask {name} {word} keeps the bits {int(word):#x}, and is neither a prefix length nor a value; all "
-                f"bits are {whole}")
+        return (
+            f"mask {name} {word} keeps the bits {int(word):#x}, and is neither a prefix length nor a value; all "
+            f"bits are {whole}"
+        )
     return None

@@ -23,10 +23,23 @@ csv.field_size_limit(sys.maxsize)  # a field may be as long as its file
 
 HEADER = ["moment", "target", "number", "src", "dst", "proto", "sport", "dport", "len", "word"]
 ADDRESS = "four numbers 0 to 255, as 10.0.0.1"
-RANGES = dict(zip(HEADER, [
-    "0 to 4611686018427387904", "pipe or queue", "1 to 65535", ADDRESS, ADDRESS, "0 to 255", "0 to 65535", "0 to 65535",
-    "1 to 65535",
-    "0 to 4294967295"]))
+RANGES = dict(
+    zip(
+        HEADER,
+        [
+            "0 to 4611686018427387904",
+            "pipe or queue",
+            "1 to 65535",
+            ADDRESS,
+            ADDRESS,
+            "0 to 255",
+            "0 to 65535",
+            "0 to 65535",
+            "1 to 65535",
+            "0 to 4294967295",
+        ],
+    )
+)
 PROTOCOLS = {"icmp": 1, "igmp": 2, "tcp": 6, "udp": 17, "gre": 47, "esp": 50, "icmpv6": 58, "icmp6": 58, "sctp": 132}
 LAST_MOMENT = 2**62
 LOSS_PARTS = 2**31
@@ -102,8 +115,9 @@ def field_advice(name: str, text: str) -> str:
         return "empty; write 0" if name in ("sport", "dport", "proto") else f"empty; write {RANGES[name]}"
     if name == "target":
         is_case = text.lower() in ("pipe", "queue")
-        return (f"keywords are lower case; write {text.lower()}" if is_case
-                else "write pipe or queue, and its number in the next field")
+        return (
+            f"keywords are lower case; write {text.lower()}" if is_case else "write pipe or queue, and its number in the next field"
+        )
     if name in ("src", "dst"):
         return of_address(text)
     if name == "proto" and text.lower() in PROTOCOLS:
@@ -125,22 +139,27 @@ def wrong(record: Row, field_number: int) -> str:
         name, text = HEADER[field_number - 1], texts[field_number - 1]
         return f"field {field_number} ({name}) {text!r}: {field_advice(name, text)}"
     other = separator(record.text.decode("utf-8", "replace"))
-    return f"{len(texts)} fields in place of {len(HEADER)}; write " + (f"commas for {other!r}" if other
-                                                                       else ",".join(HEADER))
+    return f"{len(texts)} fields in place of {len(HEADER)}; write " + (f"commas for {other!r}" if other else ",".join(HEADER))
 
 
 def wrong_header(text: str) -> str:
     other = separator(text)
-    what = (f"fields are parted by commas, not by {other!r}" if other else "no header" if text[:1].isdigit()
-            else f"another header, {text[:60]!r}")
+    what = (
+        f"fields are parted by commas, not by {other!r}"
+        if other
+        else "no header"
+        if text[:1].isdigit()
+        else f"another header, {text[:60]!r}"
+    )
     return f"{what}; write {','.join(HEADER)}"
 
 
 def verdict(rows: list[Row]) -> tuple[int, str]:
     """The program's status for these rows below a header, and its fault."""
     text = b"\n".join([",".join(HEADER).encode(), *(row.text for row in rows)])
-    process = subprocess.run([dummynet(), "replay", "/dev/null", "/dev/stdin"], input=text, stdout=subprocess.DEVNULL,
-                          stderr=subprocess.PIPE)
+    process = subprocess.run(
+        [dummynet(), "replay", "/dev/null", "/dev/stdin"], input=text, stdout=subprocess.DEVNULL, stderr=subprocess.PIPE
+    )
     return process.returncode, process.stderr.decode().strip()
 
 
@@ -198,7 +217,7 @@ class RowCheck:
         """Whether the program takes all rows; those that it doesn't take are told."""
         begin, reports, step = 0, 0, len(rows)
         while begin < len(rows) and reports < MOST_FAULTS:
-            status, fault = verdict(rows[begin:begin + step])
+            status, fault = verdict(rows[begin : begin + step])
             if status == 0:
                 begin += step
                 continue
@@ -222,9 +241,10 @@ class RowCheck:
             return
         self.warn_of_moments(sums)
         if sums.longest > LONGEST_FRAME:
-            self.found.warn(self.name,
-                            f"packets of up to {sums.longest} bytes: segments that a card was still to cut? (`hinge "
-                            f"packets --mtu 1500`)")
+            self.found.warn(
+                self.name,
+                f"packets of up to {sums.longest} bytes: segments that a card was still to cut? (`hinge " f"packets --mtu 1500`)",
+            )
         if self.in_force is not None:
             self.warn_of_targets(sums, self.in_force)
             self.warn_of_words(sums, self.in_force)
@@ -232,25 +252,30 @@ class RowCheck:
     def warn_of_moments(self, sums: Sums) -> None:
         late, count, span = sums.late, sums.count, sums.clock - sums.first_moment
         if late:
-            self.found.warn(f"{self.name}:{late[0]}",
-                            f"{len(late)} of {count} rows have a moment before that of a row above, and count as sent "
-                            "at that one's; sort the rows by moment")
+            self.found.warn(
+                f"{self.name}:{late[0]}",
+                f"{len(late)} of {count} rows have a moment before that of a row above, and count as sent "
+                "at that one's; sort the rows by moment",
+            )
         if count >= 100 and span < 100 * count:
             self.found.warn(self.name, f"{count} packets within {span} ns; moments are nanoseconds (1 s is 1000000000)")
         if sums.first_moment > FAR:
-            self.found.warn(self.name,
-                            f"the first packet is sent at {sums.first_moment} ns, {sums.first_moment // NS_PER_DAY} "
-                            f"days after the start; "
-                            "count from the first packet")
+            self.found.warn(
+                self.name,
+                f"the first packet is sent at {sums.first_moment} ns, {sums.first_moment // NS_PER_DAY} "
+                f"days after the start; "
+                "count from the first packet",
+            )
 
     def warn_of_targets(self, sums: Sums, force: InForce) -> None:
         numbers = {"pipe": set(force.pipes), "queue": set(force.queues)}
         unknown = [target for target in sums.targets if int(target.split()[1]) not in numbers[target.split()[0]]]
         none = "; NO row has a target" if len(unknown) == len(sums.targets) else ""
         for target in unknown[:MOST_FAULTS]:
-            self.found.warn(f"{self.name}:{sums.first_line[target]}",
-                            f"{sums.targets[target]} of {sums.count} rows go to {target}, which {self.config} doesn't "
-                            f"configure{none}")
+            self.found.warn(
+                f"{self.name}:{sums.first_line[target]}",
+                f"{sums.targets[target]} of {sums.count} rows go to {target}, which {self.config} doesn't " f"configure{none}",
+            )
 
     def warn_of_words(self, sums: Sums, force: InForce) -> None:
         settings: list[Setting] = [*force.pipes.values(), *force.queues.values()]
@@ -258,6 +283,6 @@ class RowCheck:
         if rates and sums.count > 1 and len(sums.words) == 1:
             word = int(next(iter(sums.words)))
             fate = "lost" if word % LOSS_PARTS < max(rates) else "not lost"
-            self.found.warn(self.name,
-                            f"each word is {word}, so under a loss rate all packets have one fate ({fate}); draw each "
-                            f"word anew")
+            self.found.warn(
+                self.name, f"each word is {word}, so under a loss rate all packets have one fate ({fate}); draw each " f"word anew"
+            )

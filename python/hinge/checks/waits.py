@@ -52,5 +52,7 @@ def told_wait(in_force: InForce) -> Iterator[str]:
     """The bound of each pipe that has one."""
     for pipe in with_bound(in_force.pipes, in_force.queues):
         limit = bound_of(pipe, LENGTH)
-        yield (f"pipe {pipe.number}: an accepted packet starts within {ms(limit.start_ns)} and is due within "
-               f"{ms(limit.due_ns)}, where none is longer than {LENGTH:,} bytes")
+        yield (
+            f"pipe {pipe.number}: an accepted packet starts within {ms(limit.start_ns)} and is due within "
+            f"{ms(limit.due_ns)}, where none is longer than {LENGTH:,} bytes"
+        )

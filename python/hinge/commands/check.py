@@ -32,8 +32,7 @@ def kind_of(path: str, data: bytes) -> str:
         return "history"
     if head.startswith(b"event,row,flow"):
         return "report"
-    if head.startswith(b"moment") or path.endswith(".csv") or sum(head.count(mark)
-                                                                  for mark in (b",", b";", b"\t")) >= ROW_MARKS:
+    if head.startswith(b"moment") or path.endswith(".csv") or sum(head.count(mark) for mark in (b",", b";", b"\t")) >= ROW_MARKS:
         return "packets"
     return "config"
 
@@ -49,8 +48,7 @@ class Check:
     def add(self, path: str, data: bytes) -> None:
         kind = kind_of(path, data)
         if kind == "capture":
-            self.found.fault(path, f"a capture, not a packet file; `hinge packets {path} -o packets.csv` writes one",
-                             ROWS)
+            self.found.fault(path, f"a capture, not a packet file; `hinge packets {path} -o packets.csv` writes one", ROWS)
         elif kind == "report":
             self.found.fault(path, "a report of a replay, not a packet file", ROWS)
         elif kind == "history":
@@ -66,7 +64,7 @@ class Check:
         self.lines = LineCheck(path, lines[:cut], self.found)
         self.lines.check()
         if cut < len(lines):
-            self.packets.append((path, b"\n".join(lines[cut + 1:]), cut + 2))
+            self.packets.append((path, b"\n".join(lines[cut + 1 :]), cut + 2))
 
     def finish(self) -> None:
         for path, data, line in self.packets:
@@ -81,7 +79,9 @@ class Check:
 
 
 def main() -> None:
-    line = parser(WHAT, "hinge check link.config packets.csv", "0 no fault, 1 a history that isn't lawful, 3 a configuration, 4 rows")
+    line = parser(
+        WHAT, "hinge check link.config packets.csv", "0 no fault, 1 a history that isn't lawful, 3 a configuration, 4 rows"
+    )
     line.add_argument("files", metavar="FILE", nargs="+", help="configurations, packet files, joined inputs, histories")
     check = Check()
     for path in line.parse_args().files:

@@ -34,8 +34,7 @@ def folder_of_pages() -> Path:
     places = [REPOSITORY / "docs", *(folder / INSTALLED for folder in PACKAGE.parents)]
     result = next((place for place in places if any(place.glob("*.md"))), None)
     if result is None:
-        raise Fault(f"the pages aren't there: neither in a clone nor in {INSTALLED} of a folder above {PACKAGE}",
-                    MISSING)
+        raise Fault(f"the pages aren't there: neither in a clone nor in {INSTALLED} of a folder above {PACKAGE}", MISSING)
     return result
 
 

@@ -17,8 +17,11 @@ STILL_THERE = 1
 
 
 def main() -> None:
-    line = parser(WHAT, "hinge up cluster.net\n  hinge down cluster",
-                  "0 ended, 1 it is there still, 2 no such run, 6 the system refuses something")
+    line = parser(
+        WHAT,
+        "hinge up cluster.net\n  hinge down cluster",
+        "0 ended, 1 it is there still, 2 no such run, 6 the system refuses something",
+    )
     line.add_argument("socket", metavar="SOCKET")
     arguments = line.parse_args()
     with refusals():

@@ -36,7 +36,7 @@ VARIABLES = ("HINGE_HOST", "HINGE_NET")  # that a run may set: none by which a p
 
 
 def command_line() -> argparse.Namespace:
-    words = sys.argv[2 if sys.argv[1:2] == ["exec"] else 1:]  # `hinge net exec` is the same
+    words = sys.argv[2 if sys.argv[1:2] == ["exec"] else 1 :]  # `hinge net exec` is the same
     line = parser(WHAT, EXAMPLE, STATUSES, f"{NAME[0]} SOCKET HOST [-- COMMAND [ARGUMENT ..]]")
     line.add_argument("socket", metavar="SOCKET")
     line.add_argument("host", metavar="HOST")

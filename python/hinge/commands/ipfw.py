@@ -15,9 +15,12 @@ the exit status is 3 where that was a pipe or queue, or where there is none."""
 
 
 def main() -> None:
-    line = parser(WHAT, "(ipfw() { echo ipfw $*; }; . ./shape.sh) | hinge ipfw > link.config\n  hinge ipfw rc.firewall > link.config")
-    line.add_argument("files", nargs="*", default=["-"], metavar="file",
-                      help="files in the order in which they are run (default: standard input)")
+    line = parser(
+        WHAT, "(ipfw() { echo ipfw $*; }; . ./shape.sh) | hinge ipfw > link.config\n  hinge ipfw rc.firewall > link.config"
+    )
+    line.add_argument(
+        "files", nargs="*", default=["-"], metavar="file", help="files in the order in which they are run (default: standard input)"
+    )
     line.add_argument("-o", metavar="FILE", help="the configuration (default: standard output)")
     arguments = line.parse_args()
     refuse_inputs((arguments.o,), arguments.files)

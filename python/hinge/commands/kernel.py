@@ -37,12 +37,18 @@ hinge kernel --path
 def command_line() -> argparse.Namespace:
     line = parser(WHAT, EXAMPLE, "0 done, 2 command line, 6 there is none, or it can't be built, 7 the clock isn't there")
     line.add_argument("--source", metavar="FILE", type=Path, help="a packed source of Linux (the newest of /usr/src)")
-    line.add_argument("-j", metavar="N", type=bounded(1, 1024), default=len(os.sched_getaffinity(0)),
-                      help="compilers at a time (default: processors)")
+    line.add_argument(
+        "-j",
+        metavar="N",
+        type=bounded(1, 1024),
+        default=len(os.sched_getaffinity(0)),
+        help="compilers at a time (default: processors)",
+    )
     line.add_argument("--again", action="store_true", help="also where it is built already")
     line.add_argument("--path", action="store_true", help="print where the kernel is, and build nothing")
-    line.add_argument("--clock", action="store_true",
-                      help="print where the library is that gives C code the simulated clock, to be preloaded")
+    line.add_argument(
+        "--clock", action="store_true", help="print where the library is that gives C code the simulated clock, to be preloaded"
+    )
     return line.parse_args()
 
 

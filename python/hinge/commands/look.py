@@ -60,28 +60,49 @@ TABLES = (Format.CSV, Format.TEXT)
 
 
 def command_line() -> LookOptions:
-    line = parser(WHAT, EXAMPLE, f"0 done, 1 histories differ or a net isn't lawful between its links, {STATUSES.partition(', ')[2]}")
-    add_source(line, "(HISTORY | PACKETS REPORT .. | FOLDER)",
-               told=f"{SOURCE}; or the folder of hinge net --transcripts, or its history with its summary")
-    line.add_argument("-o", metavar="FILE", type=file_of(*Format), action="append", default=[], help="the file to write, by its ending")
+    line = parser(
+        WHAT, EXAMPLE, f"0 done, 1 histories differ or a net isn't lawful between its links, {STATUSES.partition(', ')[2]}"
+    )
+    add_source(
+        line,
+        "(HISTORY | PACKETS REPORT .. | FOLDER)",
+        told=f"{SOURCE}; or the folder of hinge net --transcripts, or its history with its summary",
+    )
+    line.add_argument(
+        "-o", metavar="FILE", type=file_of(*Format), action="append", default=[], help="the file to write, by its ending"
+    )
     line.add_argument("--csv", action="store_true", help="print the table as CSV, with times in whole ns")
-    line.add_argument("--json", metavar="FILE",
-                      help="the table or the difference for a program, with all figures in whole ns")
-    line.add_argument("--why", metavar="ROW", type=bounded(1, 2**62), nargs="+", default=[],
-                      help="tell what happened to packets, numbered from 1, in place of the table")
-    line.add_argument("--ladder", metavar="ROWS", type=rows_between,
-                      help="draw packets, as 1-40, as arrows between their hosts, in place of the table")
+    line.add_argument("--json", metavar="FILE", help="the table or the difference for a program, with all figures in whole ns")
+    line.add_argument(
+        "--why",
+        metavar="ROW",
+        type=bounded(1, 2**62),
+        nargs="+",
+        default=[],
+        help="tell what happened to packets, numbered from 1, in place of the table",
+    )
+    line.add_argument(
+        "--ladder",
+        metavar="ROWS",
+        type=rows_between,
+        help="draw packets, as 1-40, as arrows between their hosts, in place of the table",
+    )
     line.add_argument("--audit", action="store_true", help="ask dummynet first whether the history is lawful")
-    line.add_argument("--diff", action="store_true",
-                      help="tell the first call at which two histories part, in place of the table")
+    line.add_argument("--diff", action="store_true", help="tell the first call at which two histories part, in place of the table")
     add_flows(line, 10**6, None, f"{MOST_ROWS}, and {MOST_FLOWS} in a picture")
-    line.add_argument("--step", metavar="MS", type=bounded(1, 10**9),
-                      help="ms of a step of throughput and drops (default: by the length)")
+    line.add_argument(
+        "--step", metavar="MS", type=bounded(1, 10**9), help="ms of a step of throughput and drops (default: by the length)"
+    )
     line.add_argument("--title", type=lines, default="", help="what stands above a picture")
     line.add_argument("--capture", metavar="FILE", help="the capture of the packet file, for .pcap and .pcapng")
     line.add_argument("--index", metavar="FILE", help="the frame of each row, which hinge packets --index wrote")
-    line.add_argument("--end", metavar="MS", type=bounded(0, 10**6), default=100,
-                      help="of a net: what a host got so shortly before the end may still be there (100)")
+    line.add_argument(
+        "--end",
+        metavar="MS",
+        type=bounded(0, 10**6),
+        default=100,
+        help="of a net: what a host got so shortly before the end may still be there (100)",
+    )
     options = LookOptions(**vars(line.parse_intermixed_args()))
     refuse_mixed(line, options)
     return options
@@ -118,8 +139,14 @@ def write_table_json(source: Source, table: list[Figures], path: str) -> None:
     most = {kind: source.most_late(kind) for kind in KINDS} if source.lateness else None
     flows: list[dict[str, object]] = [{"flow": row.name, **row.value} for row in table]
     pipes = None if source.bounds is None else [one.figures() for one in source.bounds]
-    record = {"format": FORMAT, "history": source.replay.path, "seed": source.seed, "lateness_ms": most, "pipes": pipes,
-              "flows": flows}
+    record = {
+        "format": FORMAT,
+        "history": source.replay.path,
+        "seed": source.seed,
+        "lateness_ms": most,
+        "pipes": pipes,
+        "flows": flows,
+    }
     write_json(path, record)
 
 

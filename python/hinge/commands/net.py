@@ -74,30 +74,25 @@ CONFIGURATION = 3
 def options() -> argparse.ArgumentParser:
     line = parser(WHAT, EXAMPLE, STATUSES, USAGE, WORDS)
     line.add_argument("file", metavar="FILE", help="the net")
-    line.add_argument(
-        "--transcript", metavar="FILE", help="the history of all links, for `dummynet audit` and `hinge look`"
-    )
-    line.add_argument(
-        "--transcripts", metavar="FOLDER", help="a folder for the history, net.history, and the summary, net.json"
-    )
+    line.add_argument("--transcript", metavar="FILE", help="the history of all links, for `dummynet audit` and `hinge look`")
+    line.add_argument("--transcripts", metavar="FOLDER", help="a folder for the history, net.history, and the summary, net.json")
     line.add_argument("--json", metavar="FILE", help="the summary for a program")
     line.add_argument("--logs", metavar="FOLDER", help="what each host prints, in NAME.log")
     line.add_argument(
-        "--late", metavar="TIME",
-        help="status 75 where more than 1 of 100 packets of a way was late or unread by more, or the system dropped any"
+        "--late",
+        metavar="TIME",
+        help="status 75 where more than 1 of 100 packets of a way was late or unread by more, or the system dropped any",
     )
-    line.add_argument(
-        "--seed", metavar="N", type=seed, help="of what is drawn, for each way by itself (drawn, and told)"
-    )
+    line.add_argument("--seed", metavar="N", type=seed, help="of what is drawn, for each way by itself (drawn, and told)")
     line.add_argument("--mtu", metavar="BYTES", type=mtu, default=1500, help="of all interfaces (1500)")
-    line.add_argument(
-        "--end-wait", metavar="TIME", default="2s", help="how long commands have to end after SIGTERM (2s)"
-    )
+    line.add_argument("--end-wait", metavar="TIME", default="2s", help="how long commands have to end after SIGTERM (2s)")
     add_staying(line)
     line.add_argument("--quiet", action="store_true", help="no summary of the links")
     line.add_argument(
-        "--realtime", action=argparse.BooleanOptionalAction, default=True,
-        help="the links before all other programs, where the system allows"
+        "--realtime",
+        action=argparse.BooleanOptionalAction,
+        default=True,
+        help="the links before all other programs, where the system allows",
     )
     line.add_argument("--dry-run", action="store_true", help="prints hosts, addresses and links, and starts nothing")
     add_simulated(line)
@@ -108,8 +103,7 @@ def add_staying(parser: argparse.ArgumentParser) -> None:
     """Ways into a net that runs and out of it, and how long it stays."""
     parser.add_argument("--control", metavar="SOCKET", help="where `hinge change`, `status` and `exec` find it")
     parser.add_argument(
-        "--outside", metavar="HOST",
-        help="a host leads to the rest of the network, by slirp4netns or pasta: a router for all hosts"
+        "--outside", metavar="HOST", help="a host leads to the rest of the network, by slirp4netns or pasta: a router for all hosts"
     )
     parser.add_argument(
         "--outside-loopback", metavar="HOST", help="the same, with this system's own loopback at 10.9.0.2 and fd00::2"
@@ -117,8 +111,7 @@ def add_staying(parser: argparse.ArgumentParser) -> None:
     parser.add_argument("--shell", metavar="HOST", help="a shell on a host is the main command")
     parser.add_argument("--stay", action="store_true", help="until ^C or SIGTERM, also after all commands")
     parser.add_argument(
-        "--while-open", metavar="N", type=descriptor,
-        help="the same, and until the other end of descriptor N, a pipe, is closed"
+        "--while-open", metavar="N", type=descriptor, help="the same, and until the other end of descriptor N, a pipe, is closed"
     )
 
 
@@ -136,7 +129,7 @@ def command_line() -> NetOptions:
     if words[:1] == ["exec"]:
         exec_main()
     at = words.index("--") if "--" in words else len(words)
-    return NetOptions(**vars(options().parse_args(words[:at])), command=words[at + 1:])
+    return NetOptions(**vars(options().parse_args(words[:at])), command=words[at + 1 :])
 
 
 @contextmanager
@@ -204,11 +197,25 @@ def net_order(options: NetOptions, net: Description, mask: Mask) -> NetOrder:
     plan = net_plan.plan
     text = plan.text(seed, absolute(options.transcript), options.realtime, MOST, is_simulated())
     return NetOrder(
-        net=net, plan=text, folder=os.path.dirname(os.path.abspath(options.file)), command=options.command, mtu=options.mtu,
-        seed=seed, draws=draws(plan) or bool(net_plan.drawn), limit=limit_of(options.late), end_wait=duration(options.end_wait) / 1e9,
-        transcript=options.transcript, json=options.json, logs=options.logs, quiet=options.quiet, made=net_plan,
-        control=options.control, stay=options.stay or options.while_open is not None, shell=options.shell,
-        outside=outside_of(options, net), mask=mask
+        net=net,
+        plan=text,
+        folder=os.path.dirname(os.path.abspath(options.file)),
+        command=options.command,
+        mtu=options.mtu,
+        seed=seed,
+        draws=draws(plan) or bool(net_plan.drawn),
+        limit=limit_of(options.late),
+        end_wait=duration(options.end_wait) / 1e9,
+        transcript=options.transcript,
+        json=options.json,
+        logs=options.logs,
+        quiet=options.quiet,
+        made=net_plan,
+        control=options.control,
+        stay=options.stay or options.while_open is not None,
+        shell=options.shell,
+        outside=outside_of(options, net),
+        mask=mask,
     )
 
 
@@ -223,9 +230,7 @@ def show_net(net: Description) -> None:
             f"{f': {host.command}' if host.command else ''}"
         )
     for number, link in enumerate(net.links):
-        for pipe, (one, two, words) in enumerate(
-            ((*link.ends, link.ways[0]), (*link.ends[::-1], link.ways[1])), 2 * number + 1
-        ):
+        for pipe, (one, two, words) in enumerate(((*link.ends, link.ways[0]), (*link.ends[::-1], link.ways[1])), 2 * number + 1):
             at = [f"{name} {ends.at_end(name, number).four}" if name in ends.own else name for name in (one, two)]
             show(f"pipe {pipe}: {at[0]} > {at[1]}: {words or 'open'}")
 

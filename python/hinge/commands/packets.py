@@ -88,32 +88,57 @@ def command_line() -> PacketsOptions:
     line.add_argument("capture", help="the capture; `-` is standard input")
     line.add_argument("-o", metavar="FILE", help="the packet file (default: standard output)")
     line.add_argument(
-        "--from", metavar="WHO", type=two_directions, dest="sender", default=[],
+        "--from",
+        metavar="WHO",
+        type=two_directions,
+        dest="sender",
+        default=[],
         help="send one direction to pipe 1 and the other to pipe 2. WHO sends the first: an address or a network, "
-             "`first` for the one of two "
+        "`first` for the one of two "
         "hosts that sends first, or if:N or if:NAME for what was captured at an interface (by tshark alone)",
     )
     line.add_argument(
-        "--map", metavar="RULE", type=map_rule, action="append", default=[],
+        "--map",
+        metavar="RULE",
+        type=map_rule,
+        action="append",
+        default=[],
         help="'FILTER => pipe N' or 'FILTER => queue N'; the first rule that matches counts. A frame that none matches "
-             "goes by --from, and is left "
+        "goes by --from, and is left "
         f"out without it. FILTER has the words of `hinge run`, which must all hold: {HELP}; up and down are by --from. "
         f"Or it is a display filter of "
         "Wireshark (by tshark alone). No words match every frame. Default: => pipe 1",
     )
-    line.add_argument("--mtu", metavar="N", type=bounded(256, 65535), default=0,
-                      help="split larger segments, which the card was still to cut, into packets of at most N bytes")
-    line.add_argument("--rate", metavar="RATE", type=bit_rate, default=0,
-                      help="with --mtu, the rate at which the card sends the packets of a segment, as 1Gbit/s "
-                           "(default: all at once)")
-    line.add_argument("--l2", metavar="N", type=bounded(0, 1000), default=0,
-                      help="bytes that the link adds to each packet; PPPoE over Ethernet has 22")
-    line.add_argument("--seed", metavar="S", type=bounded(0, 2**64 - 1), default=1,
-                      help="of the random words (default: 1)")
     line.add_argument(
-        "--loss", metavar="MODEL", type=loss_model, action="append", default=[],
+        "--mtu",
+        metavar="N",
+        type=bounded(256, 65535),
+        default=0,
+        help="split larger segments, which the card was still to cut, into packets of at most N bytes",
+    )
+    line.add_argument(
+        "--rate",
+        metavar="RATE",
+        type=bit_rate,
+        default=0,
+        help="with --mtu, the rate at which the card sends the packets of a segment, as 1Gbit/s " "(default: all at once)",
+    )
+    line.add_argument(
+        "--l2",
+        metavar="N",
+        type=bounded(0, 1000),
+        default=0,
+        help="bytes that the link adds to each packet; PPPoE over Ethernet has 22",
+    )
+    line.add_argument("--seed", metavar="S", type=bounded(0, 2**64 - 1), default=1, help="of the random words (default: 1)")
+    line.add_argument(
+        "--loss",
+        metavar="MODEL",
+        type=loss_model,
+        action="append",
+        default=[],
         help="which packets are lost where the pipe or queue has `plr 0.5`, of each by itself: "
-             "gilbert:TO_BAD,TO_GOOD[,IN_BAD[,IN_GOOD]], a link "
+        "gilbert:TO_BAD,TO_GOOD[,IN_BAD[,IN_GOOD]], a link "
         "with a good and a bad state, the rates at which they change, and those of losses in the bad one (1) and the "
         "good one (0); or "
         "list:3,17-20, by the packets' numbers. 'pipe 1=MODEL' is for one pipe or queue. Default: random words, which "
@@ -153,13 +178,19 @@ def write_packets(options: PacketsOptions, capture: Input) -> None:
     for text in rows.meetings.lines():
         say(text)
     counts = rows.counts
-    say(f"{len(items)} frames, {rows.row} rows, seed {options.seed}; {len(items) - len(packets)} not IP, "
+    say(
+        f"{len(items)} frames, {rows.row} rows, seed {options.seed}; {len(items) - len(packets)} not IP, "
         f"{counts['unmapped']} without a target, {counts['split']} split at the MTU, {counts['cut']} longer than 65535 "
-        f"bytes")
+        f"bytes"
+    )
     long = sum(frame.length > LONGEST for frame in packets)
     if long and not options.mtu:
-        say(f"{long} packets are longer than {LONGEST} bytes, since the card was still to cut them, or had joined "
-            f"them: --mtu {LONGEST} cuts them as a link sees them")
+        say(
+            f"{long} packets are longer than {LONGEST} bytes, since the card was still to cut them, or had joined "
+            f"them: --mtu {LONGEST} cuts them as a link sees them"
+        )
     if counts["bytes"] > MOST_BYTES:
-        say(f"{counts['bytes']:,} bytes are more than the {MOST_BYTES:,} that dummynet reads: split the capture "
-            f"(editcap -i, -c)")
+        say(
+            f"{counts['bytes']:,} bytes are more than the {MOST_BYTES:,} that dummynet reads: split the capture "
+            f"(editcap -i, -c)"
+        )

@@ -47,30 +47,21 @@ def options() -> argparse.ArgumentParser:
     more = line.add_argument_group("the run")
     more.add_argument("--mtu", metavar="BYTES", type=mtu, default=1500, help="of both interfaces (1500)")
     more.add_argument(
-        "--net", metavar="NETWORK",
-        help="of both hosts, for a run inside another one or beside a network of your own (10.8.0.0/24)"
+        "--net", metavar="NETWORK", help="of both hosts, for a run inside another one or beside a network of your own (10.8.0.0/24)"
     )
     more.add_argument(
         "--netns",
         metavar="PID",
         help=(
-            "puts the link on the way out of a container or network that is there, in IPv4, as root; without COMMAND"
-            " until ^C"
+            "puts the link on the way out of a container or network that is there, in IPv4, as root; without COMMAND" " until ^C"
         ),
     )
-    more.add_argument(
-        "--server", metavar="COMMAND", help="what runs at the other end, by sh; COMMAND waits until it listens"
-    )
+    more.add_argument("--server", metavar="COMMAND", help="what runs at the other end, by sh; COMMAND waits until it listens")
     more.add_argument("--server-wait", metavar="TIME", default="5s", help="how long (5s)")
+    more.add_argument("--server-end", metavar="TIME", default="2s", help="how long the server has to end after SIGTERM (2s)")
+    more.add_argument("--outside", action="store_true", help="the rest of the network behind the link, by slirp4netns or pasta")
     more.add_argument(
-        "--server-end", metavar="TIME", default="2s", help="how long the server has to end after SIGTERM (2s)"
-    )
-    more.add_argument(
-        "--outside", action="store_true", help="the rest of the network behind the link, by slirp4netns or pasta"
-    )
-    more.add_argument(
-        "--outside-loopback", action="store_true",
-        help="the same, with this system's own loopback at 10.9.0.2 and fd00::2"
+        "--outside-loopback", action="store_true", help="the same, with this system's own loopback at 10.9.0.2 and fd00::2"
     )
     add_run(more)
     add_simulated(line)
@@ -94,8 +85,11 @@ def command_line() -> RunOptions:
 def refuse_beside_netns(run: RunOptions) -> None:
     """What a network that is there already has no place for."""
     options = {
-        "--server": run.server, "--outside": run.outside, "--outside-loopback": run.outside_loopback,
-        "--net": run.net, "--simulated": run.simulated
+        "--server": run.server,
+        "--outside": run.outside,
+        "--outside-loopback": run.outside_loopback,
+        "--net": run.net,
+        "--simulated": run.simulated,
     }
     inputs = [option for option, value in options.items() if value]
     if run.netns is not None and inputs:

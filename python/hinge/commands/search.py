@@ -40,21 +40,24 @@ hinge search store.net --seeds 1-200 --pauses drawn -o least.net
 def command_line() -> argparse.Namespace:
     words = sys.argv[1:]
     at = words.index("--") if "--" in words else len(words)
-    line = parser(WHAT, EXAMPLE, "0 no run failed, 1 one did, 2 a wrong word, 6 files or the system, 76 its failure doesn't come again")
+    line = parser(
+        WHAT, EXAMPLE, "0 no run failed, 1 one did, 2 a wrong word, 6 files or the system, 76 its failure doesn't come again"
+    )
     line.add_argument("file", metavar="FILE", type=Path, help="the net; or `run`, with options of `hinge run`")
     line.add_argument("--seeds", type=seeds, default=list(range(1, 21)), help="as 1-5 or 1,7 (1-20)")
     line.add_argument("--pauses", metavar="N/CALLS", type=pauses_word, help="as of `hinge run --simulated`: `drawn`")
     line.add_argument("--real-limit", metavar="TIME", help="a run ends after so much real time, without a verdict")
     line.add_argument("--runs", metavar="FOLDER", type=Path, help="keeps the runs; one that is there isn't made again")
     line.add_argument("-o", metavar="NET", type=Path, help="the least net that fails (FILE.least)")
-    line.add_argument("-P", metavar="N", type=bounded(1, 1024), default=len(os.sched_getaffinity(0)),
-                      help="runs at a time (default: processors)")
+    line.add_argument(
+        "-P", metavar="N", type=bounded(1, 1024), default=len(os.sched_getaffinity(0)), help="runs at a time (default: processors)"
+    )
     line.allow_abbrev = False
     arguments, options = line.parse_known_args(words[:at])
     if options and str(arguments.file) != "run":
         line.error(f"unrecognized arguments: {' '.join(options)}")
     arguments.what = ["run", *options] if str(arguments.file) == "run" else ["net", str(arguments.file.absolute())]
-    arguments.command = words[at + 1:]
+    arguments.command = words[at + 1 :]
     return arguments
 
 
@@ -84,8 +87,11 @@ def smallest(runs: Runs, seed: int) -> "tuple[Case, int]":
         return trial[case]
 
     if not fails(whole):
-        raise Fault(f"seed {seed} fails, but not with its faults as lines and its pauses one by one: "
-                    f"{command_of(runner.asked, runner.asked.what, seed, runner.asked.pauses)}", NOT_AGAIN)
+        raise Fault(
+            f"seed {seed} fails, but not with its faults as lines and its pauses one by one: "
+            f"{command_of(runner.asked, runner.asked.what, seed, runner.asked.pauses)}",
+            NOT_AGAIN,
+        )
     return least(whole, fails), len(trial)
 
 

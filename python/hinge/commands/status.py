@@ -16,8 +16,11 @@ names there, or a name of hinge up. With --openmetrics a monitor as Prometheus c
 
 
 def main() -> None:
-    line = parser(WHAT, "hinge run --control link.socket --up 10Mbit/s -- bash\n  hinge status link.socket",
-                  "0 done, 2 no such run, 6 the system refuses something")
+    line = parser(
+        WHAT,
+        "hinge run --control link.socket --up 10Mbit/s -- bash\n  hinge status link.socket",
+        "0 done, 2 no such run, 6 the system refuses something",
+    )
     line.add_argument("socket", metavar="SOCKET")
     line.add_argument("--openmetrics", action="store_true", help="in the text format of OpenMetrics")
     arguments = line.parse_args()

@@ -57,14 +57,14 @@ def command_line() -> argparse.Namespace:
     plan.add_argument("folder", type=Path)
     plan.add_argument("packets", type=Path)
     plan.add_argument("config", type=Path, help="the configuration, with names in braces")
-    plan.add_argument("--set", metavar="NAME=VALUES", type=named_values, action="append", default=[],
-                      help="the values of a name")
+    plan.add_argument("--set", metavar="NAME=VALUES", type=named_values, action="append", default=[], help="the values of a name")
     plan.add_argument("--seeds", type=seeds, default=[1], help="as 1-5 or 1,7 (default: 1)")
     runs = steps.add_parser("run", help="make the runs that are missing, or those of these numbers")
     runs.add_argument("folder", type=Path)
     runs.add_argument("number", type=bounded(1, 10**9), nargs="*")
-    runs.add_argument("-P", metavar="N", type=bounded(1, 1024), default=os.cpu_count() or 1,
-                      help="runs at a time (default: processors)")
+    runs.add_argument(
+        "-P", metavar="N", type=bounded(1, 1024), default=os.cpu_count() or 1, help="runs at a time (default: processors)"
+    )
     lacking = steps.add_parser("missing", help="write the numbers of the runs that are missing, a line each")
     lacking.add_argument("folder", type=Path)
     gather = steps.add_parser("gather", help="write the figures of all runs as one table, and draw one of them")
@@ -84,8 +84,10 @@ def tell_runs_without_target(rows: list[dict[str, str]]) -> None:
     """How many runs had rows whose pipe or queue isn't configured, so that a wrong number is noticed."""
     wholes = [row for row in rows if row["flow"] == "all"]
     if some := [row for row in wholes if row["none"] != "0"]:
-        say(f"in {len(some)} of {len(wholes)} runs rows went to a pipe or queue that isn't configured, "
-            f"{some[0]['none']} of {some[0]['packets']} in run {some[0]['run']}")
+        say(
+            f"in {len(some)} of {len(wholes)} runs rows went to a pipe or queue that isn't configured, "
+            f"{some[0]['none']} of {some[0]['packets']} in run {some[0]['run']}"
+        )
 
 
 @dataclass(frozen=True)
@@ -122,7 +124,11 @@ def main() -> None:
     if arguments.step == "missing":
         standard_output().writelines(f"{number}\n" for number in study.missing())
     elif arguments.step == "gather":
-        gather(study, arguments.o, Plot(arguments.plot, arguments.against, arguments.flow, arguments.picture) if arguments.plot else None)
+        gather(
+            study,
+            arguments.o,
+            Plot(arguments.plot, arguments.against, arguments.flow, arguments.picture) if arguments.plot else None,
+        )
     elif arguments.number:
         for number in arguments.number:
             study.run(number)

@@ -60,8 +60,7 @@ def found_address(address: SocketAddress, family: int) -> tuple[int, tuple[str, 
     """The family, numeric host and port of an address, of the given family."""
     try:
         infos = socket.getaddrinfo(
-            address.host or ("::1" if family == socket.AF_INET6 else "127.0.0.1"), address.port, family,
-            socket.SOCK_DGRAM
+            address.host or ("::1" if family == socket.AF_INET6 else "127.0.0.1"), address.port, family, socket.SOCK_DGRAM
         )
     except socket.gaierror as fault:
         other = " of the family of LISTEN" if family else ""
@@ -85,15 +84,16 @@ def links_in_order(words: list[str]) -> list[str]:
 def options() -> argparse.ArgumentParser:
     line = parser(WHAT, EXAMPLE, STATUSES, "hinge udp [OPTION ..] LISTEN SERVER [LINK ..]")
     line.add_argument(
-        "listen", type=SocketAddress.read, metavar="LISTEN",
-        help="PORT or HOST:PORT to which the client sends; port 0 takes a free one"
+        "listen",
+        type=SocketAddress.read,
+        metavar="LISTEN",
+        help="PORT or HOST:PORT to which the client sends; port 0 takes a free one",
     )
     line.add_argument(
         "server", type=SocketAddress.read, metavar="SERVER", help="PORT or HOST:PORT of the server, of the same family"
     )
     line.add_argument(
-        "links", nargs="*", default=[], metavar="LINK",
-        help="a configuration line, or a file of such lines, as --line and --config"
+        "links", nargs="*", default=[], metavar="LINK", help="a configuration line, or a file of such lines, as --line and --config"
     )
     add_link(line)
     add_run(line.add_argument_group("the run"))
@@ -113,12 +113,9 @@ def bound_socket(address: SocketAddress) -> socket.socket:
 def what_is_carried(order: Order, front: socket.socket, server: tuple[str, int]) -> int:
     """Has the host carry datagrams until a signal comes; the status."""
     page, processes = Page(), Processes(SIGNALS)
-    control = order.control(
-        page, lambda: record(page.read(), [way["dropped"] for way in page.read().ways], None, order.seed, [])
-    )
+    control = order.control(page, lambda: record(page.read(), [way["dropped"] for way in page.read().ways], None, order.seed, []))
     link = Link(
-        processes, page, ["udp", str(front.fileno()), server[0], str(server[1])], [front.fileno()], order.plan,
-        order.mask, control
+        processes, page, ["udp", str(front.fileno()), server[0], str(server[1])], [front.fileno()], order.plan, order.mask, control
     )
     fault = link.failed()
     if fault is not None:

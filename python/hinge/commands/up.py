@@ -35,12 +35,8 @@ PATIENCE = 600.0  # s
 def command_line() -> argparse.Namespace:
     line = parser(WHAT, EXAMPLE, STATUSES, f"{NAME[0]} FILE [--name NAME] [OPTION of hinge net ..]")
     line.add_argument("file", metavar="FILE")
-    line.add_argument(
-        "--name", metavar="NAME", help="by which change, status, exec and down find it (FILE's name without .net)"
-    )
-    line.add_argument(
-        "--transcripts", metavar="FOLDER", help="for its history, its summary and what hosts print (NAME.session)"
-    )
+    line.add_argument("--name", metavar="NAME", help="by which change, status, exec and down find it (FILE's name without .net)")
+    line.add_argument("--transcripts", metavar="FOLDER", help="for its history, its summary and what hosts print (NAME.session)")
     arguments, more = line.parse_known_args()
     arguments.more = more
     arguments.name = arguments.name or Path(arguments.file).stem
@@ -70,13 +66,20 @@ def main() -> None:
         log = folder / "net.log"
         logs = [] if "--logs" in arguments.more else ["--logs", str(folder / "logs")]
         words = [
-            sys.executable, str(START), "net", arguments.file, "--transcripts", str(folder), *logs, "--stay", "--control",
-            socket, *arguments.more
+            sys.executable,
+            str(START),
+            "net",
+            arguments.file,
+            "--transcripts",
+            str(folder),
+            *logs,
+            "--stay",
+            "--control",
+            socket,
+            *arguments.more,
         ]
         with open(log, "wb") as log_file:
-            process = subprocess.Popen(
-                words, stdin=subprocess.DEVNULL, stdout=log_file, stderr=log_file, start_new_session=True
-            )
+            process = subprocess.Popen(words, stdin=subprocess.DEVNULL, stdout=log_file, stderr=log_file, start_new_session=True)
         silent = wait_until_ready(process, socket, log)
     show(
         "".join(f"{line}\n" for line in silent)

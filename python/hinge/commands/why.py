@@ -24,11 +24,10 @@ hinge why 17 packets.csv report.csv --config dsl.config
 
 def main() -> None:
     line = parser(WHAT, EXAMPLE)
-    add_source(line, "ROW .. (HISTORY | [CONFIG] PACKETS REPORT)", "ROW .. SOURCE",
-               f"{ROWS}, and behind them {SOURCE}")
+    add_source(line, "ROW .. (HISTORY | [CONFIG] PACKETS REPORT)", "ROW .. SOURCE", f"{ROWS}, and behind them {SOURCE}")
     arguments = line.parse_intermixed_args()
     numbers = list(takewhile(str.isdecimal, arguments.source))
-    files, config = arguments.source[len(numbers):], arguments.config
+    files, config = arguments.source[len(numbers) :], arguments.config
     if not numbers:
         line.error(f"{files[0]!r} is no number of a row")
     if not files:

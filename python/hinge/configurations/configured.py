@@ -59,8 +59,7 @@ def setting_of(text: str) -> tuple[str, int, Optional[Setting]]:
     limit = Limit(None, int(size[:-6])) if size.endswith("Kbytes") else Limit(int(size), None)
     loss = int(Fraction(value.get("plr", "0")) * LOSS_PARTS)  # the whole part, as the program keeps it
     if words[0] == "pipe":
-        return "pipe", number, Pipe(number, int(value.get("bw", "0bit/s")[:-5]), int(value.get("delay", 0)), limit,
-                                    loss)
+        return "pipe", number, Pipe(number, int(value.get("bw", "0bit/s")[:-5]), int(value.get("delay", 0)), limit, loss)
     return "queue", number, Queue(number, int(value["pipe"]), int(value.get("weight", 1)), limit, loss)
 
 
@@ -74,7 +73,7 @@ def spelled_lines(data: bytes) -> list[str]:
         if process.returncode:
             raise LineFault(process.stderr.decode().strip())
         records = read_text(history).splitlines()
-    return [record[len(RECORD):] for record in records if record.startswith(RECORD)]
+    return [record[len(RECORD) :] for record in records if record.startswith(RECORD)]
 
 
 class InForce:

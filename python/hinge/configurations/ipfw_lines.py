@@ -18,8 +18,13 @@ UNSURE = re.compile(r"(?:^|\s)(?:pipe|queue|sched)\s+\S+\s+config\b")
 BANDWIDTH = re.compile(r"(\d+)([kKmMgG]?)([A-Za-z/]*)\Z")
 LIMIT = re.compile(r"(\d+)(?:([kK])(?:[bB]\w*)?|([bB]\w*))?\Z")
 WITHOUT_EFFECT = {"droptail": "the queue is a drop-tail one anyway", "noerror": "a sender learns of no drop anyway"}
-WHOLE_MASKS = {"src-ip": ("/32", "0xffffffff"), "dst-ip": ("/32", "0xffffffff"), "src-port": ("/16", "0xffff"),
-               "dst-port": ("/16", "0xffff"), "proto": ("/8", "0xff")}
+WHOLE_MASKS = {
+    "src-ip": ("/32", "0xffffffff"),
+    "dst-ip": ("/32", "0xffffffff"),
+    "src-port": ("/16", "0xffff"),
+    "dst-port": ("/16", "0xffff"),
+    "proto": ("/8", "0xff"),
+}
 BYTES_PER_KBYTE = 1024
 
 
@@ -69,8 +74,7 @@ class Conversion:
         for command in (self.expanded(command) for command in commands):
             if UNSURE.search(command) and not HEAD.search(command) and not re.search(r"\s(?:add|show|list)\s", command):
                 unknown = VARIABLE.search(command) or re.search(r"\$\S+", command)
-                return (f"{unknown[0]} isn't set in these files" if unknown
-                        else "schedulers other than WF2Q+ are left out")
+                return f"{unknown[0]} isn't set in these files" if unknown else "schedulers other than WF2Q+ are left out"
         return None
 
     def read_line(self, place: str, line: str) -> None:
@@ -116,6 +120,7 @@ class Conversion:
 
     def expanded(self, text: str) -> str:
         """The text with the shell variables that the files set."""
+
         def value(match: re.Match[str]) -> str:
             return self.variables.get(match[1] or match[3], match[0] if match[2] is None else match[2])
 
@@ -139,9 +144,7 @@ class Conversion:
             if verdict.name == "ok":
                 self.lines.append(one.line)
                 continue
-            place, _, fault = verdict.text.partition(": ") if verdict.name == "bad" else ("", "",
-                                                                                          verdict.name.replace("-",
-                                                                                                               " "))
+            place, _, fault = verdict.text.partition(": ") if verdict.name == "bad" else ("", "", verdict.name.replace("-", " "))
             reason = f"{place} of '{one.line}': {fault}" if place else fault
             items.append((one.note, f"{one.place}: left out: {one.command} ({reason})"))
         self.left_out += len(items)
@@ -175,8 +178,7 @@ class Options:
     def name(self, word: str) -> str:
         """ipfw's other names of options."""
         if word == "sched" and self.kind == "queue":
-            self.conversion.say(self.place,
-                                "the scheduler of that number is taken as the pipe of that number, with WF2Q+")
+            self.conversion.say(self.place, "the scheduler of that number is taken as the pipe of that number, with WF2Q+")
             return "pipe"
         return {"bandwidth": "bw", "flowset": "pipe"}.get(word, word)
 

@@ -37,9 +37,7 @@ class Described:
             raise NetError("the net runs already; `change`, `cut` and `obey` change it")
         self.lines += text.splitlines()
 
-    def host(
-        self, name: str, command: Command = "", *, port: Optional[int] = None, wait: Time = 30, word: str = "host"
-    ) -> None:
+    def host(self, name: str, command: Command = "", *, port: Optional[int] = None, wait: Time = 30, word: str = "host") -> None:
         """A host, and what runs there. `start` waits until something listens at the port."""
         text = command if isinstance(command, str) else shlex.join(command)
         if "\n" in text.strip() or text.endswith("\\"):
@@ -69,15 +67,19 @@ class Described:
         return " / ".join(ways) if any(ways) else ""
 
     def link(
-        self, one: str, two: str, link: Optional[str] = None, back: Optional[str] = None, *,
-        preset: Optional[str] = None
+        self, one: str, two: str, link: Optional[str] = None, back: Optional[str] = None, *, preset: Optional[str] = None
     ) -> None:
         """A link, with the words of both ways, or of the way from the first host and the way back."""
         self.describe(f"link {one} {two} {self.words(link, back, preset)}")
 
     def switch(
-        self, name: str, hosts: Sequence[str], link: Optional[str] = None, back: Optional[str] = None, *,
-        preset: Optional[str] = None
+        self,
+        name: str,
+        hosts: Sequence[str],
+        link: Optional[str] = None,
+        back: Optional[str] = None,
+        *,
+        preset: Optional[str] = None,
     ) -> None:
         """A switch with a link to each of these hosts."""
         self.describe(f"switch {name} {' '.join(hosts)} {self.words(link, back, preset)}")

@@ -99,9 +99,7 @@ class Description:
         if name in TAKEN:
             raise statement.wrong(name, "a word with a meaning of its own; take another name")
         if not NAME.fullmatch(name):
-            raise statement.wrong(
-                name, "a name has letters, digits and hyphens, begins with a letter and has at most 63"
-            )
+            raise statement.wrong(name, "a name has letters, digits and hyphens, begins with a letter and has at most 63")
         if name in self.hosts:
             raise statement.wrong(name, "a second host of this name")
         self.hosts[name] = Host(name, forwards, command=statement.rest)
@@ -218,9 +216,13 @@ DECLARES: dict[str, Does] = {
     "switch": Description.declare_switch,
 }
 FOLLOWS: tuple[dict[str, Does], ...] = (
-    DECLARES, {"main": Description.main_of}, {"link": Description.link, "switch": Description.switch},
+    DECLARES,
+    {"main": Description.main_of},
+    {"link": Description.link, "switch": Description.switch},
     {
-        "wait": Description.wait, "mtu": Description.mtu, "routes": Description.routes,
+        "wait": Description.wait,
+        "mtu": Description.mtu,
+        "routes": Description.routes,
         **{
             word: lambda net, statement: net.of_links.append(statement)
             for word in ("loss", "line", "map", "trace", "at", "nemesis")

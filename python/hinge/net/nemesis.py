@@ -127,9 +127,13 @@ def of_one(act: str) -> "Kind":
 
 Kind = Callable[[Description, list[str], Draw], list[str]]  # the words of a fault, without its length
 KINDS: dict[str, Kind] = {
-    "partition-halves": halves, "partition-one": one_apart, "partition-ring": ring,
-    "partition-majorities": majorities, "isolate-one": of_one("cut"), "kill-one": of_one("kill"),
-    "stop-one": of_one("stop")
+    "partition-halves": halves,
+    "partition-one": one_apart,
+    "partition-ring": ring,
+    "partition-majorities": majorities,
+    "isolate-one": of_one("cut"),
+    "kill-one": of_one("kill"),
+    "stop-one": of_one("stop"),
 }
 LEAST = {"partition-halves": 2, "partition-one": 2, "partition-ring": 4, "partition-majorities": 3}  # hosts
 OF_COMMANDS = ("kill-one", "stop-one")

@@ -18,19 +18,15 @@ if TYPE_CHECKING:
 
 def opened_control(net: NetInside) -> Optional[Control]:
     """The socket that --control names. Words that change a link are those of a line `at`, without its moment."""
+
     def event(moment: str, words: str) -> None:
         net.order.made.at_once(moment, words)
         if words.split()[0] in ("cut", "heal"):
             net.lines.ask(f"line remark act,{words}")
 
     def status() -> dict[str, object]:
-        endings = {
-            name: net.processes.ended[pid] for name, pid in net.started.items() if pid in net.processes.ended
-        }
-        return {
-            **net_record(net.net, net.page.read(), net.rooms.dropped(), {}), "ended": endings,
-            "silent": net.silent
-        }
+        endings = {name: net.processes.ended[pid] for name, pid in net.started.items() if pid in net.processes.ended}
+        return {**net_record(net.net, net.page.read(), net.rooms.dropped(), {}), "ended": endings, "silent": net.silent}
 
     doors = Doors()
 
@@ -51,6 +47,4 @@ def opened_control(net: NetInside) -> Optional[Control]:
         del net_plan.acts[timetable:]
         return net.acts.ask(new)
 
-    return opened(
-        net.order.control, net.order.made.plan, net.page, event, status, enter_host, net.lines, act
-    )
+    return opened(net.order.control, net.order.made.plan, net.page, event, status, enter_host, net.lines, act)

@@ -36,9 +36,7 @@ from hingetulip_words.link import Extra
 WATCHED = {signal.SIGCHLD, signal.SIGTERM, signal.SIGHUP}
 LISTEN_POLL = 0.01  # s
 NOBODY = 0  # no process
-NO_PRIORITY = (
-    "the links don't come before other programs, as the system doesn't allow it (as root, or with `ulimit -r 10`)"
-)
+NO_PRIORITY = "the links don't come before other programs, as the system doesn't allow it (as root, or with `ulimit -r 10`)"
 
 
 class NetOrder(NamedTuple):
@@ -89,9 +87,7 @@ class NetInside:
             return plan
         first, _, rest = plan.partition("\n")
         hosts = [f"remark host,{name},{','.join(self.rooms.ends.all_of(name))}" for name in self.rooms.network]
-        pipes = [
-            line for number, link in enumerate(self.net.links) for way in (0, 1) for line in self.pipes_of(number, way)
-        ]
+        pipes = [line for number, link in enumerate(self.net.links) for way in (0, 1) for line in self.pipes_of(number, way)]
         hosts += [f"remark switch,{name}" for name in into]
         outside = [f"remark outside,{self.order.outside}"] * bool(self.order.outside)
         draw_lines = [f"remark drawn,{line}" for line in self.order.made.drawn]
@@ -113,15 +109,24 @@ class NetInside:
         pipe = 2 * number + way + 1
         extra, second = self.order.made.plan.extras.get(pipe - 1, (Extra(), range(0)))
         between = self.rooms.ends.label(start, number).replace(".", "~", 1) if second else end
-        return [f"remark pipe,{pipe},{start},{between}", *(f"remark pipe,{other},{between},{end}" for other in second),
-                *[f"remark copies,{pipe}"] * bool(extra.duplicate)]
+        return [
+            f"remark pipe,{pipe},{start},{between}",
+            *(f"remark pipe,{other},{between},{end}" for other in second),
+            *[f"remark copies,{pipe}"] * bool(extra.duplicate),
+        ]
 
     def started_links(self) -> tuple[Link, Optional[int]]:
         """The host of all links, and its status where it ended at once. What happens to hosts doesn't happen to it."""
         enter(self.network)
         link = Link(
-            self.processes, self.page, ["tun", *map(str, self.rooms.interfaces)],
-            self.rooms.descriptors(), self.plan(), self.order.mask, opened_control(self), self.lines
+            self.processes,
+            self.page,
+            ["tun", *map(str, self.rooms.interfaces)],
+            self.rooms.descriptors(),
+            self.plan(),
+            self.order.mask,
+            opened_control(self),
+            self.lines,
         )
         return link, link.failed()
 
@@ -163,15 +168,14 @@ class NetInside:
             if self.order.logs:
                 log = os.open(
                     os.path.join(self.order.logs, f"{name}.log"),
-                    os.O_WRONLY | os.O_CREAT | (os.O_TRUNC if is_first else os.O_APPEND), 0o666
+                    os.O_WRONLY | os.O_CREAT | (os.O_TRUNC if is_first else os.O_APPEND),
+                    0o666,
                 )
                 os.dup2(log, 1), os.dup2(log, 2)
             self.enter(name)
 
         more = self.order.command if is_main else []
-        self.started[name] = start(
-            ["sh", "-c", self.net.hosts[name].command, *more], self.order.mask, enter_host, self.own_users
-        )
+        self.started[name] = start(["sh", "-c", self.net.hosts[name].command, *more], self.order.mask, enter_host, self.own_users)
 
     def waited(self) -> Optional[int]:
         """Waits for the ports that the net waits for; a signal that came before."""
@@ -213,9 +217,7 @@ class NetInside:
             self.main_moment = self.lines.ask("main").moment
             self.acts.begin(True, 0)
         if self.order.shell:
-            return start(
-                [os.environ.get("SHELL", "sh")], self.order.mask, partial(self.enter, self.order.shell), self.own_users
-            )
+            return start([os.environ.get("SHELL", "sh")], self.order.mask, partial(self.enter, self.order.shell), self.own_users)
         if self.net.main:
             self.begin(self.net.main)
         return self.started.get(self.net.main or "")
@@ -272,8 +274,7 @@ class NetInside:
         endings = self.processes.endings(self.started, self.begun, self.order.end_wait)
         self.cgroups.remove()
         return {
-            name: one._replace(by="kill") if one.by == "itself" and self.was_killed(name) else one
-            for name, one in endings.items()
+            name: one._replace(by="kill") if one.by == "itself" and self.was_killed(name) else one for name, one in endings.items()
         }
 
     def report(self, status: int, drops: Sequence[int], endings: dict[str, Ended]) -> int:
@@ -285,20 +286,26 @@ class NetInside:
         acts = act_records(order.made.told, self.acts.done, self.main_moment, counts["moment"])
         if not order.quiet:
             for line in [
-                *net_lines(self.net, counts, drops), *[f"seed {order.seed}"] * order.draws,
+                *net_lines(self.net, counts, drops),
+                *[f"seed {order.seed}"] * order.draws,
                 *of_plan(order.made.told, self.main_moment, counts["moment"]),
-                *([] if order.limit is not None or is_simulated() else cautions(counts, drops, order.plan, names))
+                *([] if order.limit is not None or is_simulated() else cautions(counts, drops, order.plan, names)),
             ]:
                 say(line)
         for line in [
-            *of_hosts(others), *(told(order.transcript, counts["parts"]) if order.transcript else []),
-            *(f"void: {fault}" for fault in faults)
+            *of_hosts(others),
+            *(told(order.transcript, counts["parts"]) if order.transcript else []),
+            *(f"void: {fault}" for fault in faults),
         ]:
             say(line)
         if order.json:
             told_all = {
-                "status": status, "seed": order.seed, "void": faults, **net_record(self.net, counts, drops, endings),
-                "main": self.main_moment, "acts": acts
+                "status": status,
+                "seed": order.seed,
+                "void": faults,
+                **net_record(self.net, counts, drops, endings),
+                "main": self.main_moment,
+                "acts": acts,
             }
             status = status_with_json(order.json, told_all, status)
         return VOID if faults else status

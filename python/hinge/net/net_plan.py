@@ -34,7 +34,7 @@ BASES = ("start", "main")
 def renumbered(line: str, pipe: Callable[[int], int], queue: Callable[[int], int]) -> str:
     """A line for the pipes 1 and 2 and the queues of one link, with the numbers that these have among all links."""
     words = bare(line).split()
-    words = words[words[:1] == ["ipfw"]:]
+    words = words[words[:1] == ["ipfw"] :]
     kinds = {"pipe": pipe, "queue": queue}
     for at, word in enumerate(words[:-1]):
         place = at + 1 + (words[at + 1] == "delete" and at + 2 < len(words))
@@ -65,8 +65,12 @@ class NetPlan:
                 self.configure(link.statement, words.line(2 * number + way + 1))
                 self.plan.extra(2 * number + way, words.extra)
         for word, add in (
-            ("line", self.line), ("loss", self.loss), ("map", self.map), ("trace", self.trace), ("at", self.at),
-            ("nemesis", self.nemesis)
+            ("line", self.line),
+            ("loss", self.loss),
+            ("map", self.map),
+            ("trace", self.trace),
+            ("at", self.at),
+            ("nemesis", self.nemesis),
         ):
             for statement in net.of_links:
                 if statement.word == word:
@@ -102,6 +106,7 @@ class NetPlan:
 
     def own(self, statement: Statement, number: int, is_back: bool, line: str) -> str:
         """A line of a link, whose pipe 1 leads from the host that the statement names first."""
+
         def pipe(own: int) -> int:
             if own not in (1, 2):
                 raise statement.wrong(f"pipe {own}", "a link has the pipes 1, from its first host, and 2")
@@ -129,8 +134,10 @@ class NetPlan:
     def addressed(self, words: list[str], kind: int) -> str:
         """The words of a rule with addresses of hosts in the place of their names: of IPv4, or of IPv6 by kind 1."""
         names = {name: place for place, name in enumerate(self.net.hosts, 1) if not self.net.hosts[name].is_switch}
-        return " ".join(own_addresses(names[word])[kind] if before in NETS and word in names else word
-                        for before, word in zip(["", *words], words))
+        return " ".join(
+            own_addresses(names[word])[kind] if before in NETS and word in names else word
+            for before, word in zip(["", *words], words)
+        )
 
     def trace(self, statement: Statement) -> None:
         number, is_back = self.net.between(statement, TRACE)
@@ -207,9 +214,7 @@ class NetPlan:
             others = {self.net.host(statement, form)}
             while statement.peek() in self.net.hosts:
                 others.add(statement.take(form))
-        result = [
-            number for number, link in enumerate(self.net.links) if name in link.ends and link.other(name) in others
-        ]
+        result = [number for number, link in enumerate(self.net.links) if name in link.ends and link.other(name) in others]
         if not result:
             raise statement.wrong(name, "it has no such link")
         return result

@@ -52,9 +52,7 @@ class NetEnds:
 
     def __init__(self, net: Description) -> None:
         self.net = net
-        self.own = {
-            name: own_addresses(place) for place, name in enumerate(net.hosts, 1) if not net.hosts[name].is_switch
-        }
+        self.own = {name: own_addresses(place) for place, name in enumerate(net.hosts, 1) if not net.hosts[name].is_switch}
         self.links, self.ports = links_by_host(net), net.ports()
 
     def label(self, name: str, link: int) -> str:
@@ -134,13 +132,9 @@ class NetRooms:
                 if net.hosts[name].forwards:
                     self.let_forward(name)
                 self.know_groups(name, True)
-        self.interfaces = [
-            tuns.get((number, name), AT_NO_HOST) for number, link in enumerate(net.links) for name in link.ends
-        ]
+        self.interfaces = [tuns.get((number, name), AT_NO_HOST) for number, link in enumerate(net.links) for name in link.ends]
         first = next(iter(self.ends.own))
-        add_names(
-            self.ends.names() + "127.0.0.1 localhost\n", self.ends.names_of_six(), first, self.ends.own[first].four
-        )
+        add_names(self.ends.names() + "127.0.0.1 localhost\n", self.ends.names_of_six(), first, self.ends.own[first].four)
 
     def descriptors(self) -> list[int]:
         """Those of the interfaces that there are."""
@@ -157,8 +151,7 @@ class NetRooms:
         """Gives the present network an end of a link; its descriptor."""
         interface, is_port = self.ends.interface(name, link), (link, name) in self.ends.ports
         descriptor = add_tun(
-            *self.ends.at_end(name, link), self.ends.net.links[link].mtu or mtu, interface,
-            mac=mac_of(link) if is_port else b""
+            *self.ends.at_end(name, link), self.ends.net.links[link].mtu or mtu, interface, mac=mac_of(link) if is_port else b""
         )
         in_ipv6(lambda: add_address(interface, self.ends.of_link(name, link), 64))
         if is_port:  # neighbours ask for an address of IPv6 at the interface that has it
@@ -183,8 +176,12 @@ class NetRooms:
             for address, source, gateway in zip(self.ends.own.get(to, ()), own, self.ends.gateways(to, hop)):
                 if is_plain or to == hop.host:
                     yield interface_route(
-                        address, numbers[hop.link], source, metric=None if is_plain else WORST,
-                        may_fail=source == own.six, gateway=gateway
+                        address,
+                        numbers[hop.link],
+                        source,
+                        metric=None if is_plain else WORST,
+                        may_fail=source == own.six,
+                        gateway=gateway,
                     )
         if is_plain and numbers:
             # By the metric it has a next hop of its own: the kernel keeps with that whether a packet is for a group, and
@@ -198,11 +195,7 @@ class NetRooms:
 
     def lead_out(self, outside: Outside, by: str) -> None:
         """Joins a host to the rest of the system's network. Where it hands packets on, the others reach that by it."""
-        interfaces = (
-            [self.ends.interface(by, link) for link, _ in self.ends.links[by]]
-            if self.ends.net.hosts[by].forwards
-            else []
-        )
+        interfaces = [self.ends.interface(by, link) for link, _ in self.ends.links[by]] if self.ends.net.hosts[by].forwards else []
         others = (
             [address for name in self.network if name != by for address in self.ends.all_of(name) if ":" in address]
             if interfaces

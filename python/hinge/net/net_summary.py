@@ -33,10 +33,7 @@ def way_names(net: Description) -> list[str]:
 def all_ways(counts: Counts) -> tuple[Times, Times]:
     """How late and how long unread the packets of all links were."""
     late, unread = ([way.late for way in counts.ways], [way.unread for way in counts.ways])
-    one, two = (
-        Times(tuple(map(sum, zip(*(one.bins for one in kind)))), max(one.most for one in kind))
-        for kind in (late, unread)
-    )
+    one, two = (Times(tuple(map(sum, zip(*(one.bins for one in kind)))), max(one.most for one in kind)) for kind in (late, unread))
     return one, two
 
 
@@ -49,9 +46,7 @@ def moment_of(message: Said, main: Optional[int]) -> Optional[int]:
 
 def act_records(message: Sequence[Said], result: Sequence[Done], main: Optional[int], end: int) -> list[dict[str, object]]:
     """What happened by lines `at` and by `hinge change`, for JSON, each with its moment."""
-    hosts = [
-        {"moment": one.moment, "at": str(one.act.moment), "words": f"{one.act.word} {one.act.host}"} for one in result
-    ]
+    hosts = [{"moment": one.moment, "at": str(one.act.moment), "words": f"{one.act.word} {one.act.host}"} for one in result]
     links = [
         {"moment": moment, "at": str(one.moment), "words": one.words}
         for one in message
@@ -86,18 +81,14 @@ def of_plan(message: Sequence[Said], main: Optional[int], end: int) -> Iterator[
 def net_lines(net: Description, counts: Counts, drops: Sequence[int]) -> Iterator[str]:
     for name, way, losses in zip(way_names(net), counts.ways, drops):
         if way["came"] or losses:
-            seldom = "".join(
-                f", {way[key]} {words}" for key, words in (*SELDOM, ("refused", "refused by the system")) if way[key]
-            )
+            seldom = "".join(f", {way[key]} {words}" for key, words in (*SELDOM, ("refused", "refused by the system")) if way[key])
             yield (
                 f"{name}: {way['came']} came, {way['sent']} delivered, {way['lost']} lost, {way['full']} met a full"
                 f" queue, {way.underway} under way{seldom}{f', {losses} dropped by the system' * (losses > 0)}, late"
                 f" p99 {times(way)['late_p99_ms']:.3f} ms"
             )
     late, unread = (
-        "{} p50 {:.3f} p99 {:.3f} p99.9 {:.3f} max {:.3f} ms".format(
-            kind, *(of.within(share) for share in (0.5, 0.99, 0.999, 1.0))
-        )
+        "{} p50 {:.3f} p99 {:.3f} p99.9 {:.3f} max {:.3f} ms".format(kind, *(of.within(share) for share in (0.5, 0.99, 0.999, 1.0)))
         for kind, of in zip(("late", "unread"), all_ways(counts))
     )
     yield (
@@ -114,6 +105,9 @@ def net_record(net: Description, counts: Counts, drops: Sequence[int], endings: 
         for pipe, ((one, two), way, losses) in enumerate(zip(ends, counts.ways, drops), 1)
     ]
     return {
-        "moment": counts["moment"], "wakeups": counts["wakes"], "turns": counts["turns"],
-        "hosts": {name: one._asdict() for name, one in endings.items()}, "ways": ways
+        "moment": counts["moment"],
+        "wakeups": counts["wakes"],
+        "turns": counts["turns"],
+        "hosts": {name: one._asdict() for name, one in endings.items()},
+        "ways": ways,
     }

@@ -43,9 +43,7 @@ class CommandFailed(subprocess.CalledProcessError):
     """A command whose status isn't 0, with what it printed."""
 
     def __str__(self) -> str:
-        output = "\n".join(
-            text.rstrip() for text in (self.stdout, self.stderr) if isinstance(text, str) and text.strip()
-        )
+        output = "\n".join(text.rstrip() for text in (self.stdout, self.stderr) if isinstance(text, str) and text.strip())
         return f"{self.cmd}: status {self.returncode}" + f"\n{output}" * bool(output)
 
 
@@ -69,8 +67,15 @@ class Net(Described):
     begun."""
 
     def __init__(
-        self, folder: Union[str, Path, None] = None, *, seed: Optional[int] = None, mtu: Optional[int] = None,
-        late: Optional[Time] = None, outside: Optional[str] = None, link: str = "", back: Optional[str] = None
+        self,
+        folder: Union[str, Path, None] = None,
+        *,
+        seed: Optional[int] = None,
+        mtu: Optional[int] = None,
+        late: Optional[Time] = None,
+        outside: Optional[str] = None,
+        link: str = "",
+        back: Optional[str] = None,
     ) -> None:
         """The folder gets the history, the summary and what the hosts print; without one they are gone after the end.
         `link` and `back` are the links of which nothing else is said. `outside` is a host that leads to the rest of the
@@ -109,15 +114,19 @@ class Net(Described):
         return [orders for orders, _ in replies]
 
     def change(
-        self, one: str, two: str, link: Optional[str] = None, back: Optional[str] = None, *,
-        preset: Optional[str] = None, at: Optional[Time] = None
+        self,
+        one: str,
+        two: str,
+        link: Optional[str] = None,
+        back: Optional[str] = None,
+        *,
+        preset: Optional[str] = None,
+        at: Optional[Time] = None,
     ) -> list[Obeyed]:
         """The link has other words from then on."""
         return self.obey(f"{one} {two} {self.words(link, back, preset)}", at=at)
 
-    def cut(
-        self, host: str, lasting: Optional[Time] = None, *, off: Sequence[str] = (), at: Optional[Time] = None
-    ) -> list[Obeyed]:
+    def cut(self, host: str, lasting: Optional[Time] = None, *, off: Sequence[str] = (), at: Optional[Time] = None) -> list[Obeyed]:
         """The links of a host, or those to some others, lose all packets, for so long or until they are healed."""
         return self.obey(" ".join(["cut", host, *["from"] * bool(off), *off]) + with_length(lasting), at=at)
 
@@ -157,14 +166,27 @@ class Net(Described):
         except Wrong as wrong:
             raise NetError(str(wrong)) from None
         inputs = {
-            "seed": self.seed, "mtu": self.mtu, "late": None if self.late is None else spelled_time(self.late),
-            "outside": self.outside
+            "seed": self.seed,
+            "mtu": self.mtu,
+            "late": None if self.late is None else spelled_time(self.late),
+            "outside": self.outside,
         }
         more = [word for name, value in inputs.items() if value is not None for word in (f"--{name}", str(value))]
         read_end, self.leash = os.pipe()
         words = [
-            sys.executable, str(START), "net", str(file), "--transcripts", str(self.folder), "--logs",
-            str(self.folder / "logs"), *more, "--control", str(self.socket), "--while-open", str(read_end)
+            sys.executable,
+            str(START),
+            "net",
+            str(file),
+            "--transcripts",
+            str(self.folder),
+            "--logs",
+            str(self.folder / "logs"),
+            *more,
+            "--control",
+            str(self.socket),
+            "--while-open",
+            str(read_end),
         ]
         with open(self.folder / "net.log", "wb") as log_file:
             self.is_running = True
@@ -198,13 +220,18 @@ class Net(Described):
         """A command on a host, which begins now. It ends with the net. What else is given is that of
         subprocess.Popen."""
         self.start()
-        return subprocess.Popen(
-            [sys.executable, str(START), "exec", str(self.socket), host, "--", *shell_words(command)], **how
-        )
+        return subprocess.Popen([sys.executable, str(START), "exec", str(self.socket), host, "--", *shell_words(command)], **how)
 
     def run(
-        self, host: str, command: Command, *, check: bool = True, timeout: Optional[float] = None,
-        input: Optional[str] = None, env: Optional[Mapping[str, str]] = None, cwd: Union[str, Path, None] = None
+        self,
+        host: str,
+        command: Command,
+        *,
+        check: bool = True,
+        timeout: Optional[float] = None,
+        input: Optional[str] = None,
+        env: Optional[Mapping[str, str]] = None,
+        cwd: Union[str, Path, None] = None,
     ) -> "subprocess.CompletedProcess[str]":
         """Runs a command on a host until it ends, with what it printed. CommandFailed tells of a status that isn't 0,
         where it is checked."""
@@ -287,9 +314,7 @@ class Net(Described):
     def __enter__(self) -> Net:
         return self
 
-    def __exit__(
-        self, kind: Optional[type[BaseException]], error: Optional[BaseException], trace: Optional[TracebackType]
-    ) -> None:
+    def __exit__(self, kind: Optional[type[BaseException]], error: Optional[BaseException], trace: Optional[TracebackType]) -> None:
         self.close()
 
     def close(self) -> None:

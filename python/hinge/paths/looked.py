@@ -43,9 +43,11 @@ def audit(files: list[str]) -> None:
 def refuse_others(options: LookOptions, folder: str) -> None:
     """What is of one link alone."""
     for name, is_given in (
-        ("--why", bool(options.why)), ("--by", options.by != "tuple"),
-        ("--csv", options.csv), ("--capture", options.capture is not None),
-        *((f"-o FILE{one.value}", bool(options.files(one))) for one in Format if not one.is_picture)
+        ("--why", bool(options.why)),
+        ("--by", options.by != "tuple"),
+        ("--csv", options.csv),
+        ("--capture", options.capture is not None),
+        *((f"-o FILE{one.value}", bool(options.files(one))) for one in Format if not one.is_picture),
     ):
         if is_given:
             raise Fault(
@@ -74,28 +76,36 @@ def look_record(matching: Matched, line: Timeline, history: str, seed: str | Non
     hosts = matching.passages.topology.hosts
     ends = {pipe: {"pipe": pipe, "from": hosts[start], "to": hosts[end]} for pipe, (start, end) in pipes.items()}
     return {
-        "format": FORMAT, "history": history, "seed": seed, "span_ns": line.span,
+        "format": FORMAT,
+        "history": history,
+        "seed": seed,
+        "span_ns": line.span,
         "lawful_between_links": matching.is_lawful,
         "ways": [
             {
-                **ends[way.pipe], "packets": way.packets, "lost": way.lost, "full": way.full,
-                "carried_mbit_s": way.mbit_s, "mean_ns": way.mean, "p99_ns": way.p99
+                **ends[way.pipe],
+                "packets": way.packets,
+                "lost": way.lost,
+                "full": way.full,
+                "carried_mbit_s": way.mbit_s,
+                "mean_ns": way.mean,
+                "p99_ns": way.p99,
             }
             for way in ways(matching)
         ],
         "paths": [
             {
-                "hosts": hosts_of(matching, path), "pipes": list(path.pipes), "packets": len(path.sent),
+                "hosts": hosts_of(matching, path),
+                "pipes": list(path.pipes),
+                "packets": len(path.sent),
                 "links_ns": [int(time) for time in path.links.mean(axis=0)],
-                "hosts_ns": [int(time) for time in path.hosts.mean(axis=0)], "most_in_hosts_ns": path.most_in_hosts
+                "hosts_ns": [int(time) for time in path.hosts.mean(axis=0)],
+                "most_in_hosts_ns": path.most_in_hosts,
             }
             for path in paths(matching)
         ],
         "changes": [
-            {
-                **ends.get(change.pipe, {"pipe": change.pipe}), "moment_ns": change.moment, "line": change.words,
-                "cut": change.is_cut
-            }
+            {**ends.get(change.pipe, {"pipe": change.pipe}), "moment_ns": change.moment, "line": change.words, "cut": change.is_cut}
             for change in line.changes
         ],
         "cuts": [
@@ -133,7 +143,9 @@ def look_at_net(options: LookOptions, path: str, summary_name: str | None = None
         return
     for name in options.files(*PICTURES):
         with written(name) as place:
-            save([net_drawing(looked, options.step, provenance(lines, files, seed))], str(place), format_of(name).kind, options.title)
+            save(
+                [net_drawing(looked, options.step, provenance(lines, files, seed))], str(place), format_of(name).kind, options.title
+            )
     if not result.is_lawful:
         sys.stdout.flush()
         sys.exit(UNLAWFUL)

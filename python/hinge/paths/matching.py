@@ -81,7 +81,7 @@ def is_new(passages: Passages, choice: Mask) -> Mask:
     host = np.concatenate((passages.end[receipts], passages.start[packet]))
     key, _ = numbered(host, *passages.flow[:, both], passages.length[both], passages.content[both])
     places: Mask = np.zeros(len(passages), bool)
-    places[packet] = ~np.isin(key[len(receipts):], key[:len(receipts)])
+    places[packet] = ~np.isin(key[len(receipts) :], key[: len(receipts)])
     return places
 
 
@@ -115,7 +115,7 @@ def handings(passages: Passages, ends: Ends) -> Handings:
     way = np.concatenate((*ways, np.where(ends.sent_for_many[packet], passages.pipe[packet], 0)))
     both, host = np.concatenate((receipts, packet)), np.concatenate((passages.end[receipts], passages.start[packet]))
     key, _ = numbered(host, way, *passages.flow[:, both], passages.length[both], passages.content[both])
-    return Handings(receipts, packet, key[:len(receipts)], key[len(receipts):])
+    return Handings(receipts, packet, key[: len(receipts)], key[len(receipts) :])
 
 
 def matched_by_places(passages: Passages, handings_on: Handings) -> tuple[Integers, Integers]:
@@ -136,9 +136,7 @@ def matched_by_places(passages: Passages, handings_on: Handings) -> tuple[Intege
     return match, np.unique(handings_on.sent_key[~behind])
 
 
-def matched_one_by_one(
-    passages: Passages, handings_on: Handings, match: Integers, keys: Integers
-) -> tuple[list[int], list[int]]:
+def matched_one_by_one(passages: Passages, handings_on: Handings, match: Integers, keys: Integers) -> tuple[list[int], list[int]]:
     """Mends the matches of these keys: what is sent continues the first that was got and isn't continued. The places in
     `sent` of what continues nothing: what came from nowhere, and what had been sent before."""
     receipts, packet = np.flatnonzero(np.isin(handings_on.got_key, keys)), np.flatnonzero(np.isin(handings_on.sent_key, keys))
@@ -177,8 +175,8 @@ def last_sent(passages: Passages, before: Integers, packet: Integers, receipts: 
     host = np.concatenate((passages.end[receipts], passages.start[choice]))
     flow, _ = numbered(host, *passages.flow[:, np.concatenate((receipts, choice))])
     last = np.full(int(flow.max(initial=0)) + 1, NONE)
-    np.maximum.at(last, flow[len(receipts):], passages.handed[before[choice]])
-    is_later: Mask = last[flow[:len(receipts)]] > passages.handed[receipts]
+    np.maximum.at(last, flow[len(receipts) :], passages.handed[before[choice]])
+    is_later: Mask = last[flow[: len(receipts)]] > passages.handed[receipts]
     return is_later
 
 
@@ -214,6 +212,12 @@ def match(passages: Passages, end: int, table: dict[int, int]) -> Matched:
     is_last = ends.ends | ends.may_end & ~is_handed_on
     is_expired = hand_over & ends.ends & ~ends.is_there & ~ends.is_back & ~ends.got_for_many
     return Matched(
-        passages, before, hand_over & is_last, int(may_be_there.sum()), int(told_of.sum()), int(is_expired.sum()),
-        int((hand_over & ends.is_back).sum()), faults
+        passages,
+        before,
+        hand_over & is_last,
+        int(may_be_there.sum()),
+        int(told_of.sum()),
+        int(is_expired.sum()),
+        int((hand_over & ends.is_back).sum()),
+        faults,
     )

@@ -81,8 +81,14 @@ class NetGraph:
         pipes = self.links[ends]
         is_cut = any(pipe in self.timeline.cuts for pipe in pipes)
         width = THINNEST + (THICKEST - THINNEST) * (sum(self.rates(pipes)) / most if most else 0)
-        return Edge(self.hosts.index(ends[0]), self.hosts.index(ends[1]), self.label(pipes) if has_label else "",
-                    CUT if is_cut else WHOLE, width, DASHED if is_cut else SOLID)
+        return Edge(
+            self.hosts.index(ends[0]),
+            self.hosts.index(ends[1]),
+            self.label(pipes) if has_label else "",
+            CUT if is_cut else WHOLE,
+            width,
+            DASHED if is_cut else SOLID,
+        )
 
     def panel(self) -> Optional[Panel]:
         """None of a net with too many hosts, or of a single link."""

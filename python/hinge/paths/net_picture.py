@@ -62,8 +62,7 @@ class NetPicture:
             if len(places):
                 items.append(
                     Points(
-                        way.name, places, passages.came[places] / SECOND, (passages.due - passages.came)[places] / MS, color,
-                        number
+                        way.name, places, passages.came[places] / SECOND, (passages.due - passages.came)[places] / MS, color, number
                     )
                 )
         return Panel("Delay on each way", "came at, s", "ms", items) if items else None
@@ -78,32 +77,19 @@ class NetPicture:
             y = np.array([level for _ in times for level in (place, place, np.nan)], float)
             color = next((color for way, color in self.ways if way.pipe == pipe), RESTS[place % len(RESTS)])
             items.append(
-                Line(
-                    f"{place}: {name}, {sum(end - begin for begin, end in times) / SECOND:.3g} s", x, y, color,
-                    width=CUT_WIDTH
-                )
+                Line(f"{place}: {name}, {sum(end - begin for begin, end in times) / SECOND:.3g} s", x, y, color, width=CUT_WIDTH)
             )
-        return (
-            Panel("Ways that lose all packets", "s", "", items, most=len(items) + 1, is_whole=True) if items else None
-        )
+        return Panel("Ways that lose all packets", "s", "", items, most=len(items) + 1, is_whole=True) if items else None
 
     def drops(self) -> Optional[Panel]:
         items: list[Item] = []
         for event in (LOST, FULL):
             came = self.passages.came[self.passages.event == event]
-            counts = np.bincount(came // self.step, minlength=self.count)[:self.count]
+            counts = np.bincount(came // self.step, minlength=self.count)[: self.count]
             if counts.any():
                 name = EVENT_NAMES[event]
-                items.append(
-                    Bars(
-                        f"{name} {int(counts.sum()):,}", self.edges[:-1], self.step / SECOND, counts, CAUSE_COLORS[name]
-                    )
-                )
-        return (
-            Panel(f"Drops by cause, packets per {time_of(self.step)}", "s", "packets", items, is_whole=True)
-            if items
-            else None
-        )
+                items.append(Bars(f"{name} {int(counts.sum()):,}", self.edges[:-1], self.step / SECOND, counts, CAUSE_COLORS[name]))
+        return Panel(f"Drops by cause, packets per {time_of(self.step)}", "s", "packets", items, is_whole=True) if items else None
 
     def over_links(self) -> list[Path]:
         return [path for path in paths(self.found) if len(path.pipes) > 1][:MOST_PATHS]
@@ -114,9 +100,7 @@ class NetPicture:
         for path, color in zip(self.over_links(), PATH_COLORS):
             places = spread(np.arange(len(path.sent)), MOST_DOTS)
             total = (path.links.sum(axis=1) + path.hosts.sum(axis=1))[places]
-            items.append(
-                Points(" - ".join(hosts_of(self.found, path)), places, path.sent[places] / SECOND, total / MS, color)
-            )
+            items.append(Points(" - ".join(hosts_of(self.found, path)), places, path.sent[places] / SECOND, total / MS, color))
         return Panel("Delay of paths", "sent at, s", "ms", items) if items else None
 
     def hops(self) -> Optional[Panel]:
@@ -131,10 +115,7 @@ class NetPicture:
         for place, column in enumerate(path.links.T):
             hops = [(f"in {hosts[place]}", path.hosts[:, place - 1], PIPES[0][0])] if place else []
             hops.append(
-                (
-                    f"from {hosts[place]} to {hosts[place + 1]}", column,
-                    colors.get(path.pipes[place], RESTS[place % len(RESTS)])
-                )
+                (f"from {hosts[place]} to {hosts[place + 1]}", column, colors.get(path.pipes[place], RESTS[place % len(RESTS)]))
             )
             for name, times, color in hops:
                 mean = np.bincount(of, weights=times, minlength=self.count) / np.maximum(counts, 1) / MS
@@ -150,22 +131,29 @@ class NetPicture:
                 moments, most = columns[0][0], np.max([values for _, values in columns], axis=0)
                 items.append(
                     Line(
-                        f"{kind}, at most {most.max(initial=0):,.4g} ms", np.append(0, moments),
-                        np.append(most, most[-1:]), PIPES[0][0], width=1, dash=dash
+                        f"{kind}, at most {most.max(initial=0):,.4g} ms",
+                        np.append(0, moments),
+                        np.append(most, most[-1:]),
+                        PIPES[0][0],
+                        width=1,
+                        dash=dash,
                     )
                 )
         return Panel("The links' lateness, the most of each second", "s", "ms", items) if items else None
 
     def drawing(self, below: list[str]) -> Drawing:
         panels = [
-            NetGraph(self.found, self.timeline, self.looked.words).panel(), self.throughput(), self.delays(),
-            self.of_paths(), self.hops(), self.drops(), self.cuts(), self.lateness()
+            NetGraph(self.found, self.timeline, self.looked.words).panel(),
+            self.throughput(),
+            self.delays(),
+            self.of_paths(),
+            self.hops(),
+            self.drops(),
+            self.cuts(),
+            self.lateness(),
         ]
         keys = [
-            Key(
-                way.name, color,
-                f"{way.name}: {way.packets:,} packets, {way.lost:,} lost, {way.full:,} met a full queue"
-            )
+            Key(way.name, color, f"{way.name}: {way.packets:,} packets, {way.lost:,} lost, {way.full:,} met a full queue")
             for way, color in self.ways
         ]
         return Drawing(panels, keys, "", self.timeline.span / SECOND, below, "Ways, those with most packets first")

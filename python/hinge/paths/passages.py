@@ -89,11 +89,7 @@ class Topology:
     def add_pipe(self, pipe: int, ends: tuple[int, int]) -> None:
         """The pipes of a second pass, from where the jitter of a way begins, are told together: as the first of
         them."""
-        same = (
-            [number for number, others in self.pipes.items() if others == ends]
-            if BETWEEN in self.hosts[ends[0]]
-            else []
-        )
+        same = [number for number, others in self.pipes.items() if others == ends] if BETWEEN in self.hosts[ends[0]] else []
         self.same[pipe] = min(same, default=pipe)
         if not same:
             self.pipes[pipe] = ends
@@ -222,13 +218,13 @@ class Reader:
             self.changes += [(moment, text) for _, moment, text in entries.changes()]
         except Bad:
             every = entries.records
-            raise entries.bad(
-                every.of(np.union1d(np.union1d(places, places + 1), np.flatnonzero(every.starts(b"d,"))))
-            ) from None
+            raise entries.bad(every.of(np.union1d(np.union1d(places, places + 1), np.flatnonzero(every.starts(b"d,"))))) from None
         hand_over = np.where((event == OUT) & ~np.isin(packet, refused_in(data)), hand_over, -1)
         self.add(
-            path, calls, rows,
-            [event, replies[1], due, self.records + places, np.where(hand_over < 0, -1, self.records + hand_over)]
+            path,
+            calls,
+            rows,
+            [event, replies[1], due, self.records + places, np.where(hand_over < 0, -1, self.records + hand_over)],
         )
         self.records += len(entries.records)
 
@@ -238,16 +234,12 @@ class Reader:
         content = content_before(calls)
         is_own = (flow[2] == OUTAGE_PROTOCOL) & (content == 0)
         unknown = set(number[kind == 1].tolist()) - set(self.pipe_of_queue)
-        pipes = np.array(
-            [self.pipe_of_queue.get(queue, 0) for queue in range(int(number.max(initial=0)) + 1)], np.int64
-        )
+        pipes = np.array([self.pipe_of_queue.get(queue, 0) for queue in range(int(number.max(initial=0)) + 1)], np.int64)
         pipe = np.where(kind == 1, pipes[number], number)
         used, place = np.unique(pipe, return_inverse=True)
         unknown |= set(used.tolist()) - set(self.topology.same)
         if unknown:
-            raise Fault(
-                f"{path}: no remark says between which hosts pipe {min(unknown)} is: hinge net writes them", ROWS
-            )
+            raise Fault(f"{path}: no remark says between which hosts pipe {min(unknown)} is: hinge net writes them", ROWS)
         pipe = np.array([self.topology.same[number] for number in used.tolist()], np.int64)[place.ravel()]
         file = np.full(len(pipe), len(self.columns))
         remarked = (has_before(calls, remark) for remark in (LAST, FLOODED))
@@ -261,8 +253,22 @@ class Reader:
         most = max(self.topology.pipes, default=0) + 1
         ends = np.array([self.topology.pipes.get(number, (NO_HOST, NO_HOST)) for number in range(most)], np.int64)
         return Passages(
-            self.topology, np.stack(flow), length, content, last, flooded, pipe, ends[pipe, 0], ends[pipe, 1], event,
-            came, due, submits_so_far, hand_over, line, file
+            self.topology,
+            np.stack(flow),
+            length,
+            content,
+            last,
+            flooded,
+            pipe,
+            ends[pipe, 0],
+            ends[pipe, 1],
+            event,
+            came,
+            due,
+            submits_so_far,
+            hand_over,
+            line,
+            file,
         )
 
 

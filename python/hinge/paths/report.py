@@ -77,10 +77,7 @@ def paths(matching: Matched) -> list[Path]:
 
 def hosts_of(matching: Matched, path: Path) -> list[str]:
     topology = matching.passages.topology
-    return [
-        topology.hosts[host]
-        for host in [*(topology.pipes[pipe][0] for pipe in path.pipes), topology.pipes[path.pipes[-1]][1]]
-    ]
+    return [topology.hosts[host] for host in [*(topology.pipes[pipe][0] for pipe in path.pipes), topology.pipes[path.pipes[-1]][1]]]
 
 
 def ways(matching: Matched) -> list[WayFigures]:
@@ -94,8 +91,19 @@ def ways(matching: Matched) -> list[WayFigures]:
         if own.any():
             losses, full = (int((own & (passages.event == event)).sum()) for event in (LOST, FULL))
             span = int(np.ptp(passages.due[out])) if len(delay) else 0
-            items.append(WayFigures(pipe, (topology.hosts[start], topology.hosts[end]), int(own.sum()), losses, full,
-                                   int(passages.length[out].sum()), span, mean, p99))
+            items.append(
+                WayFigures(
+                    pipe,
+                    (topology.hosts[start], topology.hosts[end]),
+                    int(own.sum()),
+                    losses,
+                    full,
+                    int(passages.length[out].sum()),
+                    span,
+                    mean,
+                    p99,
+                )
+            )
     return items
 
 
@@ -108,9 +116,7 @@ def of_ways(matching: Matched) -> Iterator[str]:
     rows: list[tuple[str, ...]] = [("way", "packets", "lost", "full", "Mbit/s", "mean ms", "p99 ms")]
     for way in ways(matching):
         times = (None if time is None else time / MS for time in (way.mean, way.p99))
-        rows.append(
-            (way.name, f"{way.packets:,}", f"{way.lost:,}", f"{way.full:,}", *map(told_or_none, (way.mbit_s, *times)))
-        )
+        rows.append((way.name, f"{way.packets:,}", f"{way.lost:,}", f"{way.full:,}", *map(told_or_none, (way.mbit_s, *times))))
     widths = [max(map(len, column)) for column in zip(*rows)]
     for name, *fields in rows:
         yield "  ".join([name.ljust(widths[0]), *(field.rjust(width) for field, width in zip(fields, widths[1:]))])
@@ -155,8 +161,10 @@ def summary(matching: Matched) -> str:
     more = [
         f"{count:,} {what}"
         for count, what in (
-            (matching.expired, "with an expired time to live"), (matching.back, "back at their senders"),
-            (matching.at_the_end, "at hosts at the end"), (matching.told, "dropped by the system, as it told")
+            (matching.expired, "with an expired time to live"),
+            (matching.back, "back at their senders"),
+            (matching.at_the_end, "at hosts at the end"),
+            (matching.told, "dropped by the system, as it told"),
         )
         if count
     ]

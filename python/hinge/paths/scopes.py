@@ -36,9 +36,9 @@ def scopes_of(addresses: Integers, of_hosts: set[int], six: dict[int, str]) -> I
     broadcasts = {address | LAST_OF_NETWORK for address in of_hosts if address not in six} - of_hosts
     used, place = np.unique(addresses, return_inverse=True)
     scopes = [
-        Scope.LINK if address in broadcasts else scope_of(
-            ipaddress.IPv6Address(six[address]) if address in six else ipaddress.IPv4Address(address)
-        )
+        Scope.LINK
+        if address in broadcasts
+        else scope_of(ipaddress.IPv6Address(six[address]) if address in six else ipaddress.IPv4Address(address))
         for address in used.tolist()
     ]
     places: Integers = np.array(scopes, np.int64)[place.ravel()]

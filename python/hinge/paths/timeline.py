@@ -76,9 +76,7 @@ def read_change(moment: int, text: str) -> WayChange | None:
 def timeline(matching: Matched, items: list[tuple[int, str]]) -> Timeline:
     passages = matching.passages
     changes = [change for moment, text in items if (change := read_change(moment, text))]
-    span = max(
-        [int(passages.came.max(initial=0)), int(passages.due.max(initial=0)), *(change.moment for change in changes)]
-    )
+    span = max([int(passages.came.max(initial=0)), int(passages.due.max(initial=0)), *(change.moment for change in changes)])
     before: dict[int, WayChange] = {}
     new, cuts = list[WayChange](), dict[int, list[tuple[int, int]]]()
     for change in changes:
@@ -139,9 +137,7 @@ def carried_by_way(matching: Matched, pipe: int, step: int, count: int) -> Reals
 
 def row_of(rates: Reals, cuts: list[tuple[int, int]], step: int, blocks: str) -> str:
     most = float(rates.max(initial=0))
-    row = [
-        NOTHING if not rate else blocks[min(int(rate / most * len(blocks)), len(blocks) - 1)] for rate in rates.tolist()
-    ]
+    row = [NOTHING if not rate else blocks[min(int(rate / most * len(blocks)), len(blocks) - 1)] for rate in rates.tolist()]
     for begin, end in cuts:
         first = round(begin / step)
         for place in range(first, min(max(round(end / step), first + 1), len(row))):
@@ -160,6 +156,4 @@ def chart(matching: Matched, line: Timeline, busiest: list[WayFigures]) -> Itera
     yield f"{'way'.ljust(width)}  0 s{end.rjust(count - 3)}  most, Mbit/s"
     for way in busiest:
         rates = carried_by_way(matching, way.pipe, step, count)
-        yield (
-            f"{way.name.ljust(width)}  {row_of(rates, line.cuts.get(way.pipe, []), step, letters())}  {rates.max():.3f}"
-        )
+        yield (f"{way.name.ljust(width)}  {row_of(rates, line.cuts.get(way.pipe, []), step, letters())}  {rates.max():.3f}")

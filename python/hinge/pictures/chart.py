@@ -49,8 +49,17 @@ def draw(item: object, axes: Axes, base: Reals) -> Reals:
 def draw_line(item: Line, axes: Axes, base: Reals) -> Reals:
     style = {"drawstyle": "steps-post"} if item.steps else {}
     more = {"zorder": BEHIND} if item.is_behind else {}
-    axes.plot(item.x, item.y, color=item.color, lw=item.width, ls=DASHES[item.dash], solid_capstyle="butt",
-              label=item.name, **style, **more)
+    axes.plot(
+        item.x,
+        item.y,
+        color=item.color,
+        lw=item.width,
+        ls=DASHES[item.dash],
+        solid_capstyle="butt",
+        label=item.name,
+        **style,
+        **more,
+    )
     return base
 
 
@@ -64,8 +73,15 @@ def draw_band(item: Band, axes: Axes, base: Reals) -> Reals:
 
 @draw.register(Points)
 def draw_points(item: Points, axes: Axes, base: Reals) -> Reals:
-    axes.plot(item.x, item.y, "x" if item.is_cross else ".", ms=4 if item.is_cross else 2, color=item.color,
-              label=item.name, rasterized=True)
+    axes.plot(
+        item.x,
+        item.y,
+        "x" if item.is_cross else ".",
+        ms=4 if item.is_cross else 2,
+        color=item.color,
+        label=item.name,
+        rasterized=True,
+    )
     return base
 
 
@@ -80,14 +96,34 @@ def draw_bars(item: Bars, axes: Axes, base: Reals) -> Reals:
 def draw_graph(item: Graph, axes: Axes, base: Reals) -> Reals:
     for edge in item.edges:
         ends = (item.nodes[edge.begin], item.nodes[edge.end])
-        axes.plot([node.x for node in ends], [node.y for node in ends], color=edge.color, lw=edge.width,
-                  ls=DASHES[edge.dash], zorder=BEHIND)
-        axes.text(sum(node.x for node in ends) / 2, sum(node.y for node in ends) / 2, as_written(edge.label),
-                  fontsize=7, ha="center", va="center", bbox=LABEL_BOX)
+        axes.plot(
+            [node.x for node in ends],
+            [node.y for node in ends],
+            color=edge.color,
+            lw=edge.width,
+            ls=DASHES[edge.dash],
+            zorder=BEHIND,
+        )
+        axes.text(
+            sum(node.x for node in ends) / 2,
+            sum(node.y for node in ends) / 2,
+            as_written(edge.label),
+            fontsize=7,
+            ha="center",
+            va="center",
+            bbox=LABEL_BOX,
+        )
     for node in item.nodes:
         shape = "square" if node.is_switch else "round"
-        axes.text(node.x, node.y, as_written(node.name), fontsize=9, ha="center", va="center",
-                  bbox={"boxstyle": shape, "facecolor": "#ffffff", "edgecolor": "#000000"})
+        axes.text(
+            node.x,
+            node.y,
+            as_written(node.name),
+            fontsize=9,
+            ha="center",
+            va="center",
+            bbox={"boxstyle": shape, "facecolor": "#ffffff", "edgecolor": "#000000"},
+        )
     axes.set_axis_off()
     axes.margins(0.15)
     return base
@@ -142,19 +178,27 @@ def name_flows(fig: Figure, cell: Optional[Axes], column: Sequence[Axes], drawin
     view = [handles[key.name] for key in drawing.keys]
     if cell is not None:
         cell.axis("off")
-        cell.legend(view, [as_written(key.told) for key in drawing.keys], loc="center", fontsize=9, frameon=False,
-                    title=drawing.of_keys)
+        cell.legend(
+            view, [as_written(key.told) for key in drawing.keys], loc="center", fontsize=9, frameon=False, title=drawing.of_keys
+        )
         return 0
-    fig.legend(view, [as_written(key.name) for key in drawing.keys], loc="lower center", ncol=min(len(view), 3) or 1,
-               fontsize=8, frameon=False)
+    fig.legend(
+        view,
+        [as_written(key.name) for key in drawing.keys],
+        loc="lower center",
+        ncol=min(len(view), 3) or 1,
+        fontsize=8,
+        frameon=False,
+    )
     return 0.2 * -(-len(view) // 3) + 0.1
 
 
 def draw_columns(drawings: list[Drawing], rows: list[int], cells: list[Sequence[Axes]]) -> None:
     """A column of the panels with these numbers for each replay. The limits come when all are drawn, since panels of a
     row share them."""
-    lines_with_places = [(axis, drawing, drawing.panels[row]) for drawing, column in zip(drawings, cells) for row,
-              axis in zip(rows, column)]
+    lines_with_places = [
+        (axis, drawing, drawing.panels[row]) for drawing, column in zip(drawings, cells) for row, axis in zip(rows, column)
+    ]
     for axis, drawing, panel in lines_with_places:
         if panel is None:
             axis.set_axis_off()
@@ -162,7 +206,7 @@ def draw_columns(drawings: list[Drawing], rows: list[int], cells: list[Sequence[
             draw_panel(axis, panel)
     names = [0 if panel is None else finish_panel(axis, panel, drawing) for axis, drawing, panel in lines_with_places]
     for place, row in enumerate(rows):
-        make_room(cells[0][place], max(names[place::len(rows)]))  # the others of the row share its limits
+        make_room(cells[0][place], max(names[place :: len(rows)]))  # the others of the row share its limits
 
 
 def figure(drawings: list[Drawing], title: str) -> Figure:
@@ -171,8 +215,9 @@ def figure(drawings: list[Drawing], title: str) -> Figure:
     rows = [row for row, panels in enumerate(zip(*(drawing.panels for drawing in drawings))) if any(panels)]
     several = len(drawings) > 1
     if several:
-        fig, axes = pyplot.subplots(len(rows), len(drawings), figsize=(6.5 * len(drawings), 3.4 * len(rows)),
-                                    sharex="row", sharey="row", squeeze=False)
+        fig, axes = pyplot.subplots(
+            len(rows), len(drawings), figsize=(6.5 * len(drawings), 3.4 * len(rows)), sharex="row", sharey="row", squeeze=False
+        )
         cells = list(axes.T)
     else:
         height = len(rows) // 2 + 1  # with a cell for the names
@@ -182,7 +227,7 @@ def figure(drawings: list[Drawing], title: str) -> Figure:
     for drawing, column in zip(drawings, cells):
         if several:
             column[0].set_title(f"{as_written(drawing.name)}\n{column[0].get_title()}")
-    spare = [] if several else cells[0][len(rows):]
+    spare = [] if several else cells[0][len(rows) :]
     names = name_flows(fig, spare[0] if spare else None, cells[0], drawings[0])
     for cell in spare[1:]:
         cell.set_axis_off()
@@ -196,8 +241,15 @@ def frame(fig: Figure, names: float, title: list[str], below: list[str]) -> None
     fig.suptitle(as_written("\n".join(title)))
     foot = LINE_INCHES * len(below) + names
     if below:
-        fig.text(0.01, (names + 0.06) / height, as_written("\n".join(below)), fontsize=7.5, color="#444444",
-                 va="bottom", family="monospace")
+        fig.text(
+            0.01,
+            (names + 0.06) / height,
+            as_written("\n".join(below)),
+            fontsize=7.5,
+            color="#444444",
+            va="bottom",
+            family="monospace",
+        )
     fig.tight_layout(rect=(0, (foot + 0.1 * bool(below)) / height, 1, 1 - 0.25 * len(title) / height))
 
 

@@ -15,6 +15,7 @@ from hinge.replays.explain import Explainer
 from hinge.replays.groups import group
 from hinge.replays.source import Source
 
+
 @dataclass(frozen=True)
 class LookOptions:
     """What `hinge look` is told, each field by the name of its option."""
@@ -53,11 +54,12 @@ def series_of(sources: list[Source], by: str, top: Optional[int], step_ms: Optio
     span = span_of(replays)
     step_ns = step_ms * NS_PER_MS if step_ms else fitting_step(replays, span)
     most = min(top or MOST_FLOWS, MOST_FLOWS)
-    flows = [group(replay, by).largest(replay.packets.length, most)
-             for replay in (replays if by == "flow" else replays[:1])]
+    flows = [group(replay, by).largest(replay.packets.length, most) for replay in (replays if by == "flow" else replays[:1])]
     each = zip(sources, flows * (len(sources) // len(flows)))
-    return [series(source.replay, result, step_ns, span, source.changes, source.lateness, source.bounds or ())
-            for source, result in each]
+    return [
+        series(source.replay, result, step_ns, span, source.changes, source.lateness, source.bounds or ())
+        for source, result in each
+    ]
 
 
 def provenance_of(sources: list[Source]) -> list[str]:

@@ -64,7 +64,8 @@ def figures(name: str, replay: Replay, parts: Optional[Parts], places: Integers)
     took = replay.took[column]
     sequence = np.sort(took)
     value: dict[str, Optional[int | float]] = {
-        "packets": len(places), "bytes": int(length.sum()),
+        "packets": len(places),
+        "bytes": int(length.sum()),
         "offered_mbit_s": rate(length, replay.at[places]),
         "carried_mbit_s": rate(replay.packets.length[out], replay.due[out]),
     }

@@ -58,8 +58,7 @@ def teller(flows_in_time: Series, explainer: Explainer | None) -> Callable[[int]
         at, start, due = int(replay.at[place]), int(replay.start[place]), int(replay.due[place])
         if not replay.is_out[place]:
             return f"Row {place + 1}: {EVENT_NAMES[replay.event[place]]}."
-        return (f"Row {place + 1} took {ms(due - at)} = {ms(start - at)} waiting + {ms(due - start)} transmission and "
-                f"delay.")
+        return f"Row {place + 1} took {ms(due - at)} = {ms(start - at)} waiting + {ms(due - start)} transmission and " f"delay."
 
     return parts
 
@@ -72,7 +71,7 @@ def outline(band: Band) -> tuple[Reals, Reals]:
     turns = np.flatnonzero(np.diff(has_value))
     xs, ys = list[Reals](), list[Reals]()
     for begin, end in turns.reshape(-1, 2).tolist():
-        across = np.repeat(band.x[begin:end + 1], 2)[1:-1]
+        across = np.repeat(band.x[begin : end + 1], 2)[1:-1]
         xs += [across, across[::-1], np.array([np.nan])]
         ys += [np.repeat(band.high[begin:end], 2), np.repeat(band.low[begin:end], 2)[::-1], np.array([np.nan])]
     return np.concatenate(xs or [np.zeros(0)]), np.concatenate(ys or [np.zeros(0)])
@@ -92,8 +91,9 @@ class HtmlPage:
         self.rows = len(self.shown) // 2 + 1  # with a cell for the names
         titles = [panel.title + ": over a packet, why" * (number == DELAYS) for number, panel in self.shown]
         make = module("plotly.subplots", "python3-plotly").make_subplots
-        self.figure = make(rows=self.rows, cols=2, subplot_titles=titles, horizontal_spacing=0.07,
-                           vertical_spacing=0.28 / self.rows)
+        self.figure = make(
+            rows=self.rows, cols=2, subplot_titles=titles, horizontal_spacing=0.07, vertical_spacing=0.28 / self.rows
+        )
         self.progress, self.told, self.cell = Progress("packets told of"), 0, (1, 1)
         self.named: set[str] = set()
 
@@ -124,36 +124,60 @@ class HtmlPage:
         naming = self.naming(item.name, item.flow)
         hidden: dict[str, object] = {**naming, "showlegend": False, "hoverinfo": "skip"}
         x, y = outline(item)
-        self.add(self.graphs.Scatter(x=x, y=y, mode="lines", line={"width": 0, "color": item.color}, fill="toself",
-                                     opacity=0.3, **hidden))
+        self.add(
+            self.graphs.Scatter(
+                x=x, y=y, mode="lines", line={"width": 0, "color": item.color}, fill="toself", opacity=0.3, **hidden
+            )
+        )
         middle = {"shape": "hv", "width": 1.5, "color": item.color}
-        self.add(self.graphs.Scatter(x=item.x, y=np.append(item.middle, item.middle[-1]), mode="lines", line=middle,
-                                     **naming))
+        self.add(self.graphs.Scatter(x=item.x, y=np.append(item.middle, item.middle[-1]), mode="lines", line=middle, **naming))
         self.points(item.name, self.found.flows[item.flow].out_places, item.color, item.flow)
 
     @draw.register
     def _(self, item: Points) -> None:
         if item.is_cross:
             marker = {"size": 7, "symbol": "x-thin-open", "color": item.color}
-            self.add(self.graphs.Scattergl(x=item.x, y=item.y, text=self.texts(item.places), hoverinfo="text",
-                                           mode="markers", marker=marker,
-                                           **self.naming(item.name, item.flow)))
+            self.add(
+                self.graphs.Scattergl(
+                    x=item.x,
+                    y=item.y,
+                    text=self.texts(item.places),
+                    hoverinfo="text",
+                    mode="markers",
+                    marker=marker,
+                    **self.naming(item.name, item.flow),
+                )
+            )
         else:
             self.points(item.name, item.places, item.color, item.flow)
 
     @draw.register
     def _(self, item: Bars) -> None:
-        self.add(self.graphs.Bar(x=item.begins + item.width / 2, y=item.counts, width=item.width,
-                                 marker={"color": item.color, "line": {"width": 0}},
-                                 **self.naming(item.name, item.flow)))
+        self.add(
+            self.graphs.Bar(
+                x=item.begins + item.width / 2,
+                y=item.counts,
+                width=item.width,
+                marker={"color": item.color, "line": {"width": 0}},
+                **self.naming(item.name, item.flow),
+            )
+        )
 
     def points(self, name: str, places: Integers, color: str, flow: Optional[int]) -> None:
         """Some of a flow's packets, the fastest and the slowest of each stretch of time among them."""
         draw_lines = sum(len(one.out_places) for one in self.found.flows) or 1
         places = thinned(places, self.found.replay, max(MOST_TOLD * len(places) // draw_lines, 100))
-        self.add(self.graphs.Scattergl(x=self.found.sent_at(places), y=self.found.took_ms(places),
-                                       text=self.texts(places), hoverinfo="text",
-                                       mode="markers", marker={"size": 4, "color": color}, **self.naming(name, flow)))
+        self.add(
+            self.graphs.Scattergl(
+                x=self.found.sent_at(places),
+                y=self.found.took_ms(places),
+                text=self.texts(places),
+                hoverinfo="text",
+                mode="markers",
+                marker={"size": 4, "color": color},
+                **self.naming(name, flow),
+            )
+        )
 
     def texts(self, places: Integers) -> list[str]:
         self.told += len(places)
@@ -166,23 +190,44 @@ class HtmlPage:
             self.draw(item)
         row, column = self.cell
         self.figure.update_xaxes(title_text=panel.across, title_standoff=4, row=row, col=column)
-        self.figure.update_yaxes(title_text=panel.up, title_standoff=4,
-                                 rangemode="tozero" if panel.from_zero else "normal", row=row, col=column)
+        self.figure.update_yaxes(
+            title_text=panel.up, title_standoff=4, rangemode="tozero" if panel.from_zero else "normal", row=row, col=column
+        )
         if panel.has_time:
             self.figure.update_xaxes(matches="x", row=row, col=column)
 
     def lay_out(self, title: str) -> None:
         below = [page_text(line) for line in below_lines([*self.notes(), *self.drawing.below], BELOW_WIDTH)]
         self.figure.update_layout(
-            template="plotly_white", title={"text": title, "y": 0.99, "yanchor": "top"}, barmode="stack", bargap=0,
-            height=ROW_PIXELS * self.rows + LINE_PIXELS * len(below), hovermode="closest", hoverlabel={"align": "left"},
+            template="plotly_white",
+            title={"text": title, "y": 0.99, "yanchor": "top"},
+            barmode="stack",
+            bargap=0,
+            height=ROW_PIXELS * self.rows + LINE_PIXELS * len(below),
+            hovermode="closest",
+            hoverlabel={"align": "left"},
             margin={"t": 130, "l": 60, "r": 30, "b": 60 + LINE_PIXELS * len(below)},
-            legend={"x": 0.54, "y": 0.86 / self.rows, "yanchor": "top", "font": {"size": 11},
-                    "title": {"text": "Flows, the largest first, and what isn't a flow's; click to hide one"}},
+            legend={
+                "x": 0.54,
+                "y": 0.86 / self.rows,
+                "yanchor": "top",
+                "font": {"size": 11},
+                "title": {"text": "Flows, the largest first, and what isn't a flow's; click to hide one"},
+            },
         )
-        self.figure.add_annotation(text="<br>".join(below), x=0, y=0, xref="paper", yref="paper", yshift=-45,
-                                   yanchor="top", xanchor="left", align="left",
-                                   showarrow=False, font={"size": 10, "color": "#444444"})
+        self.figure.add_annotation(
+            text="<br>".join(below),
+            x=0,
+            y=0,
+            xref="paper",
+            yref="paper",
+            yshift=-45,
+            yanchor="top",
+            xanchor="left",
+            align="left",
+            showarrow=False,
+            font={"size": 10, "color": "#444444"},
+        )
 
     def notes(self) -> list[str]:
         """What the panels say beside their names, and what the page leaves out, so that nobody counts points."""

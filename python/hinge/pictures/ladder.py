@@ -46,8 +46,16 @@ def arrows_of_replay(replay: Replay, rows: range) -> list[Arrow]:
     for place in range(rows.start - 1, min(rows.stop - 1, len(packets))):
         src, dst, protocol, _, _ = packets.tuples[packets.five_tuple[place]]
         came = int(replay.due[place]) if replay.is_out[place] else None
-        arrows.append(Arrow(place + 1, (src, dst), int(replay.at[place]), came, EVENT_NAMES[replay.event[place]],
-                            words_of(protocol, int(packets.length[place]))))
+        arrows.append(
+            Arrow(
+                place + 1,
+                (src, dst),
+                int(replay.at[place]),
+                came,
+                EVENT_NAMES[replay.event[place]],
+                words_of(protocol, int(packets.length[place])),
+            )
+        )
     return arrows
 
 
@@ -57,9 +65,16 @@ def arrows_of_net(matching: Matched, rows: range) -> list[Arrow]:
     for place in range(rows.start - 1, min(rows.stop - 1, len(passages))):
         ends = (passages.topology.hosts[passages.start[place]], passages.topology.hosts[passages.end[place]])
         is_out = passages.event[place] == OUT
-        arrows.append(Arrow(place + 1, ends, int(passages.came[place]), int(passages.due[place]) if is_out else None,
-                            EVENT_NAMES[passages.event[place]],
-                            words_of(int(passages.flow[2, place]), int(passages.length[place]))))
+        arrows.append(
+            Arrow(
+                place + 1,
+                ends,
+                int(passages.came[place]),
+                int(passages.due[place]) if is_out else None,
+                EVENT_NAMES[passages.event[place]],
+                words_of(int(passages.flow[2, place]), int(passages.length[place])),
+            )
+        )
     return arrows
 
 
@@ -82,7 +97,7 @@ def row(arrow: Arrow, hosts: list[str], width: int) -> str:
         line = f"{line[:-1]}>" if goes_right else f"<{line[1:]}"
     else:
         line = f"{line[:-2]}x " if goes_right else f" x{line[2:]}"
-    letters[low + 1:high] = line
+    letters[low + 1 : high] = line
     return "".join(letters)
 
 
@@ -109,9 +124,16 @@ def ladder_drawing(arrows: list[Arrow], below: list[str]) -> Drawing:
     for cause in dict.fromkeys(arrow.fate for arrow in arrows if arrow.came is None):
         losses = [arrow for arrow in arrows if arrow.came is None and arrow.fate == cause]
         x = np.array([place[one.ends[0]] + DROPPED_AT * (place[one.ends[1]] - place[one.ends[0]]) for one in losses])
-        items.append(Points(f"{cause} {len(losses):,}", np.array([one.number - 1 for one in losses]), x,
-                            np.array([one.sent for one in losses]) / NS_PER_S, CAUSE_COLORS.get(cause, "#000000"),
-                            is_cross=True))
+        items.append(
+            Points(
+                f"{cause} {len(losses):,}",
+                np.array([one.number - 1 for one in losses]),
+                x,
+                np.array([one.sent for one in losses]) / NS_PER_S,
+                CAUSE_COLORS.get(cause, "#000000"),
+                is_cross=True,
+            )
+        )
     panel = Panel("Packets between hosts", "", "s", items, from_zero=False, has_time=False, is_down=True, names=hosts)
     return Drawing([panel], keys, "", 0, below, "Ways", PICTURE_INCHES)
 

@@ -7,8 +7,7 @@ from pathlib import Path
 from typing import Callable, Iterator, Optional
 
 from hinge.lazy import Integers, Reals, np
-from hinge.pictures.drawing import (DASHED, DENSE, DOTTED, MIXED, SOLID, Band, Bars, Drawing, Item, Key, Line, Panel,
-                                    Points)
+from hinge.pictures.drawing import DASHED, DENSE, DOTTED, MIXED, SOLID, Band, Bars, Drawing, Item, Key, Line, Panel, Points
 from hinge.pictures.series import CAUSES, NS_PER_MS, NS_PER_S, Flow, Series, Steps, spread
 from hinge.replays.replay import EVENT_NAMES
 
@@ -53,12 +52,17 @@ class Panels:
     def __init__(self, flows_in_time: Series) -> None:
         self.found, self.step = flows_in_time, time_of(flows_in_time.steps.length)
         rests = [number for number, flow in enumerate(flows_in_time.flows) if flow.is_rest]
-        self.colors = [RESTS[rests.index(number) % len(RESTS)] if flow.is_rest else COLORS[number] for number,
-                       flow in enumerate(flows_in_time.flows)]
-        pipes = sorted({*flows_in_time.carried, *flows_in_time.capacities, *flows_in_time.waiting},
-                       key=lambda name: (name.split()[0], int(name.split()[1].rstrip(","))))
-        self.pipes = {name: PIPES[number % len(PIPES)] for number,
-                      name in enumerate(dict.fromkeys(name.partition(",")[0] for name in pipes))}
+        self.colors = [
+            RESTS[rests.index(number) % len(RESTS)] if flow.is_rest else COLORS[number]
+            for number, flow in enumerate(flows_in_time.flows)
+        ]
+        pipes = sorted(
+            {*flows_in_time.carried, *flows_in_time.capacities, *flows_in_time.waiting},
+            key=lambda name: (name.split()[0], int(name.split()[1].rstrip(","))),
+        )
+        self.pipes = {
+            name: PIPES[number % len(PIPES)] for number, name in enumerate(dict.fromkeys(name.partition(",")[0] for name in pipes))
+        }
 
     def flows(self) -> Iterator[tuple[int, Flow, str]]:
         """The flows with their numbers and colors, the largest on top and what stands for others at the bottom."""
@@ -78,17 +82,27 @@ class Panels:
         items: list[Item] = []
         for name, total in getattr(result, which).items():
             color, dash = self.pipes[name]
-            items.append(Line(f"all of {name}", edges, np.append(total, total[-1]), color, width=2.2, dash=dash,
-                              is_behind=True))
+            items.append(Line(f"all of {name}", edges, np.append(total, total[-1]), color, width=2.2, dash=dash, is_behind=True))
         for name, (moments, rates) in result.capacities.items():
             text = f"{name}: {range_of(rates, 'Mbit/s')}"
             if np.nanmax(rates) <= MOST_ABOVE * most:
-                items.append(Line(f"capacity of {text}", moments, rates, self.pipes[name.partition(",")[0]][0],
-                                  width=1.2, dash=DOTTED, is_behind=True))
+                items.append(
+                    Line(
+                        f"capacity of {text}",
+                        moments,
+                        rates,
+                        self.pipes[name.partition(",")[0]][0],
+                        width=1.2,
+                        dash=DOTTED,
+                        is_behind=True,
+                    )
+                )
             else:
                 notes.append(f"capacity of {text}, above this panel")
-        items += [Line(flow.name, edges, np.append(getattr(flow, which), getattr(flow, which)[-1]), color, number)
-                  for number, flow, color in self.flows()]
+        items += [
+            Line(flow.name, edges, np.append(getattr(flow, which), getattr(flow, which)[-1]), color, number)
+            for number, flow, color in self.flows()
+        ]
         return Panel(f"{title}, per {self.step}", "s", "Mbit/s", items, notes)
 
     def carried(self) -> Panel:
@@ -127,17 +141,22 @@ class Panels:
             text = f"bound on the delay of {one.name}: {limit:,.6g} ms"
             if limit <= MOST_ABOVE * most:
                 ends = np.array([0, self.found.steps.span]) / NS_PER_S
-                lines.append(Line(text, ends, np.array([limit, limit]), self.pipes[one.name][0], width=0.9,
-                                  dash=DASHED, is_behind=True))
+                lines.append(
+                    Line(text, ends, np.array([limit, limit]), self.pipes[one.name][0], width=0.9, dash=DASHED, is_behind=True)
+                )
             else:
                 notes.append(f"{text}; the greatest is {most:,.6g} ms" if most else text)
         return lines, notes
 
     def distribution(self) -> Optional[Panel]:
-        items: list[Item] = [Line(flow.name, flow.delays, flow.ranks, color, number) for number, flow,
-                             color in self.flows() if len(flow.delays)]
-        return Panel("Distribution of the delay", "ms", "part of what arrived", items, from_zero=False, has_time=False,
-                     most=1.02) if items else None
+        items: list[Item] = [
+            Line(flow.name, flow.delays, flow.ranks, color, number) for number, flow, color in self.flows() if len(flow.delays)
+        ]
+        return (
+            Panel("Distribution of the delay", "ms", "part of what arrived", items, from_zero=False, has_time=False, most=1.02)
+            if items
+            else None
+        )
 
     def waiting(self) -> Optional[Panel]:
         """The packets that wait for each pipe or queue, and its limit."""
@@ -150,11 +169,19 @@ class Panels:
             if limit is None or not most:
                 continue
             if limit.numbers is not None and np.nanmax(limit.numbers) <= MOST_ABOVE * most:
-                items.append(Line(f"limit of {name}: {limit.told}", limit.moments, limit.numbers.astype(float), color,
-                                  width=1.2, dash=DASHED, is_behind=True))
+                items.append(
+                    Line(
+                        f"limit of {name}: {limit.told}",
+                        limit.moments,
+                        limit.numbers.astype(float),
+                        color,
+                        width=1.2,
+                        dash=DASHED,
+                        is_behind=True,
+                    )
+                )
             else:
-                notes.append(f"limit of {name}: {limit.told}"
-                             + (", above this panel" if limit.numbers is not None else ""))
+                notes.append(f"limit of {name}: {limit.told}" + (", above this panel" if limit.numbers is not None else ""))
         if not any(lengths.any() for _, lengths in self.found.waiting.values()):
             return None
         return Panel("Packets that wait", "s", "packets", items, notes, is_whole=True)
@@ -164,14 +191,17 @@ class Panels:
         return Bars(name, steps.begins, steps.length / NS_PER_S, counts, color, flow)
 
     def drops(self) -> Optional[Panel]:
-        items: list[Item] = [self.bars(f"{cause} {int(counts.sum()):,}", counts, CAUSE_COLORS[cause])
-                             for cause, counts in self.found.drops.items() if counts.any()]
-        return Panel(f"Drops by cause, packets per {self.step}", "s", "packets", items,
-                     is_whole=True) if items else None
+        items: list[Item] = [
+            self.bars(f"{cause} {int(counts.sum()):,}", counts, CAUSE_COLORS[cause])
+            for cause, counts in self.found.drops.items()
+            if counts.any()
+        ]
+        return Panel(f"Drops by cause, packets per {self.step}", "s", "packets", items, is_whole=True) if items else None
 
     def drops_by_flow(self) -> Optional[Panel]:
-        items: list[Item] = [self.bars(flow.name, flow.drops, color, number) for number, flow,
-                             color in self.flows() if flow.drops.any()]
+        items: list[Item] = [
+            self.bars(flow.name, flow.drops, color, number) for number, flow, color in self.flows() if flow.drops.any()
+        ]
         return Panel(f"Drops by flow, packets per {self.step}", "s", "packets", items, is_whole=True) if items else None
 
     def lateness(self) -> Optional[Panel]:
@@ -181,8 +211,16 @@ class Panels:
         for number, (way, of_way) in enumerate(self.found.lateness.items()):
             for which, (moments, ms) in of_way.items():
                 x, y = np.append(0, moments), np.append(ms, ms[-1:])  # each is of the time up to its moment
-                items.append(Line(f"{way}: {which}, at most {ms.max(initial=0):.3g} ms", x, y, PIPES[number % 2][0],
-                                  width=1, dash=dashes[which]))
+                items.append(
+                    Line(
+                        f"{way}: {which}, at most {ms.max(initial=0):.3g} ms",
+                        x,
+                        y,
+                        PIPES[number % 2][0],
+                        width=1,
+                        dash=dashes[which],
+                    )
+                )
         return Panel("The host's lateness, the most of each second", "s", "ms", items) if items else None
 
     def drop_points(self) -> list[Points]:
@@ -191,19 +229,32 @@ class Panels:
         for cause in CAUSES:
             places = spread(np.flatnonzero(items.replay.event == cause), MOST_DROPS_TOLD)
             if len(places):
-                marks.append(Points(f"dropped: {EVENT_NAMES[cause]}", places, items.sent_at(places),
-                                    np.zeros(len(places)),
-                                    CAUSE_COLORS[EVENT_NAMES[cause]], is_cross=True))
+                marks.append(
+                    Points(
+                        f"dropped: {EVENT_NAMES[cause]}",
+                        places,
+                        items.sent_at(places),
+                        np.zeros(len(places)),
+                        CAUSE_COLORS[EVENT_NAMES[cause]],
+                        is_cross=True,
+                    )
+                )
         return marks
 
     def key(self, number: int, flow: Flow) -> Key:
-        return Key(flow.name, self.colors[number],
-                   f"{flow.name}: {int(flow.drops.sum()):,} of {flow.packets:,} dropped")
+        return Key(flow.name, self.colors[number], f"{flow.name}: {int(flow.drops.sum()):,} of {flow.packets:,} dropped")
 
 
 ORDER: tuple[Callable[[Panels], Optional[Panel]], ...] = (
-    Panels.carried, Panels.offered, Panels.delays, Panels.distribution, Panels.waiting, Panels.drops,
-    Panels.drops_by_flow, Panels.lateness)
+    Panels.carried,
+    Panels.offered,
+    Panels.delays,
+    Panels.distribution,
+    Panels.waiting,
+    Panels.drops,
+    Panels.drops_by_flow,
+    Panels.lateness,
+)
 DELAYS = ORDER.index(Panels.delays)
 
 
@@ -211,5 +262,10 @@ def drawing(flows_in_time: Series, below: Optional[list[str]] = None) -> Drawing
     """The picture of a replay; `below` is written under it."""
     panels = Panels(flows_in_time)
     keys = [panels.key(number, flow) for number, flow in enumerate(flows_in_time.flows)]
-    return Drawing([make(panels) for make in ORDER], keys, Path(flows_in_time.replay.path).name, flows_in_time.steps.span / NS_PER_S,
-                   below or [])
+    return Drawing(
+        [make(panels) for make in ORDER],
+        keys,
+        Path(flows_in_time.replay.path).name,
+        flows_in_time.steps.span / NS_PER_S,
+        below or [],
+    )

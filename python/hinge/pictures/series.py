@@ -56,11 +56,11 @@ class Steps:
         return np.append(0, np.cumsum(self.widths)) / NS_PER_S
 
     def counts(self, moments: Integers) -> Integers:
-        return np.bincount(moments // self.length, minlength=self.count)[:self.count]
+        return np.bincount(moments // self.length, minlength=self.count)[: self.count]
 
     def rates(self, moments: Integers, lengths: Integers) -> Reals:
         """Mbit/s of each step that has a rate, of packets with these moments and lengths."""
-        bits = np.bincount(moments // self.length, weights=lengths * 8, minlength=self.count)[:self.rated]
+        bits = np.bincount(moments // self.length, weights=lengths * 8, minlength=self.count)[: self.rated]
         return bits * 1000 / self.widths
 
 
@@ -135,8 +135,7 @@ def fitting_step(replays: list[Replay], span: int) -> int:
     step = round_step(span)
     main = [places_of_main_target(replay) for replay in replays]
     busy = sum(len(np.unique(replay.due[places] // step)) for replay, places in zip(replays, main))
-    largest = sum(int(np.bincount(replay.packets.five_tuple[places], minlength=1).max()) for replay,
-                  places in zip(replays, main))
+    largest = sum(int(np.bincount(replay.packets.five_tuple[places], minlength=1).max()) for replay, places in zip(replays, main))
     if not busy:
         return step
     names = max(step * PACKETS_A_STEP * busy // sum(map(len, main)), step * PACKETS_OF_LARGEST * busy // largest)
@@ -189,8 +188,11 @@ def shared_pipes(replay: Replay, groups: Groups, pipes: dict[str, str]) -> dict[
     """The places of the packets to each pipe, or queue whose pipe isn't known, unless one drawn flow is all that it
     has."""
     rest = len(groups.names) - 1 if groups.has_rest else -1  # which stands for several
-    return {name: places for name, places in by_pipe(replay, pipes).items()
-            if len(column := np.unique(groups.of[places])) > 1 or rest in column and replay.is_out[places].any()}
+    return {
+        name: places
+        for name, places in by_pipe(replay, pipes).items()
+        if len(column := np.unique(groups.of[places])) > 1 or rest in column and replay.is_out[places].any()
+    }
 
 
 def by_pipe(replay: Replay, pipes: dict[str, str]) -> dict[str, Integers]:
@@ -208,8 +210,7 @@ def named_places(replay: Replay, groups: Groups, pipes: dict[str, str]) -> Itera
         if number != last:
             yield name, places, False
             continue
-        parts = {pipe: np.intersect1d(places, there, assume_unique=True) for pipe,
-                 there in by_pipe(replay, pipes).items()}
+        parts = {pipe: np.intersect1d(places, there, assume_unique=True) for pipe, there in by_pipe(replay, pipes).items()}
         parts = {pipe: there for pipe, there in parts.items() if len(there)}
         for pipe, there in parts.items():
             count = len(np.unique(groups.each[there])) if groups.each is not None else 0
@@ -228,20 +229,43 @@ def carried(replay: Replay, places: Integers, steps: Steps) -> Reals:
 def flow_series(replay: Replay, name: str, places: Integers, is_rest: bool, steps: Steps) -> Flow:
     out = places[replay.is_out[places]]
     drops = places[np.isin(replay.event[places], CAUSES)]
-    return Flow(name, is_rest, len(places), offered(replay, places, steps), carried(replay, places, steps), out,
-                *distribution(replay.took[out]), steps.counts(replay.at[drops]))
+    return Flow(
+        name,
+        is_rest,
+        len(places),
+        offered(replay, places, steps),
+        carried(replay, places, steps),
+        out,
+        *distribution(replay.took[out]),
+        steps.counts(replay.at[drops]),
+    )
 
 
-def series(replay: Replay, groups: Groups, step_ns: int, span: int, changes: Iterable[tuple[int, str]] = (),
-           lateness: Optional[Lateness] = None, bounds: Iterable[Bounded] = ()) -> Series:
+def series(
+    replay: Replay,
+    groups: Groups,
+    step_ns: int,
+    span: int,
+    changes: Iterable[tuple[int, str]] = (),
+    lateness: Optional[Lateness] = None,
+    bounds: Iterable[Bounded] = (),
+) -> Series:
     steps, changes = Steps(step_ns, span), list(changes)
     pipes = pipe_names(changes)
-    flows = [flow_series(replay, name, places, is_rest, steps) for name, places,
-             is_rest in named_places(replay, groups, pipes)]
+    flows = [flow_series(replay, name, places, is_rest, steps) for name, places, is_rest in named_places(replay, groups, pipes)]
     drops = {EVENT_NAMES[cause]: steps.counts(replay.at[replay.event == cause]) for cause in CAUSES}
     queues = {name: waiting(replay, places) for name, places in group(replay, "target").places()}
     common = shared_pipes(replay, groups, pipes)
-    return Series(replay, steps, flows, drops, queues,
-                  {name: carried(replay, places, steps) for name, places in common.items()},
-                  {name: offered(replay, places, steps) for name, places in common.items()}, capacities(changes, span),
-                  limits(changes, span), lateness or {}, list(bounds))
+    return Series(
+        replay,
+        steps,
+        flows,
+        drops,
+        queues,
+        {name: carried(replay, places, steps) for name, places in common.items()},
+        {name: offered(replay, places, steps) for name, places in common.items()},
+        capacities(changes, span),
+        limits(changes, span),
+        lateness or {},
+        list(bounds),
+    )

@@ -31,8 +31,11 @@ def capacities(changes: Iterable[tuple[int, str]], span: int) -> dict[str, tuple
             rate = setting.bw / 10**6 if isinstance(setting, Pipe) and setting.bw else np.nan
             table.setdefault(f"pipe {number}{', a flow' * ('mask' in text.split())}", []).append((moment, rate))
     steps = {name: [*points, (max(span, points[-1][0]), points[-1][1])] for name, points in table.items()}
-    return {name: (np.array([at for at, _ in points]) / NS_PER_S, np.array([rate for _, rate in points]))
-            for name, points in steps.items() if not np.isnan([rate for _, rate in points]).all()}
+    return {
+        name: (np.array([at for at, _ in points]) / NS_PER_S, np.array([rate for _, rate in points]))
+        for name, points in steps.items()
+        if not np.isnan([rate for _, rate in points]).all()
+    }
 
 
 def limits(changes: Iterable[tuple[int, str]], span: int) -> dict[str, Limits]:
@@ -51,8 +54,7 @@ def limits_of(points: list[tuple[int, Limit, bool]], span: int) -> Limits:
     moments = np.array([*(moment for moment, _, _ in points), max(span, last)]) / NS_PER_S
     each = ", each flow" * has_mask
     if any(limit.slots is None for _, limit, _ in points):
-        return Limits(moments, None,
-                      f"{limit.kbytes} Kbytes{each}" if limit.kbytes else f"{limit.slots:,} packets{each}")
+        return Limits(moments, None, f"{limit.kbytes} Kbytes{each}" if limit.kbytes else f"{limit.slots:,} packets{each}")
     numbers = np.array([*(limit.slots for _, limit, _ in points), limit.slots])
     text = f"{numbers.min():,}" if numbers.min() == numbers.max() else f"{numbers.min():,} to {numbers.max():,}"
     return Limits(moments, numbers, f"{text} packets{each}")

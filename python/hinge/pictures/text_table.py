@@ -43,11 +43,15 @@ def blocks(columns: list[list[str]], width: int) -> Iterator[list[list[str]]]:
 
 def write_columns(columns: list[list[str]], texts: int, out: TextIO) -> None:
     """The columns in blocks as wide as the terminal, or as 80 columns. The first so many are of text."""
-    view = [[text.ljust(max(map(len, column))) if place < texts else text.rjust(max(map(len, column)))
-              for text in column] for place, column in enumerate(columns)]
+    view = [
+        [text.ljust(max(map(len, column))) if place < texts else text.rjust(max(map(len, column))) for text in column]
+        for place, column in enumerate(columns)
+    ]
     width = shutil.get_terminal_size((WIDTH, 0)).columns if out.isatty() else WIDTH
-    parts = ("\n".join(GAP.join(row).rstrip() for row in zip(*block) if any(text.strip() for text in row))
-             for block in blocks(view, width))
+    parts = (
+        "\n".join(GAP.join(row).rstrip() for row in zip(*block) if any(text.strip() for text in row))
+        for block in blocks(view, width)
+    )
     out.write("\n\n".join(parts) + "\n")
 
 

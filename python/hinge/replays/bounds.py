@@ -26,9 +26,14 @@ class Bounded:
 
     def figures(self) -> dict[str, Optional[int]]:
         """The figures by name."""
-        return {"pipe": self.bound.pipe, "longest_bytes": self.bound.length, "max_wait_ns": self.wait_ns,
-                "wait_bound_ns": self.bound.start_ns, "max_delay_ns": self.delay_ns,
-                "delay_bound_ns": self.bound.due_ns}
+        return {
+            "pipe": self.bound.pipe,
+            "longest_bytes": self.bound.length,
+            "max_wait_ns": self.wait_ns,
+            "wait_bound_ns": self.bound.start_ns,
+            "max_delay_ns": self.delay_ns,
+            "delay_bound_ns": self.bound.due_ns,
+        }
 
 
 def greatest(column: Integers) -> Optional[int]:
@@ -43,5 +48,8 @@ def bounds(replay: Replay, configuration: Configuration) -> Iterator[Bounded]:
         places = np.flatnonzero(connection & (replay.packets.target == numbers.get(("pipe", pipe.number), -1)))
         if len(places):
             out = places[replay.is_out[places]]
-            yield Bounded(bound_of(pipe, int(replay.packets.length[places].max())),
-                          greatest(replay.start[out] - replay.at[out]), greatest(replay.took[out]))
+            yield Bounded(
+                bound_of(pipe, int(replay.packets.length[places].max())),
+                greatest(replay.start[out] - replay.at[out]),
+                greatest(replay.took[out]),
+            )

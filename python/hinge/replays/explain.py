@@ -29,8 +29,10 @@ class Explainer:
         self.packets = self.replay.packets
         self.order = LinkOrder(self.parts)
         if (self.replay.at != np.maximum.accumulate(self.packets.moment)).any():
-            raise Fault(f"{self.replay.path}: its rows didn't come in their order, as those of several callers: no "
-                        f"queue can be told", ROWS)
+            raise Fault(
+                f"{self.replay.path}: its rows didn't come in their order, as those of several callers: no " f"queue can be told",
+                ROWS,
+            )
 
     def paragraph(self, row: int) -> str:
         """What happened to a row of the packet file, counted from 1."""
@@ -64,8 +66,7 @@ class Explainer:
         moment, at = int(self.packets.moment[place]), int(self.replay.at[place])
         late = f" (its own moment is {seconds(moment)}, and a row before it had come later)" if moment < at else ""
         name, length = self.packets.tuple_name(self.packets.five_tuple[place]), int(self.packets.length[place])
-        return (f"Row {place + 1} ({name}, {length:,} bytes) was sent to {self.target_name(place)} at "
-                f"{seconds(at)}{late}.")
+        return f"Row {place + 1} ({name}, {length:,} bytes) was sent to {self.target_name(place)} at " f"{seconds(at)}{late}."
 
     def link_name(self, place: int) -> str:
         pipe = self.pipe_number(place)
@@ -114,9 +115,8 @@ class Explainer:
         if wait.first_was_sending:
             first = int(wait.places[0])
             whose = f" of {self.flow_name(first)}" if self.parts.is_shared[place] else ""
-            lines.append(f"{ms(int(wait.costs[0]))} until row {first + 1}{whose}, which was under transmission, had "
-                        f"been sent")
-        places, costs = wait.places[int(wait.first_was_sending):], wait.costs[int(wait.first_was_sending):]
+            lines.append(f"{ms(int(wait.costs[0]))} until row {first + 1}{whose}, which was under transmission, had " f"been sent")
+        places, costs = wait.places[int(wait.first_was_sending) :], wait.costs[int(wait.first_was_sending) :]
         flows = self.replay.flow[places]
         for flow in sorted(set(flows.tolist()), key=lambda flow: (flow != self.replay.flow[place], flow)):
             choice = flows == flow
@@ -132,8 +132,7 @@ class Explainer:
         else:
             whose = f"of {self.flow_name(int(places[0]))}"
         later = int(np.count_nonzero(places > place))
-        which = ("" if later == 0 else ", which came after it" if later == len(places)
-                 else f", {later:,} of which came after it")
+        which = "" if later == 0 else ", which came after it" if later == len(places) else f", {later:,} of which came after it"
         return f"{ms(cost)} for {packets(len(places))} {whose}{which}: {rows(places + 1)}"
 
     # ---- packets that didn't ----
@@ -169,16 +168,16 @@ class Explainer:
         )
 
     def another_configuration(self, what: str) -> Fault:
-        return Fault(f"{what} by {self.parts.configuration.path}: {self.replay.path} is the report of another "
-                     f"configuration", ROWS)
+        return Fault(
+            f"{what} by {self.parts.configuration.path}: {self.replay.path} is the report of another " f"configuration", ROWS
+        )
 
     def room_again(self, place: int, leaver: int) -> str:
         """When the queue had room, which is when this packet of it began to be sent."""
         if self.replay.event[leaver] == HELD:
             return f"There was no room again before row {leaver + 1} left it, after the end of the replay."
         start = int(self.replay.start[leaver])
-        return (f"There was room again {ms(start - int(self.replay.at[place]))} later, when row {leaver + 1} began to "
-                f"be sent.")
+        return f"There was room again {ms(start - int(self.replay.at[place]))} later, when row {leaver + 1} began to " f"be sent."
 
     def untargeted(self, place: int) -> str:
         if self.parts.configuration.own(self.target(place)) is not None:
@@ -205,7 +204,7 @@ class Explainer:
         replay, parts = self.replay, self.parts
         queue = self.order.accepted_of(int(replay.flow[place])).places
         free = 0
-        for other in queue[:int(np.searchsorted(queue, place))].tolist():
+        for other in queue[: int(np.searchsorted(queue, place))].tolist():
             start = int(replay.start[other]) if replay.event[other] == OUT else max(free, int(replay.at[other]))
             free = start + int(parts.transmission[other])
         return max(free - int(replay.at[place]), 0), int(parts.transmission[place]), int(parts.delay[place])

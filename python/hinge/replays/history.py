@@ -71,8 +71,9 @@ class Entries:
         """A row for each submit: the number of its kind of target, that of the target, the five-tuple, length and
         word."""
         _, _, _, kind, number, src, dst, *rest, _ = records.fields(13)
-        return np.stack([OneOf(KINDS).read(kind), one_number(number), Address().read(src), Address().read(dst),
-                         *map(one_number, rest)])
+        return np.stack(
+            [OneOf(KINDS).read(kind), one_number(number), Address().read(src), Address().read(dst), *map(one_number, rest)]
+        )
 
     @staticmethod
     def deliveries_of(records: Records) -> list[Integers]:
@@ -92,7 +93,7 @@ class Entries:
             choice = np.flatnonzero(replies.starts(begin))
             numbers = [one_number(field) for field in replies.of(choice).fields(REPLY_FIELDS[fate])[2:]]
             column[0, choice] = fate
-            column[1:1 + len(numbers), choice] = numbers
+            column[1 : 1 + len(numbers), choice] = numbers
         if (column[0] < 0).any():
             raise Bad
         return column
@@ -132,8 +133,11 @@ def with_fates(entries: Entries, replies: Integers) -> Integers:
     rows = order[np.minimum(places, max(len(order) - 1, 0))] if len(order) else places
     unknown = (packet[rows] != packets_out) if len(order) else np.ones(len(packets_out), bool)
     if unknown.any():
-        raise Fault(f"{entries.path} line {deliveries.line[int(np.argmax(unknown))]}: no packet "
-                    f"{packets_out[int(np.argmax(unknown))]} was queued", ROWS)
+        raise Fault(
+            f"{entries.path} line {deliveries.line[int(np.argmax(unknown))]}: no packet "
+            f"{packets_out[int(np.argmax(unknown))]} was queued",
+            ROWS,
+        )
     event[rows], start[rows], due[rows] = OUT, began, ends
     return np.stack([event, flow, packet, start, due])
 
@@ -145,8 +149,9 @@ def packets_of(path: str, rows: Integers, moments: Integers, addresses: dict[str
     five_tuple, first_of_tuple = numbered(*five)
     tuples = zip(*(column[first_of_tuple].tolist() for column in five))
     targets = [(KINDS[kind[row]], int(number[row])) for row in first_of_target]
-    return Packets(path, moments, target, five_tuple, length, word, targets,
-                   named_tuples(tuples, {**read_addresses(path), **addresses}))
+    return Packets(
+        path, moments, target, five_tuple, length, word, targets, named_tuples(tuples, {**read_addresses(path), **addresses})
+    )
 
 
 def spelled_by_program(path: str, changes: list[tuple[int, int, str]]) -> list[tuple[int, int, str]]:
@@ -177,11 +182,9 @@ def read_history(path: str) -> Source:
             changes = entries.changes()
         except Bad:
             every = entries.records
-            raise entries.bad(every.of(np.union1d(np.union1d(places, places + 1),
-                                                  np.flatnonzero(every.starts(b"d,"))))) from None
+            raise entries.bad(every.of(np.union1d(np.union1d(places, places + 1), np.flatnonzero(every.starts(b"d,"))))) from None
         event, flow, packet, start, due = fates
-        replay = Replay(path, packets_of(path, rows, replies[1], file.addresses), event, flow, packet, replies[1],
-                        start, due)
+        replay = Replay(path, packets_of(path, rows, replies[1], file.addresses), event, flow, packet, replies[1], start, due)
     changes = spelled_by_program(path, changes)
     first = int(places[0]) if len(places) else len(records)
     is_steady = all(place < first for place, _, _ in changes)

@@ -72,4 +72,4 @@ class LinkOrder:
         """The places of the packets that waited in the queue of the row's flow when the row came."""
         queue = self.accepted_of(int(self.parts.replay.flow[place]))
         first = int(np.searchsorted(queue.starts, self.parts.replay.at[place], side="right"))
-        return queue.places[first:int(np.searchsorted(queue.places, place))]
+        return queue.places[first : int(np.searchsorted(queue.places, place))]

@@ -35,8 +35,14 @@ class Entry(NamedTuple):
 
     def known(self) -> dict[str, Any]:
         """The same for a program."""
-        return {"call": self.number, "line": self.line, "row": self.row, "moment_ns": self.moment, "text": self.call,
-                "reply": list(self.reply)}
+        return {
+            "call": self.number,
+            "line": self.line,
+            "row": self.row,
+            "moment_ns": self.moment,
+            "text": self.call,
+            "reply": list(self.reply),
+        }
 
 
 def entries(path: Union[str, Path]) -> Iterator[Entry]:
@@ -94,14 +100,20 @@ class Parting(NamedTuple):
         for sign, result in groups:
             for it in result:
                 row = "" if it.row is None else f"  (row: {it.row})"
-                lines += [f"{sign} {it.number:>{width}}  {it.call}{row}",
-                          *(f"{sign} {'':{width}}  {record}" for record in it.reply)]
+                lines += [
+                    f"{sign} {it.number:>{width}}  {it.call}{row}",
+                    *(f"{sign} {'':{width}}  {record}" for record in it.reply),
+                ]
         return "\n".join(lines)
 
     def known(self) -> dict[str, Any]:
         """The same for a program; docs/CAPTURE.md has its keys."""
-        return {"call": self.number, "reason": self.reason(), "before": [it.known() for it in self.before],
-                "after": [[it.known() for it in result] for result in self.after]}
+        return {
+            "call": self.number,
+            "reason": self.reason(),
+            "before": [it.known() for it in self.before],
+            "after": [[it.known() for it in result] for result in self.after],
+        }
 
 
 def same(one: Optional[Entry], other: Optional[Entry]) -> bool:

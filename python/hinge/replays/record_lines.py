@@ -33,7 +33,7 @@ class Records:
         return Records(self.data, self.begin[choice], self.end[choice], self.line[choice], self.commas)
 
     def text(self, place: int) -> str:
-        return self.data[self.begin[place]:self.end[place]].tobytes().decode("utf-8", "replace")
+        return self.data[self.begin[place] : self.end[place]].tobytes().decode("utf-8", "replace")
 
     def starts(self, word: bytes, field: int = 0) -> Mask:
         """Whether each has a field, from 0, that begins with this word; the word may go on over commas."""

@@ -22,7 +22,7 @@ def remarks_of(data: bytes, kind: bytes) -> Iterator[list[str]]:
     at = data.find(begin)
     while at >= 0:
         end = data.find(b"\n", at + 1)
-        yield data[at + len(begin):end if end >= 0 else len(data)].decode("ascii", "replace").split(",")
+        yield data[at + len(begin) : end if end >= 0 else len(data)].decode("ascii", "replace").split(",")
         at = data.find(begin, at + 1)
 
 
@@ -43,16 +43,17 @@ def seed_in(data: bytes) -> Optional[str]:
 def lateness_in(data: bytes) -> Lateness:
     """By how much the host was late, by the remarks `#,late,MOMENT` with LATE and UNREAD of each way behind them, in
     ns."""
-    rows = [list(map(int, fields)) for fields in remarks_of(data, b"late")
-            if all(map(is_number, fields))]
+    rows = [list(map(int, fields)) for fields in remarks_of(data, b"late") if all(map(is_number, fields))]
     rows = [row for row in rows if len(row) == len(rows[0]) and len(row) % 2]
     if not rows:
         return {}
     moments, *columns = np.array(rows, np.int64).T
-    return {way_name(number,
-                     len(columns) // 2): {kind: (moments / NS_PER_S, columns[2 * number + place] / NS_PER_MS) for place,
-                                          kind in enumerate(KINDS)}
-            for number in range(len(columns) // 2)}
+    return {
+        way_name(number, len(columns) // 2): {
+            kind: (moments / NS_PER_S, columns[2 * number + place] / NS_PER_MS) for place, kind in enumerate(KINDS)
+        }
+        for number in range(len(columns) // 2)
+    }
 
 
 def late_remark(late: float, unread: float) -> str:

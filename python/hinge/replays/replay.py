@@ -80,6 +80,7 @@ def dotted(address: int) -> str:
 
 def named_tuples(rows: Iterable[tuple[int, ...]], addresses: dict[str, str]) -> list[tuple[str, str, int, int, int]]:
     """Five-tuples with their addresses as text, those that stand for IPv6 addresses under these."""
+
     def named(address: int) -> str:
         return addresses.get(dotted(address), dotted(address))
 
@@ -87,11 +88,21 @@ def named_tuples(rows: Iterable[tuple[int, ...]], addresses: dict[str, str]) -> 
 
 
 def read_packets(path: str) -> Packets:
-    table = read_table(path, {
-        "moment": Number(), "target": OneOf(KINDS), "number": Number(), "src": Address(), "dst": Address(),
-        "proto": Number(),
-        "sport": Number(), "dport": Number(), "len": Number(), "word": Number(),
-    })
+    table = read_table(
+        path,
+        {
+            "moment": Number(),
+            "target": OneOf(KINDS),
+            "number": Number(),
+            "src": Address(),
+            "dst": Address(),
+            "proto": Number(),
+            "sport": Number(),
+            "dport": Number(),
+            "len": Number(),
+            "word": Number(),
+        },
+    )
     target, first_of_target = numbered(table["target"], table["number"])
     five = [table[name] for name in ("src", "dst", "proto", "sport", "dport")]
     five_tuple, first_of_tuple = numbered(*five)
@@ -103,13 +114,20 @@ def read_packets(path: str) -> Packets:
 
 def read_report(path: str, packets: Packets) -> Replay:
     """The report of a replay of these packets: each row has one line."""
-    columns = read_table(path, {
-        "event": OneOf(EVENT_NAMES), "row": Number(), "flow": Number(True), "packet": Number(True),
-        "at": Number(), "start": Number(True), "due": Number(True),
-    })
+    columns = read_table(
+        path,
+        {
+            "event": OneOf(EVENT_NAMES),
+            "row": Number(),
+            "flow": Number(True),
+            "packet": Number(True),
+            "at": Number(),
+            "start": Number(True),
+            "due": Number(True),
+        },
+    )
     place = columns.pop("row") - 1
-    count = np.bincount(place,
-                        minlength=len(packets)) if len(place) and place.min() >= 0 else np.zeros(len(packets), int)
+    count = np.bincount(place, minlength=len(packets)) if len(place) and place.min() >= 0 else np.zeros(len(packets), int)
     if len(place) != len(packets) or len(count) != len(packets) or (count != 1).any():
         raise Fault(f"{path}: its {len(place)} lines aren't those of the {len(packets)} rows of {packets.path}", ROWS)
     union = {name: np.empty_like(column) for name, column in columns.items()}

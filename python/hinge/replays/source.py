@@ -44,8 +44,11 @@ class Source:
         if self.parts is not None:
             return self.parts
         if self.is_history:
-            raise Fault(f"{self.replay.path}: the links were changed while packets came, and a paragraph is of links "
-                        f"that stay as they are", ROWS)
+            raise Fault(
+                f"{self.replay.path}: the links were changed while packets came, and a paragraph is of links "
+                f"that stay as they are",
+                ROWS,
+            )
         raise Fault("a paragraph needs the configuration: --config FILE", USAGE)
 
     def remarks(self) -> Iterator[str]:
@@ -85,5 +88,4 @@ def of_reports(packets_path: str, reports: list[str], config: Optional[str]) -> 
     configuration = read_configuration(config) if config else None
     changes = [(0, line) for line in configuration.lines] if configuration else []
     files = [(packets_path, report, *([config] if config else [])) for report in reports]
-    return [Source(read_report(report, packets), names, changes, configuration) for report,
-            names in zip(reports, files)]
+    return [Source(read_report(report, packets), names, changes, configuration) for report, names in zip(reports, files)]

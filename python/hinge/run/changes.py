@@ -59,7 +59,7 @@ class Changes:
         came."""
         members = set()
         for line in [*self.begun.values(), *(change.line for change in self.lines)]:
-            if "mask" not in line and "queue" not in line[:len("ipfw queue")]:
+            if "mask" not in line and "queue" not in line[: len("ipfw queue")]:
                 continue
             words, target = line.split(), target_of(line)
             if target.kind == "queue" and "pipe" in words[:-1]:
@@ -74,9 +74,7 @@ class Changes:
         items: list[tuple[int, int, int]] = []
         common = self.shared() if self.outages else ()
         for pipe, begin, end in sorted(
-            (one.pipe, one.moment, one.moment + one.length)
-            for one in self.outages
-            if one.pipe not in common
+            (one.pipe, one.moment, one.moment + one.length) for one in self.outages if one.pipe not in common
         ):
             if items and items[-1][0] == pipe and begin <= items[-1][2]:
                 items[-1] = (pipe, items[-1][1], max(end, items[-1][2]))
@@ -86,9 +84,7 @@ class Changes:
 
     def of_outage(self, outage: Outage, lines: list[Change], moments: list[int]) -> list[Change]:
         """What an outage does to a pipe of these lines, which have these moments."""
-        before, after = (
-            lines[bisect_right(moments, moment) - 1].line for moment in (outage.moment, outage.moment + outage.length)
-        )
+        before, after = (lines[bisect_right(moments, moment) - 1].line for moment in (outage.moment, outage.moment + outage.length))
         if not configures(before):
             return []  # it was deleted before
         end = [Change(outage.moment + outage.length, after)] * configures(after)

@@ -42,8 +42,15 @@ class Control:
     the plan. One order at a time changes it."""
 
     def __init__(
-        self, path: str, plan: Plan, page: Page, event: Callable[[str, str], None], status: Callable[[], Record],
-        enter: Enter = nobody, lines: Optional[HostLines] = None, act: Optional[Act] = None
+        self,
+        path: str,
+        plan: Plan,
+        page: Page,
+        event: Callable[[str, str], None],
+        status: Callable[[], Record],
+        enter: Enter = nobody,
+        lines: Optional[HostLines] = None,
+        act: Optional[Act] = None,
     ) -> None:
         """`event` gives the plan what words say of a moment, as 5s; `status` tells how it goes; `enter` opens a
         host; `act` does what words say where they are of no link, and returns nothing where they are of one."""
@@ -139,6 +146,14 @@ class Control:
         return ObeyedLine(answer.moment + later, answer.line or line, answer.wrong)
 
 
-def opened(path: Optional[str], plan: Plan, page: Page, event: Callable[[str, str], None], status: Callable[[], Record],
-           enter: Enter = nobody, lines: Optional[HostLines] = None, act: Optional[Act] = None) -> Optional[Control]:
+def opened(
+    path: Optional[str],
+    plan: Plan,
+    page: Page,
+    event: Callable[[str, str], None],
+    status: Callable[[], Record],
+    enter: Enter = nobody,
+    lines: Optional[HostLines] = None,
+    act: Optional[Act] = None,
+) -> Optional[Control]:
     return Control(path, plan, page, event, status, enter, lines, act) if path else None

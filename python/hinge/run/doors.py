@@ -19,8 +19,10 @@ class Doors:
     """Made in the first process."""
 
     def __init__(self) -> None:
-        self.shared = [os.open("/", os.O_RDONLY | os.O_DIRECTORY | os.O_CLOEXEC),
-                       *(os.open(f"/proc/thread-self/ns/{kind}", os.O_RDONLY | os.O_CLOEXEC) for kind, _ in KINDS)]
+        self.shared = [
+            os.open("/", os.O_RDONLY | os.O_DIRECTORY | os.O_CLOEXEC),
+            *(os.open(f"/proc/thread-self/ns/{kind}", os.O_RDONLY | os.O_CLOEXEC) for kind, _ in KINDS),
+        ]
 
     def to(self, network: int) -> list[int]:
         """Those of the room with this network."""

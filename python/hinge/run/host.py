@@ -26,9 +26,7 @@ def program() -> str:
     if sys.platform != "linux":
         raise Missing("the host is a program of Linux")
     repository = HERE.parents[2]
-    for place in (
-        os.environ.get("HINGE_LINK"), HERE / NAME, repository / "built" / NAME, repository / "release" / NAME
-    ):
+    for place in (os.environ.get("HINGE_LINK"), HERE / NAME, repository / "built" / NAME, repository / "release" / NAME):
         if place and os.access(place, os.X_OK):
             return str(place)
     raise Missing(
@@ -50,8 +48,15 @@ class Link:
     """The host, which runs from when this is made, and its page of counts."""
 
     def __init__(
-        self, processes: Processes, page: Page, words: Sequence[str], descriptors: Iterable[int], plan: str, mask: Mask,
-        control: Optional[Control] = None, lines: Optional[HostLines] = None
+        self,
+        processes: Processes,
+        page: Page,
+        words: Sequence[str],
+        descriptors: Iterable[int],
+        plan: str,
+        mask: Mask,
+        control: Optional[Control] = None,
+        lines: Optional[HostLines] = None,
     ) -> None:
         """`lines` go to it while packets pass; a socket for commands has some of its own."""
         self.processes, self.page, self.control = processes, page, control
@@ -73,9 +78,7 @@ class Link:
     def failed(self) -> Optional[int]:
         """Waits until the link is ready; the status of a host that ended before, which has told why, or that of a
         signal that came."""
-        came = self.processes.poll(
-            lambda: self.page.state() != STARTING or self.process in self.processes.ended, math.inf, POLL
-        )
+        came = self.processes.poll(lambda: self.page.state() != STARTING or self.process in self.processes.ended, math.inf, POLL)
         return SIGNALLED + came if came else self.processes.ended.get(self.process)
 
     def end(self) -> None:

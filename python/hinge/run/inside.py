@@ -49,9 +49,7 @@ class Inside:
             return None, None
         server = self.rooms.start_server(self.options.server, self.order.mask)
         enter(self.rooms.server)
-        came = self.processes.poll(
-            lambda: something_listens() or server in self.processes.ended, self.server_wait, LISTEN_POLL
-        )
+        came = self.processes.poll(lambda: something_listens() or server in self.processes.ended, self.server_wait, LISTEN_POLL)
         if came is None and server in self.processes.ended:
             say(f"the server ended with {name_of(self.processes.ended[server])} before it listened")
         elif came is None and not something_listens():
@@ -121,8 +119,13 @@ class Inside:
             self.page, lambda: record(self.page.read(), self.rooms.dropped(), None, self.order.seed, []), self.doors()
         )
         link = Link(
-            self.processes, self.page, ["tun", *map(str, self.rooms.interfaces)], self.rooms.interfaces,
-            self.order.plan, self.order.mask, control
+            self.processes,
+            self.page,
+            ["tun", *map(str, self.rooms.interfaces)],
+            self.rooms.interfaces,
+            self.order.plan,
+            self.order.mask,
+            control,
         )
         fault = link.failed()
         if fault is not None:

@@ -35,8 +35,10 @@ QUIET = (("accept_dad", "0"), ("accept_ra", "0"), ("router_solicitations", "0"))
 # IFLA_AF_SPEC, IFLA_INET_CONF, IFLA_INET6_ADDR_GEN_MODE, IN6_ADDR_GEN_MODE_NONE
 OF_FAMILIES, INET_CONF, ADDRESS_MODE, NO_ADDRESS = 26, 1, 8, 1
 FORWARDING, PROXY_ARP = 1, 3  # IPV4_DEVCONF_FORWARDING, IPV4_DEVCONF_PROXY_ARP
-TUN_ADVICE = {errno.ENOENT: "in a container give it --device /dev/net/tun; elsewhere sudo modprobe tun",
-              errno.EACCES: "let users open it, as most systems do: sudo chmod 666 /dev/net/tun"}
+TUN_ADVICE = {
+    errno.ENOENT: "in a container give it --device /dev/net/tun; elsewhere sudo modprobe tun",
+    errno.EACCES: "let users open it, as most systems do: sudo chmod 666 /dev/net/tun",
+}
 
 
 def change(name: str, flags: int, mask: int, attributes: Iterable[tuple[int, bytes]]) -> None:
@@ -81,42 +83,44 @@ def family_and_bytes(text: str) -> tuple[int, bytes]:
 
 def add_address(name: str, text: str, bits: int) -> None:
     family, data = family_and_bytes(text)
-    ask_kernel(
-        NEWADDR, struct.pack("BBBBi", family, bits, NODAD, 0, index_of(name)),
-        [(LOCAL, data), (ADDRESS, data)]
-    )
+    ask_kernel(NEWADDR, struct.pack("BBBBi", family, bits, NODAD, 0, index_of(name)), [(LOCAL, data), (ADDRESS, data)])
 
 
 def add_route(gateway: str) -> None:
     """The way to all other networks of the gateway's family."""
     family, data = family_and_bytes(gateway)
-    ask_kernel(
-        NEWROUTE, struct.pack("BBBBBBBBI", family, 0, 0, 0, MAIN_TABLE, BY_BOOT, 0, UNICAST, 0), [(GATEWAY, data)]
-    )
+    ask_kernel(NEWROUTE, struct.pack("BBBBBBBBI", family, 0, 0, 0, MAIN_TABLE, BY_BOOT, 0, UNICAST, 0), [(GATEWAY, data)])
 
 
 def interface_route(
-    text: str, index: int, source: str, bits: Optional[int] = None, table: int = MAIN_TABLE,
-    metric: Optional[int] = None, may_fail: bool = False, gateway: Optional[str] = None
+    text: str,
+    index: int,
+    source: str,
+    bits: Optional[int] = None,
+    table: int = MAIN_TABLE,
+    metric: Optional[int] = None,
+    may_fail: bool = False,
+    gateway: Optional[str] = None,
 ) -> Request:
     """The way to one address, or to all with so many bits of it, by an interface, for packets that have the source
     where they have no other. A lower metric goes first."""
     family, data = family_and_bytes(text)
     bits, scope = 8 * len(data) if bits is None else bits, 0 if gateway or family == socket.AF_INET6 else LINK_SCOPE
     attributes = [
-        (DESTINATION, data), (OUT_BY, struct.pack("I", index)), (PREFERRED, family_and_bytes(source)[1]),
-        (ROUTE_TABLE, struct.pack("I", table)), *([] if metric is None else [(METRIC, struct.pack("I", metric))]),
-        *([(GATEWAY, family_and_bytes(gateway)[1])] if gateway else [])
+        (DESTINATION, data),
+        (OUT_BY, struct.pack("I", index)),
+        (PREFERRED, family_and_bytes(source)[1]),
+        (ROUTE_TABLE, struct.pack("I", table)),
+        *([] if metric is None else [(METRIC, struct.pack("I", metric))]),
+        *([(GATEWAY, family_and_bytes(gateway)[1])] if gateway else []),
     ]
     return Request(
-        NEWROUTE, struct.pack("BBBBBBBBI", family, bits, 0, 0, 0, BY_BOOT, scope, UNICAST, 0) + packed(attributes),
-        may_fail
+        NEWROUTE, struct.pack("BBBBBBBBI", family, bits, 0, 0, 0, BY_BOOT, scope, UNICAST, 0) + packed(attributes), may_fail
     )
 
 
 def add_interface_route(
-    text: str, name: str, source: str, bits: Optional[int] = None, table: int = MAIN_TABLE,
-    gateway: Optional[str] = None
+    text: str, name: str, source: str, bits: Optional[int] = None, table: int = MAIN_TABLE, gateway: Optional[str] = None
 ) -> None:
     ask_many([interface_route(text, index_of(name), source, bits, table, gateway=gateway)])
 

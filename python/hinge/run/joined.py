@@ -70,8 +70,11 @@ def way_out() -> WayOut:
 
 def rule(kind: int, priority: int, table: int, comes_by: str = "") -> None:
     inputs = [(COMES_BY, comes_by.encode() + b"\0")] if comes_by else []
-    ask_kernel(kind, struct.pack("BBBBBBBBI", socket.AF_INET, 0, 0, 0, 0, 0, 0, TO_TABLE, 0),
-               [*inputs, (PRIORITY, struct.pack("I", priority)), (TABLE, struct.pack("I", table))])
+    ask_kernel(
+        kind,
+        struct.pack("BBBBBBBBI", socket.AF_INET, 0, 0, 0, 0, 0, 0, TO_TABLE, 0),
+        [*inputs, (PRIORITY, struct.pack("I", priority)), (TABLE, struct.pack("I", table))],
+    )
 
 
 def rules(by: str) -> list[tuple[int, str]]:
@@ -106,9 +109,7 @@ class Joined(Rooms):
         try:
             enter(network)
         except OSError as error:
-            raise Missing(
-                TAKES_ROOT if error.errno == errno.EPERM else f"--netns: {error.strerror}: it is no network"
-            ) from None
+            raise Missing(TAKES_ROOT if error.errno == errno.EPERM else f"--netns: {error.strerror}: it is no network") from None
         self.out = way_out()
         without_rules(self.out.interface)
         self.interfaces = (add_tun(*ENDS[UP], mtu, UP, persists=False), add_tun(*ENDS[DOWN], mtu, DOWN, persists=False))

@@ -85,12 +85,12 @@ def openmetrics(status: dict[str, Any]) -> str:
         lines += [line for label, way in ways for line in samples(family, label, way)]
     for name, key, text in (
         ("wakeups", "wakeups", "How often the process of the links slept and woke."),
-        ("turns", "turns", "How often it looked after its links.")
+        ("turns", "turns", "How often it looked after its links."),
     ):
         lines += [*head(name, "counter", "", text), f"hinge_{name}_total {status[key]}"]
     lines += [
         *head("moment_seconds", "gauge", "seconds", "The clock of the links."),
-        f"hinge_moment_seconds {status['moment'] / NS!r}"
+        f"hinge_moment_seconds {status['moment'] / NS!r}",
     ]
     endings: Optional[dict[str, int]] = status.get("ended")
     if endings is not None:

@@ -39,8 +39,7 @@ class ListPresets(argparse.Action):
     """Prints the presets, and ends."""
 
     def __call__(
-        self, parser: argparse.ArgumentParser, namespace: argparse.Namespace, values: object,
-        option: Optional[str] = None
+        self, parser: argparse.ArgumentParser, namespace: argparse.Namespace, values: object, option: Optional[str] = None
     ) -> NoReturn:
         show(table())
         parser.exit()
@@ -49,8 +48,9 @@ class ListPresets(argparse.Action):
 class BothWays(argparse.Action):
     """The link of each way of which --up and --down say nothing."""
 
-    def __call__(self, parser: argparse.ArgumentParser, namespace: argparse.Namespace, values: object,
-                 option: Optional[str] = None) -> None:
+    def __call__(
+        self, parser: argparse.ArgumentParser, namespace: argparse.Namespace, values: object, option: Optional[str] = None
+    ) -> None:
         for way in ("up", "down"):
             if getattr(namespace, way, None) is None:
                 setattr(namespace, way, values)
@@ -59,29 +59,50 @@ class BothWays(argparse.Action):
 # Options of other tools for a property of a link, with the words of a link that say the same of a value.
 ELSEWHERE = {
     **dict.fromkeys(("--rate", "--bandwidth", "--bw", "--delay", "--latency", "--both", "--speed"), "{}"),
-    "--jitter": "jitter {}", "--plr": "plr {}", "--packet-loss": "loss {}", "--drop": "loss {}", "--limit": "queue {}",
-    "--queue": "queue {}", "--target-bw": "{}Kbit/s", "--duplicate": "duplicate {}",
+    "--jitter": "jitter {}",
+    "--plr": "plr {}",
+    "--packet-loss": "loss {}",
+    "--drop": "loss {}",
+    "--limit": "queue {}",
+    "--queue": "queue {}",
+    "--target-bw": "{}Kbit/s",
+    "--duplicate": "duplicate {}",
 }
-UNITS = {**dict.fromkeys(("--delay", "--latency", "--jitter"), "ms"), **dict.fromkeys(("--packet-loss", "--drop", "--duplicate"), "%")}
+UNITS = {
+    **dict.fromkeys(("--delay", "--latency", "--jitter"), "ms"),
+    **dict.fromkeys(("--packet-loss", "--drop", "--duplicate"), "%"),
+}
 # Options that people try, with what to write, and whether a value comes with them.
 OTHERS = {
-    "--uplink": ("--up '{}'", True), "--upload": ("--up '{}'", True), "--downlink": ("--down '{}'", True),
-    "--download": ("--down '{}'", True), "--rtt": ("--link with half of {} each way", True),
-    "--profile": ("--preset '{}'", True), "--conditions": ("--preset '{}'", True),
-    "--uplink-queue": ("--up '10Mbit/s queue 100'", True), "--downlink-queue": ("--down '10Mbit/s queue 100'", True),
-    "--pcap": ("--transcript FILE, which `hinge look` draws", True), "--log": ("--transcript FILE", True),
-    "--output": ("--transcript FILE", True), "--report": ("--json FILE", True),
+    "--uplink": ("--up '{}'", True),
+    "--upload": ("--up '{}'", True),
+    "--downlink": ("--down '{}'", True),
+    "--download": ("--down '{}'", True),
+    "--rtt": ("--link with half of {} each way", True),
+    "--profile": ("--preset '{}'", True),
+    "--conditions": ("--preset '{}'", True),
+    "--uplink-queue": ("--up '10Mbit/s queue 100'", True),
+    "--downlink-queue": ("--down '10Mbit/s queue 100'", True),
+    "--pcap": ("--transcript FILE, which `hinge look` draws", True),
+    "--log": ("--transcript FILE", True),
+    "--output": ("--transcript FILE", True),
+    "--report": ("--json FILE", True),
     "--timeout": ("timeout {} before COMMAND, or --real-limit {} of simulated time", True),
-    "--meter-all": ("--watch", False), "--verbose": ("--watch", False), "-v": ("--watch", False),
-    "--simulate": ("--simulated", False), "--internet": ("--outside", False), "--network": ("--outside", False),
+    "--meter-all": ("--watch", False),
+    "--verbose": ("--watch", False),
+    "-v": ("--watch", False),
+    "--simulate": ("--simulated", False),
+    "--internet": ("--outside", False),
+    "--network": ("--outside", False),
 }
 
 
 class WordOfLink(argparse.Action):
     """Refuses another tool's option, and says what to write in its place."""
 
-    def __call__(self, parser: argparse.ArgumentParser, namespace: argparse.Namespace, values: object,
-                 option: Optional[str] = None) -> NoReturn:
+    def __call__(
+        self, parser: argparse.ArgumentParser, namespace: argparse.Namespace, values: object, option: Optional[str] = None
+    ) -> NoReturn:
         if option in OTHERS:
             parser.error(f"{option}: write {OTHERS[option][0].format(values, values)}")
         unit = UNITS.get(option or "", "") * str(values).isdigit()
@@ -102,8 +123,7 @@ def add_link(parser: argparse.ArgumentParser) -> None:
     add_elsewhere(parser)
     link = parser.add_argument_group("the link")
     link.add_argument(
-        "--up", metavar="LINK",
-        help="towards the server, as '2Mbit/s 20ms queue 100 loss 1%% jitter 5ms duplicate 1%%': pipe 1"
+        "--up", metavar="LINK", help="towards the server, as '2Mbit/s 20ms queue 100 loss 1%% jitter 5ms duplicate 1%%': pipe 1"
     )
     link.add_argument("--down", metavar="LINK", help="from the server: pipe 2")
     link.add_argument("--link", metavar="LINK", action=BothWays, default=argparse.SUPPRESS, help="both ways")
@@ -111,20 +131,17 @@ def add_link(parser: argparse.ArgumentParser) -> None:
         "--preset", metavar="NAME", help="the link of a name, as lte, in each direction of which nothing else is said"
     )
     link.add_argument(
-        "--list-presets", action=ListPresets, nargs=0, default=argparse.SUPPRESS,
-        help="print the presets and their figures"
+        "--list-presets", action=ListPresets, nargs=0, default=argparse.SUPPRESS, help="print the presets and their figures"
     )
+    link.add_argument("--config", metavar="FILE", help="configuration lines, of any pipes and queues (hinge docs LINKS)")
+    link.add_argument("--line", metavar="LINE", action="append", default=[], help="one more configuration line; may be repeated")
     link.add_argument(
-        "--config", metavar="FILE", help="configuration lines, of any pipes and queues (hinge docs LINKS)"
-    )
-    link.add_argument(
-        "--line", metavar="LINE", action="append", default=[], help="one more configuration line; may be repeated"
-    )
-    link.add_argument(
-        "--map", metavar="RULE", action="append", default=[],
+        "--map",
+        metavar="RULE",
+        action="append",
+        default=[],
         help=(
-            f"'{HELP} => queue N' or '=> pipe N': where a packet goes, by the first rule that fits; else pipe 1 up,"
-            " pipe 2 down"
+            f"'{HELP} => queue N' or '=> pipe N': where a packet goes, by the first rule that fits; else pipe 1 up," " pipe 2 down"
         ),
     )
     add_changes(parser.add_argument_group("changes"))
@@ -133,49 +150,41 @@ def add_link(parser: argparse.ArgumentParser) -> None:
 def add_changes(changes: argparse._ArgumentGroup) -> None:
     """What changes while the link runs, and its losses."""
     changes.add_argument(
-        "--timeline", metavar="FILE",
-        help="lines as '5s pipe 1 config bw 1Mbit/s' and '8s [up|down] outage 600ms [lossy]'"
+        "--timeline", metavar="FILE", help="lines as '5s pipe 1 config bw 1Mbit/s' and '8s [up|down] outage 600ms [lossy]'"
     )
-    changes.add_argument(
-        "--up-trace", metavar="FILE", help="bandwidth by time: seconds,bit/s or mahimahi's milliseconds"
-    )
+    changes.add_argument("--up-trace", metavar="FILE", help="bandwidth by time: seconds,bit/s or mahimahi's milliseconds")
     changes.add_argument("--down-trace", metavar="FILE")
     changes.add_argument(
-        "--bin", metavar="TIME",
-        help="count mahimahi's milliseconds over this, and don't obey each (100ms for a pipe with queues or masks)"
+        "--bin",
+        metavar="TIME",
+        help="count mahimahi's milliseconds over this, and don't obey each (100ms for a pipe with queues or masks)",
     )
+    changes.add_argument("--trace-for", metavar="TIME", default="1h", help="how long counted traces are begun anew (1h)")
     changes.add_argument(
-        "--trace-for", metavar="TIME", default="1h", help="how long counted traces are begun anew (1h)"
+        "--loss",
+        metavar="MODEL",
+        action="append",
+        default=[],
+        help=("[up:|down:]gilbert:P,R[,B[,G]] (to bad, to good, lost in bad 1, in good 0) or list:3,10-20 (packets," " from 1)"),
     )
-    changes.add_argument(
-        "--loss", metavar="MODEL", action="append", default=[],
-        help=(
-            "[up:|down:]gilbert:P,R[,B[,G]] (to bad, to good, lost in bad 1, in good 0) or list:3,10-20 (packets,"
-            " from 1)"
-        ),
-    )
-    changes.add_argument(
-        "--seed", metavar="N", type=seed, help="of what is drawn, for each direction by itself (drawn, and told)"
-    )
+    changes.add_argument("--seed", metavar="N", type=seed, help="of what is drawn, for each direction by itself (drawn, and told)")
 
 
 def add_run(group: argparse._ArgumentGroup) -> None:
     group.add_argument(
-        "--transcript", metavar="FILE",
-        help="the link's history, for `dummynet audit`; FILE.1 and so on where it is long"
+        "--transcript", metavar="FILE", help="the link's history, for `dummynet audit`; FILE.1 and so on where it is long"
     )
     group.add_argument("--most", metavar="BYTES", type=seed, default=MOST, help=argparse.SUPPRESS)
     group.add_argument(
-        "--late", metavar="TIME",
-        help="status 75 where more than 1 of 100 packets was late or unread by more, or the system dropped any"
+        "--late",
+        metavar="TIME",
+        help="status 75 where more than 1 of 100 packets was late or unread by more, or the system dropped any",
     )
     group.add_argument("--json", metavar="FILE", help="the summary for a program")
     group.add_argument("--control", metavar="SOCKET", help="where `hinge change`, `status` and `exec` find it")
     group.add_argument("--watch", action="store_true", help="rates, queues and losses each second, on standard error")
     group.add_argument("--quiet", action="store_true", help="no summary")
-    group.add_argument(
-        "--realtime", action="store_true", help="the link before all other programs, where the system allows"
-    )
+    group.add_argument("--realtime", action="store_true", help="the link before all other programs, where the system allows")
 
 
 def preset_of(name: Optional[str]) -> Optional[Preset]:
@@ -191,8 +200,10 @@ def lines_of(options: LinkOptions) -> list[str]:
     open."""
     path = preset_of(options.preset)
     lines_with_places = [
-        *(Placed(f"{options.config}:{number}", line)
-          for number, line in enumerate(read_lines(options.config) if options.config else [], 1)),
+        *(
+            Placed(f"{options.config}:{number}", line)
+            for number, line in enumerate(read_lines(options.config) if options.config else [], 1)
+        ),
         *(Placed("--line", part) for text in options.line for part in text.splitlines()),
     ]
     refuse_wrong(lines_with_places)

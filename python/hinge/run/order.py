@@ -32,6 +32,7 @@ class Order(NamedTuple):
 
     def control(self, page: Page, status: Callable[[], Record], enter: Enter = nobody) -> Optional[Control]:
         """The socket that --control names."""
+
         def event(moment: str, words: str) -> None:
             self.made.event([moment, *words.split()])
 

@@ -54,16 +54,49 @@ def words_for(process: str, own_users: bool, ipv6: bool, loopback: bool, outer: 
     network, users = f"/proc/{process}/ns/net", f"/proc/{process}/ns/user"
     if shutil.which("slirp4netns"):
         return [
-            "slirp4netns", "--configure", "--mtu=1500", f"--cidr={outer.net}", *["--enable-ipv6"] * ipv6,
-            "--netns-type=path", *["--disable-host-loopback"] * (not loopback), *[f"--userns-path={users}"] * own_users,
-            network, INTERFACE
+            "slirp4netns",
+            "--configure",
+            "--mtu=1500",
+            f"--cidr={outer.net}",
+            *["--enable-ipv6"] * ipv6,
+            "--netns-type=path",
+            *["--disable-host-loopback"] * (not loopback),
+            *[f"--userns-path={users}"] * own_users,
+            network,
+            INTERFACE,
         ]
     more = ["--address", OWN6, "--gateway", GATEWAY6] if ipv6 else ["--ipv4-only"]
     return [
-        "pasta", "--foreground", "--quiet", "--config-net", "--ns-ifname", INTERFACE, *more, "--mtu", "1500",
-        "--address", outer.own, "--netmask", "24", "--gateway", outer.gateway, "--dns-forward", outer.resolver, "-t",
-        "none", "-u", "none", "-T", "none", "-U", "none", *["--no-map-gw"] * (not loopback), "--userns", users,
-        "--netns", network
+        "pasta",
+        "--foreground",
+        "--quiet",
+        "--config-net",
+        "--ns-ifname",
+        INTERFACE,
+        *more,
+        "--mtu",
+        "1500",
+        "--address",
+        outer.own,
+        "--netmask",
+        "24",
+        "--gateway",
+        outer.gateway,
+        "--dns-forward",
+        outer.resolver,
+        "-t",
+        "none",
+        "-u",
+        "none",
+        "-T",
+        "none",
+        "-U",
+        "none",
+        *["--no-map-gw"] * (not loopback),
+        "--userns",
+        users,
+        "--netns",
+        network,
     ]
 
 
@@ -81,8 +114,7 @@ class Outside:
         self.loopback, self.outer = loopback, side_beside(network)
         if not shutil.which("slirp4netns") and (os.geteuid() == 0 or not shutil.which("pasta")):
             raise Missing(
-                "--outside: slirp4netns isn't there, nor pasta, which serves users but root: sudo apt install"
-                " slirp4netns"
+                "--outside: slirp4netns isn't there, nor pasta, which serves users but root: sudo apt install" " slirp4netns"
             )
         self.ipv6 = leads_out_in_ipv6()
         self.said = os.memfd_create("said")  # what the joining program says: told where there is no way out
@@ -132,8 +164,7 @@ class Outside:
         while not self.joined():
             if time.monotonic() > until:
                 raise Missing(
-                    "--outside: the host gets no way out:"
-                    f" {os.pread(self.said, 1000, 0).decode(errors='replace').strip()}"
+                    "--outside: the host gets no way out:" f" {os.pread(self.said, 1000, 0).decode(errors='replace').strip()}"
                 )
             time.sleep(0.01)
         for name in (*interfaces, INTERFACE) if interfaces else ():

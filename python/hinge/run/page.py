@@ -10,8 +10,22 @@ import struct
 BINS = 480  # of times in us: 16 for each power of two; page.h has the same
 HEAD = ("state", "moment", "wakes", "turns", "underway", "realtime", "parts")
 COUNTS = (
-    "came", "came_bytes", "sent", "sent_bytes", "lost", "full", "no_target", "refused", "not_ip", "turned_away",
-    "dropped", "held", "discarded", "stayed", "late_most", "unread_most"
+    "came",
+    "came_bytes",
+    "sent",
+    "sent_bytes",
+    "lost",
+    "full",
+    "no_target",
+    "refused",
+    "not_ip",
+    "turned_away",
+    "dropped",
+    "held",
+    "discarded",
+    "stayed",
+    "late_most",
+    "unread_most",
 )
 KINDS = 4  # of bins: packets late and unread, and the time in which some were
 WAY = len(COUNTS) + KINDS * BINS
@@ -43,7 +57,7 @@ class Way:
     def __init__(self, numbers: tuple[int, ...], moment: int) -> None:
         """Up to a moment of the links. In the time that isn't counted nothing was late."""
         self.counts = dict(zip(COUNTS, numbers))
-        late, unread, *times = (numbers[at:at + BINS] for at in range(len(COUNTS), WAY, BINS))
+        late, unread, *times = (numbers[at : at + BINS] for at in range(len(COUNTS), WAY, BINS))
         self.late, self.unread = Times(late, self["late_most"]), Times(unread, self["unread_most"])
         self.late_time, self.unread_time = (
             Times((bins[0] + max(0, moment - sum(bins)), *bins[1:]), packets.most)
@@ -63,7 +77,7 @@ class Counts:
 
     def __init__(self, numbers: tuple[int, ...]) -> None:
         self.head = dict(zip(HEAD, numbers))
-        self.ways = [Way(numbers[at:at + WAY], self["moment"]) for at in range(len(HEAD), len(numbers), WAY)]
+        self.ways = [Way(numbers[at : at + WAY], self["moment"]) for at in range(len(HEAD), len(numbers), WAY)]
 
     def __getitem__(self, name: str) -> int:
         return self.head[name]
@@ -77,7 +91,7 @@ class Page:
         self.memory = mmap.mmap(self.descriptor, self.size)
 
     def read(self) -> Counts:
-        return Counts(struct.unpack(f"{self.size // 8}Q", self.memory[:self.size]))
+        return Counts(struct.unpack(f"{self.size // 8}Q", self.memory[: self.size]))
 
     def state(self) -> int:
         return int(struct.unpack_from("Q", self.memory)[0])

@@ -44,8 +44,19 @@ from hinge.run.losses import loss_lines
 from hinge.run.rules import Rule
 from hinge.run.traces import MAHIMAHI_BYTES, MOST_BINS, MS, Rate, counted, read_trace
 from hinge.run.words import (
-    LAST_MOMENT, WAYS, Target, Wrong, bare, configures, duration, is_line, link_of, of_link, read_lines, target_of,
-    with_bandwidth
+    LAST_MOMENT,
+    WAYS,
+    Target,
+    Wrong,
+    bare,
+    configures,
+    duration,
+    is_line,
+    link_of,
+    of_link,
+    read_lines,
+    target_of,
+    with_bandwidth,
 )
 from hingetulip_words.link import NO_WORDS, Extra
 
@@ -137,9 +148,7 @@ class Plan:
             raise Wrong(f"--map {text}: {rule.target.kind} {rule.target.number} isn't configured")
         way = self.way_of(rule.target) if rule.way is None else 2 * link + rule.way
         if way is None:
-            raise Wrong(
-                f"--map {text}: say `up` or `down`, since {rule.target.kind} {rule.target.number} isn't of pipe 1 or 2"
-            )
+            raise Wrong(f"--map {text}: say `up` or `down`, since {rule.target.kind} {rule.target.number} isn't of pipe 1 or 2")
         self.rest += rule.lines(way)
 
     def loss(self, text: str, link: int = 0) -> None:
@@ -208,9 +217,7 @@ class Plan:
         if result.moments and bin_ns is None and way + 1 not in self.changes.shared():
             self.rest.append(f"slots {way + 1} {' '.join(map(str, result.moments))}")
         elif result.moments:
-            self.bins(
-                line, path, result.moments, min(TRACE_BIN, result.moments[-1] * MS) if bin_ns is None else bin_ns, lasting
-            )
+            self.bins(line, path, result.moments, min(TRACE_BIN, result.moments[-1] * MS) if bin_ns is None else bin_ns, lasting)
         else:
             self.rates(way, line, result.rates)
 
@@ -238,16 +245,13 @@ class Plan:
 
     def change_lines(self, changes: Changes) -> list[str]:
         return [
-            f"outage {moment} {line.partition(' ')[2]}"
-            if line.startswith("outage ")
-            else f"at {moment} {self.lossy(line)}"
+            f"outage {moment} {line.partition(' ')[2]}" if line.startswith("outage ") else f"at {moment} {self.lossy(line)}"
             for moment, line in changes.all()
         ]
 
     @uncollected()
     def text(
-        self, seed: int, transcript: Optional[str] = None, realtime: bool = False, most: int = MOST,
-        in_simulated_time: bool = False
+        self, seed: int, transcript: Optional[str] = None, realtime: bool = False, most: int = MOST, in_simulated_time: bool = False
     ) -> str:
         out = [f"transcript {most} {transcript}"] if transcript else []
         out += [f"seed {way} {seed}" for way in range(self.ways)] + self.rest + self.extra_lines(seed)

@@ -69,16 +69,13 @@ class Processes:
                 process, status = os.waitpid(-1, os.WNOHANG)
                 if not process:
                     return
-                self.ended[process] = (
-                    os.WEXITSTATUS(status) if os.WIFEXITED(status) else SIGNALLED + os.WTERMSIG(status)
-                )
+                self.ended[process] = os.WEXITSTATUS(status) if os.WIFEXITED(status) else SIGNALLED + os.WTERMSIG(status)
                 self.ended_at[process] = time.monotonic()
         except ChildProcessError:
             pass
 
     def wait(
-        self, process: int, lasting: Optional[float] = None, ticker: Optional[Ticker] = None,
-        needed: Optional[int] = None
+        self, process: int, lasting: Optional[float] = None, ticker: Optional[Ticker] = None, needed: Optional[int] = None
     ) -> Optional[int]:
         """Waits until a process has ended, or one that it needs, or so many seconds; a signal that came before."""
         until = None if lasting is None else time.monotonic() + lasting
@@ -132,7 +129,7 @@ class Processes:
             name: Ended(
                 self.ended.get(process, SIGNALLED + signal.SIGKILL),
                 round(self.ended_at.get(process, time.monotonic()) - start, 3),
-                "itself" if name in themselves else "SIGKILL" if process in victims else "SIGTERM"
+                "itself" if name in themselves else "SIGKILL" if process in victims else "SIGTERM",
             )
             for name, process in processes.items()
         }

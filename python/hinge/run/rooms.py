@@ -22,8 +22,21 @@ from hinge.command import say
 from hinge.run.interfaces import add_route, add_tun, dropped, set_up
 from hinge.run.processes import Mask
 from hinge.run.system import (
-    BIND, NEWNET, NEWNS, NEWPID, NEWUSER, Missing, enter, keep_mounts_to_itself, keep_network_rights, mount, setting,
-    try_to_write, unmount, unshare, write
+    BIND,
+    NEWNET,
+    NEWNS,
+    NEWPID,
+    NEWUSER,
+    Missing,
+    enter,
+    keep_mounts_to_itself,
+    keep_network_rights,
+    mount,
+    setting,
+    try_to_write,
+    unmount,
+    unshare,
+    write,
 )
 from hinge.run.two_hosts import Ends
 from hinge.run.users import Users, make_terminals
@@ -52,10 +65,7 @@ def advice(number: Optional[int]) -> str:
     if number == errno.EPERM and is_chrooted():
         return "in a chroot the kernel gives them to root alone: run it as root"
     if setting("kernel/apparmor_restrict_unprivileged_userns") == "1":
-        return (
-            "AppArmor keeps users from it: sudo sysctl kernel.apparmor_restrict_unprivileged_userns=0, or run it as"
-            " root"
-        )
+        return "AppArmor keeps users from it: sudo sysctl kernel.apparmor_restrict_unprivileged_userns=0, or run it as" " root"
     if setting("kernel/unprivileged_userns_clone") == "0":
         return "users may not make them: sudo sysctl kernel.unprivileged_userns_clone=1, or run it as root"
     if setting("user/max_user_namespaces") == "0" or number == errno.ENOSPC:
@@ -91,8 +101,7 @@ def leave_the_system() -> bool:
         keep_mounts_to_itself()
     except OSError as error:
         raise Missing(
-            f"{error.filename or 'mounts'}: {error.strerror}: in a chroot mount /proc there first: mount -t proc proc"
-            " /proc"
+            f"{error.filename or 'mounts'}: {error.strerror}: in a chroot mount /proc there first: mount -t proc proc" " /proc"
         ) from None
     return own
 
@@ -225,6 +234,7 @@ class Rooms:
     def start_server(self, command: str, mask: Mask) -> int:
         """Starts a command of the shell in the server's room, in a process group of its own, which a terminal doesn't
         let read."""
+
         def enter_room() -> None:
             os.setpgid(0, 0)
             if os.isatty(0):

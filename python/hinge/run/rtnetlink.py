@@ -29,9 +29,7 @@ class Shared:
 
 
 def packed(attributes: Iterable[tuple[int, bytes]]) -> bytes:
-    return b"".join(
-        struct.pack("HH", 4 + len(data), number) + data + bytes(-len(data) % 4) for number, data in attributes
-    )
+    return b"".join(struct.pack("HH", 4 + len(data), number) + data + bytes(-len(data) % 4) for number, data in attributes)
 
 
 @contextmanager
@@ -69,7 +67,7 @@ def answers(line: socket.socket, last: int) -> Iterator[tuple[int, int]]:
         while data:
             length, _, _, number, _ = HEADER.unpack_from(data)
             yield number, -struct.unpack_from("i", data, HEADER.size)[0]
-            data = data[length + -length % 4:]
+            data = data[length + -length % 4 :]
 
 
 def ask_many(requests: Iterable[Request]) -> None:

@@ -59,32 +59,23 @@ def cautions(counts: Counts, drops: Sequence[int], plan: str, names: Sequence[st
     second = min(map(int, SECOND_PASS.findall(plan)), default=MOST_PIPE + 1)
     delays = [int(delay) for pipe, delay in DELAY.findall(plan) if int(delay) and int(pipe or 0) < second]
     limit = min(delays) / PART_OF_DELAY if delays else WITHOUT_DELAY
-    result = [
-        line for name, way, losses in zip(names, counts.ways, drops) for line in judged(name, way, losses, limit)
-    ]
+    result = [line for name, way, losses in zip(names, counts.ways, drops) for line in judged(name, way, losses, limit)]
     return [f"CAUTION, this machine was too busy: {line}" for line in result[:MOST_TOLD]] + [
-        f"--late {limit:g}ms makes such a run void"
-        + f", and names {len(result) - MOST_TOLD} more ways" * (len(result) > MOST_TOLD)
+        f"--late {limit:g}ms makes such a run void" + f", and names {len(result) - MOST_TOLD} more ways" * (len(result) > MOST_TOLD)
     ] * bool(result)
 
 
-SELDOM = (
-    ("discarded", "discarded"), ("no_target", "had no pipe"), ("not_ip", "not IP"), ("turned_away", "turned away")
-)
+SELDOM = (("discarded", "discarded"), ("no_target", "had no pipe"), ("not_ip", "not IP"), ("turned_away", "turned away"))
 
 
 def direction(name: str, way: Way, drops: int) -> list[str]:
     """What became of the packets of a direction, and how good the host was to them."""
     if not way["came"]:
-        return [f"{name}: nothing came"] + [f"{name}: system drops {drops} before, {way['refused']} behind"] * bool(
-            drops
-        )
+        return [f"{name}: nothing came"] + [f"{name}: system drops {drops} before, {way['refused']} behind"] * bool(drops)
     text = times(way)
     seldom = "".join(f", {way[key]} {words}" for key, words in SELDOM if way[key])
     late, unread = (
-        "{} p99 {:.3f} p99.9 {:.3f} max {:.3f} ms".format(
-            kind, *(text[f"{kind}_{label}_ms"] for label in ("p99", "p99.9", "max"))
-        )
+        "{} p99 {:.3f} p99.9 {:.3f} max {:.3f} ms".format(kind, *(text[f"{kind}_{label}_ms"] for label in ("p99", "p99.9", "max")))
         for kind in ("late", "unread")
     )
     return [
@@ -102,17 +93,24 @@ def lines(counts: Counts, drops: Sequence[int]) -> list[str]:
 
 def way_record(way: Way, drops: int) -> Record:
     return {
-        **{key: way[key] for key in COUNTS if not key.endswith("_most")}, **times(way), "underway": way.underway,
-        "system_drops": drops
+        **{key: way[key] for key in COUNTS if not key.endswith("_most")},
+        **times(way),
+        "underway": way.underway,
+        "system_drops": drops,
     }
 
 
-def record(
-    counts: Counts, drops: Sequence[int], status: Optional[int], seed: int, faults: list[str]
-) -> dict[str, object]:
+def record(counts: Counts, drops: Sequence[int], status: Optional[int], seed: int, faults: list[str]) -> dict[str, object]:
     """The same, as JSON takes it."""
     ways = [way_record(way, losses) for way, losses in zip(counts.ways, drops)]
     return {
-        "format": FORMAT, "status": status, "seed": seed, "void": faults, "moment": counts["moment"],
-        "wakeups": counts["wakes"], "turns": counts["turns"], "up": ways[0], "down": ways[1]
+        "format": FORMAT,
+        "status": status,
+        "seed": seed,
+        "void": faults,
+        "moment": counts["moment"],
+        "wakeups": counts["wakes"],
+        "turns": counts["turns"],
+        "up": ways[0],
+        "down": ways[1],
     }

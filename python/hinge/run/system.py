@@ -55,11 +55,7 @@ def enter(network: int) -> None:
 
 def mount(source: str, target: str, kind: str, flags: int, more: Optional[str] = None) -> None:
     """`more` are the options of its kind."""
-    must(
-        libc.mount(
-            source.encode(), target.encode(), kind.encode(), ctypes.c_ulong(flags), more.encode() if more else None
-        )
-    )
+    must(libc.mount(source.encode(), target.encode(), kind.encode(), ctypes.c_ulong(flags), more.encode() if more else None))
 
 
 def unmount(target: str) -> None:
@@ -75,9 +71,7 @@ def keep_mounts_to_itself() -> None:
     except OSError as error:
         if error.errno != errno.EINVAL:
             raise
-        root, place, own = (
-            os.open(name, os.O_RDONLY | os.O_CLOEXEC) for name in ("/", ".", "/proc/thread-self/ns/mnt")
-        )
+        root, place, own = (os.open(name, os.O_RDONLY | os.O_CLOEXEC) for name in ("/", ".", "/proc/thread-self/ns/mnt"))
         must(libc.setns(own, NEWNS))
         mount("none", "/", "none", REC | PRIVATE)
         os.fchdir(root)

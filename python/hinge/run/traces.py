@@ -101,11 +101,7 @@ def counted(path: str, moments: list[int], bin_ns: int, longest: int) -> list[Ra
         while end < len(counts) - 1 and counts[end] == counts[at] and at < len(counts) - 1:
             end += 1
         length = min(end * bin_ns, period) - at * bin_ns
-        rate = (
-            counts[at] * (end - at) * MAHIMAHI_BYTES * 8 * SECOND // length
-            if counts[at]
-            else outage_rate(length, longest)
-        )
+        rate = counts[at] * (end - at) * MAHIMAHI_BYTES * 8 * SECOND // length if counts[at] else outage_rate(length, longest)
         result.append(Rate(at * bin_ns, rate))
         at = end
     return result

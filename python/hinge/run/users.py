@@ -40,10 +40,7 @@ def subordinate(path: str, user: int) -> Optional[Subordinate]:
 def mapping(own: int, span: Subordinate) -> list[str]:
     """The words of newuidmap: an id is itself, and the others from 0 on are subordinate ones."""
     below = min(own, span.length)
-    parts = [
-        (0, span.first, below), (own, own, 1),
-        (own + 1, span.first + below, span.length - below if own < span.length else 0)
-    ]
+    parts = [(0, span.first, below), (own, own, 1), (own + 1, span.first + below, span.length - below if own < span.length else 0)]
     return [str(number) for part in parts if part[2] for number in part]
 
 
@@ -55,9 +52,7 @@ class Users:
         self.child, self.own = 0, {"uid": os.geteuid(), "gid": os.getegid()}
         spans = {kind: subordinate(path, os.geteuid()) for kind, path in FILES.items()}
         words = {
-            kind: [PROGRAMS[kind], str(os.getpid()), *mapping(self.own[kind], result)]
-            for kind, result in spans.items()
-            if result
+            kind: [PROGRAMS[kind], str(os.getpid()), *mapping(self.own[kind], result)] for kind, result in spans.items() if result
         }
         if len(words) < len(FILES) or not all(map(shutil.which, PROGRAMS.values())):
             return

@@ -79,15 +79,15 @@ class Watch:
             tell(self.line(at))
 
     def line(self, at: float) -> str:
-        text = (f"{name:4} {last.rate:9.3f} Mbit/s {last.held:6} in link {last.delay:9.3f} ms {last.dropped:5} dropped"
-                for name, last in zip(NAMES, (seconds[-1] for seconds in self.seconds)))
+        text = (
+            f"{name:4} {last.rate:9.3f} Mbit/s {last.held:6} in link {last.delay:9.3f} ms {last.dropped:5} dropped"
+            for name, last in zip(NAMES, (seconds[-1] for seconds in self.seconds))
+        )
         return "  | ".join([f"{at:6.1f} s", *text])
 
     def lines(self, at: float, counts: Counts, columns: int) -> list[str]:
         """The lines of the graphs, both directions beside each other."""
-        following = next(
-            (f", at {moment / 1e9:.1f} s: {line}" for moment, line in self.changes if moment > counts["moment"]), ""
-        )
+        following = next((f", at {moment / 1e9:.1f} s: {line}" for moment, line in self.changes if moment > counts["moment"]), "")
         half = columns // 2 - 1
         room = half - LABEL - VALUE - 1
         rows = [f"{at:.0f} s{following} ".ljust(columns, "─"), "  ".join(f"{name:<{half}}" for name in NAMES)]

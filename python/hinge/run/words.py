@@ -120,7 +120,7 @@ def around_bandwidth(line: str) -> tuple[str, str]:
     words = line.split()
     while "bw" in words:
         at = words.index("bw")
-        del words[at:at + 2]
+        del words[at : at + 2]
     at = words.index("config") + 1
     return " ".join(words[:at]), "".join(f" {word}" for word in words[at:])
 

@@ -77,8 +77,15 @@ class Runner:
 
     def ended(self, words: "list[str]") -> "tuple[int, str]":
         """The status and the output of a command, which the keys of a terminal don't end."""
-        with subprocess.Popen(words, stdin=subprocess.DEVNULL, stdout=subprocess.PIPE, stderr=subprocess.STDOUT,
-                              text=True, errors="replace", start_new_session=True) as process:
+        with subprocess.Popen(
+            words,
+            stdin=subprocess.DEVNULL,
+            stdout=subprocess.PIPE,
+            stderr=subprocess.STDOUT,
+            text=True,
+            errors="replace",
+            start_new_session=True,
+        ) as process:
             self.running.add(process)
             try:
                 if self.is_over:

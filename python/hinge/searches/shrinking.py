@@ -36,7 +36,7 @@ def left_out_by(case: Case, kind: str, size: int, fails: Fails) -> Case:
     """Tries to leave out each so many neighbours, the last first, since what comes behind the failure does nothing."""
     parts = case.of_kind(kind)
     for first in range(len(parts) - size, -size, -size):
-        smaller = case.with_parts(without(case.parts, parts[max(first, 0):first + size]))
+        smaller = case.with_parts(without(case.parts, parts[max(first, 0) : first + size]))
         if fails(smaller):
             case = smaller
     return case

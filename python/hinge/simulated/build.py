@@ -18,8 +18,17 @@ from hinge.run.system import Missing
 from hinge.simulated.kernel import CONFIG, INIT, PATCH, VERSION, Kernel, cache, folder_of
 
 PACKAGES = Path("/usr/src")
-NEEDED = {"cc": "gcc", "make": "make", "flex": "flex", "bison": "bison", "bc": "bc", "tar": "tar", "xz": "xz-utils",
-          "patch": "patch", "strip": "binutils"}
+NEEDED = {
+    "cc": "gcc",
+    "make": "make",
+    "flex": "flex",
+    "bison": "bison",
+    "bc": "bc",
+    "tar": "tar",
+    "xz": "xz-utils",
+    "patch": "patch",
+    "strip": "binutils",
+}
 ROOM = 2_000_000_000  # bytes that a build takes
 MADE = re.compile(r"^  (?:CC|LD|AR|AS|GEN|HOSTCC|HOSTLD|LEX|YACC|UPD|LDS|OBJCOPY|MKCAP|CHK|SYSHDR|SYSTBL|WRAP)\s")
 ABOUT = 1050  # such lines of a whole build
@@ -29,6 +38,7 @@ FAILED = 6
 
 def source() -> Optional[Path]:
     """The newest source package of Linux that Debian has installed."""
+
     def by_version(path: Path) -> list[int]:
         return [int(word) for word in re.findall(r"\d+", path.name.partition(".tar")[0])]
 
@@ -67,8 +77,16 @@ class Build:
         """Runs a command, and tells its last lines where it fails."""
         names = {"PATH": os.environ["PATH"], "HOME": str(where), "LC_ALL": "C", "ARCH": "um", **VERSION}
         bar, last = Bar(f"steps of the build ({what})", ABOUT), list[str]()
-        with subprocess.Popen([*map(str, words)], cwd=where, env=names, stdin=subprocess.DEVNULL, text=True,
-                              stdout=subprocess.PIPE, stderr=subprocess.STDOUT, errors="replace") as process:
+        with subprocess.Popen(
+            [*map(str, words)],
+            cwd=where,
+            env=names,
+            stdin=subprocess.DEVNULL,
+            text=True,
+            stdout=subprocess.PIPE,
+            stderr=subprocess.STDOUT,
+            errors="replace",
+        ) as process:
             for line in process.stdout or ():
                 last = [*last[-WORDS:], line]
                 if MADE.match(line) and bar.done < ABOUT - 1:

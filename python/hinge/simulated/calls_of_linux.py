@@ -1,5 +1,6 @@
 """Names of calls of Linux on x86-64, by their numbers."""
 
+# fmt: off
 NAMES = {
     0: "read", 1: "write", 2: "open", 3: "close", 4: "stat", 5: "fstat", 6: "lstat", 7: "poll", 8: "lseek", 9: "mmap",
     10: "mprotect", 11: "munmap", 12: "brk", 13: "rt_sigaction", 14: "rt_sigprocmask", 15: "rt_sigreturn",
@@ -23,6 +24,7 @@ NAMES = {
     334: "rseq", 426: "io_uring_enter", 435: "clone3", 436: "close_range", 437: "openat2", 439: "faccessat2",
     441: "epoll_pwait2",
 }
+# fmt: on
 
 
 def name_of(call: int) -> str:

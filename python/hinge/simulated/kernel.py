@@ -15,8 +15,12 @@ CONFIG, PATCH, INIT = HERE / "kernel.config", HERE / "kernel.patch", HERE / "ini
 RELEASED = (HERE / "kernels", HERE.parents[2] / "release" / "kernels")
 LETTERS = 16  # of a checksum in the name of a folder
 # The kernel draws random numbers from its own version too. It is fixed, so that each build draws the same.
-VERSION = {"KBUILD_BUILD_TIMESTAMP": "2026-01-01", "KBUILD_BUILD_USER": "hinge", "KBUILD_BUILD_HOST": "hinge",
-           "KBUILD_BUILD_VERSION": "1"}
+VERSION = {
+    "KBUILD_BUILD_TIMESTAMP": "2026-01-01",
+    "KBUILD_BUILD_USER": "hinge",
+    "KBUILD_BUILD_HOST": "hinge",
+    "KBUILD_BUILD_VERSION": "1",
+}
 
 
 class Kernel(NamedTuple):

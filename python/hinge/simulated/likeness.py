@@ -29,7 +29,8 @@ def earlier(path: str) -> "dict[str, Any]":
 def what_differs(one: "dict[str, Any]", other: "dict[str, Any]") -> "list[str]":
     """Names of what the two were given that isn't the same."""
     return [name for name in GIVEN if one.get(name) != other.get(name)] + [
-        name for name in one["given"] if one["given"][name] != other["given"].get(name)]
+        name for name in one["given"] if one["given"][name] != other["given"].get(name)
+    ]
 
 
 def remarks(path: str, before: "dict[str, Any]", present: "dict[str, Any]") -> Iterator[str]:

@@ -48,10 +48,27 @@ class MachineEnded(NamedTuple):
 
 def kernel_words(kernel: Kernel, settings: Settings) -> list[str]:
     """The command line. The kernel draws random numbers from it too, so it names no folder."""
-    return [str(kernel.linux), f"mem={settings.memory >> 20}M", "uml_dir=.", "umid=machine", "root=/dev/root",
-            "rootfstype=hostfs", "rootflags=/", "rw", "init=/proc/self/cwd/init", "time-travel=inf-cpu",
-            f"time-travel-start={(settings.at - BOOTED) * 10**9}", f"hinge_seed={settings.seed}",
-            f"hinge_cpu={settings.cpu}", "norandmaps", "con=null", "ssl=null", "stderr=1", "noreboot", "panic=-1"]
+    return [
+        str(kernel.linux),
+        f"mem={settings.memory >> 20}M",
+        "uml_dir=.",
+        "umid=machine",
+        "root=/dev/root",
+        "rootfstype=hostfs",
+        "rootflags=/",
+        "rw",
+        "init=/proc/self/cwd/init",
+        "time-travel=inf-cpu",
+        f"time-travel-start={(settings.at - BOOTED) * 10**9}",
+        f"hinge_seed={settings.seed}",
+        f"hinge_cpu={settings.cpu}",
+        "norandmaps",
+        "con=null",
+        "ssl=null",
+        "stderr=1",
+        "noreboot",
+        "panic=-1",
+    ]
 
 
 class Machine:
@@ -99,9 +116,16 @@ class Machine:
             self.processor.take()
 
         with open(self.folder / "log", "wb") as log:
-            return subprocess.Popen(kernel_words(kernel, settings), stdin=subprocess.DEVNULL, stdout=log,
-                                    stderr=subprocess.STDOUT, start_new_session=True, cwd=self.folder,
-                                    preexec_fn=begin, env=names)
+            return subprocess.Popen(
+                kernel_words(kernel, settings),
+                stdin=subprocess.DEVNULL,
+                stdout=log,
+                stderr=subprocess.STDOUT,
+                start_new_session=True,
+                cwd=self.folder,
+                preexec_fn=begin,
+                env=names,
+            )
 
     def copy_to(self, out: int, err: int, keeps: bool) -> None:
         """Copies the job's output to descriptors while it runs."""

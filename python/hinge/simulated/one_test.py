@@ -63,13 +63,26 @@ def ran(item: pytest.Item, words: list[str], seed: int, folder: Path) -> Ran:
     names.pop("PYTEST_CURRENT_TEST", None)
     config = ["-c", str(item.config.inipath)] if item.config.inipath else []
     plugins = [word for name in item.config.option.plugins for word in ("-p", name)]
-    inner = [sys.executable, "-m", "pytest", "-q", "-p", "no:cacheprovider", *plugins, *config,
-             f"--basetemp={KEPT}/tmp", f"--rootdir={item.config.rootpath}", f"--link-seed={seed}", item.nodeid]
+    inner = [
+        sys.executable,
+        "-m",
+        "pytest",
+        "-q",
+        "-p",
+        "no:cacheprovider",
+        *plugins,
+        *config,
+        f"--basetemp={KEPT}/tmp",
+        f"--rootdir={item.config.rootpath}",
+        f"--link-seed={seed}",
+        item.nodeid,
+    ]
     outer = [sys.executable, str(START), "run", "--simulated", "--seed", str(seed), "--kept", str(part), *words]
     history = [] if has_net(item) else ["--transcript", str(folder / HISTORY)]
     whole = [*outer, *history, "--", *inner]
-    process = subprocess.run(whole, cwd=item.config.rootpath, env=names, stdin=subprocess.DEVNULL, capture_output=True,
-                          text=True, errors="replace")
+    process = subprocess.run(
+        whole, cwd=item.config.rootpath, env=names, stdin=subprocess.DEVNULL, capture_output=True, text=True, errors="replace"
+    )
     text = (part / REPORTS).read_text().replace(f"{KEPT}/", f"{part}/") if (part / REPORTS).exists() else ""
     return Ran(process.returncode, process.stderr.strip(), [json.loads(line) for line in text.splitlines()])
 

@@ -27,16 +27,26 @@ class Outcome(NamedTuple):
     @classmethod
     def of(cls, machine: Machine, endings: MachineEnded, settings: Settings) -> Outcome:
         interrupts = machine.interrupts
-        return cls(endings, machine.real(), interrupts.count, interrupts.longest, machine.hides_the_processor, settings,
-                   machine.job.given(), machine.pauses_made())
+        return cls(
+            endings,
+            machine.real(),
+            interrupts.count,
+            interrupts.longest,
+            machine.hides_the_processor,
+            settings,
+            machine.job.given(),
+            machine.pauses_made(),
+        )
 
     def differences(self) -> Iterator[str]:
         """Why a second run may differ."""
         if self.interrupts:
             yield f"a process computed for {LONG:g} s without a call of the system, until {self.interrupts} interrupts"
         elif self.longest >= NEAR:
-            yield (f"a process computed for {self.longest:.2f} s without a call of the system, and one that a busier "
-                   f"processor makes compute for {LONG:g} s is interrupted")
+            yield (
+                f"a process computed for {self.longest:.2f} s without a call of the system, and one that a busier "
+                f"processor makes compute for {LONG:g} s is interrupted"
+            )
         if self.settings.cpu == "host":
             yield "by --cpu host programs ask the processor itself"
         elif not self.hides_the_processor:
@@ -52,8 +62,10 @@ class Outcome(NamedTuple):
         """What is told in words."""
         if self.pauses and self.settings.pauses:
             text = self.pauses
-            yield (f"pauses {self.settings.pauses.asked()}: {text.amount} in {text.calls:,} calls, "
-                   f"{text.time / 1e9:.6f} s of simulated time in all")
+            yield (
+                f"pauses {self.settings.pauses.asked()}: {text.amount} in {text.calls:,} calls, "
+                f"{text.time / 1e9:.6f} s of simulated time in all"
+            )
             for one in text.first if text.amount <= SHOWN else []:
                 yield one.text()
         yield self.line()
@@ -62,16 +74,33 @@ class Outcome(NamedTuple):
         if not (self.pauses and self.settings.pauses):
             return {}
         first = [one._asdict() for one in self.pauses.first]
-        return {"pauses": {"asked": self.settings.pauses.asked(), "seed": self.settings.pauses.seed,
-                           "calls": self.pauses.calls, "count": self.pauses.amount, "time": self.pauses.time / 1e9,
-                           "first": first}}
+        return {
+            "pauses": {
+                "asked": self.settings.pauses.asked(),
+                "seed": self.settings.pauses.seed,
+                "calls": self.pauses.calls,
+                "count": self.pauses.amount,
+                "time": self.pauses.time / 1e9,
+                "first": first,
+            }
+        }
 
     def record(self, kernel: Kernel) -> Record:
         """The same for programs; times are in seconds."""
-        return {"simulated": self.ended.simulated / 1e9, "real": round(self.real, 3), "spun": self.ended.spun / 1e9,
-                "repeatable": not any(self.differences()), "interrupts": self.interrupts, "longest": self.longest,
-                "at": self.settings.at, "given": self.given, **self.pauses_record(),
-                "kernel": kernel.checksum, "cpu": self.settings.cpu, "processor": processor()}
+        return {
+            "simulated": self.ended.simulated / 1e9,
+            "real": round(self.real, 3),
+            "spun": self.ended.spun / 1e9,
+            "repeatable": not any(self.differences()),
+            "interrupts": self.interrupts,
+            "longest": self.longest,
+            "at": self.settings.at,
+            "given": self.given,
+            **self.pauses_record(),
+            "kernel": kernel.checksum,
+            "cpu": self.settings.cpu,
+            "processor": processor(),
+        }
 
 
 def processor() -> str:

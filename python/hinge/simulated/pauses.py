@@ -73,8 +73,10 @@ class Paused(NamedTuple):
         return Given(self.number, self.where, self.length)
 
     def text(self) -> str:
-        return (f"{self.given().word()}: process {self.process} ({self.program}) paused for {self.length / 1e6:.3f} ms "
-                f"{self.where} {self.call}")
+        return (
+            f"{self.given().word()}: process {self.process} ({self.program}) paused for {self.length / 1e6:.3f} ms "
+            f"{self.where} {self.call}"
+        )
 
 
 class PausesMade(NamedTuple):

@@ -30,8 +30,9 @@ def memory_folder(size: int) -> str:
     for place in places:
         if os.path.isdir(place) and may_be_executed(place) and shutil.disk_usage(place).free >= size:
             return place
-    raise Missing(f"--simulated: none of {', '.join(places)} has {size >> 20} MB free and may be executed; "
-                  "--memory asks for less")
+    raise Missing(
+        f"--simulated: none of {', '.join(places)} has {size >> 20} MB free and may be executed; " "--memory asks for less"
+    )
 
 
 class Room:

@@ -33,8 +33,7 @@ MEMORY = "1G"
 def settings_of(options: SimulatedOptions, seed: int) -> Settings:
     at = date(BEGINNING) if options.at is None else options.at
     memory, cpu = options.memory or size(MEMORY), options.cpu or "stable"
-    return Settings(seed, at, memory, cpu, options.scratch or options.twice,
-                    pauses_of(options.pauses, seed))
+    return Settings(seed, at, memory, cpu, options.scratch or options.twice, pauses_of(options.pauses, seed))
 
 
 def inside(options: SimulatedOptions, seed: int) -> SimulatedOptions:
@@ -43,8 +42,19 @@ def inside(options: SimulatedOptions, seed: int) -> SimulatedOptions:
     looks at is left out, since the words are in the programs' memory, so that it doesn't change the run."""
     transcript = f"{KEPT}/{HISTORY}" if options.transcript or options.twice else None
     summary = f"{KEPT}/{SUMMARY}"
-    return replace(options, seed=seed, realtime=True, transcript=transcript, json=summary, kept=None, pauses=None,
-                   real_limit=None, twice=False, clean_env=False, like=None)
+    return replace(
+        options,
+        seed=seed,
+        realtime=True,
+        transcript=transcript,
+        json=summary,
+        kept=None,
+        pauses=None,
+        real_limit=None,
+        twice=False,
+        clean_env=False,
+        like=None,
+    )
 
 
 @contextmanager
@@ -52,8 +62,9 @@ def job_of(name: str, options: SimulatedOptions, seed: int) -> Iterator[Job]:
     with scratch() as place:
         inputs = place / "in"
         read_input(inputs)
-        yield Job(words_of(name, inside(options, seed)), inputs, is_same_file(1, 2) and not options.twice,
-                  environment(options.clean_env))
+        yield Job(
+            words_of(name, inside(options, seed)), inputs, is_same_file(1, 2) and not options.twice, environment(options.clean_env)
+        )
 
 
 @contextmanager

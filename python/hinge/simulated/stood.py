@@ -36,7 +36,7 @@ def make_place(folder: Path) -> None:
 
 def stood(folder: Path, start: int) -> Optional[Stood]:
     """What the kernel told, where it did; `begun` is its time in ns at which the job began."""
-    now, since, calls, process, call, name = PLACE.unpack((folder / NAME).read_bytes()[:PLACE.size])
+    now, since, calls, process, call, name = PLACE.unpack((folder / NAME).read_bytes()[: PLACE.size])
     if not now:
         return None
     program = name.partition(b"\0")[0].decode(errors="replace")

@@ -38,7 +38,7 @@ class Copier(threading.Thread):
         data = os.pread(self.file, PIECE, self.copied)
         rest = memoryview(data)
         while rest:
-            rest = rest[os.write(self.to, rest):]
+            rest = rest[os.write(self.to, rest) :]
         if data and not self.keeps:
             libc.fallocate(self.file, KEEP_SIZE | PUNCH_HOLE, ctypes.c_long(self.copied), ctypes.c_long(len(data)))
         self.copied += len(data)

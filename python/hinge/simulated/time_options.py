@@ -47,15 +47,23 @@ def size(text: str) -> int:
 
 def add_simulated(parser: argparse.ArgumentParser) -> None:
     group = parser.add_argument_group("simulated time (hinge docs SIMULATED)")
-    group.add_argument("--simulated", action="store_true", help="in a machine whose time passes when all wait: an hour "
-                       "takes a moment, nothing is late, and a seed gives one run")
+    group.add_argument(
+        "--simulated",
+        action="store_true",
+        help="in a machine whose time passes when all wait: an hour " "takes a moment, nothing is late, and a seed gives one run",
+    )
     group.add_argument("--twice", action="store_true", help="two such runs at once, compared; what they write is lost")
     group.add_argument("--scratch", action="store_true", help="what is written is lost, but for transcript and summary")
     group.add_argument("--at", metavar="DATE", type=date, help=f"what the clock says first, or `now` ({BEGINNING})")
     group.add_argument("--memory", metavar="SIZE", type=size, help="of the machine, taken as it is used (1G)")
     group.add_argument("--cpu", choices=CPUS, help="what programs learn of the processor (stable); v3: one for all")
-    group.add_argument("--pauses", metavar="N/CALLS", type=pauses_word, help="N processes in so many calls pause for a "
-                       "drawn time, so that seeds try other schedules; `drawn`: as often as the seed says")
+    group.add_argument(
+        "--pauses",
+        metavar="N/CALLS",
+        type=pauses_word,
+        help="N processes in so many calls pause for a "
+        "drawn time, so that seeds try other schedules; `drawn`: as often as the seed says",
+    )
     group.add_argument("--clean-env", action="store_true", help="no variables but HOME, LANG, PATH and USER")
     group.add_argument("--like", metavar="SUMMARY", help="says what of this run isn't as in an earlier one's --json")
     group.add_argument("--kept", type=Path, help=argparse.SUPPRESS)  # a folder that is there as /run/kept
@@ -78,8 +86,9 @@ def refuse_outside(options: SimulatedOptions, has_terminal: bool) -> None:
         raise Wrong("--control: nothing speaks to a machine of its own from outside; simulated time has --timeline")
     command = options.command
     if has_terminal and len(command) == 1 and os.path.basename(command[0]) in SHELLS:
-        raise Wrong(f"--simulated: there is no terminal in simulated time; give {command[0]} its commands by -c "
-                    "or on standard input")
+        raise Wrong(
+            f"--simulated: there is no terminal in simulated time; give {command[0]} its commands by -c " "or on standard input"
+        )
 
 
 def real_limit_of(options: SimulatedOptions) -> Optional[float]:

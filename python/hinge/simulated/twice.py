@@ -59,11 +59,7 @@ def compared(machines: "list[Machine]", status: int, seed: int) -> int:
         return status
     faults = [] if one.ended() == other.ended() else [f"one ended with {one.ended()}, the other with {other.ended()}"]
     for name, what in COMPARED:
-        result = (
-            difference(one.folder / name, other.folder / name, what)
-            if length(one, name) or length(other, name)
-            else None
-        )
+        result = difference(one.folder / name, other.folder / name, what) if length(one, name) or length(other, name) else None
         if result:
             faults.append(result)
     for fault in faults:

@@ -78,8 +78,7 @@ class Study:
         places = set(PLACE.findall(text))
         if places != set(values):
             odd = ", ".join(sorted(places ^ set(values)))
-            raise Fault(f"{template}: {odd} must stand in braces in the configuration and in --set alike",
-                        CONFIGURATION)
+            raise Fault(f"{template}: {odd} must stand in braces in the configuration and in --set alike", CONFIGURATION)
         names = [*values, SEED]
         runs = [dict(zip(names, run)) for run in itertools.product(*values.values(), map(str, seeds))]
         folder.mkdir(parents=True, exist_ok=True)
@@ -105,8 +104,7 @@ class Study:
 
     def files(self) -> list[Path]:
         """All files of the sweep: its plan, its inputs and the tables of its runs."""
-        inputs = [self.folder / "study.json", self.folder / "link.config", self.packets,
-                  addresses_file(str(self.packets))]
+        inputs = [self.folder / "study.json", self.folder / "link.config", self.packets, addresses_file(str(self.packets))]
         return [*inputs, *(self.table_of(run) for run in range(1, len(self.runs) + 1))]
 
     def missing(self) -> list[int]:
@@ -165,8 +163,7 @@ class Study:
     def rows(self) -> Iterator[dict[str, str]]:
         """The tables of all runs as one: the parameters of a run before the figures of each of its flows."""
         if rest := self.missing():
-            raise Fault(f"{len(rest)} of {len(self.runs)} runs are missing, run {rest[0]} first: sweep run "
-                        f"{self.folder}", ROWS)
+            raise Fault(f"{len(rest)} of {len(self.runs)} runs are missing, run {rest[0]} first: sweep run " f"{self.folder}", ROWS)
         for number, values in enumerate(self.runs, 1):
             with open(self.table_of(number), encoding="utf-8", newline="") as file:
                 for figures in csv.DictReader(file):

@@ -51,11 +51,23 @@ def study_figure(lines: Lines, figure: str, against: str, flow: str) -> Figure:
         means = [sum(line[value]) / len(line[value]) / scale for value in sequence]
         below = [mean - min(line[value]) / scale for mean, value in zip(means, sequence)]
         above = [max(line[value]) / scale - mean for mean, value in zip(means, sequence)]
-        axes.errorbar([place[value] for value in sequence], means, yerr=[below, above], marker="o", ms=4, capsize=3,
-                      color=COLORS[number % len(COLORS)], label=others or None)
+        axes.errorbar(
+            [place[value] for value in sequence],
+            means,
+            yerr=[below, above],
+            marker="o",
+            ms=4,
+            capsize=3,
+            color=COLORS[number % len(COLORS)],
+            label=others or None,
+        )
     axes.set_xticks([place[value] for value in values], values)
-    axes.set(xlabel=against, ylabel=figure.removesuffix("_ns").replace("_", " ") + unit, ylim=(0, None),
-             title=f"{flow}: mean over the seeds, from the least to the greatest")
+    axes.set(
+        xlabel=against,
+        ylabel=figure.removesuffix("_ns").replace("_", " ") + unit,
+        ylim=(0, None),
+        title=f"{flow}: mean over the seeds, from the least to the greatest",
+    )
     axes.grid(alpha=0.3)
     if any(lines):
         axes.legend(fontsize=8)

@@ -55,8 +55,10 @@ def unknown(keywords: Mapping[str, object], there: object) -> WrongMark:
 def ends_of(mark: pytest.Mark) -> Ends:
     """What a mark `link` says. WrongMark: it says something else. ValueError: there is no such preset."""
     if len(mark.args) > 2:
-        raise WrongMark(f"the mark link has {len(mark.args)} texts, and takes one for the way there and one for the way back;"
-                        f" write all words of a way in one text, as link({SAMPLE})")
+        raise WrongMark(
+            f"the mark link has {len(mark.args)} texts, and takes one for the way there and one for the way back;"
+            f" write all words of a way in one text, as link({SAMPLE})"
+        )
     there, back = (*mark.args, None, None)[:2]
     if others := {name: value for name, value in mark.kwargs.items() if name not in TAKES}:
         raise unknown(others, there)
@@ -87,7 +89,7 @@ def fault_of(item: pytest.Item) -> Optional[str]:
         return str(error)
     in_simulated_time = item.get_closest_marker("simulated")
     if in_simulated_time is not None and in_simulated_time.args:
-        return f"the mark simulated takes options by name alone, as server=\"COMMAND\", and {in_simulated_time.args[0]!r} has none"
+        return f'the mark simulated takes options by name alone, as server="COMMAND", and {in_simulated_time.args[0]!r} has none'
     return None
 
 

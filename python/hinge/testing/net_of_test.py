@@ -40,9 +40,7 @@ class NetOfTest:
             if (text := self.net.last_lines(name))
         ]
         losses = [self.named(line) for line in dropped_in_history(self.history)]
-        return "\n".join(
-            [self.net.told(), *changes, *losses, *message, closing(self.net.drawn_seed(), self.verdict, self.history)]
-        )
+        return "\n".join([self.net.told(), *changes, *losses, *message, closing(self.net.drawn_seed(), self.verdict, self.history)])
 
     def log(self, host: str) -> Path:
         return self.net.folder / "logs" / f"{host}.log"

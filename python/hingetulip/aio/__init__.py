@@ -37,5 +37,23 @@ from hingetulip.aio.transport import Transport
 
 private_names.check()
 
-__all__ = ["Address", "ClockWarning", "Datagram", "DatagramSocket", "Dropped", "Host", "Link", "Loop", "Network", "RealTimeError", "Refusal",
-           "Stuck", "Task", "Transport", "Words", "current_host", "network", "run"]
+__all__ = [
+    "Address",
+    "ClockWarning",
+    "Datagram",
+    "DatagramSocket",
+    "Dropped",
+    "Host",
+    "Link",
+    "Loop",
+    "Network",
+    "RealTimeError",
+    "Refusal",
+    "Stuck",
+    "Task",
+    "Transport",
+    "Words",
+    "current_host",
+    "network",
+    "run",
+]

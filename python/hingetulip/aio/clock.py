@@ -65,8 +65,10 @@ class Clock:
 
     def _move(self, moment: int) -> None:
         if moment > LAST_MOMENT:
-            raise Stuck(f"at {self.now / NS:.9f} s nothing can happen any more: no timer runs, and no packet is under way."
-                        f"{other_threads()}{waiting(self.loop)}")
+            raise Stuck(
+                f"at {self.now / NS:.9f} s nothing can happen any more: no timer runs, and no packet is under way."
+                f"{other_threads()}{waiting(self.loop)}"
+            )
         if moment > self.now:
             self.now, self.seconds, self.steps = moment, moment / NS, 0
             if moment >= EXACT:
@@ -78,4 +80,6 @@ class Clock:
     def _refuse_steps(self) -> NoReturn:
         """A loop that always has something to do at once never lets the time pass."""
         self.steps = 0
-        raise Stuck(f"the loop made {MOST_STEPS} steps at {self.now / NS:.9f} s: a task asks again and again without a timer.{waiting(self.loop)}")
+        raise Stuck(
+            f"the loop made {MOST_STEPS} steps at {self.now / NS:.9f} s: a task asks again and again without a timer.{waiting(self.loop)}"
+        )

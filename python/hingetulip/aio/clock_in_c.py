@@ -48,8 +48,11 @@ def is_pythons_own(module: ModuleType) -> bool:
 def users_of_ssl() -> list[str]:
     """The imported modules, except Python's own, that use ssl."""
     ssl = sys.modules.get("ssl")
-    return sorted(name for name, module in list(sys.modules.items())
-                  if isinstance(module, ModuleType) and ssl is not None and vars(module).get("ssl") is ssl and not is_pythons_own(module))
+    return sorted(
+        name
+        for name, module in list(sys.modules.items())
+        if isinstance(module, ModuleType) and ssl is not None and vars(module).get("ssl") is ssl and not is_pythons_own(module)
+    )
 
 
 class Watch:
@@ -64,8 +67,11 @@ class Watch:
         self.done = True
         users = [DTLS] if DTLS in sys.modules else users_of_ssl()
         if users:
-            warnings.warn(f"OpenSSL asks the real clock while hours of simulated time pass, and {users[0]} may use it: {ADVICE}", ClockWarning,
-                          stacklevel=2)
+            warnings.warn(
+                f"OpenSSL asks the real clock while hours of simulated time pass, and {users[0]} may use it: {ADVICE}",
+                ClockWarning,
+                stacklevel=2,
+            )
 
 
 def hint() -> str:

@@ -37,7 +37,7 @@ def refusal(it: Datagram) -> Refusal:
     """The answer to a datagram that no socket takes."""
     before = headers(it.target[0])
     most = MOST_REFUSAL if before == HEADERS else MOST_REFUSAL_OF_6
-    return Refusal(it.target, it.source, (bytes(before) + it.data)[:most - before])
+    return Refusal(it.target, it.source, (bytes(before) + it.data)[: most - before])
 
 
 class Dropped(NamedTuple):
@@ -52,8 +52,10 @@ class Dropped(NamedTuple):
 
     def __str__(self) -> str:
         (source, sport), (target, dport) = self.source, self.target
-        return (f"row {self.row:>5}, {self.moment / NS:.9f} s, {place(source)}:{sport} > {place(target)}:{dport}, "
-                f"{len(self.data) + headers(target)} bytes: {self.outcome.name.lower()}")
+        return (
+            f"row {self.row:>5}, {self.moment / NS:.9f} s, {place(source)}:{sport} > {place(target)}:{dport}, "
+            f"{len(self.data) + headers(target)} bytes: {self.outcome.name.lower()}"
+        )
 
 
 def place(address: str) -> str:

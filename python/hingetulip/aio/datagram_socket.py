@@ -238,7 +238,7 @@ class DatagramSocket(socket.socket):
     def recvfrom_into(self, buffer: Buffer, nbytes: int = 0, flags: int = 0) -> tuple[int, Any]:
         room = memoryview(buffer).cast("B")
         data, source = self.recvfrom(nbytes or len(room), flags)
-        room[:len(data)] = data
+        room[: len(data)] = data
         return len(data), source
 
     def recv_into(self, buffer: Buffer, nbytes: int = 0, flags: int = 0) -> int:

@@ -97,5 +97,9 @@ class Descriptors:
         poll = select.poll()
         for other in sorted(self._others):
             poll.register(other, READABLE * (other in self.readers) | WRITABLE * (other in self.writers))
-        return [waits[other] for other, events in poll.poll(0)
-                for waits, mask in ((self.readers, READABLE), (self.writers, WRITABLE)) if other in waits and events & mask]
+        return [
+            waits[other]
+            for other, events in poll.poll(0)
+            for waits, mask in ((self.readers, READABLE), (self.writers, WRITABLE))
+            if other in waits and events & mask
+        ]

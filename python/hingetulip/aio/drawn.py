@@ -28,7 +28,7 @@ class Lanes:
         z = (z ^ z >> 30 & masks) * FIRST & masks
         z = (z ^ z >> 27 & masks) * SECOND & masks
         z = (z ^ z >> 31 & masks) & self.low
-        return memoryview(z.to_bytes(LANE * self.count, "little")).cast("I")[::LANE // 4]
+        return memoryview(z.to_bytes(LANE * self.count, "little")).cast("I")[:: LANE // 4]
 
 
 AT_FIRST, THEN = Lanes(FEW), Lanes(MANY)

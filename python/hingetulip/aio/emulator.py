@@ -26,7 +26,9 @@ class Way:
 
     __slots__ = ("link", "before", "is_last", "source", "target", "proto", "sport", "dport", "kind", "number", "_others")
 
-    def __init__(self, link: Link, before: int, is_last: bool, fields: tuple[int, int, int, int, int], kind: int, number: int) -> None:
+    def __init__(
+        self, link: Link, before: int, is_last: bool, fields: tuple[int, int, int, int, int], kind: int, number: int
+    ) -> None:
         """`before` are the bytes of the headers, and `fields` addresses, protocol and ports as numbers."""
         self.link, self.before, self.is_last, self.kind, self.number = link, before, is_last, kind, number
         self.source, self.target, self.proto, self.sport, self.dport = fields
@@ -87,7 +89,9 @@ class Emulator:
     def submit(self, way: Way, moment: int, length: int, word: int) -> tuple[int, int]:
         """A packet arrives: its outcome, as a number, and its number. RangeError: a word of a model isn't one."""
         try:
-            pack_packet(self._packet, 0, moment, way.source, way.target, word, way.sport, way.dport, length, way.number, way.kind, way.proto)
+            pack_packet(
+                self._packet, 0, moment, way.source, way.target, word, way.sport, way.dport, length, way.number, way.kind, way.proto
+            )
         except StructError:
             raise unpackable(word=word) from None
         status = submit_packet(*self._submitted)
@@ -120,7 +124,7 @@ class Emulator:
             self._add_collect(self.history, count)
         if count == 1:
             return [unpack_delivery(self._deliveries)[1]]
-        return [it[1] for it in iterate_deliveries(memoryview(self._deliveries)[:DELIVERY.size * count])] if count else []
+        return [it[1] for it in iterate_deliveries(memoryview(self._deliveries)[: DELIVERY.size * count])] if count else []
 
     def _add_collect(self, history: History, count: int) -> None:
         if count < 2:

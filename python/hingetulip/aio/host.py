@@ -76,8 +76,9 @@ class Host:
         """The host is up again. What is to run on it is made anew, by `create_task`."""
         self.is_up = True
 
-    async def endpoint(self, factory: Callable[[], Protocol], port: int = 0,
-                       remote: Optional[Address] = None) -> tuple[Transport, Protocol]:
+    async def endpoint(
+        self, factory: Callable[[], Protocol], port: int = 0, remote: Optional[Address] = None
+    ) -> tuple[Transport, Protocol]:
         """A datagram endpoint on this host, for a caller in any task: at a port, or at a free one, and connected where
         `remote` is given."""
         return await self.create_task(self.net.loop.create_datagram_endpoint(factory, (ANY, port), remote))

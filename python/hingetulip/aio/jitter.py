@@ -16,7 +16,9 @@ DelayOf = Callable[[Datagram], float]
 def whole(delay: float) -> int:
     """A delay in whole ms, 0 to 3,600,000. ValueError: it is another number."""
     if delay != int(delay) or not 0 <= delay <= MOST:
-        raise ValueError(f"jitter returned {delay!r}: a datagram is late by whole milliseconds, 0 to {MOST}; return round(..) of it")
+        raise ValueError(
+            f"jitter returned {delay!r}: a datagram is late by whole milliseconds, 0 to {MOST}; return round(..) of it"
+        )
     return int(delay)
 
 

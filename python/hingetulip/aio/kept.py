@@ -21,7 +21,9 @@ PREFIX, PREFIX_OF_6 = 24, 64
 def adapters(ifaddr: Any) -> list[Any]:
     """The addresses of the present host, as ifaddr tells those of a machine."""
     host = current_host()
-    ips = [ifaddr.IP((it, 0, 0), PREFIX_OF_6, host.name) if is_of_6(it) else ifaddr.IP(it, PREFIX, host.name) for it in host.addresses]
+    ips = [
+        ifaddr.IP((it, 0, 0), PREFIX_OF_6, host.name) if is_of_6(it) else ifaddr.IP(it, PREFIX, host.name) for it in host.addresses
+    ]
     return [ifaddr.Adapter(host.name, host.name, ips, index=1)]
 
 

@@ -33,9 +33,20 @@ class Link:
     what goes the other way. `copies` returns how often a datagram enters the link, and `jitter` for how many ms more it is under way.
     """
 
-    def __init__(self, net: Network, near: Host, far: Host, options: str, *, classes: Optional[Mapping[str, str]] = None,
-                 classify: Optional[Classifier] = None, loss: Optional[Words] = None, copies: Optional[Callable[[Datagram], int]] = None,
-                 jitter: Optional[DelayOf] = None, mtu: int = MOST_BYTES) -> None:
+    def __init__(
+        self,
+        net: Network,
+        near: Host,
+        far: Host,
+        options: str,
+        *,
+        classes: Optional[Mapping[str, str]] = None,
+        classify: Optional[Classifier] = None,
+        loss: Optional[Words] = None,
+        copies: Optional[Callable[[Datagram], int]] = None,
+        jitter: Optional[DelayOf] = None,
+        mtu: int = MOST_BYTES,
+    ) -> None:
         if (classes is None) != (classify is None):
             raise TypeError("classes are given together with the function that classifies")
         self.net, self.near, self.far, self.pipe, self.classify = net, near, far, net.number_of("pipe"), classify

@@ -25,10 +25,26 @@ if TYPE_CHECKING:
 T = TypeVar("T")
 FEW_TASKS = 64
 RESOLUTION = 0.5e-9  # s: a timer is due at its nearest ns
-LEFT_OUT = ("create_connection", "create_server", "connect_accepted_socket", "create_unix_connection", "create_unix_server", "sock_accept",
-            "sock_sendfile", "sendfile", "start_tls")
+LEFT_OUT = (
+    "create_connection",
+    "create_server",
+    "connect_accepted_socket",
+    "create_unix_connection",
+    "create_unix_server",
+    "sock_accept",
+    "sock_sendfile",
+    "sendfile",
+    "start_tls",
+)
 NO_SYSTEM = "a simulated host has no processes, pipes and signals: `hinge run --simulated` takes programs into simulated time"
-OF_THE_SYSTEM = ("subprocess_exec", "subprocess_shell", "connect_read_pipe", "connect_write_pipe", "add_signal_handler", "remove_signal_handler")
+OF_THE_SYSTEM = (
+    "subprocess_exec",
+    "subprocess_shell",
+    "connect_read_pipe",
+    "connect_write_pipe",
+    "add_signal_handler",
+    "remove_signal_handler",
+)
 
 
 class Loop(asyncio.BaseEventLoop):
@@ -130,7 +146,9 @@ class Loop(asyncio.BaseEventLoop):
     async def sock_connect(self, sock: socket.socket, address: Any) -> None:
         simulated(sock).connect(address)
 
-    async def getaddrinfo(self, host: Any, port: Any, *, family: int = 0, type: int = 0, proto: int = 0, flags: int = 0) -> list[Any]:
+    async def getaddrinfo(
+        self, host: Any, port: Any, *, family: int = 0, type: int = 0, proto: int = 0, flags: int = 0
+    ) -> list[Any]:
         """The addresses of a host of the network, by an address or its name."""
         return self.net.addresses_of(host, port, family, type, proto, flags)
 
@@ -138,11 +156,18 @@ class Loop(asyncio.BaseEventLoop):
         """The numbers themselves."""
         return str(sockaddr[0]), str(sockaddr[1])
 
-    async def create_datagram_endpoint(self, protocol_factory: Callable[[], Protocol],  # type: ignore[override]
-                                       local_addr: Optional[Address] = None, remote_addr: Optional[Address] = None, *,
-                                       family: int = 0, reuse_port: Optional[bool] = None,
-                                       allow_broadcast: Optional[bool] = None, sock: Optional[socket.socket] = None,
-                                       **more: Any) -> tuple[Transport, Protocol]:
+    async def create_datagram_endpoint(
+        self,
+        protocol_factory: Callable[[], Protocol],  # type: ignore[override]
+        local_addr: Optional[Address] = None,
+        remote_addr: Optional[Address] = None,
+        *,
+        family: int = 0,
+        reuse_port: Optional[bool] = None,
+        allow_broadcast: Optional[bool] = None,
+        sock: Optional[socket.socket] = None,
+        **more: Any,
+    ) -> tuple[Transport, Protocol]:
         """A socket of the task's host, or of the host that has the local address."""
         if sock is not None:
             endpoint = simulated(sock).endpoint()
@@ -180,6 +205,7 @@ class Loop(asyncio.BaseEventLoop):
 
 def refusing(text: str) -> Callable[..., NoReturn]:
     """A method that isn't there, and says what is."""
+
     def refuse(loop: Loop, *words: Any, **named: Any) -> NoReturn:
         raise NotImplementedError(text)
 

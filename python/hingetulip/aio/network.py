@@ -43,7 +43,9 @@ class Network(Traffic):
     of links for which none are given, and `back` those of the way back of a path.
     """
 
-    def __init__(self, *, seed: int = 1, history: Union[str, Path, None] = None, options: str = "", back: Optional[str] = None) -> None:
+    def __init__(
+        self, *, seed: int = 1, history: Union[str, Path, None] = None, options: str = "", back: Optional[str] = None
+    ) -> None:
         self.seed, self.history, self.options, self.back = seed, history, options, back
         self.random = Random(seed)
         super().__init__(Shaper(seed=seed), History(history) if history else None)
@@ -82,9 +84,19 @@ class Network(Traffic):
         self.numbers.update({text: number(texts[0] if ":" in text else text) for text in texts})
         return made
 
-    def link(self, near: Host, far: Host, options: Optional[str] = None, *, classes: Optional[Mapping[str, str]] = None,
-             classify: Optional[Classifier] = None, loss: Optional[Words] = None, copies: Optional[Callable[[Datagram], int]] = None,
-             jitter: Optional[DelayOf] = None, mtu: int = MOST_BYTES) -> Link:
+    def link(
+        self,
+        near: Host,
+        far: Host,
+        options: Optional[str] = None,
+        *,
+        classes: Optional[Mapping[str, str]] = None,
+        classify: Optional[Classifier] = None,
+        loss: Optional[Words] = None,
+        copies: Optional[Callable[[Datagram], int]] = None,
+        jitter: Optional[DelayOf] = None,
+        mtu: int = MOST_BYTES,
+    ) -> Link:
         """One direction between two hosts: a pipe with these options, as `bw 8Mbit/s delay 20ms plr 0.05` or `8Mbit/s 20ms loss 5%`.
 
         With `classes`, the options of a queue for each class, `classify` returns the class of a datagram. A model of loss gives the words
@@ -98,14 +110,25 @@ class Network(Traffic):
                 raise TypeError(f"a link is between two hosts, and {it!r} is none{hint}")
         if near is far or (near, far) in self.links:
             raise ValueError(f"there is a link from {near.name} to {far.name} already")
-        made = self.links[near, far] = Link(self, near, far, self.options if options is None else options, classes=classes, classify=classify,
-                                                   loss=loss, copies=copies, jitter=jitter, mtu=mtu)
+        made = self.links[near, far] = Link(
+            self,
+            near,
+            far,
+            self.options if options is None else options,
+            classes=classes,
+            classify=classify,
+            loss=loss,
+            copies=copies,
+            jitter=jitter,
+            mtu=mtu,
+        )
         self.routes.add(made)
         self.forget_ways()
         return made
 
-    def path(self, one: Host, other: Host, options: Optional[str] = None, back: Optional[str] = None, *,
-             preset: Optional[str] = None) -> tuple[Link, Link]:
+    def path(
+        self, one: Host, other: Host, options: Optional[str] = None, back: Optional[str] = None, *, preset: Optional[str] = None
+    ) -> tuple[Link, Link]:
         """A link each way, alike if `back` isn't given; or those of a preset, as `lte`, whose server is `other`.
 
         ValueError: there is no such preset.
@@ -221,8 +244,14 @@ def network() -> Network:
     return loop.net
 
 
-def run(main: Coroutine[Any, Any, T], *, seed: int = 1, history: Union[str, Path, None] = None, timeout: Optional[float] = None,
-        patch: bool = True) -> T:
+def run(
+    main: Coroutine[Any, Any, T],
+    *,
+    seed: int = 1,
+    history: Union[str, Path, None] = None,
+    timeout: Optional[float] = None,
+    patch: bool = True,
+) -> T:
     """Runs a coroutine in a new network, which `network()` returns to it, and returns what it returns. `Network.run` has the errors."""
     with Network(seed=seed, history=history) as net:
         return net.run(main, timeout=timeout, patch=patch)

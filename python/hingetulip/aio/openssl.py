@@ -17,8 +17,14 @@ LOADED = re.compile(r"(/\S*libcrypto[^/\s]*\.so\S*)$", re.M)
 class Method(ctypes.Structure):
     """RAND_METHOD of OpenSSL. What isn't given isn't called."""
 
-    _fields_ = [("seed", ctypes.c_void_p), ("bytes", Bytes), ("cleanup", ctypes.c_void_p), ("add", ctypes.c_void_p), ("pseudorand", Bytes),
-                ("status", Status)]
+    _fields_ = [
+        ("seed", ctypes.c_void_p),
+        ("bytes", Bytes),
+        ("cleanup", ctypes.c_void_p),
+        ("add", ctypes.c_void_p),
+        ("pseudorand", Bytes),
+        ("status", Status),
+    ]
 
 
 def libcrypto() -> Optional[ctypes.CDLL]:

@@ -16,8 +16,10 @@ def report(net: Network) -> str:
     lines = []
     for link in net.links.values():
         count = link.counts
-        lines.append(f"{link.near.name} > {link.far.name}: {sum(count.values())} sent, {count[Outcome.LOST]} lost, "
-                     f"{count[Outcome.FULL]} met a full queue")
+        lines.append(
+            f"{link.near.name} > {link.far.name}: {sum(count.values())} sent, {count[Outcome.LOST]} lost, "
+            f"{count[Outcome.FULL]} met a full queue"
+        )
     lines += [f"{place}: {count} without a way" for place, count in net.unrouted.items()]
     lines += [f"{place}: {count} without a socket" for place, count in net.unheard.items()]
     lines += [f"{place}: {count} refused" for place, count in net.refused.items()]

@@ -14,10 +14,17 @@ SHARED = {(SOCKET, socket.SO_REUSEADDR), (SOCKET, socket.SO_REUSEPORT)}
 HEARS_ITSELF = {(IP, socket.IP_MULTICAST_LOOP), (IPV6, socket.IPV6_MULTICAST_LOOP)}
 ADDRESS_LENGTH, ADDRESS_OF_6_LENGTH = 4, 16
 BUFFER = 212_992  # bytes, as Linux has them
-DEFAULTS = {(SOCKET, socket.SO_TYPE): int(socket.SOCK_DGRAM), (SOCKET, socket.SO_RCVBUF): BUFFER,
-            (SOCKET, socket.SO_SNDBUF): BUFFER, (IP, socket.IP_TTL): 64, (IP, socket.IP_MULTICAST_TTL): 1,
-            (IP, socket.IP_MULTICAST_LOOP): 1, (IPV6, socket.IPV6_MULTICAST_LOOP): 1,
-            (IPV6, socket.IPV6_UNICAST_HOPS): 64, (IPV6, socket.IPV6_MULTICAST_HOPS): 1}
+DEFAULTS = {
+    (SOCKET, socket.SO_TYPE): int(socket.SOCK_DGRAM),
+    (SOCKET, socket.SO_RCVBUF): BUFFER,
+    (SOCKET, socket.SO_SNDBUF): BUFFER,
+    (IP, socket.IP_TTL): 64,
+    (IP, socket.IP_MULTICAST_TTL): 1,
+    (IP, socket.IP_MULTICAST_LOOP): 1,
+    (IPV6, socket.IPV6_MULTICAST_LOOP): 1,
+    (IPV6, socket.IPV6_UNICAST_HOPS): 64,
+    (IPV6, socket.IPV6_MULTICAST_HOPS): 1,
+}
 
 
 def whole(value: Any) -> int:

@@ -33,7 +33,9 @@ def simulated_system(net: Network) -> Iterator[None]:
     thread = threading.get_ident()
     own: Any = socket.socket.__new__
 
-    def make(cls: type[socket.socket], family: int = -1, type: int = -1, proto: int = -1, fileno: Any = None, **more: Any) -> socket.socket:
+    def make(
+        cls: type[socket.socket], family: int = -1, type: int = -1, proto: int = -1, fileno: Any = None, **more: Any
+    ) -> socket.socket:
         if cls is not socket.socket or threading.get_ident() != thread or not is_virtual(family, type, fileno):
             return own(cls)  # type: ignore[no-any-return]
         return own(type_of_socket)  # type: ignore[no-any-return]
@@ -46,7 +48,8 @@ def simulated_system(net: Network) -> Iterator[None]:
     names: dict[str, Callable[..., Any]] = {
         "getaddrinfo": net.addresses_of,
         "gethostbyname": lambda name: net.addresses_of(name, 0, socket.AF_INET)[0][4][0],
-        "gethostname": lambda: current_host().name if here.get(None) else name_of_machine()}
+        "gethostname": lambda: current_host().name if here.get(None) else name_of_machine(),
+    }
     with ExitStack() as stack:
         stack.enter_context(real_refused(net.real_uses))
         stack.enter_context(mock.patch.object(socket.socket, "__new__", make))

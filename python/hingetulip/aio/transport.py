@@ -43,6 +43,7 @@ class Transport(asyncio.DatagramTransport):
         if name == "socket":
             if self.socket is None:
                 from hingetulip.aio.datagram_socket import DatagramSocket
+
                 self.socket = DatagramSocket.of(self.endpoint)
             return self.socket
         return super().get_extra_info(name, default)

@@ -51,5 +51,7 @@ def place(task: asyncio.Task[object]) -> str:
 
 def waiting(loop: Loop) -> str:
     """The tasks of a loop that wait, a line each, in the order in which they were made."""
-    lines = [f"\n  {task.get_name()}{f' on {task.host.name}' if task.host else ''} waits in {place(task)}" for task in loop.pending()]
+    lines = [
+        f"\n  {task.get_name()}{f' on {task.host.name}' if task.host else ''} waits in {place(task)}" for task in loop.pending()
+    ]
     return " These tasks wait:" + "".join(lines) if lines else ""

@@ -30,14 +30,15 @@ class Expected:
 def ip4(src: str, dst: str, proto: int, payload: bytes, fragment: int = 0, length: int | None = None) -> bytes:
     """An IPv4 packet; its header may say another length, as that of a segment which the card was still to cut."""
     total = 20 + len(payload) if length is None else length
-    return struct.pack("!BBHHHBBH4s4s", 0x45, 0, total, 7, fragment, 64, proto, 0,
-                       socket.inet_aton(src), socket.inet_aton(dst)) + payload
+    return (
+        struct.pack("!BBHHHBBH4s4s", 0x45, 0, total, 7, fragment, 64, proto, 0, socket.inet_aton(src), socket.inet_aton(dst))
+        + payload
+    )
 
 
 def ip6(src: str, dst: str, following: int, payload: bytes, length: int | None = None) -> bytes:
     addresses = b"".join(socket.inet_pton(socket.AF_INET6, address) for address in (src, dst))
-    return struct.pack("!IHBB", 6 << 28, len(payload) if length is None else length, following,
-                       64) + addresses + payload
+    return struct.pack("!IHBB", 6 << 28, len(payload) if length is None else length, following, 64) + addresses + payload
 
 
 def udp(sport: int, dport: int, size: int) -> bytes:
@@ -83,10 +84,10 @@ def without_times(path: Path) -> None:
 
 def timed_in_ns(path: Path, frames: list[tuple[int, bytes]]) -> None:
     """A pcapng whose times are ns in 64 bits."""
-    section, interface = struct.pack("<IHHq", 0x1A2B3C4D, 1, 0,
-                                     -1), struct.pack("<HHIHHI", ETHERNET, 0, 65535, 9, 1, 9) + bytes(4)
-    packets = [block(6, struct.pack("<IIIII", 0, time >> 32, time & 0xFFFFFFFF, len(frame), len(frame)) + frame)
-               for time, frame in frames]
+    section, interface = struct.pack("<IHHq", 0x1A2B3C4D, 1, 0, -1), struct.pack("<HHIHHI", ETHERNET, 0, 65535, 9, 1, 9) + bytes(4)
+    packets = [
+        block(6, struct.pack("<IIIII", 0, time >> 32, time & 0xFFFFFFFF, len(frame), len(frame)) + frame) for time, frame in frames
+    ]
     path.write_bytes(block(0x0A0D0D0A, section) + block(1, interface) + b"".join(packets))
 
 
@@ -104,13 +105,14 @@ def odd_ethernet(path: Path) -> list[Expected]:
         (pppoe(0x21, ip4(second, first, 17, udp(53, 1000, 100))), (second, first, 17, 53, 1000, 128)),
         (pppoe(0xC021, bytes(10)), None),
         (pppoe(0x57, ip6("2001:db8::1", "2001:db8::2", 6, tcp(7, 8, 5))), ("240.0.0.1", "240.0.0.2", 6, 7, 8, 65)),
-        (ethernet(0x86DD, ip6("2001:db8::2", "2001:db8::3", 0, extended)),
-         ("240.0.0.2", "240.0.0.3", 17, 4000, 4001, 116)),
+        (ethernet(0x86DD, ip6("2001:db8::2", "2001:db8::3", 0, extended)), ("240.0.0.2", "240.0.0.3", 17, 4000, 4001, 116)),
         (ethernet(0x0800, ip4(first, second, 17, udp(5, 6, 1472), 0x2000)), (first, second, 17, 5, 6, 1500)),
         (ethernet(0x0800, ip4(first, second, 17, bytes(520), 185)), (first, second, 17, 0, 0, 540)),
         (ethernet(0x0800, ip4(first, second, 1, quoted)), (first, second, 1, 0, 0, 56)),
-        (ethernet(0x86DD, ip6("2001:db8::1", "2001:db8::2", 17, udp(1, 2, 300), length=0)),
-         ("240.0.0.1", "240.0.0.2", 17, 0, 0, 348)),
+        (
+            ethernet(0x86DD, ip6("2001:db8::1", "2001:db8::2", 17, udp(1, 2, 300), length=0)),
+            ("240.0.0.1", "240.0.0.2", 17, 0, 0, 348),
+        ),
         (ethernet(0x0800, ip4(first, second, 6, tcp(1003, 443, 4000), length=0)), (first, second, 6, 1003, 443, 4040)),
     ]
     times = [BEGAN + 1_000_003 * number for number in range(len(packets))]
@@ -121,13 +123,20 @@ def odd_ethernet(path: Path) -> list[Expected]:
 def other_links(folder: Path) -> list[Expected]:
     """A pcapng with an interface of raw IP and one of Linux cooked frames, whose packets come in turn."""
     raw, sll = folder / "raw.pcap", folder / "sll.pcap"
-    write(raw, RAW,
-          [(BEGAN + 10_000_001, ip4("10.0.0.1", "10.0.0.2", 17, udp(1, 2, 3))),
-           (BEGAN + 31_000_002, ip4("10.0.0.1", "10.0.0.2", 47, bytes(30)))])
-    write(sll, COOKED,
-          [(BEGAN + 20_000_000, cooked(0x0800, ip4("10.0.0.3", "10.0.0.4", 132, struct.pack("!HH", 3, 4) + bytes(8))))])
-    subprocess.run(["mergecap", "-F", "pcapng", "-w", str(folder / "other.pcapng"), str(raw), str(sll)], check=True,
-                   capture_output=True)
+    write(
+        raw,
+        RAW,
+        [
+            (BEGAN + 10_000_001, ip4("10.0.0.1", "10.0.0.2", 17, udp(1, 2, 3))),
+            (BEGAN + 31_000_002, ip4("10.0.0.1", "10.0.0.2", 47, bytes(30))),
+        ],
+    )
+    write(
+        sll, COOKED, [(BEGAN + 20_000_000, cooked(0x0800, ip4("10.0.0.3", "10.0.0.4", 132, struct.pack("!HH", 3, 4) + bytes(8))))]
+    )
+    subprocess.run(
+        ["mergecap", "-F", "pcapng", "-w", str(folder / "other.pcapng"), str(raw), str(sll)], check=True, capture_output=True
+    )
     return [
         Expected(0, "10.0.0.1", "10.0.0.2", 17, 1, 2, 31),
         Expected(9_999_999, "10.0.0.3", "10.0.0.4", 132, 3, 4, 32),
@@ -166,8 +175,7 @@ def nested(folder: Path) -> list[Path]:
     ]
     paths = [folder / name for name in ("nested.pcap", "sll2.pcap", "ppp.pcap", "raw6.pcap")]
     second_cooked = struct.pack("!HHIHBBQ", 0x86DD, 0, 1, 1, 4, 6, 0) + six
-    contents = [(ETHERNET, frames), (COOKED_2, [second_cooked]), (PPP, [b"\0\x21" + four, b"\0\x57" + six]),
-                (RAW, [six, four])]
+    contents = [(ETHERNET, frames), (COOKED_2, [second_cooked]), (PPP, [b"\0\x21" + four, b"\0\x57" + six]), (RAW, [six, four])]
     for path, (link_type, several) in zip(paths, contents):
         write(path, link_type, [(BEGAN + 1_000_001 * number, frame) for number, frame in enumerate(several)])
     return paths

@@ -50,8 +50,7 @@ def compare(low: int, high: int) -> int:
         data, out = random_configuration(seed), io.StringIO()
         with contextlib.redirect_stdout(out):
             LineCheck("f", data.split(b"\n"), Findings()).check()
-        done = subprocess.run([dummynet(), "replay", "/dev/stdin", "/dev/null"], input=data, capture_output=True,
-                              text=False)
+        done = subprocess.run([dummynet(), "replay", "/dev/stdin", "/dev/null"], input=data, capture_output=True, text=False)
         faults = [line for line in out.getvalue().splitlines() if ": warning: " not in line]
         assert (done.returncode == 3) == bool(faults), (seed, done.stderr, faults, data)
         if faults:

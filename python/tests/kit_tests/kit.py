@@ -36,8 +36,9 @@ def run(command: str, *words: object, **more: object) -> subprocess.CompletedPro
     wanted in a process of its own."""
     if set(more) <= {"input"} and "coverage" not in sys.modules:  # which saves what it saw at the end of a process
         return forked_in(folder(), [command, *map(str, words)], str(more.get("input", "")))
-    return subprocess.run([sys.executable, "-m", "hinge", command, *map(str, words)], capture_output=True, text=True,
-                          cwd=folder(), **more)
+    return subprocess.run(
+        [sys.executable, "-m", "hinge", command, *map(str, words)], capture_output=True, text=True, cwd=folder(), **more
+    )
 
 
 def replay(name: str, config: Path, packets: Path) -> Path:
@@ -52,8 +53,11 @@ def replay(name: str, config: Path, packets: Path) -> Path:
 def mixed(name: str) -> tuple[Path, Path, Path]:
     """Configuration, packets and report of mixed.pcap through one of the configurations."""
     packets, config = folder() / f"{name}.csv", DATA / f"{name}.config"
-    maps = ["--map", "udp => queue 1", "--map", "icmp => queue 7", "--map",
-            "=> queue 2"] if name == "shared" else ["--from", "10.9.0.1"]
+    maps = (
+        ["--map", "udp => queue 1", "--map", "icmp => queue 7", "--map", "=> queue 2"]
+        if name == "shared"
+        else ["--from", "10.9.0.1"]
+    )
     done = run("packets", MIXED, "-o", packets, "--mtu", 1500, "--index", folder() / f"{name}.index", *maps)
     assert done.returncode == 0, done.stderr
     return config, packets, replay(name, config, packets)

@@ -33,8 +33,7 @@ def forty() -> tuple[Path, Path]:
     rows = [(1000 * row, f"10.0.{row % 40}.1", 100 + row % 40) for row in range(4000)]
     packets = "".join(f"{at},pipe,1,{src},10.1.0.1,17,1,2,{length},0\n" for at, src, length in rows)
     report = "".join(f"out,{row},0,{row - 1},{at},{at},{at}\n" for row, (at, _, _) in enumerate(rows, 1))
-    return write("forty.csv", f"{HEADER}\n{packets}"), write("forty.report",
-                                                             f"event,row,flow,packet,at,start,due\n{report}")
+    return write("forty.csv", f"{HEADER}\n{packets}"), write("forty.report", f"event,row,flow,packet,at,start,due\n{report}")
 
 
 def full_link(flows: int) -> Replay:

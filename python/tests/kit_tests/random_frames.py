@@ -20,14 +20,20 @@ class Frames:
         self.draw = random.Random(seed)
         self.links: dict[int, Callable[[], bytes]] = {
             0: lambda: self.behind(lambda kind: struct.pack("<I", 2 if kind == IP else self.draw.choice((24, 28, 30)))),
-            ETHERNET: self.ethernet, PPP: lambda: self.draw.choice((b"", b"\xff\x03")) + self.behind(self.ppp),
-            12: self.inner, 14: self.inner, 50: lambda: b"\xff\x03" + self.behind(self.ppp),
-            51: self.session, RAW: self.inner,
+            ETHERNET: self.ethernet,
+            PPP: lambda: self.draw.choice((b"", b"\xff\x03")) + self.behind(self.ppp),
+            12: self.inner,
+            14: self.inner,
+            50: lambda: b"\xff\x03" + self.behind(self.ppp),
+            51: self.session,
+            RAW: self.inner,
             104: lambda: self.behind(lambda kind: b"\x0f\0" + struct.pack("!H", kind)),
-            105: self.wireless, 108: lambda: self.behind(lambda kind: struct.pack(">I", 2 if kind == IP else 28)),
+            105: self.wireless,
+            108: lambda: self.behind(lambda kind: struct.pack(">I", 2 if kind == IP else 28)),
             COOKED: lambda: self.behind(lambda kind: cooked(kind, b"")),
             127: lambda: b"\0\0\x08\0\0\0\0\0" + self.wireless(),
-            228: self.four, 229: self.six,
+            228: self.four,
+            229: self.six,
             COOKED_2: lambda: self.behind(lambda kind: struct.pack("!HHIHBBQ", kind, 0, 1, 1, 4, 6, 0)),
         }
 
@@ -48,8 +54,7 @@ class Frames:
         """An IPv4 packet, some with options and some with a length that is none."""
         proto = self.draw.choice((6, 17, 132, 1, 47, 136, 50, 2, 89))
         fragment = self.draw.choice((0, 0, 0, 0x4000, 0x2000, 0x2005, 185))
-        packet = bytearray(ip4(f"10.{self.draw.randrange(256)}.0.1", "192.0.2.7", proto, self.transport(proto),
-                               fragment))
+        packet = bytearray(ip4(f"10.{self.draw.randrange(256)}.0.1", "192.0.2.7", proto, self.transport(proto), fragment))
         packet[1] = self.draw.randrange(256)
         if self.draw.random() < 0.2:
             words = self.draw.choice((1, 2, 5))
@@ -96,8 +101,12 @@ class Frames:
         """A frame of Ethernet, some with tags, labels, a session or a header of 802.2, and some of no IP packet."""
         chance = self.draw.random()
         if chance < 0.15:
-            kind, packet = 0x8847, b"".join(struct.pack("!I", 100 << 12 | 0xFF)
-                                            for _ in range(self.draw.randrange(2))) + b"\0\6\x41\xff" + self.inner()
+            kind, packet = (
+                0x8847,
+                b"".join(struct.pack("!I", 100 << 12 | 0xFF) for _ in range(self.draw.randrange(2)))
+                + b"\0\6\x41\xff"
+                + self.inner(),
+            )
         elif chance < 0.3:
             kind, packet = 0x8864, self.session()
         elif chance < 0.4:
@@ -117,4 +126,4 @@ class Frames:
 
     def cut(self, frame: bytes) -> bytes:
         """The frame as a capture may have it."""
-        return frame[:self.draw.randrange(len(frame) + 1)] if self.draw.random() < 0.5 else frame
+        return frame[: self.draw.randrange(len(frame) + 1)] if self.draw.random() < 0.5 else frame

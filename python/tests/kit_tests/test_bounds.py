@@ -31,8 +31,7 @@ def history(config: str, packets: list[str]) -> str:
 
 def live(lines: list[str]) -> str:
     """The transcript of a session, by its name."""
-    done = subprocess.run([dummynet(), "live"], input="\n".join(lines) + "\n", check=True, stdout=subprocess.PIPE,
-                          text=True)
+    done = subprocess.run([dummynet(), "live"], input="\n".join(lines) + "\n", check=True, stdout=subprocess.PIPE, text=True)
     return str(write("live.history", done.stdout))
 
 
@@ -55,8 +54,9 @@ def bound_lines(panel: Panel) -> list[Line]:
 
 
 def figures(pipe: int, longest: int, *ns: Optional[int]) -> dict[str, Optional[int]]:
-    return dict(zip(("pipe", "longest_bytes", "max_wait_ns", "wait_bound_ns", "max_delay_ns", "delay_bound_ns"),
-                    (pipe, longest, *ns)))
+    return dict(
+        zip(("pipe", "longest_bytes", "max_wait_ns", "wait_bound_ns", "max_delay_ns", "delay_bound_ns"), (pipe, longest, *ns))
+    )
 
 
 FULL = "pipe 1 config bw 1Mbit/s delay 20", [packet(1500)] * 60
@@ -78,8 +78,9 @@ class Bounds(unittest.TestCase):
         """1,024 bytes at 8 Mbit/s take 1,024,000 ns, and 1,024 are for rounding. The second packet waits 0.5 ms."""
         lines = "pipe 1 config bw 8Mbit/s queue 1Kbytes\npipe 2 config delay 3"
         found = pipes(history(lines, [packet(500), packet(500), packet(40, 5, "pipe,2")]))
-        self.assertEqual(found, [figures(1, 500, 500_000, 1_525_024, 1_000_000, 2_025_024),
-                                 figures(2, 40, 0, 0, 3_000_000, 3_000_000)])
+        self.assertEqual(
+            found, [figures(1, 500, 500_000, 1_525_024, 1_000_000, 2_025_024), figures(2, 40, 0, 0, 3_000_000, 3_000_000)]
+        )
 
     def test_pipes_without_a_bound(self) -> None:
         """A queue names the first, the second got no packet, and the third lost its packet."""
@@ -95,25 +96,35 @@ class Bounds(unittest.TestCase):
         self.assertEqual(run("look", path).stdout.splitlines()[-1].split(), ["1", "1,000", "-", "1.000", "-", "2.000"])
 
     def test_a_link_that_was_changed_has_none(self) -> None:
-        path = live(["pipe 1 config bw 8Mbit/s", f"c,0,submit,{packet(1000).removeprefix('0,')},0",
-                     "pipe 1 config bw 4Mbit/s", "c,0,collect,5000000"])
+        path = live(
+            [
+                "pipe 1 config bw 8Mbit/s",
+                f"c,0,submit,{packet(1000).removeprefix('0,')},0",
+                "pipe 1 config bw 4Mbit/s",
+                "c,0,collect,5000000",
+            ]
+        )
         self.assertIsNone(pipes(path))
         self.assertNotIn("bound", run("look", path).stdout)
         self.assertEqual(bound_lines(delays(path)), [])
 
     def test_the_table_of_look(self) -> None:
         path = history(*FULL)
-        self.assertEqual(run("look", path).stdout.split("\n\n")[-1], """\
+        self.assertEqual(
+            run("look", path).stdout.split("\n\n")[-1],
+            """\
 pipe  longest  max wait  wait bound  max delay  delay bound
         bytes        ms          ms         ms           ms
 1       1,500   600.000     600.000    632.000      632.000
-""")
+""",
+        )
         self.assertNotIn("bound", run("look", path, "--csv").stdout)
 
     def test_the_line_of_a_picture(self) -> None:
         [line] = bound_lines(delays(history(*FULL)))
-        self.assertEqual((line.name, line.x.tolist(), line.y.tolist()),
-                         ("bound on the delay of pipe 1: 632 ms", [0, 0.632], [632, 632]))
+        self.assertEqual(
+            (line.name, line.x.tolist(), line.y.tolist()), ("bound on the delay of pipe 1: 632 ms", [0, 0.632], [632, 632])
+        )
 
     def test_a_bound_far_above_the_delays_is_a_note(self) -> None:
         """One packet takes 32 ms, and 632 ms are more than twice that."""

@@ -80,8 +80,7 @@ TOLD = {  # a line, and what is said of it, where no one word makes it good
     "queue delete 9": "queue 9 isn't configured",
 }
 ROWS = {
-    GOOD.replace("0,pipe", "1.5,pipe", 1)
-    + "1": "field 1 (moment) '1.5': a moment is whole nanoseconds; write 1500000000",
+    GOOD.replace("0,pipe", "1.5,pipe", 1) + "1": "field 1 (moment) '1.5': a moment is whole nanoseconds; write 1500000000",
     GOOD.replace("0,pipe", "-1,pipe", 1) + "1": "can't be negative",
     GOOD.replace("pipe", "Pipe") + "1": "field 2 (target) 'Pipe': keywords are lower case; write pipe",
     GOOD.replace("17", "udp") + "1": "field 6 (proto) 'udp': a protocol is its number; write 17",
@@ -128,8 +127,9 @@ class Lines(unittest.TestCase):
                 (status, out), program = check(path), verdict(line)
                 self.assertEqual((status, program.returncode), (3, 3))
                 number = re.search(r"line (\d+)(?:, word (\d+))?", program.stderr)
-                self.assertTrue(out.startswith(f"{path}:{number[1]}: " + (f"word {number[2]} " if number[2] else "")),
-                                (out, program.stderr))
+                self.assertTrue(
+                    out.startswith(f"{path}:{number[1]}: " + (f"word {number[2]} " if number[2] else "")), (out, program.stderr)
+                )
                 self.assertIn(said, out)
 
     def test_a_corrected_line_is_taken_whole(self) -> None:
@@ -152,20 +152,23 @@ class Lines(unittest.TestCase):
                 self.assertEqual(verdict(" ".join(words)).returncode, 0, words)
 
     def test_every_bad_line_is_told(self) -> None:
-        path = file("many.config",
-                    "pipe 1 config bw 8Mbps\n\nqueue 1 config pipe 1\npipe 2 config delay 1s # late\npipe 3 config\n")
+        path = file(
+            "many.config", "pipe 1 config bw 8Mbps\n\nqueue 1 config pipe 1\npipe 2 config delay 1s # late\npipe 3 config\n"
+        )
         status, out = check(path)
         self.assertEqual(status, 3)
-        self.assertEqual([line.split(": ", 1)[0] for line in out.splitlines()],
-                         [f"{path}:{number}" for number in (1, 3, 4)])
+        self.assertEqual([line.split(": ", 1)[0] for line in out.splitlines()], [f"{path}:{number}" for number in (1, 3, 4)])
         self.assertIn("pipe 1 isn't configured here (line 1, which is of it, has a fault)", out)
 
     def test_random_lines_as_the_program_has_them(self) -> None:
         self.assertGreater(compare(0, 60), 200)
 
     def test_the_examples_have_no_findings(self) -> None:
-        files = [path for path in sorted((TOP / "examples").glob("*")) if path.suffix in (".config", ".csv")
-                 and "report" not in path.name]
+        files = [
+            path
+            for path in sorted((TOP / "examples").glob("*"))
+            if path.suffix in (".config", ".csv") and "report" not in path.name
+        ]
         configs = [path for path in files if path.suffix == ".config"]
         self.assertGreater(len(configs), 5)
         for config in configs:
@@ -193,16 +196,27 @@ class Rows(unittest.TestCase):
         self.assertTrue(out.startswith(f"{path}:2: "), out[:200])
 
     def test_every_bad_row_is_told(self) -> None:
-        rows = [GOOD + "1", GOOD.replace("17", "tcp") + "1", "", GOOD + "2", GOOD + "x",
-                '"' + GOOD.replace(",", '","') + '3"', GOOD + "1,2"]
+        rows = [
+            GOOD + "1",
+            GOOD.replace("17", "tcp") + "1",
+            "",
+            GOOD + "2",
+            GOOD + "x",
+            '"' + GOOD.replace(",", '","') + '3"',
+            GOOD + "1,2",
+        ]
         path = file("p.csv", HEAD + "\n".join(rows) + "\n")
         status, out = check(path)
-        self.assertEqual((status, [line.split(": ", 1)[0] for line in out.splitlines()]),
-                         (4, [f"{path}:{number}" for number in (3, 6, 8)]))
+        self.assertEqual(
+            (status, [line.split(": ", 1)[0] for line in out.splitlines()]), (4, [f"{path}:{number}" for number in (3, 6, 8)])
+        )
 
     def test_headers(self) -> None:
-        for head, said in ((GOOD + "1\n", "no header"), (HEAD.replace(",", ";"), "parted by commas"),
-                           (HEAD.replace("moment", "time"), "another header")):
+        for head, said in (
+            (GOOD + "1\n", "no header"),
+            (HEAD.replace(",", ";"), "parted by commas"),
+            (HEAD.replace("moment", "time"), "another header"),
+        ):
             status, out = check(file("p.csv", head))
             self.assertEqual((status, out.count("\n")), (4, 1))
             self.assertIn(said, out)
@@ -214,17 +228,26 @@ class Rows(unittest.TestCase):
 
 class Warnings(unittest.TestCase):
     def test_they_leave_the_status(self) -> None:
-        config = file("c.config",
-                      "pipe 1 config bw 8 plr 0.1 delay 30000\npipe 1 config bw 8Mbit/s plr 0.1 plr 0.2 mask src-ip "
-                      "24\npipe 2 config plr 1\n")
+        config = file(
+            "c.config",
+            "pipe 1 config bw 8 plr 0.1 delay 30000\npipe 1 config bw 8Mbit/s plr 0.1 plr 0.2 mask src-ip "
+            "24\npipe 2 config plr 1\n",
+        )
         rows = GOOD.replace("0,pipe", "5,pipe", 1) + "0\n" + GOOD + "0\n" + GOOD.replace("pipe,1,", "queue,4,") + "0\n"
         status, out = check(config, file("p.csv", HEAD + rows))
         self.assertEqual(status, 0)
-        for said in ("bw 8 is 8 bit/s", "delay 30000 is 30 s", "a second line for pipe 1",
-                     "delay of line 1 no longer holds", "plr stands twice",
-                     "mask src-ip 24 keeps the bits 0x18", "plr 1 loses every packet",
-                     "p.csv:3: warning: 2 of 3 rows have a moment before",
-                     "p.csv:4: warning: 1 of 3 rows go to queue 4", "all packets have one fate (lost)"):
+        for said in (
+            "bw 8 is 8 bit/s",
+            "delay 30000 is 30 s",
+            "a second line for pipe 1",
+            "delay of line 1 no longer holds",
+            "plr stands twice",
+            "mask src-ip 24 keeps the bits 0x18",
+            "plr 1 loses every packet",
+            "p.csv:3: warning: 2 of 3 rows have a moment before",
+            "p.csv:4: warning: 1 of 3 rows go to queue 4",
+            "all packets have one fate (lost)",
+        ):
             self.assertIn(said, out)
 
     def test_nanoseconds_and_targets(self) -> None:
@@ -263,8 +286,7 @@ class Waits(unittest.TestCase):
     def test_a_full_queue_reaches_the_bound_of_slots(self) -> None:
         config = file("wait.config", "pipe 1 config bw 1Mbit/s delay 20\n")
         packets = file("p.csv", HEAD + (GOOD.removesuffix("1000,") + "1500,0\n") * 60)
-        report = subprocess.run([dummynet(), "replay", config, packets], capture_output=True, text=True,
-                                check=True).stdout
+        report = subprocess.run([dummynet(), "replay", config, packets], capture_output=True, text=True, check=True).stdout
         out = [line.split(",") for line in report.splitlines() if line.startswith("out,")]
         self.assertEqual(len(out), 51)
         self.assertEqual(max(int(fields[-1]) for fields in out), 632 * 10**6)
@@ -272,19 +294,19 @@ class Waits(unittest.TestCase):
 
 class Histories(unittest.TestCase):
     def test_where_a_history_is_wrong(self) -> None:
-        config, packets, path = file("c",
-                                     "pipe 1 config bw 8Mbit/s\n"), file("p", HEAD + (GOOD + "1\n") * 3), folder() / "h"
-        subprocess.run([dummynet(), "replay", config, packets, "--history", path], stdout=subprocess.DEVNULL,
-                       check=True)
+        config, packets, path = file("c", "pipe 1 config bw 8Mbit/s\n"), file("p", HEAD + (GOOD + "1\n") * 3), folder() / "h"
+        subprocess.run([dummynet(), "replay", config, packets, "--history", path], stdout=subprocess.DEVNULL, check=True)
         text = path.read_text()
         lines = text.splitlines(True)
         self.assertEqual(check(path), (0, ""))
         cases = {
-            "".join(lines[:-1]): "was cut", "".join(lines[:6]): "was cut",
-            text[:len(text) - len(lines[-1]) - 8]: "cut within this record",
+            "".join(lines[:-1]): "was cut",
+            "".join(lines[:6]): "was cut",
+            text[: len(text) - len(lines[-1]) - 8]: "cut within this record",
             text.replace("r,queued,0,0,1", "r,queued,0,0,7"): ":7: 'r,queued,0,0,7' isn't the emulator's reply",
             text.replace("r,queued,0,0,2", "r,full,0,0"): "(entry 3); that is 'r,queued,0,0,2'",
-            text + "x\n": "stands behind the end", text.replace("end,5", "end,6"): "there are 5 entries",
+            text + "x\n": "stands behind the end",
+            text.replace("end,5", "end,6"): "there are 5 entries",
             text.replace("r,configured", "r,confgured"): ":3: record 3 'r,confgured': not a record here",
         }
         for changed, said in cases.items():

@@ -75,6 +75,7 @@ class Ends(unittest.TestCase):
     def raised(self, error: BaseException) -> tuple[object, str]:
         def main() -> None:
             raise error
+
         return self.ended(main)
 
     def test_well(self) -> None:
@@ -84,30 +85,38 @@ class Ends(unittest.TestCase):
         self.assertEqual(self.raised(command.Fault("row 1: \x1b[31mbad", 4)), (4, "hinge some: row 1: \\x1b[31mbad\n"))
 
     def test_an_error_of_the_system_names_its_file(self) -> None:
-        self.assertEqual(self.raised(FileNotFoundError(errno.ENOENT, "No such file or directory", "here")),
-                         (6, "hinge some: here: No such file or directory\n"))
-        self.assertEqual(self.raised(OSError(errno.ENOSPC, "No space left on device")),
-                         (6, "hinge some: standard output: No space left on device\n"))
-        self.assertEqual(self.raised(OSError(errno.EMFILE, "Too many open files")),
-                         (6, "hinge some: the system: Too many open files\n"))
+        self.assertEqual(
+            self.raised(FileNotFoundError(errno.ENOENT, "No such file or directory", "here")),
+            (6, "hinge some: here: No such file or directory\n"),
+        )
+        self.assertEqual(
+            self.raised(OSError(errno.ENOSPC, "No space left on device")),
+            (6, "hinge some: standard output: No space left on device\n"),
+        )
+        self.assertEqual(
+            self.raised(OSError(errno.EMFILE, "Too many open files")), (6, "hinge some: the system: Too many open files\n")
+        )
 
     def test_an_interrupt_is_no_fault(self) -> None:
         self.assertEqual(self.raised(KeyboardInterrupt()), (130, ""))
 
     def test_what_is_lacking_is_told_with_its_package(self) -> None:
-        self.assertEqual(self.ended(lambda: command.path_of_program("no-such", "its-package")),
-                         (7, "hinge some: needs no-such: apt-get install its-package\n"))
+        self.assertEqual(
+            self.ended(lambda: command.path_of_program("no-such", "its-package")),
+            (7, "hinge some: needs no-such: apt-get install its-package\n"),
+        )
         told = "needs Python's no_such: pip install no_such, or apt-get install python3-no"
-        self.assertEqual(self.ended(lambda: command.module("no_such.part", "python3-no")),
-                         (7, f"hinge some: {told}\n"))
+        self.assertEqual(self.ended(lambda: command.module("no_such.part", "python3-no")), (7, f"hinge some: {told}\n"))
 
 
 class Streams(unittest.TestCase):
     def test_a_closed_one_takes_no_file_of_the_command(self) -> None:
         """What is opened later would have its number, and what is told would be written there."""
-        script = ("from hinge import command; import os, sys; command.open_closed_streams(); "
-                  "made = os.open('stream', os.O_CREAT | os.O_RDWR); "
-                  "print('told', file=sys.stderr, flush=True); os.write(made, b'%d' % made)")
+        script = (
+            "from hinge import command; import os, sys; command.open_closed_streams(); "
+            "made = os.open('stream', os.O_CREAT | os.O_RDWR); "
+            "print('told', file=sys.stderr, flush=True); os.write(made, b'%d' % made)"
+        )
         env = {**os.environ, "PYTHONPATH": os.pathsep.join(sys.path)}
         words = ["sh", "-c", 'exec "$0" -c "$1" <&- >&- 2>&-', sys.executable, script]
         subprocess.run(words, cwd=folder(), env=env, check=True)

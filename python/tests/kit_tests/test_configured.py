@@ -18,8 +18,12 @@ def read(line: str) -> tuple[str, int, Setting | None]:
 class Settings(unittest.TestCase):
     def test_a_spelling_of_the_user(self) -> None:
         wanted = Pipe(1, 2_000_000, 20, Limit(50, None), 2**30)
-        for line in ("pipe 1 config bw 2Mbit/s delay 20ms plr 0.5", "pipe 1 config plr 0.5 delay 20 bw 2000000bit/s",
-                     "ipfw pipe 1 config bw 250KByte/s delay 20 plr 0.5", "pipe 1 config bw 2000000 delay 20 plr .5 # slow"):
+        for line in (
+            "pipe 1 config bw 2Mbit/s delay 20ms plr 0.5",
+            "pipe 1 config plr 0.5 delay 20 bw 2000000bit/s",
+            "ipfw pipe 1 config bw 250KByte/s delay 20 plr 0.5",
+            "pipe 1 config bw 2000000 delay 20 plr .5 # slow",
+        ):
             self.assertEqual(read(line), ("pipe", 1, wanted))
 
     def test_a_loss_rate_is_kept_as_the_program_keeps_it(self) -> None:
@@ -35,8 +39,10 @@ class Settings(unittest.TestCase):
 
     def test_a_queue_of_any_pipe(self) -> None:
         wanted = Queue(3, 9, 5, Limit(None, 10), 0)
-        for line in ("queue 3 config pipe 9 weight 5 queue 10KBytes mask src-ip 0xff",
-                     "queue 3 config mask src-ip 0xff weight 5 queue 10Kbytes pipe 9"):
+        for line in (
+            "queue 3 config pipe 9 weight 5 queue 10KBytes mask src-ip 0xff",
+            "queue 3 config mask src-ip 0xff weight 5 queue 10Kbytes pipe 9",
+        ):
             self.assertEqual(read(f"pipe 9 config\n{line}"), ("queue", 3, wanted))
 
     def test_a_delete(self) -> None:
@@ -44,8 +50,10 @@ class Settings(unittest.TestCase):
         self.assertEqual(setting_of("queue delete 4"), ("queue", 4, None))
 
     def test_what_is_in_force(self) -> None:
-        lines = (b"pipe 1 config bw 8Mbit/s delay 20ms queue 10Kbytes plr 0.1 mask src-ip 0xff buckets 64\npipe 2 "
-                 b"config\nqueue 3 config pipe 1 weight 3\n")
+        lines = (
+            b"pipe 1 config bw 8Mbit/s delay 20ms queue 10Kbytes plr 0.1 mask src-ip 0xff buckets 64\npipe 2 "
+            b"config\nqueue 3 config pipe 1 weight 3\n"
+        )
         in_force = InForce([*spelled_lines(lines), "queue delete 3"])
         self.assertEqual((sorted(in_force.pipes), sorted(in_force.queues)), ([1, 2], []))
 

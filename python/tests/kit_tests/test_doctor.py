@@ -14,8 +14,8 @@ from kit import run
 class Doctor(unittest.TestCase):
     def test_each_trial_has_its_line(self) -> None:
         done = run("doctor")
-        lines = done.stdout.splitlines()[:len(TRIALS)]
-        self.assertEqual([trial.what for trial in TRIALS], [line[5:5 + len(trial.what)] for line, trial in zip(lines, TRIALS)])
+        lines = done.stdout.splitlines()[: len(TRIALS)]
+        self.assertEqual([trial.what for trial in TRIALS], [line[5 : 5 + len(trial.what)] for line, trial in zip(lines, TRIALS)])
         self.assertLessEqual({line[:5] for line in lines}, {"yes  ", "no   "})
         works = f"yes  {TRIALS[1].what}" in lines
         self.assertEqual(done.returncode, 0 if works else 7, done.stdout + done.stderr)

@@ -29,24 +29,29 @@ class Help(unittest.TestCase):
     def test_help_needs_no_numpy(self) -> None:
         """Nor does a fault of the command line: a table and a paragraph load it when they have something to reckon."""
         for command in ("look", "why", "packets", "ipfw", "run"):
-            script = (f"import sys; sys.modules['numpy'] = None; sys.argv = ['hinge', '{command}', '--help']; from "
-                      f"hinge.__main__ import main; main()")
+            script = (
+                f"import sys; sys.modules['numpy'] = None; sys.argv = ['hinge', '{command}', '--help']; from "
+                f"hinge.__main__ import main; main()"
+            )
             told = subprocess.run([sys.executable, "-c", script], capture_output=True, text=True)
             self.assertEqual((told.returncode, told.stderr), (0, ""), command)
-        packets = write("one.csv",
-                        "moment,target,number,src,dst,proto,sport,dport,len,word\n"
-                        "0,pipe,1,10.0.0.1,10.0.0.2,17,1,2,1000,0\n")
-        script = (f"import sys; sys.modules['numpy'] = None; sys.argv = ['hinge', 'look', {str(packets)!r}, "
-                  f"{str(packets)!r}]; from hinge.__main__ import main; main()")
+        packets = write(
+            "one.csv", "moment,target,number,src,dst,proto,sport,dport,len,word\n" "0,pipe,1,10.0.0.1,10.0.0.2,17,1,2,1000,0\n"
+        )
+        script = (
+            f"import sys; sys.modules['numpy'] = None; sys.argv = ['hinge', 'look', {str(packets)!r}, "
+            f"{str(packets)!r}]; from hinge.__main__ import main; main()"
+        )
         told = subprocess.run([sys.executable, "-c", script], capture_output=True, text=True)
-        self.assertEqual((told.returncode, told.stderr),
-                         (7,
-                          "hinge look: needs Python's numpy: pip install numpy, or apt-get install python3-numpy\n"))
+        self.assertEqual(
+            (told.returncode, told.stderr),
+            (7, "hinge look: needs Python's numpy: pip install numpy, or apt-get install python3-numpy\n"),
+        )
 
     def test_standard_input_is_a_file(self) -> None:
-        packets = write("in.csv",
-                        "moment,target,number,src,dst,proto,sport,dport,len,word\n"
-                        "0,pipe,1,10.0.0.1,10.0.0.2,17,1,2,1000,0\n")
+        packets = write(
+            "in.csv", "moment,target,number,src,dst,proto,sport,dport,len,word\n" "0,pipe,1,10.0.0.1,10.0.0.2,17,1,2,1000,0\n"
+        )
         report = write("in.report", "event,row,flow,packet,at,start,due\nout,1,0,0,0,0,5\n")
         plain = run("look", packets, report).stdout
         self.assertIn("udp 10.0.0.1:1 > 10.0.0.2:2", plain)
@@ -87,8 +92,7 @@ class Help(unittest.TestCase):
         for older, now in (("formats", "FILES"), ("CONFIG.md", "LINKS"), ("FAULTS", "NET")):
             self.assertEqual(run("docs", older).stdout, pages[now])
         wrong = run("docs", "LIVES")
-        self.assertEqual((wrong.returncode, wrong.stderr),
-                         (2, "hinge docs: no page 'LIVES'; did you mean `hinge docs LIVE`?\n"))
+        self.assertEqual((wrong.returncode, wrong.stderr), (2, "hinge docs: no page 'LIVES'; did you mean `hinge docs LIVE`?\n"))
 
     def test_each_page_that_a_help_names_is_there(self) -> None:
         """By `hinge docs`, since an installation has no folder docs/ of its own."""
@@ -107,8 +111,9 @@ class Help(unittest.TestCase):
 
     def test_a_word_that_is_no_command(self) -> None:
         told = run("packet")
-        self.assertEqual((told.returncode, told.stdout, told.stderr),
-                         (2, "", "hinge: no command 'packet'; did you mean `hinge packets`?\n"))
+        self.assertEqual(
+            (told.returncode, told.stdout, told.stderr), (2, "", "hinge: no command 'packet'; did you mean `hinge packets`?\n")
+        )
         self.assertEqual(run("help", "xyz").stderr, "hinge: no command 'xyz'; `hinge help` lists the commands.\n")
         for word in ("stats", "picture", "paths", "through", "with-clock"):
             self.assertRegex(run(word, "x").stderr, rf"^hinge: no command '{word}'; write (hinge look|LD_PRELOAD=)", word)
@@ -136,8 +141,11 @@ class Programs(unittest.TestCase):
             folder.mkdir()
             (folder / "dummynet").write_text("#!/bin/sh\n")
             (folder / "dummynet").chmod(0o755)
-        self.env = {**{name: value for name, value in os.environ.items() if name != "DUMMYNET"},
-                    "PYTHONPATH": str(modules), "PATH": str(self.other)}
+        self.env = {
+            **{name: value for name, value in os.environ.items() if name != "DUMMYNET"},
+            "PYTHONPATH": str(modules),
+            "PATH": str(self.other),
+        }
 
     def told(self, **env: str) -> str:
         words, found = [sys.executable, "-c", TELLS], {**self.env, **env}

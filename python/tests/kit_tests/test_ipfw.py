@@ -38,8 +38,9 @@ class Ipfw(unittest.TestCase):
         self.assertEqual(done.returncode, 3)
         notes = done.stderr.splitlines()
         for line, told in LEFT_OUT.items():
-            self.assertTrue(any(f"rc.firewall:{line}: left out" in note and told in note for note in notes),
-                            (line, told, done.stderr))
+            self.assertTrue(
+                any(f"rc.firewall:{line}: left out" in note and told in note for note in notes), (line, told, done.stderr)
+            )
         self.assertIn("5 commands for pipes and queues were left out", notes[-1])
 
     def test_what_comes_out_is_taken(self) -> None:
@@ -47,14 +48,20 @@ class Ipfw(unittest.TestCase):
         self.assertEqual(len(replies), len(EXPECTED.splitlines()))
 
     def test_units_of_bandwidth_are_ipfws(self) -> None:
-        for text, value in (("10Mb", "10Mbit/s"), ("10Mbps", "10Mbit/s"), ("10MB", "10MByte/s"),
-                            ("10MBit/s", "10Mbit/s"), ("5", "5bit/s"),
-                            ("3kbytes/s", "3kByte/s"), ("3Kb/s", "3Kbit/s"), ("eth0", "eth0")):
+        for text, value in (
+            ("10Mb", "10Mbit/s"),
+            ("10Mbps", "10Mbit/s"),
+            ("10MB", "10MByte/s"),
+            ("10MBit/s", "10Mbit/s"),
+            ("5", "5bit/s"),
+            ("3kbytes/s", "3kByte/s"),
+            ("3Kb/s", "3Kbit/s"),
+            ("eth0", "eth0"),
+        ):
             self.assertEqual(ipfw_bandwidth(text), value)
 
     def test_loss_rates_lose_their_exponent(self) -> None:
-        self.assertEqual([loss_rate(text) for text in ("1e-3", "0.05", "5E-2", "1e0", "x")],
-                         ["0.001", "0.05", "0.05", "1", "x"])
+        self.assertEqual([loss_rate(text) for text in ("1e-3", "0.05", "5E-2", "1e0", "x")], ["0.001", "0.05", "0.05", "1", "x"])
 
     def test_a_flush_forgets_what_was_before(self) -> None:
         script = write("flush.sh", "ipfw pipe 1 config bw 1Mbit/s\nipfw -f pipe flush\nipfw pipe 2 config delay 3\n")
@@ -66,29 +73,37 @@ class Ipfw(unittest.TestCase):
         script = write("loop.sh", "for i in 1 2; do\n  ipfw pipe $i config bw ${i}Mbit/s \\\n    delay 5\ndone\n")
         done = run("ipfw", script)
         self.assertEqual((done.returncode, done.stdout), (3, ""))
-        self.assertIn("loop.sh:2: left out: ipfw pipe $i config bw ${i}Mbit/s      delay 5 ($i isn't set in these files)", done.stderr)
-        printed = subprocess.run(["sh", "-c", f"ipfw() {{ echo ipfw $*; }}; . {script}"], capture_output=True, text=True, check=True).stdout
+        self.assertIn(
+            "loop.sh:2: left out: ipfw pipe $i config bw ${i}Mbit/s      delay 5 ($i isn't set in these files)", done.stderr
+        )
+        printed = subprocess.run(
+            ["sh", "-c", f"ipfw() {{ echo ipfw $*; }}; . {script}"], capture_output=True, text=True, check=True
+        ).stdout
         done = run("ipfw", input=printed)
-        self.assertEqual((done.returncode, done.stdout), (0, "pipe 1 config bw 1Mbit/s delay 5\npipe 2 config bw 2Mbit/s delay 5\n"))
+        self.assertEqual(
+            (done.returncode, done.stdout), (0, "pipe 1 config bw 1Mbit/s delay 5\npipe 2 config bw 2Mbit/s delay 5\n")
+        )
 
     def test_what_configures_no_pipe_has_a_status(self) -> None:
-        for text in ("ipfw sched 1 config type fq_codel\n",
-                     "for i in $(jot 3); do ipfw pipe $i config bw 1Mbit/s; done\n",
-                     "ipfw add 1 allow ip from any to any\n", ""):
+        for text in (
+            "ipfw sched 1 config type fq_codel\n",
+            "for i in $(jot 3); do ipfw pipe $i config bw 1Mbit/s; done\n",
+            "ipfw add 1 allow ip from any to any\n",
+            "",
+        ):
             done = run("ipfw", write("none.sh", text))
             self.assertEqual((done.returncode, done.stdout), (3, ""), (text, done.stderr))
 
     def test_many_lines_are_judged_by_one_session(self) -> None:
-        script = write("many.sh",
-                       "".join(f"ipfw pipe {n} config bw {n}Kbit/s\n" for n in range(1, 2001))
-                       + "ipfw pipe 1 config delay x\n")
+        script = write(
+            "many.sh", "".join(f"ipfw pipe {n} config bw {n}Kbit/s\n" for n in range(1, 2001)) + "ipfw pipe 1 config delay x\n"
+        )
         calls = folder() / "calls"
         program = folder() / "counted"
         program.write_text(f'#!/bin/sh\necho called >>"{calls}"\nexec "{dummynet()}" "$@"\n')
         program.chmod(0o755)
         done = run("ipfw", script, env={**os.environ, "DUMMYNET": str(program)})
-        self.assertEqual((done.stdout.count("\n"), done.returncode, calls.read_text()), (2000, 3, "called\n"),
-                         done.stderr)
+        self.assertEqual((done.stdout.count("\n"), done.returncode, calls.read_text()), (2000, 3, "called\n"), done.stderr)
 
     def test_standard_input_and_a_missing_file(self) -> None:
         self.assertEqual(run("ipfw", input="dnctl pipe 1 config bw 1Mbit/s\n").stdout, "pipe 1 config bw 1Mbit/s\n")

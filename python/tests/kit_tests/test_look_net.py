@@ -20,8 +20,12 @@ CUT_FROM, CUT_TO = 4 * SECOND, 6 * SECOND
 def cut_link() -> str:
     """A packet of 1,250 bytes each 100 ms for 10 s over a - r, of 10 ms; the way to r is cut from 4 s to 6 s, and then
     is one of 20 ms."""
-    lines, entries, number, changes = ["dummynet-live,1", *(line.strip() for line in HOSTS),
-                                       "#,seed,7"], 0, 0, [(CUT_FROM, "delay 10 plr 1"), (CUT_TO, "delay 20")]
+    lines, entries, number, changes = (
+        ["dummynet-live,1", *(line.strip() for line in HOSTS), "#,seed,7"],
+        0,
+        0,
+        [(CUT_FROM, "delay 10 plr 1"), (CUT_TO, "delay 20")],
+    )
     for pipe in (1, 2, 3, 4):
         lines += [f"c,0,configure,pipe {pipe} config delay 10", "r,configured"]
         entries += 1
@@ -31,8 +35,11 @@ def cut_link() -> str:
             lines += [f"c,0,advance,{at}", f"r,advanced,{at}", f"c,0,configure,pipe 1 config {words}", "r,configured"]
             entries += 2
         is_lost, due = CUT_FROM <= moment < CUT_TO, moment + (10 if moment < CUT_TO else 20) * MS
-        lines += [f"#,content,{number:016x}", f"c,0,submit,pipe,1,10.8.0.1,10.8.0.3,17,1,2,1250,0,{moment}",
-                  f"r,lost,{moment},0" if is_lost else f"r,queued,{moment},0,{number}"]
+        lines += [
+            f"#,content,{number:016x}",
+            f"c,0,submit,pipe,1,10.8.0.1,10.8.0.3,17,1,2,1250,0,{moment}",
+            f"r,lost,{moment},0" if is_lost else f"r,queued,{moment},0,{number}",
+        ]
         if not is_lost:
             lines += [f"c,0,collect,{due}", f"r,delivered,{due},1", f"d,{number},0,{moment},{due}"]
             number += 1
@@ -57,12 +64,27 @@ class OfNets(unittest.TestCase):
         lines, told = self.looked(cut_link())
         self.assertEqual(lines[1].split(), "a > r 100 20 0 0.081 15.000 20.000".split())  # 80 x 10,000 bits in 9.91 s
         self.assertEqual(lines[-5:-2], ["     4.000 s  a > r: cut", "     6.000 s  a > r: delay 20", ""])
-        self.assertEqual(told["ways"],
-                         [{"pipe": 1, "from": "a", "to": "r", "packets": 100, "lost": 20, "full": 0,
-                           "carried_mbit_s": 800_000 / 9_910_000, "mean_ns": 15 * MS, "p99_ns": 20 * MS}])
+        self.assertEqual(
+            told["ways"],
+            [
+                {
+                    "pipe": 1,
+                    "from": "a",
+                    "to": "r",
+                    "packets": 100,
+                    "lost": 20,
+                    "full": 0,
+                    "carried_mbit_s": 800_000 / 9_910_000,
+                    "mean_ns": 15 * MS,
+                    "p99_ns": 20 * MS,
+                }
+            ],
+        )
         self.assertEqual(told["cuts"], [{"pipe": 1, "from": "a", "to": "r", "begin_ns": CUT_FROM, "end_ns": CUT_TO}])
-        self.assertEqual([(change["moment_ns"], change["line"], change["cut"]) for change in told["changes"]],
-                         [(CUT_FROM, "delay 10", True), (CUT_TO, "delay 20", False)])
+        self.assertEqual(
+            [(change["moment_ns"], change["line"], change["cut"]) for change in told["changes"]],
+            [(CUT_FROM, "delay 10", True), (CUT_TO, "delay 20", False)],
+        )
         self.assertEqual((told["span_ns"], told["seed"], told["lawful_between_links"]), (9_920 * MS, "7", True))
 
     def test_a_row_of_letters(self) -> None:
@@ -84,16 +106,29 @@ class OfNets(unittest.TestCase):
     def test_paths_hop_by_hop(self) -> None:
         lines, told = self.looked(Net(good, [Packet(place) for place in range(40)]).text)
         self.assertIn("a - r - b: 40 packets, 15.050 ms: links 10.000 + 5.000, hosts 0.050, at most 0.050", lines)
-        self.assertEqual(told["paths"],
-                         [{"hosts": ["a", "r", "b"], "pipes": [1, 3], "packets": 40, "links_ns": [10 * MS, 5 * MS],
-                           "hosts_ns": [50_000], "most_in_hosts_ns": 50_000}])
+        self.assertEqual(
+            told["paths"],
+            [
+                {
+                    "hosts": ["a", "r", "b"],
+                    "pipes": [1, 3],
+                    "packets": 40,
+                    "links_ns": [10 * MS, 5 * MS],
+                    "hosts_ns": [50_000],
+                    "most_in_hosts_ns": 50_000,
+                }
+            ],
+        )
         self.assertEqual((told["changes"], told["cuts"]), ([], []))
 
     def test_pictures(self) -> None:
-        for text, panels in ((cut_link(),
-                              ("Throughput of each way", "Ways that lose all packets", "1: a &gt; r, 2 s", "lost 20")),
-                             (Net(good, [Packet(place) for place in range(40)]).text,
-                              ("a - r - b, hop by hop", "in r", "from a to r", "Delay of paths"))):
+        for text, panels in (
+            (cut_link(), ("Throughput of each way", "Ways that lose all packets", "1: a &gt; r, 2 s", "lost 20")),
+            (
+                Net(good, [Packet(place) for place in range(40)]).text,
+                ("a - r - b, hop by hop", "in r", "from a to r", "Delay of paths"),
+            ),
+        ):
             self.looked(text, "-o", "x.svg")
             drawn = (folder() / "x.svg").read_text()
             for name in panels:
@@ -108,14 +143,18 @@ class OfNets(unittest.TestCase):
         self.assertEqual(done.returncode, 0, done.stderr)
         self.assertIn("late by 5 ms and packets lay unread for 1 ms", done.stderr)
         drawn = (folder() / "x.svg").read_text()
-        for name in ("The net: width by load; dashed: cut for a time", "a &gt; r: 10ms; ", "late, at most 5 ms",
-                     "The links' lateness"):
+        for name in (
+            "The net: width by load; dashed: cut for a time",
+            "a &gt; r: 10ms; ",
+            "late, at most 5 ms",
+            "The links' lateness",
+        ):
             self.assertIn(f"<!-- {name}", drawn)
 
     def test_hosts_stand_apart(self) -> None:
         star = [(0, other) for other in range(1, 6)]
         places = places_of(6, star)
-        apart = np.sqrt(((places[:, None] - places[None])**2).sum(axis=2))
+        apart = np.sqrt(((places[:, None] - places[None]) ** 2).sum(axis=2))
         self.assertGreater(apart[np.triu_indices(6, 1)].min(), 0.2)
         self.assertEqual((places.min(), places.max()), (0, 1))
         self.assertLess(abs(places[0] - 0.5).max(), 0.2, "the host that all others have a link to is in the middle")
@@ -123,9 +162,18 @@ class OfNets(unittest.TestCase):
     def test_an_empty_net(self) -> None:
         text = "".join(["dummynet-live,1\n", *HOSTS, "end,0\n"])
         lines, told = self.looked(text, "-o", "x.png")
-        self.assertEqual((lines, told["ways"]),
-                         (["way  packets  lost  full  Mbit/s  mean ms  p99 ms", "",
-                           "0 packets on links, 0 handed on by hosts, 0 arrived", "lawful between links"], []))
+        self.assertEqual(
+            (lines, told["ways"]),
+            (
+                [
+                    "way  packets  lost  full  Mbit/s  mean ms  p99 ms",
+                    "",
+                    "0 packets on links, 0 handed on by hosts, 0 arrived",
+                    "lawful between links",
+                ],
+                [],
+            ),
+        )
 
     def test_what_is_refused(self) -> None:
         place = self.session(cut_link())
@@ -135,8 +183,10 @@ class OfNets(unittest.TestCase):
         self.assertEqual(run("look", place, "--json", place / "net.history").returncode, 2)
         self.assertRegex(run("look", place, "--audit").stderr, r"^hinge look: lawful \d+\n$")
         done = run("look", ".")
-        self.assertEqual((done.returncode, done.stderr),
-                         (4, "hinge look: .: there is no net.history in it, as hinge net --transcripts makes it\n"))
+        self.assertEqual(
+            (done.returncode, done.stderr),
+            (4, "hinge look: .: there is no net.history in it, as hinge net --transcripts makes it\n"),
+        )
 
 
 if __name__ == "__main__":

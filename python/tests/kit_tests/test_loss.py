@@ -48,23 +48,34 @@ class Models(unittest.TestCase):
 
     def test_lists_and_functions(self) -> None:
         self.assertEqual([number for number, word in enumerate(drawn(Listed([2, 5]), 9), 1) if word == LOST], [2, 5])
-        self.assertEqual([number for number,
-                          word in enumerate(drawn(Chosen(lambda number: number % 4 == 0), 9), 1) if word == LOST],
-                          [4, 8])
-        self.assertEqual([number for number,
-                          word in enumerate(drawn(read_model("list:1,3-5")(1, 1), 9), 1) if word == LOST], [1, 3, 4, 5])
+        self.assertEqual(
+            [number for number, word in enumerate(drawn(Chosen(lambda number: number % 4 == 0), 9), 1) if word == LOST], [4, 8]
+        )
+        self.assertEqual(
+            [number for number, word in enumerate(drawn(read_model("list:1,3-5")(1, 1), 9), 1) if word == LOST], [1, 3, 4, 5]
+        )
 
     def test_what_is_no_model(self) -> None:
-        for text in ("", "gilbert", "gilbert:0.1", "gilbert:0.1,2", "gilbert:a,b", "gilbert:1,1,1,1,1", "list:",
-                     "list:0", "list:5-3", "list:a", "plr:1"):
+        for text in (
+            "",
+            "gilbert",
+            "gilbert:0.1",
+            "gilbert:0.1,2",
+            "gilbert:a,b",
+            "gilbert:1,1,1,1,1",
+            "list:",
+            "list:0",
+            "list:5-3",
+            "list:a",
+            "plr:1",
+        ):
             with self.assertRaises(ValueError, msg=text):
                 read_model(text)
 
     def test_a_link_loses_exactly_what_the_model_says(self) -> None:
         words = drawn(GilbertElliott(0.02, 0.3, seed=11))
         rows = "".join(f"{number},pipe,1,10.0.0.1,10.0.0.2,17,1,2,100,{word}\n" for number, word in enumerate(words))
-        report = replay("model", write("model.config", "pipe 1 config plr 0.5\n"),
-                        write("model.csv", f"{HEADER}\n{rows}"))
+        report = replay("model", write("model.config", "pipe 1 config plr 0.5\n"), write("model.csv", f"{HEADER}\n{rows}"))
         lost = {int(row["row"]) for row in rows_of(report) if row["event"] == "lost"}
         self.assertEqual(lost, {number for number, word in enumerate(words, 1) if word == LOST})
 

@@ -51,8 +51,12 @@ class Outputs(unittest.TestCase):
     def test_captures_and_what_is_beside_a_packet_file(self) -> None:
         capture = folder() / "o.pcap"
         capture.write_bytes(MIXED.read_bytes())
-        for words in (("-o", capture), ("-o", "x.csv", "--index", capture), ("-o", "x.csv", "--index", "x.csv"),
-                      ("--index", "x.csv.addresses", "-o", "x.csv")):
+        for words in (
+            ("-o", capture),
+            ("-o", "x.csv", "--index", capture),
+            ("-o", "x.csv", "--index", "x.csv"),
+            ("--index", "x.csv.addresses", "-o", "x.csv"),
+        ):
             done = run("packets", capture, *words)
             self.assertEqual((2, MIXED.read_bytes()), (done.returncode, capture.read_bytes()), done.stderr)
         own = write("own.csv.addresses", "a file of the user\n")
@@ -106,7 +110,9 @@ class Outputs(unittest.TestCase):
         config, packets = write("d.config", "pipe 1 config\n"), write("d.csv", ROWS)
         report = replay("d", config, packets)
         done = run("look", packets, report, "--json", "/dev/stdout", check=False)  # in a process whose output is a pipe
-        self.assertEqual((0, run("look", packets, report).stdout + "{\n"), (done.returncode, done.stdout.partition('"format"')[0].rstrip(" ")))
+        self.assertEqual(
+            (0, run("look", packets, report).stdout + "{\n"), (done.returncode, done.stdout.partition('"format"')[0].rstrip(" "))
+        )
         self.assertEqual(0, run("look", packets, report, "--json", "/dev/null").returncode)
 
 
@@ -163,7 +169,11 @@ class OfScratch(unittest.TestCase):
 
 class OfBudgets(unittest.TestCase):
     def test_a_text_that_never_ends_is_refused(self) -> None:
-        for words in (["run", "--timeline", "/dev/zero", "--", "true"], ["net", "/dev/zero", "--dry-run"], ["sweep", "plan", folder() / "s", "p", "/dev/zero"]):
+        for words in (
+            ["run", "--timeline", "/dev/zero", "--", "true"],
+            ["net", "/dev/zero", "--dry-run"],
+            ["sweep", "plan", folder() / "s", "p", "/dev/zero"],
+        ):
             done = run(*words)
             self.assertIn("has more than 268,435,456 bytes", done.stderr, words)
 

@@ -12,9 +12,7 @@ import subprocess
 import unittest
 from pathlib import Path
 
-from captures import (
-    BEGAN, ETHERNET, ethernet, ip4, nested, odd_ethernet, other_links, timed_in_ns, udp, without_times, write
-)
+from captures import BEGAN, ETHERNET, ethernet, ip4, nested, odd_ethernet, other_links, timed_in_ns, udp, without_times, write
 from kit import MIXED, folder, needs_tshark, rows_of, run
 from random_frames import Frames
 from tshark_frames import frames_by_tshark
@@ -36,17 +34,29 @@ def every_capture() -> list[Path]:
     several, raw = nested(folder()), (folder() / "raw.pcap").read_bytes()
     half, swapped, twice = folder() / "half.pcap", folder() / "swapped.pcap", folder() / "twice.pcapng"
     half.write_bytes(MIXED.read_bytes()[:50_000])
-    packet = raw[40:40 + int.from_bytes(raw[32:36], "little")]
+    packet = raw[40 : 40 + int.from_bytes(raw[32:36], "little")]
     # in microseconds
     fields = [0xA1B2C3D4, 0x2_0004, 0, 0, 65535, 101, 1_700_000_000, 123_456, len(packet), len(packet)]
     swapped.write_bytes(b"".join(field.to_bytes(4, "big") for field in fields) + packet)
     sections = [edited("a.pcapng", folder() / "odd.pcap", "-F", "pcapng"), folder() / "other.pcapng"]
     twice.write_bytes(b"".join(section.read_bytes() for section in sections))
     (folder() / "mixed.pcap.gz").write_bytes(gzip.compress(MIXED.read_bytes(), 1))
-    cut = [edited(f"{size}.{capture.name}", capture, "-s", str(size), "-F", "pcap")
-           for size in (40, 56, 66) for capture in (folder() / "odd.pcap", several[0])]
-    return [MIXED, folder() / "odd.pcap", folder() / "other.pcapng", *several, half, swapped, twice,
-            folder() / "mixed.pcap.gz", *cut]
+    cut = [
+        edited(f"{size}.{capture.name}", capture, "-s", str(size), "-F", "pcap")
+        for size in (40, 56, 66)
+        for capture in (folder() / "odd.pcap", several[0])
+    ]
+    return [
+        MIXED,
+        folder() / "odd.pcap",
+        folder() / "other.pcapng",
+        *several,
+        half,
+        swapped,
+        twice,
+        folder() / "mixed.pcap.gz",
+        *cut,
+    ]
 
 
 def of_every_link(seed: int) -> list[Path]:
@@ -103,7 +113,7 @@ class Hostile(unittest.TestCase):
     def test_damaged_and_endless_archives(self) -> None:
         whole = gzip.compress(MIXED.read_bytes()[:20_000], mtime=0)
         for at in [*range(20), *range(20, len(whole), len(whole) // 40)]:
-            capture = self.made("d.pcap.gz", whole[:at] + bytes([whole[at] ^ 4]) + whole[at + 1:])
+            capture = self.made("d.pcap.gz", whole[:at] + bytes([whole[at] ^ 4]) + whole[at + 1 :])
             with contextlib.redirect_stderr(io.StringIO()), contextlib.suppress(Fault):
                 list(frames(Input.as_it_is(str(capture))))
         head = struct.pack("<IHHIIII", 0xA1B2C3D4, 2, 4, 0, 0, 65535, 12)
@@ -138,7 +148,8 @@ class Forms(unittest.TestCase):
             ([MIXED, "--map", "tcp.flags.syn == 1 => pipe 9"], 7, "a display filter needs tshark"),
             (["text.pcap"], 4, "neither pcap nor pcapng"),
             (["other.pcap"], 4, "frame 1 has the link type 147, and none is known of these: 0, 1, 9"),
-            (["timeless.pcapng"], 4, "frame 1 of the capture has no time"), (["missing.pcap"], 6, "missing.pcap"),
+            (["timeless.pcapng"], 4, "frame 1 of the capture has no time"),
+            (["missing.pcap"], 6, "missing.pcap"),
         ):
             done = run("packets", *words, env=alone)
             self.assertEqual(done.returncode, status, done.stderr)
@@ -148,16 +159,16 @@ class Forms(unittest.TestCase):
     def test_bytes_of_any_kind_are_frames_or_a_fault_of_one_line(self) -> None:
         """Captures with bytes changed, in each form, so that blocks, lengths and interfaces are none."""
         draw = random.Random(7)
-        timed_in_ns(folder() / "whole.pcapng",
-                    [(BEGAN, ethernet(0x0800, ip4("10.0.0.1", "10.0.0.2", 17, udp(1, 2, 3))))] * 3)
+        timed_in_ns(folder() / "whole.pcapng", [(BEGAN, ethernet(0x0800, ip4("10.0.0.1", "10.0.0.2", 17, udp(1, 2, 3))))] * 3)
         odd_ethernet(folder() / "whole.pcap")
         for name in ("whole.pcapng", "whole.pcap"):
             whole = (folder() / name).read_bytes()
             for _ in range(400):
-                changed = bytearray(whole[:draw.randrange(4, len(whole) + 1)])
+                changed = bytearray(whole[: draw.randrange(4, len(whole) + 1)])
                 for _ in range(draw.randrange(1, 6)):
-                    changed[draw.randrange(4, len(changed)) if len(changed) > 4
-                            else 0] = draw.choice((0, 1, 255, draw.randrange(256)))
+                    changed[draw.randrange(4, len(changed)) if len(changed) > 4 else 0] = draw.choice(
+                        (0, 1, 255, draw.randrange(256))
+                    )
                 (folder() / name).write_bytes(changed)
                 with contextlib.suppress(Fault), contextlib.redirect_stderr(io.StringIO()):
                     list(frames(Input.as_it_is(str(folder() / name))))

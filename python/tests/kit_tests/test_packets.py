@@ -7,9 +7,7 @@ import subprocess
 import unittest
 from pathlib import Path
 
-from captures import (
-    ETHERNET, Expected, ethernet, ip4, ip6, odd_ethernet, other_links, tcp, timed_in_ns, udp, without_times, write
-)
+from captures import ETHERNET, Expected, ethernet, ip4, ip6, odd_ethernet, other_links, tcp, timed_in_ns, udp, without_times, write
 from kit import MIXED, folder, needs_tshark, rows_of, run
 from packets_told import edited
 
@@ -33,8 +31,7 @@ def packets_of_file(name: str) -> list[str]:
 def tshark_totals(capture: Path) -> tuple[int, int]:
     """The count of IP packets and the sum of their lengths, as tshark's statistics have them."""
     fields = [f"{what}({field}){field}" for field in ("ip.len", "ipv6.plen") for what in ("COUNT", "SUM")]
-    words = ["tshark", "-n", "-o", "ip.defragment:FALSE", "-r", str(capture), "-q", "-z",
-             f"io,stat,0,{','.join(fields)}"]
+    words = ["tshark", "-n", "-o", "ip.defragment:FALSE", "-r", str(capture), "-q", "-z", f"io,stat,0,{','.join(fields)}"]
     table = subprocess.run(words, capture_output=True, text=True, check=True).stdout
     line = next(line for line in table.splitlines() if "<>" in line and re.search(r"\d", line))
     four, four_bytes, six, six_bytes = (int(cell) for cell in re.findall(r"\d+", line.split("|", 2)[2]))
@@ -46,8 +43,12 @@ class Packets(unittest.TestCase):
     def test_a_real_capture_has_tsharks_counts_bytes_and_times(self) -> None:
         rows = packets_of(MIXED)
         self.assertEqual((len(rows), sum(int(row["len"]) for row in rows)), tshark_totals(MIXED))
-        times = subprocess.run(["tshark", "-n", "-r", str(MIXED), "-Y", "ip", "-T", "fields", "-e", "frame.time_epoch"],
-                               capture_output=True, text=True, check=True).stdout.split()
+        times = subprocess.run(
+            ["tshark", "-n", "-r", str(MIXED), "-Y", "ip", "-T", "fields", "-e", "frame.time_epoch"],
+            capture_output=True,
+            text=True,
+            check=True,
+        ).stdout.split()
         whole = [int(time.replace(".", "")) for time in times]
         self.assertEqual([int(row["moment"]) for row in rows], [time - whole[0] for time in whole])
 
@@ -68,8 +69,11 @@ class Packets(unittest.TestCase):
 
     def test_cut_frames_keep_their_length(self) -> None:
         expected = odd_ethernet(folder() / "odd.pcap")
-        subprocess.run(["editcap", "-s", "66", "-F", "pcap", str(folder() / "odd.pcap"), str(folder() / "cut.pcap")],
-                       check=True, capture_output=True)
+        subprocess.run(
+            ["editcap", "-s", "66", "-F", "pcap", str(folder() / "odd.pcap"), str(folder() / "cut.pcap")],
+            check=True,
+            capture_output=True,
+        )
         found = expected_of(packets_of(folder() / "cut.pcap"))
         self.assertEqual([row.length for row in found], [row.length for row in expected])
         self.assertTrue(all(row.moment % 1000 == 0 for row in found), "a capture in microseconds")
@@ -93,11 +97,11 @@ class Packets(unittest.TestCase):
         ack = ethernet(0x0800, ip4("10.0.0.2", "10.0.0.1", 6, tcp(2, 1, 0)))
         write(folder() / "burst.pcap", ETHERNET, [(0, segment), (5_000, ack), (20_000, segment)])
         rows = packets_of(folder() / "burst.pcap", "--mtu", 1500, "--rate", "1Gbit/s", "--index", "burst.index")
-        self.assertEqual([(int(row["moment"]), int(row["len"])) for row in rows],
-                         [(0, 1500), (5_000, 40), (12_304, 1500), (24_608, 120), (25_872, 1500), (38_176, 1500),
-                          (50_480, 120)])
-        self.assertEqual([row["frame"] for row in rows_of(folder() / "burst.index")],
-                         ["1", "2", "1", "1", "3", "3", "3"])
+        self.assertEqual(
+            [(int(row["moment"]), int(row["len"])) for row in rows],
+            [(0, 1500), (5_000, 40), (12_304, 1500), (24_608, 120), (25_872, 1500), (38_176, 1500), (50_480, 120)],
+        )
+        self.assertEqual([row["frame"] for row in rows_of(folder() / "burst.index")], ["1", "2", "1", "1", "3", "3", "3"])
         at_once = packets_of(folder() / "burst.pcap", "--mtu", 1500)
         self.assertEqual([row["moment"] for row in at_once], ["0", "0", "0", "5000", "20000", "20000", "20000"])
 
@@ -112,19 +116,26 @@ class Packets(unittest.TestCase):
 
     def test_who_sends_first(self) -> None:
         """Of two hosts, the one whose packet comes first, in whatever order the frames stand."""
-        sent = [(2, "10.0.0.2", "10.0.0.1"), (1, "10.0.0.1", "10.0.0.2"), (3, "2001:db8::2", "2001:db8::1"),
-                (4, "2001:db8::1", "2001:db8::2")]
+        sent = [
+            (2, "10.0.0.2", "10.0.0.1"),
+            (1, "10.0.0.1", "10.0.0.2"),
+            (3, "2001:db8::2", "2001:db8::1"),
+            (4, "2001:db8::1", "2001:db8::2"),
+        ]
         kinds = [(0x86DD, ip6) if ":" in src else (0x0800, ip4) for _, src, _ in sent]
-        frames_of_two = [(at, ethernet(kind, make(src, dst, 17, udp(1, 2, 3)))) for (at, src, dst),
-                         (kind, make) in zip(sent, kinds)]
+        frames_of_two = [
+            (at, ethernet(kind, make(src, dst, 17, udp(1, 2, 3)))) for (at, src, dst), (kind, make) in zip(sent, kinds)
+        ]
         write(folder() / "first.pcap", ETHERNET, frames_of_two)
-        self.assertEqual([row["number"] for row in packets_of(folder() / "first.pcap", "--from", "first")],
-                         ["1", "2", "1", "2"])
+        self.assertEqual([row["number"] for row in packets_of(folder() / "first.pcap", "--from", "first")], ["1", "2", "1", "2"])
 
     def test_directions_that_meet_in_a_pipe_are_told(self) -> None:
         told = "both directions of 10.9.0.1 and 10.9.0.2 go to "
-        for words, targets in (((), ["pipe 1"]), (("--from", "10.9.0.1"), []),
-                               (("--map", "udp => pipe 3", "--map", "=> queue 2"), ["pipe 3", "queue 2"])):
+        for words, targets in (
+            ((), ["pipe 1"]),
+            (("--from", "10.9.0.1"), []),
+            (("--map", "udp => pipe 3", "--map", "=> queue 2"), ["pipe 3", "queue 2"]),
+        ):
             done = run("packets", MIXED, "-o", "packets.csv", *words)
             found = [line.partition(told)[2].partition(",")[0] for line in done.stderr.splitlines() if told in line]
             self.assertEqual(sorted(found), targets)
@@ -140,21 +151,27 @@ class Packets(unittest.TestCase):
         self.assertEqual(packets_of_file("far.csv"), ["0", str(2**62)])
 
     def test_maps_by_short_words_and_display_filters(self) -> None:
-        rows = packets_of(MIXED, "--map", "src 10.9.0.1/32 udp dport 5202 => queue 2", "--map",
-                          "tcp.flags.syn == 1 => pipe 9",
-                          "--map", "icmp => queue 3", "--map", "=> pipe 4")
+        rows = packets_of(
+            MIXED,
+            "--map",
+            "src 10.9.0.1/32 udp dport 5202 => queue 2",
+            "--map",
+            "tcp.flags.syn == 1 => pipe 9",
+            "--map",
+            "icmp => queue 3",
+            "--map",
+            "=> pipe 4",
+        )
         counts = {}
         for row in rows:
             counts[row["target"], row["number"]] = counts.get((row["target"], row["number"]), 0) + 1
-        self.assertEqual(counts,
-                         {("queue", "2"): 1001, ("pipe", "9"): 8, ("queue", "3"): 200, ("pipe", "4"): 9129 - 1209})
+        self.assertEqual(counts, {("queue", "2"): 1001, ("pipe", "9"): 8, ("queue", "3"): 200, ("pipe", "4"): 9129 - 1209})
 
     def test_a_bad_filter_is_told_before_the_capture_is_dissected(self) -> None:
         """The capture isn't one, and nobody has found that out."""
         (folder() / "none.pcap").write_text("no capture")
         told = run("packets", "none.pcap", "--map", "tcp.prt == 5 => pipe 1").stderr
-        self.assertIn("--map 'tcp.prt == 5': neither the short words of a rule nor a display filter of Wireshark: ",
-                      told)
+        self.assertIn("--map 'tcp.prt == 5': neither the short words of a rule nor a display filter of Wireshark: ", told)
         self.assertIn("tcp.prt", told)
 
     def test_packets_that_no_link_has_are_told(self) -> None:
@@ -164,8 +181,7 @@ class Packets(unittest.TestCase):
 
     def test_directions_beside_a_map(self) -> None:
         rows = packets_of(MIXED, "--from", "10.9.0.1", "--map", "up udp dport 5000-6000 => queue 3")
-        self.assertEqual({(row["target"], row["number"]) for row in rows},
-                         {("queue", "3"), ("pipe", "1"), ("pipe", "2")})
+        self.assertEqual({(row["target"], row["number"]) for row in rows}, {("queue", "3"), ("pipe", "1"), ("pipe", "2")})
         self.assertTrue(all(row["src"] == "10.9.0.1" for row in rows if row["target"] == "queue"))
 
     def test_an_earlier_frame_behind_a_later_one_comes_in_its_place(self) -> None:
@@ -187,13 +203,19 @@ class Packets(unittest.TestCase):
         (folder() / "text.pcap").write_text("no capture")
         without_times(folder() / "timeless.pcapng")
         for words, status in (
-            (["missing.pcap"], 6), (["text.pcap"], 4), (["timeless.pcapng"], 4),
-            ([MIXED, "--map", "a b c => pipe 1"], 2), ([MIXED, "--map", "=> pipe 0"], 2),
+            (["missing.pcap"], 6),
+            (["text.pcap"], 4),
+            (["timeless.pcapng"], 4),
+            ([MIXED, "--map", "a b c => pipe 1"], 2),
+            ([MIXED, "--map", "=> pipe 0"], 2),
             ([MIXED, "--map", "src 10.0.0.0/33 => pipe 1"], 2),
-            ([MIXED, "--mtu", "10"], 2), ([MIXED, "--rate", "1Gbit/s"], 2),
-            ([MIXED, "--mtu", "1500", "--rate", "1Gbps"], 2), ([MIXED, "--from", "nobody"], 2),
+            ([MIXED, "--mtu", "10"], 2),
+            ([MIXED, "--rate", "1Gbit/s"], 2),
+            ([MIXED, "--mtu", "1500", "--rate", "1Gbps"], 2),
+            ([MIXED, "--from", "nobody"], 2),
             ([MIXED, "--map", "up => pipe 1"], 2),
-            ([MIXED, "--map", "tcp.port == x => pipe 1"], 2), ([MIXED, "-o", "nowhere/packets.csv"], 6),
+            ([MIXED, "--map", "tcp.port == x => pipe 1"], 2),
+            ([MIXED, "-o", "nowhere/packets.csv"], 6),
         ):
             done = run("packets", *words)
             self.assertEqual(done.returncode, status, done.stderr)

@@ -43,28 +43,32 @@ class Panels(unittest.TestCase):
         self.assertEqual(lines["capacity of pipe 1: 6 Mbit/s"], [6, 6])
         self.assertEqual(set(found.carried), {"pipe 1"}, "queue 7 has no pipe")
         sent, events = rows_of(packets), rows_of(report)
-        bits = sum(8 * int(sent[int(line["row"]) - 1]["len"]) for line in events
-                   if line["event"] == "out" and 7 * NS_PER_S <= int(line["due"]) < 8 * NS_PER_S)
+        bits = sum(
+            8 * int(sent[int(line["row"]) - 1]["len"])
+            for line in events
+            if line["event"] == "out" and 7 * NS_PER_S <= int(line["due"]) < 8 * NS_PER_S
+        )
         self.assertAlmostEqual(lines["all of pipe 1"][7], bits / 1e6, places=9)
         self.assertLessEqual(max(lines["all of pipe 1"]), 6.02)
 
     def test_a_capacity_far_above_is_told_and_not_drawn(self) -> None:
         replay = parts_of(*mixed("dsl")).replay
-        found = series(replay, group(replay, "tuple"), NS_PER_S, span_of([replay]),
-                       [(0, "pipe 1 config bw 1000000000bit/s mask src-ip 0xff")])
+        found = series(
+            replay, group(replay, "tuple"), NS_PER_S, span_of([replay]), [(0, "pipe 1 config bw 1000000000bit/s mask src-ip 0xff")]
+        )
         carried = figure([found.__class__(**{**vars(found), "flows": found.flows[:8]})], "").axes[0]
-        self.assertIn("capacity of pipe 1, a flow: 1000 Mbit/s, above this panel",
-                      [text.get_text() for text in carried.get_legend().get_texts()])
+        self.assertIn(
+            "capacity of pipe 1, a flow: 1000 Mbit/s, above this panel",
+            [text.get_text() for text in carried.get_legend().get_texts()],
+        )
         self.assertLess(carried.get_ylim()[1], 20)
 
     def test_the_packets_that_wait(self) -> None:
         """At each moment, those that came and didn't begin to be sent."""
         config, packets, report = mixed("dsl")
         replay = parts_of(config, packets, report).replay
-        moments, lengths = waiting(replay,
-                                   np.flatnonzero(np.array(replay.packets.targets)[replay.packets.target][:, 1] == "1"))
-        events = [line for line in rows_of(report) if line["event"] == "out"
-                  and rows_of_one(packets)[int(line["row"]) - 1] == "1"]
+        moments, lengths = waiting(replay, np.flatnonzero(np.array(replay.packets.targets)[replay.packets.target][:, 1] == "1"))
+        events = [line for line in rows_of(report) if line["event"] == "out" and rows_of_one(packets)[int(line["row"]) - 1] == "1"]
         for moment in (3, 6, 9.5, 12.25):
             there = sum(int(line["at"]) <= moment * NS_PER_S < int(line["start"]) for line in events)
             self.assertEqual(lengths[np.searchsorted(moments, moment, side="right") - 1], there)
@@ -76,13 +80,13 @@ class Panels(unittest.TestCase):
         replay = full_link(40)
         replay.packets.target[39::40] = 1
         replay.packets.targets.append(("pipe", 2))
-        found = series(replay, group(replay, "tuple").largest(replay.packets.length, 3), NS_PER_S // 2,
-                       span_of([replay]))
+        found = series(replay, group(replay, "tuple").largest(replay.packets.length, 3), NS_PER_S // 2, span_of([replay]))
         self.assertEqual([flow.name for flow in found.flows][3:], ["36 others of pipe 1", "1 others of pipe 2"])
         self.assertEqual(list(found.carried), ["pipe 1", "pipe 2"])
         self.assertEqual(found.carried["pipe 2"].tolist(), found.flows[4].carried.tolist())
-        self.assertAlmostEqual(sum(found.carried["pipe 1"]) + sum(found.carried["pipe 2"]),
-                               sum(sum(flow.carried) for flow in found.flows))
+        self.assertAlmostEqual(
+            sum(found.carried["pipe 1"]) + sum(found.carried["pipe 2"]), sum(sum(flow.carried) for flow in found.flows)
+        )
 
     def test_a_color_has_one_meaning(self) -> None:
         grays = [*RESTS, *(color for color, _ in PIPES), *CAUSE_COLORS.values()]
@@ -98,23 +102,23 @@ class Panels(unittest.TestCase):
         replay = full_link(2)
         found = series(replay, group(replay, "tuple"), NS_PER_S // 2, span_of([replay]))
         panels = [panel and panel.title for panel in drawing(found).panels]
-        self.assertEqual([title is None for title in panels], [False, False, False, False, True, True, True, True],
-                         panels)
-        self.assertEqual([axes.get_title() for axes in figure([found], "").axes if axes.axison],
-                         [title for title in panels if title])
+        self.assertEqual([title is None for title in panels], [False, False, False, False, True, True, True, True], panels)
+        self.assertEqual(
+            [axes.get_title() for axes in figure([found], "").axes if axes.axison], [title for title in panels if title]
+        )
 
     def test_the_limit_of_a_queue_is_a_line(self) -> None:
         config, packets, report = mixed("dsl")
         replay = parts_of(config, packets, report).replay
         changes = [(0, "pipe 1 config bw 10000000bit/s queue 50"), (0, "pipe 2 config queue 64Kbytes")]
-        found = series(replay, group(replay, "tuple").largest(replay.packets.length, 3), NS_PER_S, span_of([replay]),
-                       changes)
+        found = series(replay, group(replay, "tuple").largest(replay.packets.length, 3), NS_PER_S, span_of([replay]), changes)
         panel = next(panel for panel in drawing(found).panels if panel and panel.title == "Packets that wait")
         lines = {item.name: item for item in panel.items}
         self.assertEqual(lines["limit of pipe 1: 50 packets"].y.tolist(), [50, 50])
-        self.assertEqual([note for note in panel.notes if "Kbytes" in note]
-                         or any(not line.y.any() for line in panel.items),
-                         ["limit of pipe 2: 64 Kbytes"] if panel.notes else True)
+        self.assertEqual(
+            [note for note in panel.notes if "Kbytes" in note] or any(not line.y.any() for line in panel.items),
+            ["limit of pipe 2: 64 Kbytes"] if panel.notes else True,
+        )
 
     def test_percentiles_are_nearest_ranks(self) -> None:
         moments, values = np.array([0, 1, 2, 3, 12, 13]), np.array([4.0, 1.0, 3.0, 2.0, 7.0, 9.0])
@@ -134,15 +138,19 @@ class Panels(unittest.TestCase):
         found = series_of("dsl")
         whole = sum(line["event"] in ("lost", "full", "none") for line in rows_of(mixed("dsl")[2]))
         self.assertEqual(sum(int(flow.drops.sum()) for flow in found.flows), whole)
-        told = [text.get_text() for axes in figure([found], "").axes if not axes.axison and axes.get_legend()
-                for text in axes.get_legend().get_texts()]
-        self.assertEqual(told,
-                         [f"{flow.name}: {int(flow.drops.sum()):,} of {flow.packets:,} dropped"
-                          for flow in found.flows])
+        told = [
+            text.get_text()
+            for axes in figure([found], "").axes
+            if not axes.axison and axes.get_legend()
+            for text in axes.get_legend().get_texts()
+        ]
+        self.assertEqual(told, [f"{flow.name}: {int(flow.drops.sum()):,} of {flow.packets:,} dropped" for flow in found.flows])
 
     def test_ipv6_flows_have_their_own_addresses(self) -> None:
-        frames = [ethernet(0x86DD, ip6("2001:db8::1", "2001:db8::2", 17, udp(1, 2, 300))),
-                  ethernet(0x86DD, ip6("2001:db8::2", "2001:db8::1", 58, bytes(8)))]
+        frames = [
+            ethernet(0x86DD, ip6("2001:db8::1", "2001:db8::2", 17, udp(1, 2, 300))),
+            ethernet(0x86DD, ip6("2001:db8::2", "2001:db8::1", 58, bytes(8))),
+        ]
         write_capture(folder() / "six.pcap", ETHERNET, [(number, frame) for number, frame in enumerate(frames)])
         self.assertEqual(run("packets", "six.pcap", "-o", "six.csv").returncode, 0)
         names = [read_packets(str(folder() / "six.csv")).tuple_name(number) for number in (0, 1)]

@@ -16,8 +16,7 @@ from hinge.command import Fault, module
 from hinge.pictures.drawing import Band
 from hinge.pictures.html_page import outline
 from hinge.pictures.panels import MOST_FLOWS
-from hinge.pictures.series import (NS_PER_MS, NS_PER_S, Series, Steps, fitting_step, round_step, series, span_of,
-                                   thinned)
+from hinge.pictures.series import NS_PER_MS, NS_PER_S, Series, Steps, fitting_step, round_step, series, span_of, thinned
 from hinge.replays.groups import group
 from hinge.replays.replay import read_packets, read_report
 from pictured import figure, forty, full_link, matplotlib_there, series_of
@@ -55,12 +54,14 @@ class Figures(unittest.TestCase):
                 self.assertIn(flow.name, lines)
                 self.assertEqual(lines[flow.name].get_ydata().tolist()[:-1], getattr(flow, which).tolist())
         out = [line for line in events if line["event"] == "out"]
-        bits = sum(8 * int(sent[int(line["row"]) - 1]["len"]) for line in out
-                   if int(line["due"]) < 3 * NS_PER_S <= int(line["due"]) + NS_PER_S)
+        bits = sum(
+            8 * int(sent[int(line["row"]) - 1]["len"])
+            for line in out
+            if int(line["due"]) < 3 * NS_PER_S <= int(line["due"]) + NS_PER_S
+        )
         self.assertAlmostEqual(sum(flow.carried[2] for flow in found.flows), bits / 1e6, places=9)
         of_all = sorted((int(line["due"]) - int(line["at"])) / NS_PER_MS for line in out)
-        self.assertEqual(sorted(np.concatenate([found.took_ms(flow.out_places) for flow in found.flows]).tolist()),
-                         of_all)
+        self.assertEqual(sorted(np.concatenate([found.took_ms(flow.out_places) for flow in found.flows]).tolist()), of_all)
         for flow in found.flows:
             dots = found.took_ms(flow.out_places)
             if not len(dots):
@@ -71,8 +72,9 @@ class Figures(unittest.TestCase):
                 continue
             second = sorted(dots[found.replay.at[flow.out_places] // NS_PER_S == 7])
             self.assertEqual(line.get_ydata()[7], second[(len(second) + 1) // 2 - 1], "the median of the eighth second")
-        self.assertEqual({flow.name for flow in found.flows if len(flow.out_places)},
-                         {line.get_label() for line in distribution.get_lines()})
+        self.assertEqual(
+            {flow.name for flow in found.flows if len(flow.out_places)}, {line.get_label() for line in distribution.get_lines()}
+        )
         counts = {cause: sum(line["event"] == cause for line in events) for cause in ("lost", "full", "none")}
         told = [text.get_text() for text in drops.get_legend().get_texts()]
         self.assertEqual(told, [f"{cause} {count:,}" for cause, count in counts.items()])
@@ -85,10 +87,8 @@ class Figures(unittest.TestCase):
         first, second = fig.axes[:2]
         self.assertEqual(first.get_ylim(), second.get_ylim())
         highest = max(line.get_ydata().max() for line in first.get_lines())
-        self.assertTrue(1.1 * highest < first.get_ylim()[1] < 1.5 * highest,
-                        "room above the highest line, for the names")
-        self.assertEqual([line.get_label() for line in first.get_lines()],
-                         [line.get_label() for line in second.get_lines()])
+        self.assertTrue(1.1 * highest < first.get_ylim()[1] < 1.5 * highest, "room above the highest line, for the names")
+        self.assertEqual([line.get_label() for line in first.get_lines()], [line.get_label() for line in second.get_lines()])
 
     @unittest.skipUnless(matplotlib_there(), "matplotlib isn't there")
     def test_reports_side_by_side_show_the_whole_of_each(self) -> None:
@@ -96,7 +96,7 @@ class Figures(unittest.TestCase):
         for replays in ([quiet, full], [full, quiet]):
             axes = figure(replays, "").axes
             for row in range(len(axes) // 2):
-                for axis in axes[2 * row:2 * row + 2]:
+                for axis in axes[2 * row : 2 * row + 2]:
                     highest = max((line.get_ydata().max(initial=0) for line in axis.get_lines()), default=0)
                     self.assertLessEqual(highest, axis.get_ylim()[1], axis.get_title())
             highest = max(int(sum(found.drops.values()).max()) for found in replays)
@@ -109,8 +109,7 @@ class Figures(unittest.TestCase):
         self.assertEqual(done.returncode, 0, done.stderr)
         page = (folder() / "page.html").read_text()
         self.assertNotRegex(page, r"<script[^>]+src=")
-        self.assertTrue(page.startswith("<!DOCTYPE html>\n<html lang=\"en\">\n<head><title>shared.report</title>"),
-                        page[:200])
+        self.assertTrue(page.startswith('<!DOCTYPE html>\n<html lang="en">\n<head><title>shared.report</title>'), page[:200])
         program = program_of(page)
         row = int(re.search(r"Row (\d+) \(tcp", program)[1])
         paragraph = run("why", row, config, packets, report).stdout
@@ -126,8 +125,13 @@ class Titles(unittest.TestCase):
     @unittest.skipUnless(matplotlib_there(), "matplotlib isn't there")
     def test_every_title_is_shown_letter_by_letter(self) -> None:
         packets, report = forty()
-        for title, ending in (("$\\foo$", "png"), ("</script><b>", "svg"), ("x " * 1500, "png"), ("y" * 3000, "svg"),
-                              ("a % of \\$5, $6 and \\alpha^{", "png")):
+        for title, ending in (
+            ("$\\foo$", "png"),
+            ("</script><b>", "svg"),
+            ("x " * 1500, "png"),
+            ("y" * 3000, "svg"),
+            ("a % of \\$5, $6 and \\alpha^{", "png"),
+        ):
             done = run("look", packets, report, "-o", f"title.{ending}", "--title", title)
             self.assertEqual((done.returncode, done.stderr), (0, ""), title)
         shown = figure([series_of_forty()], "a $\\foo$ b")._suptitle
@@ -179,12 +183,12 @@ class Thinning(unittest.TestCase):
         few = thinned(out, replay, 500)
         self.assertLessEqual(len(few), 500)
         self.assertTrue(set(few.tolist()) <= set(out.tolist()))
-        self.assertEqual((replay.took[few].min(), replay.took[few].max()),
-                         (replay.took[out].min(), replay.took[out].max()))
+        self.assertEqual((replay.took[few].min(), replay.took[few].max()), (replay.took[out].min(), replay.took[out].max()))
 
     def test_steps_are_round(self) -> None:
-        self.assertEqual([round_step(span) for span in (0, 199, 25 * NS_PER_S, 3600 * NS_PER_S)],
-                         [1, 1, NS_PER_S // 5, 20 * NS_PER_S])
+        self.assertEqual(
+            [round_step(span) for span in (0, 199, 25 * NS_PER_S, 3600 * NS_PER_S)], [1, 1, NS_PER_S // 5, 20 * NS_PER_S]
+        )
 
     def test_a_step_has_packets_enough(self) -> None:
         """A packet each ms for a second: 40 of them are 40 ms, and 5 ms would have 5; of the 40 flows 10 each want 50

@@ -15,22 +15,27 @@ from hinge.run.words import Wrong
 ADDRESSES = ("10.0.0.1", "10.0.0.9", "10.1.0.1", "fd08::1", "fd08:1::2")
 NETS = ("10.0.0.0/24", "10.0.0.1", "10.0.0.0/8", "fd08::/32", "fd08::1", "0.0.0.0/0")
 CHOICES = {
-    "way": ("up", "down"), "protocol": ("tcp", "udp", "icmp", "icmp6", "proto 6", "proto 58"),
+    "way": ("up", "down"),
+    "protocol": ("tcp", "udp", "icmp", "icmp6", "proto 6", "proto 58"),
     "src": [f"src {net}" for net in NETS],
-    "dst": [f"dst {net}" for net in NETS], "host": [f"host {net}" for net in NETS],
+    "dst": [f"dst {net}" for net in NETS],
+    "host": [f"host {net}" for net in NETS],
     "port": ("port 5", "port 4-6", "port 1-3"),
-    "sport": ("sport 5", "src-port 3-5"), "dport": ("dport 6", "dst-port 1-5"),
+    "sport": ("sport 5", "src-port 3-5"),
+    "dport": ("dport 6", "dst-port 1-5"),
     "dscp": ("dscp ef", "dscp 0", "dscp 0x2e"),
 }
 WRONG = (
     ("sprot 5 => pipe 1", "'sprot': no word of a rule; write sport"),
-    ("port 5-4 => pipe 1", "'5-4': no port from 0 to 65535"), ("port => pipe 1", "'port': its value is missing"),
+    ("port 5-4 => pipe 1", "'5-4': no port from 0 to 65535"),
+    ("port => pipe 1", "'port': its value is missing"),
     ("tcp udp => pipe 1", "'udp' beside 'tcp': a rule has one of them"),
     ("src-port 1 sport 2 => pipe 1", "'sport' beside 'src-port'"),
     ("dscp best => pipe 1", "'best': no DSCP from 0 to 63"),
     ("proto 256 => pipe 1", "'256': no protocol from 0 to 255"),
     ("src 10.0.0.0/33 => pipe 1", "'10.0.0.0/33' does not appear"),
-    ("tcp", "it doesn't end in `=> pipe N` or `=> queue N`"), ("=> pipe 65536", "it doesn't end in"),
+    ("tcp", "it doesn't end in `=> pipe N` or `=> queue N`"),
+    ("=> pipe 65536", "it doesn't end in"),
     ("tcp => pipe 01", "it doesn't end in"),
 )
 
@@ -43,8 +48,13 @@ def fits(line: str, frame: Frame, way: int) -> bool:
         number = int(ipaddress.ip_address(text)) | (0 if ":" in text else MAPPED)
         if number & int(mask, 16) != int(address, 16):
             return False
-    return (int(of_way) == way and int(protocol) in (-1, frame.proto) and int(dscp) in (-1, frame.dscp)
-            and ports[0] <= frame.sport <= ports[1] and ports[2] <= frame.dport <= ports[3])
+    return (
+        int(of_way) == way
+        and int(protocol) in (-1, frame.proto)
+        and int(dscp) in (-1, frame.dscp)
+        and ports[0] <= frame.sport <= ports[1]
+        and ports[2] <= frame.dport <= ports[3]
+    )
 
 
 def random_frame(rng: random.Random) -> Frame:
@@ -89,8 +99,7 @@ class Rules(unittest.TestCase):
         """`up` is from the sender; what no rule matches goes by direction."""
         targets = Targets("", [read_rule("up udp => queue 1"), read_rule("down => pipe 9")], directions("10.0.0.1"))
         targets.matched = {}
-        sent = [Frame(1, 0, *ends, proto, 5, 5, 100, 40, 0) for ends in (ADDRESSES[:2], ADDRESSES[1::-1])
-                for proto in (17, 6)]
+        sent = [Frame(1, 0, *ends, proto, 5, 5, 100, 40, 0) for ends in (ADDRESSES[:2], ADDRESSES[1::-1]) for proto in (17, 6)]
         self.assertEqual([targets.of(frame) for frame in sent], ["queue,1", "pipe,1", "pipe,9", "pipe,9"])
         self.assertEqual(UP, 0)
         self.assertRaisesRegex(BadRule, "by --from", Targets, "", [read_rule("up => pipe 1")], [])

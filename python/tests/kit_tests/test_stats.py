@@ -24,8 +24,7 @@ def table(*words: object) -> dict[str, dict[str, str]]:
 
 class Words(unittest.TestCase):
     def test_rows_by_runs(self) -> None:
-        for numbers, wanted in (([7], "row 7"), ([4, 3, 5], "rows 3-5"), ([1, 3], "rows 1, 3"),
-                                ([2, 9, 1], "rows 1-2, 9")):
+        for numbers, wanted in (([7], "row 7"), ([4, 3, 5], "rows 3-5"), ([1, 3], "rows 1, 3"), ([2, 9, 1], "rows 1-2, 9")):
             self.assertEqual(rows(numbers), wanted)
         self.assertEqual(rows([1, 3, 5, 7, 8, 1009], most=2), "rows 1, 3 and 4 more")
 
@@ -35,48 +34,80 @@ class Words(unittest.TestCase):
 
 class ByHand(unittest.TestCase):
     def test_four_packets(self) -> None:
-        packets = write("hand.csv", HEADER + "\n" + "".join(
-            f"{moment},pipe,{pipe},10.0.0.1,10.0.0.2,17,1,2,1000,0\n" for moment,
-            pipe in ((0, 1), (0, 1), (0, 1), (1_000_000, 1), (2_000_000, 9))))
-        report = write("hand.report",
-                       "event,row,flow,packet,at,start,due\nout,1,0,0,0,0,1000000\nout,2,0,1,0,1000000,2000000\n"
-                       "out,4,0,2,1000000,2000000,3000000\nfull,3,0,,0,,\nnone,5,,,2000000,,\n")
+        packets = write(
+            "hand.csv",
+            HEADER
+            + "\n"
+            + "".join(
+                f"{moment},pipe,{pipe},10.0.0.1,10.0.0.2,17,1,2,1000,0\n"
+                for moment, pipe in ((0, 1), (0, 1), (0, 1), (1_000_000, 1), (2_000_000, 9))
+            ),
+        )
+        report = write(
+            "hand.report",
+            "event,row,flow,packet,at,start,due\nout,1,0,0,0,0,1000000\nout,2,0,1,0,1000000,2000000\n"
+            "out,4,0,2,1000000,2000000,3000000\nfull,3,0,,0,,\nnone,5,,,2000000,,\n",
+        )
         config = write("hand.config", "pipe 1 config bw 8Mbit/s queue 1\n")
         row = table(packets, report, "--config", config)["udp 10.0.0.1:1 > 10.0.0.2:2"]
-        self.assertEqual(row, {
-            "flow": "udp 10.0.0.1:1 > 10.0.0.2:2", "packets": "5", "bytes": "5000", "offered_mbit_s": "20.000000",
-            "carried_mbit_s": "12.000000", "out": "3", "lost": "0", "full": "1", "none": "1", "held": "0",
-            "min_ns": "1000000",
-            "mean_ns": "1666666", "p50_ns": "2000000", "p95_ns": "2000000", "p99_ns": "2000000", "max_ns": "2000000",
-            "jitter_ns": "58593", "queueing_ns": "666666", "transmission_ns": "1000000", "link_delay_ns": "0",
-        })
+        self.assertEqual(
+            row,
+            {
+                "flow": "udp 10.0.0.1:1 > 10.0.0.2:2",
+                "packets": "5",
+                "bytes": "5000",
+                "offered_mbit_s": "20.000000",
+                "carried_mbit_s": "12.000000",
+                "out": "3",
+                "lost": "0",
+                "full": "1",
+                "none": "1",
+                "held": "0",
+                "min_ns": "1000000",
+                "mean_ns": "1666666",
+                "p50_ns": "2000000",
+                "p95_ns": "2000000",
+                "p99_ns": "2000000",
+                "max_ns": "2000000",
+                "jitter_ns": "58593",
+                "queueing_ns": "666666",
+                "transmission_ns": "1000000",
+                "link_delay_ns": "0",
+            },
+        )
         done = run("look", packets, report, "--by", "target")
         self.assertIn("1 rows went to pipe 9, which isn't configured", done.stderr)
         lines = done.stdout.splitlines()
-        self.assertEqual([line[5:].split("  ")[0] for line in lines[:5]],
-                         ["flow", lines[1][5:].split("  ")[0], "pipe 1", "pipe 9", "all"])
+        self.assertEqual(
+            [line[5:].split("  ")[0] for line in lines[:5]], ["flow", lines[1][5:].split("  ")[0], "pipe 1", "pipe 9", "all"]
+        )
         self.assertLessEqual(max(map(len, lines)), 80)
-        self.assertEqual([line.split()[0] for line in lines if line and not line.startswith(" ")],
-                         ["1", "2", "all"] * lines.count("") + ["1", "2", "all"])
+        self.assertEqual(
+            [line.split()[0] for line in lines if line and not line.startswith(" ")],
+            ["1", "2", "all"] * lines.count("") + ["1", "2", "all"],
+        )
 
     def test_no_row_has_a_target(self) -> None:
         """Every command that reads such a replay says so."""
-        packets = write("lost.csv",
-                        HEADER + "\n"
-                        + "".join(f"{moment},pipe,7,10.0.0.1,10.0.0.2,17,1,2,1000,0\n" for moment in (0, 1000)))
+        packets = write(
+            "lost.csv", HEADER + "\n" + "".join(f"{moment},pipe,7,10.0.0.1,10.0.0.2,17,1,2,1000,0\n" for moment in (0, 1000))
+        )
         config = write("lost.config", "pipe 1 config bw {bw}\n")
         spelled = write("lost1.config", "pipe 1 config bw 8Mbit/s\n")
         report, history = replay("lost", spelled, packets), folder() / "lost.history"
         subprocess.run([dummynet(), "replay", spelled, packets, "--history", history], stdout=subprocess.DEVNULL, check=True)
         for words in (("look", packets, report), ("look", packets, report, "-o", "lost.png"), ("look", history)):
             done = run(*words)
-            told = (f"hinge {words[0]}: 2 rows went to pipe 7, which isn't configured\nhinge {words[0]}: no row has a "
-                    f"target: nothing went through a link\n")
+            told = (
+                f"hinge {words[0]}: 2 rows went to pipe 7, which isn't configured\nhinge {words[0]}: no row has a "
+                f"target: nothing went through a link\n"
+            )
             self.assertEqual((done.returncode, done.stderr), (0, told))
         run("sweep", "plan", "lost", packets, config, "--set", "bw=1Mbit/s,2Mbit/s"), run("sweep", "run", "lost")
-        self.assertEqual(run("sweep", "gather", "lost").stderr,
-                         "hinge sweep: in 2 of 2 runs rows went to a pipe or queue that isn't configured, 2 of 2 in "
-                         "run 1\n")
+        self.assertEqual(
+            run("sweep", "gather", "lost").stderr,
+            "hinge sweep: in 2 of 2 runs rows went to a pipe or queue that isn't configured, 2 of 2 in " "run 1\n",
+        )
 
     def test_percentiles_by_nearest_rank(self) -> None:
         ordered = np.arange(1, 201)
@@ -117,5 +148,4 @@ class Mixed(unittest.TestCase):
         whole, few = table(packets, report), table(packets, report, "--top", "2")
         self.assertEqual(list(few)[2:], ["12 others", "all"])
         self.assertEqual(list(few)[:2], list(whole)[:2])
-        self.assertEqual(sum(int(row["packets"]) for name, row in few.items() if name != "all"),
-                         int(whole["all"]["packets"]))
+        self.assertEqual(sum(int(row["packets"]) for name, row in few.items() if name != "all"), int(whole["all"]["packets"]))

@@ -26,21 +26,20 @@ class Sweep(unittest.TestCase):
     def test_a_sweep_from_plan_to_picture(self) -> None:
         _, packets, _ = mixed("dsl")
         template = write("template.config", "pipe 1 config bw {bw} delay 5 queue {queue} plr 0.05\n")
-        done = run("sweep", "plan", "study", packets, template, "--set", "bw=3Mbit/s,8Mbit/s", "--set", "queue=9",
-                   "--seeds", "1,4")
+        done = run("sweep", "plan", "study", packets, template, "--set", "bw=3Mbit/s,8Mbit/s", "--set", "queue=9", "--seeds", "1,4")
         self.assertEqual((done.returncode, done.stderr), (0, "hinge sweep: 4 runs in study\n"))
         self.assertEqual(run("sweep", "gather", "study").returncode, 4, "no run is made yet")
         self.assertEqual(run("sweep", "run", "study", 3).returncode, 0)
         done = run("sweep", "run", "study", "-P", 2)
         self.assertEqual(done.returncode, 0, done.stderr)
-        done = run("sweep", "gather", "study", "-o", "table.csv", "--plot", "p95_ns", "--against", "bw", "--picture",
-                   "p95.png")
+        done = run("sweep", "gather", "study", "-o", "table.csv", "--plot", "p95_ns", "--against", "bw", "--picture", "p95.png")
         self.assertEqual(done.returncode, 0, done.stderr)
         self.assertTrue((folder() / "p95.png").read_bytes().startswith(b"\x89PNG"))
         rows = rows_of(folder() / "table.csv")
-        self.assertEqual([(row["run"], row["bw"], row["queue"], row["seed"]) for row in rows if row["flow"] == "all"],
-                         [("1", "3Mbit/s", "9", "1"), ("2", "3Mbit/s", "9", "4"), ("3", "8Mbit/s", "9", "1"),
-                          ("4", "8Mbit/s", "9", "4")])
+        self.assertEqual(
+            [(row["run"], row["bw"], row["queue"], row["seed"]) for row in rows if row["flow"] == "all"],
+            [("1", "3Mbit/s", "9", "1"), ("2", "3Mbit/s", "9", "4"), ("3", "8Mbit/s", "9", "1"), ("4", "8Mbit/s", "9", "4")],
+        )
         self.judge_run(rows, packets)
         lines = plot_lines(rows, ["bw", "queue", "seed"], "p95_ns", "bw", "all")
         self.assertEqual({value: len(found) for value, found in lines["queue 9"].items()}, {"3Mbit/s": 2, "8Mbit/s": 2})
@@ -61,24 +60,24 @@ class Sweep(unittest.TestCase):
         copy = folder() / "copy.csv"
         copy.write_bytes(packets.read_bytes())
         template = write("moved.config", "pipe 1 config bw {bw}\npipe 2 config\n")
-        self.assertEqual(run("sweep", "plan", "here", copy, template, "--set", "bw=3Mbit/s,8Mbit/s", "--seeds",
-                             "1-2").returncode, 0)
+        self.assertEqual(
+            run("sweep", "plan", "here", copy, template, "--set", "bw=3Mbit/s,8Mbit/s", "--seeds", "1-2").returncode, 0
+        )
         self.assertEqual(run("sweep", "missing", "here").stdout, "1\n2\n3\n4\n")
         self.assertEqual(run("sweep", "run", "here", 2, 3).returncode, 0)
         self.assertEqual(run("sweep", "missing", "here").stdout, "1\n4\n")
         before = (folder() / "here" / "run-2.csv").read_bytes()
         copy.unlink()
         (folder() / "here").rename(folder() / "there")
-        several = [subprocess.Popen([sys.executable, "-m", "hinge", "sweep", "run", "there", "2", "1"], cwd=folder())
-                   for _ in range(3)]
+        several = [
+            subprocess.Popen([sys.executable, "-m", "hinge", "sweep", "run", "there", "2", "1"], cwd=folder()) for _ in range(3)
+        ]
         self.assertEqual([process.wait() for process in several], [0, 0, 0])
         self.assertEqual((folder() / "there" / "run-2.csv").read_bytes(), before)
         self.assertEqual(run("sweep", "run", "there").returncode, 0)
         self.assertEqual(run("sweep", "missing", "there").stdout, "")
         names = {path.name for path in (folder() / "there").iterdir()}
-        self.assertEqual(names,
-                         {"study.json", "link.config", "packets.csv",
-                          *(f"run-{number}.csv" for number in (1, 2, 3, 4))})
+        self.assertEqual(names, {"study.json", "link.config", "packets.csv", *(f"run-{number}.csv" for number in (1, 2, 3, 4))})
 
     def test_a_run_that_fails_leaves_the_others(self) -> None:
         _, packets, _ = mixed("dsl")
@@ -97,8 +96,7 @@ class Sweep(unittest.TestCase):
             for failed in (False, True, False, False):
                 bar.step(failed)
             bar.clear()
-        self.assertEqual(told.getvalue(),
-                         "\r\x1b[K2 of 8 runs, 1 failed, 8 s left\r\x1b[K4 of 8 runs, 1 failed, 4 s left\r\x1b[K")
+        self.assertEqual(told.getvalue(), "\r\x1b[K2 of 8 runs, 1 failed, 8 s left\r\x1b[K4 of 8 runs, 1 failed, 4 s left\r\x1b[K")
 
     def test_the_words_of_a_seed_are_those_of_hinge_packets(self) -> None:
         _, packets, _ = mixed("dsl")
@@ -118,5 +116,4 @@ class Sweep(unittest.TestCase):
 
 class Values(unittest.TestCase):
     def test_values_have_their_magnitude(self) -> None:
-        self.assertEqual([magnitude(text) for text in ("2Mbit/s", "0.01", "50", "64Kbytes", "fast")],
-                         [2e6, 0.01, 50, 64e3, None])
+        self.assertEqual([magnitude(text) for text in ("2Mbit/s", "0.01", "50", "64Kbytes", "fast")], [2e6, 0.01, 50, 64e3, None])

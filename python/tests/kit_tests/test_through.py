@@ -17,7 +17,7 @@ Frames = list[tuple[int, int, bytes]]
 def frames_of(path: Path) -> Frames:
     """Time, length and bytes of each frame."""
     with capture_file(str(path)) as capture:
-        return [(record.time, record.length, capture.data[record.begin:record.end]) for record in capture.records]
+        return [(record.time, record.length, capture.data[record.begin : record.end]) for record in capture.records]
 
 
 def through(capture: Path, config: str, *words: object) -> tuple[Frames, list[dict[str, str]], list[int]]:
@@ -27,8 +27,7 @@ def through(capture: Path, config: str, *words: object) -> tuple[Frames, list[di
     report = replay("t", write("t.config", config), folder() / "t.csv")
     done = run("look", "t.csv", report, "--capture", capture, "--index", "t.index", "-o", "through.pcap")
     assert done.returncode == 0, done.stderr
-    return frames_of(folder() / "through.pcap"), rows_of(report), [int(row["frame"])
-                                                                   for row in rows_of(folder() / "t.index")]
+    return frames_of(folder() / "through.pcap"), rows_of(report), [int(row["frame"]) for row in rows_of(folder() / "t.index")]
 
 
 @needs_tshark
@@ -46,27 +45,40 @@ class Through(unittest.TestCase):
         sent = frames_of(MIXED)
         began = sent[index[0] - 1][0]
         due = {int(line["row"]): int(line["due"]) for line in report if line["event"] == "out"}
-        expected = [(began + due[row], *sent[index[row - 1] - 1][1:])
-                    for row in sorted(due, key=lambda row: (due[row], index[row - 1]))]
+        expected = [
+            (began + due[row], *sent[index[row - 1] - 1][1:]) for row in sorted(due, key=lambda row: (due[row], index[row - 1]))
+        ]
         self.assertEqual(arrived, expected)
         self.assertLess(len(arrived), len(sent) - 100)
 
     def test_why_comments_each_frame_for_wireshark(self) -> None:
         """tshark finds the frames that the report has as dropped, and a comment is the paragraph of `hinge why`."""
         config = write("why.config", "pipe 1 config bw 5Mbit/s queue 20\npipe 2 config\n")
-        assert run("packets", MIXED, "-o", "why.csv", "--index", "why.index", "--mtu", 1500, "--from",
-                   "10.9.0.1").returncode == 0
+        assert run("packets", MIXED, "-o", "why.csv", "--index", "why.index", "--mtu", 1500, "--from", "10.9.0.1").returncode == 0
         report = replay("why", config, folder() / "why.csv")
         done = run("look", "why.csv", report, "--capture", MIXED, "--index", "why.index", "--config", config, "-o", "why.pcapng")
         self.assertEqual(done.returncode, 0, done.stderr)
         index = [int(row["frame"]) for row in rows_of(folder() / "why.index")]
         first = {frame: row for row, frame in reversed(list(enumerate(index, 1)))}
-        dropped = {index[int(row["row"]) - 1] for row in rows_of(report) if row["event"] == "full"
-                   and index.count(index[int(row["row"]) - 1]) == 1}
-        asked = ["tshark", "-r", folder() / "why.pcapng", "-Y", 'frame.comment contains "dropped"', "-T", "fields",
-                 "-e", "frame.number", "-e", "frame.comment"]
-        found = dict(line.split("\t", 1)
-                     for line in subprocess.run(asked, capture_output=True, text=True).stdout.splitlines())
+        dropped = {
+            index[int(row["row"]) - 1]
+            for row in rows_of(report)
+            if row["event"] == "full" and index.count(index[int(row["row"]) - 1]) == 1
+        }
+        asked = [
+            "tshark",
+            "-r",
+            folder() / "why.pcapng",
+            "-Y",
+            'frame.comment contains "dropped"',
+            "-T",
+            "fields",
+            "-e",
+            "frame.number",
+            "-e",
+            "frame.comment",
+        ]
+        found = dict(line.split("\t", 1) for line in subprocess.run(asked, capture_output=True, text=True).stdout.splitlines())
         self.assertGreater(len(dropped), 10)
         self.assertLessEqual({str(frame) for frame in dropped}, set(found))
         one = min(dropped)

@@ -20,8 +20,9 @@ from hinge.replays.replay import EVENT_NAMES
 from model import FiveTuple, Packet, Submit, Target
 
 DURATION = r"([\d,]+\.\d{6}) ms"
-SUM = re.compile(rf"(?:In all it took|would take) {DURATION} = {DURATION} waiting \+ {DURATION} transmission \+ "
-                 rf"{DURATION} delay")
+SUM = re.compile(
+    rf"(?:In all it took|would take) {DURATION} = {DURATION} waiting \+ {DURATION} transmission \+ " rf"{DURATION} delay"
+)
 WAIT = re.compile(rf"It waited {DURATION} for .*?: (.*?)\. Its transmission")
 SENT = re.compile(r"was sent to \S+ \d+ at ([\d,]+\.\d{9}) s")
 LEFT = re.compile(r"(?:it left|It would leave) at ([\d,]+\.\d{9}) s")
@@ -43,9 +44,12 @@ def rows_in(text: str) -> list[int]:
 def late() -> tuple[Path, Path, Path]:
     """A slow link: moments that go back, packets that are held beyond the last moment, on a link of their own and a
     shared one."""
-    config = write("late.config", "pipe 1 config bw 1000bit/s delay 7 queue 3Kbytes plr 0.1 mask src-ip 0xff\n"
-                   "pipe 2 config bw 333bit/s delay 1\nqueue 1 config pipe 2 weight 2 queue 4\nqueue 2 config pipe 2\n"
-                   "pipe 3 config bw 300bit/s delay 9\n")
+    config = write(
+        "late.config",
+        "pipe 1 config bw 1000bit/s delay 7 queue 3Kbytes plr 0.1 mask src-ip 0xff\n"
+        "pipe 2 config bw 333bit/s delay 1\nqueue 1 config pipe 2 weight 2 queue 4\nqueue 2 config pipe 2\n"
+        "pipe 3 config bw 300bit/s delay 9\n",
+    )
     targets = ("pipe,1", "queue,1", "queue,2", "queue,3")
     lines = [HEADER]
     for row in range(1, 1201):
@@ -97,9 +101,12 @@ class Sums:
         for place, row in enumerate(found):
             before = self.backlog_of(net, parts, place, int(row["moment"]))
             reply = net.apply(submit_of(row))
-            self.assertEqual(type(reply).__name__,
-                             {"none": "NoTarget"}.get(event := EVENT_NAMES[parts.replay.event[place]],
-                             "Queued" if event in ("out", "held") else event.capitalize()))
+            self.assertEqual(
+                type(reply).__name__,
+                {"none": "NoTarget"}.get(
+                    event := EVENT_NAMES[parts.replay.event[place]], "Queued" if event in ("out", "held") else event.capitalize()
+                ),
+            )
             if event in ("out", "held"):
                 place_of[reply.packet] = place
             if event == "full":
@@ -117,8 +124,7 @@ class Sums:
 def submit_of(row: dict[str, str]) -> Submit:
     addresses = (int.from_bytes(map(int, row[name].split(".")), "big") for name in ("src", "dst"))
     five = FiveTuple(*addresses, *(int(row[name]) for name in ("proto", "sport", "dport")))
-    return Submit(Target(row["target"], int(row["number"])), Packet(five, int(row["len"]), int(row["word"])),
-                  int(row["moment"]))
+    return Submit(Target(row["target"], int(row["number"])), Packet(five, int(row["len"]), int(row["word"])), int(row["moment"]))
 
 
 @needs_tshark
@@ -151,16 +157,23 @@ class Command(unittest.TestCase):
 
     def test_four_packets_by_hand(self) -> None:
         config = write("hand.config", "pipe 1 config bw 8Mbit/s queue 1\n")
-        packets = write("hand.csv", HEADER + "\n" + "".join(
-            f"{moment},pipe,1,10.0.0.1,10.0.0.2,17,1,2,1000,0\n" for moment in (0, 0, 0, 1_000_000)))
-        report = write("hand.report",
-                       "event,row,flow,packet,at,start,due\nout,1,0,0,0,0,1000000\nout,2,0,1,0,1000000,2000000\n"
-                       "out,4,0,2,1000000,2000000,3000000\nfull,3,0,,0,,\n")
+        packets = write(
+            "hand.csv",
+            HEADER + "\n" + "".join(f"{moment},pipe,1,10.0.0.1,10.0.0.2,17,1,2,1000,0\n" for moment in (0, 0, 0, 1_000_000)),
+        )
+        report = write(
+            "hand.report",
+            "event,row,flow,packet,at,start,due\nout,1,0,0,0,0,1000000\nout,2,0,1,0,1000000,2000000\n"
+            "out,4,0,2,1000000,2000000,3000000\nfull,3,0,,0,,\n",
+        )
         texts = run("why", 1, 2, 3, 4, config, packets, report).stdout.split("\n\n")
         self.assertIn("The link was free", texts[0])
         self.assertIn(f"1.000000 ms until row {1}, which was under transmission, had been sent. Its", texts[1])
-        self.assertIn(f"1 packet waited there (row {2}), 1,000 bytes in all, and its limit is 1 packet. "
-                      f"There was room again 1.000000 ms later, when row {2} began to be sent.", texts[2])
+        self.assertIn(
+            f"1 packet waited there (row {2}), 1,000 bytes in all, and its limit is 1 packet. "
+            f"There was room again 1.000000 ms later, when row {2} began to be sent.",
+            texts[2],
+        )
         self.assertIn(f"until row {2}, which", texts[3])
 
     def test_another_configuration_is_noticed(self) -> None:
@@ -172,14 +185,17 @@ class Command(unittest.TestCase):
 
     def test_another_configuration_is_noticed_by_rows_that_did_not_leave(self) -> None:
         """One row each that was lost, met a full queue and had no target, by configurations that would have taken it."""
-        packets = write("left.csv", HEADER + "\n" + "".join(
-            f"0,pipe,{pipe},10.0.0.1,10.0.0.2,17,1,2,1000,5\n" for pipe in (1, 1, 1, 2, 3)))
+        packets = write(
+            "left.csv", HEADER + "\n" + "".join(f"0,pipe,{pipe},10.0.0.1,10.0.0.2,17,1,2,1000,5\n" for pipe in (1, 1, 1, 2, 3))
+        )
         told = "pipe 1 config bw 8Mbit/s queue 1\npipe 2 config plr 1\n"
         report = replay("left", write("left.config", told), packets)
-        for row, one, other, fault in ((3, "queue 1", "queue 2", "row 3 would have found room"),
-                                       (3, "queue 1", "queue 2Kbytes", "row 3 would have found room"),
-                                       (4, "plr 1", "", "row 4 would not have been lost"),
-                                       (5, "pipe 2", "pipe 3 config\npipe 2", "row 5 would have had a target")):
+        for row, one, other, fault in (
+            (3, "queue 1", "queue 2", "row 3 would have found room"),
+            (3, "queue 1", "queue 2Kbytes", "row 3 would have found room"),
+            (4, "plr 1", "", "row 4 would not have been lost"),
+            (5, "pipe 2", "pipe 3 config\npipe 2", "row 5 would have had a target"),
+        ):
             self.assertEqual(run("why", row, "left.config", packets, report).returncode, 0)
             done = run("why", row, write("other.config", told.replace(one, other)), packets, report)
             self.assertEqual((done.returncode, done.stdout), (4, ""))
@@ -188,9 +204,9 @@ class Command(unittest.TestCase):
 
     def test_faults_are_one_line(self) -> None:
         config, packets, report = late()
-        bad_config, bad_row = write("bad.config",
-                                    "pipe 1 confg\n"), write("bad.csv",
-                                                             f"{HEADER}\n\n1,pipe,1,10.0.0.1,10.0.0.2,17,1,2,x,0\n")
+        bad_config, bad_row = write("bad.config", "pipe 1 confg\n"), write(
+            "bad.csv", f"{HEADER}\n\n1,pipe,1,10.0.0.1,10.0.0.2,17,1,2,x,0\n"
+        )
         short = write("short.report", "\n".join(report.read_text().splitlines()[:-1]) + "\n")
         absent = 9999
         (folder() / "bytes.csv").write_bytes(f"{HEADER}\n1,pipe,1,10.0.0.1,10.0.0.2,17,1,\n".encode() + b"\xff\n")

@@ -12,8 +12,17 @@ from hinge.captures.tshark import tshark
 PORTED = {6: "tcp", 17: "udp", 132: "sctp", 136: "udp", 33: "dccp"}
 EXTENSIONS = {0: "hopopts", 43: "routing", 44: "fraghdr", 60: "dstopts"}
 HEADER_BYTES = {  # of what may stand before an IP header, by tshark's name
-    "eth": 14, "ethertype": 0, "vlan": 4, "ieee8021ad": 4, "pppoes": 6, "ppp": 2, "sll": 16, "llc": 8, "raw": 0,
-    "null": 4, "mpls": 4,
+    "eth": 14,
+    "ethertype": 0,
+    "vlan": 4,
+    "ieee8021ad": 4,
+    "pppoes": 6,
+    "ppp": 2,
+    "sll": 16,
+    "llc": 8,
+    "raw": 0,
+    "null": 4,
+    "mpls": 4,
 }
 DSCP = {"ip": "ip.dsfield.dscp", "ipv6": "ipv6.tclass.dscp"}
 FIELDS = (
@@ -77,8 +86,16 @@ def frame_by_fields(number: int, value: dict[str, str]) -> Optional[Frame]:
         length = int(value["frame.len"]) - before
     sport, dport, header = transport(value, proto, fragment not in ("", "0"))
     return Frame(
-        number, nanoseconds(value["frame.time_epoch"]), value[f"{ip}.src"], value[f"{ip}.dst"],
-        proto, sport, dport, length, own + header, int(value[DSCP[ip]] or "0", 0),
+        number,
+        nanoseconds(value["frame.time_epoch"]),
+        value[f"{ip}.src"],
+        value[f"{ip}.dst"],
+        proto,
+        sport,
+        dport,
+        length,
+        own + header,
+        int(value[DSCP[ip]] or "0", 0),
     )
 
 

@@ -27,8 +27,12 @@ class Path:
         """With `files`, so many descriptors at most."""
         limit = (lambda: resource.setrlimit(resource.RLIMIT_NOFILE, (files, files))) if files else None
         self.process = subprocess.Popen(
-            [*HINGE, "udp", *map(str, words)], text=True, stdin=subprocess.DEVNULL, stdout=subprocess.PIPE,
-            stderr=subprocess.PIPE, preexec_fn=limit
+            [*HINGE, "udp", *map(str, words)],
+            text=True,
+            stdin=subprocess.DEVNULL,
+            stdout=subprocess.PIPE,
+            stderr=subprocess.PIPE,
+            preexec_fn=limit,
         )
         assert self.process.stdout
         self.port = int(self.process.stdout.readline().rpartition(":")[2] or 0)

@@ -31,8 +31,11 @@ Word = Union[str, Path]
 
 
 AS_IN_A_CONTAINER = [
-    "unshare", "-m", "sh", "-c",
-    'mount --bind /proc/sys /proc/sys && mount -o remount,bind,ro /proc/sys && '
+    "unshare",
+    "-m",
+    "sh",
+    "-c",
+    "mount --bind /proc/sys /proc/sys && mount -o remount,bind,ro /proc/sys && "
     'exec setpriv --bounding-set=-sys_admin --inh-caps=-sys_admin "$0" "$@"',
 ]  # root without its rights, and no setting to change
 
@@ -51,8 +54,13 @@ needs_host = unittest.skipIf(bool(no_host()), no_host())
 
 def hinge(command: str, *words: Word, seconds: float = 60, folder: Optional[Word] = None, **variables: str) -> Done[str]:
     return subprocess.run(
-        [*HINGE, command, *map(str, words)], capture_output=True, text=True, timeout=seconds, stdin=subprocess.DEVNULL,
-        cwd=folder, env={**os.environ, **variables}
+        [*HINGE, command, *map(str, words)],
+        capture_output=True,
+        text=True,
+        timeout=seconds,
+        stdin=subprocess.DEVNULL,
+        cwd=folder,
+        env={**os.environ, **variables},
     )
 
 
@@ -94,9 +102,7 @@ def audited(path: Word) -> str:
 
 
 def ip4(src: str, dst: str, proto: int, sport: int, dport: int, length: int, tos: int = 0, fragment: int = 0) -> bytes:
-    head = struct.pack(
-        "!BBHHHBBH4s4s", 0x45, tos, length, 0, fragment, 64, proto, 0, socket.inet_aton(src), socket.inet_aton(dst)
-    )
+    head = struct.pack("!BBHHHBBH4s4s", 0x45, tos, length, 0, fragment, 64, proto, 0, socket.inet_aton(src), socket.inet_aton(dst))
     return (head + struct.pack("!HH", sport, dport)).ljust(length, b"\0")
 
 
@@ -140,8 +146,9 @@ class Ended:
 class Linked:
     """The host between two sockets, or between the two of each of some links, which runs until `end`."""
 
-    def __init__(self, plan: str, most: int = 10**9, carrier: Optional[str] = None, links: int = 1,
-                 descriptors: Sequence[int] = ()) -> None:
+    def __init__(
+        self, plan: str, most: int = 10**9, carrier: Optional[str] = None, links: int = 1, descriptors: Sequence[int] = ()
+    ) -> None:
         """With the carrier `tun` each packet is behind a note. It gets these descriptors too, which the plan names."""
         self.folder = tempfile.TemporaryDirectory()
         self.transcript = f"{self.folder.name}/session.history"
@@ -151,8 +158,10 @@ class Linked:
         self.page = Page(2 * links)
         passed = [*(its.fileno() for _, its in pairs), self.page.descriptor]
         self.process = subprocess.Popen(
-            [program(), *([carrier] if carrier else []), *map(str, passed)], pass_fds=[*passed, *descriptors], stdin=subprocess.PIPE,
-            stderr=subprocess.PIPE
+            [program(), *([carrier] if carrier else []), *map(str, passed)],
+            pass_fds=[*passed, *descriptors],
+            stdin=subprocess.PIPE,
+            stderr=subprocess.PIPE,
         )
         assert self.process.stdin
         self.process.stdin.write(f"transcript {most} {self.transcript}\n{plan}".encode())

@@ -24,9 +24,24 @@ from hinge.run.host_lines import UNTAKEN, Answer
 from hinge.run.page import Page
 from hinge.run.plan import Plan
 
-ODD = (b"5\n", b"null\n", b'"x"\n', b"[" * 60_000 + b"\n", b"\xff\xfe\n", b'{"change": 5}\n', b'{"enter": 5}\n', b'{"x": 1}\n',
-       b'{"number": true}\n', b"{}\n", b"x" * 100_000 + b"\n", b"[" * 200_000 + b"\n", b'{"change": ""}\n',
-       b'{"change": "up"}\n', b'{"change": "up outage 1s"}\n', b'{"change": "up ' + b"9" * 5000 + b'bit/s"}\n')
+ODD = (
+    b"5\n",
+    b"null\n",
+    b'"x"\n',
+    b"[" * 60_000 + b"\n",
+    b"\xff\xfe\n",
+    b'{"change": 5}\n',
+    b'{"enter": 5}\n',
+    b'{"x": 1}\n',
+    b'{"number": true}\n',
+    b"{}\n",
+    b"x" * 100_000 + b"\n",
+    b"[" * 200_000 + b"\n",
+    b'{"change": ""}\n',
+    b'{"change": "up"}\n',
+    b'{"change": "up outage 1s"}\n',
+    b'{"change": "up ' + b"9" * 5000 + b'bit/s"}\n',
+)
 ENDLESS = 600 << 20  # bytes of a line
 MOST_MORE = 8 << 10  # KiB of memory that a run may take for it
 

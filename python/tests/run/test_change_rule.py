@@ -20,8 +20,12 @@ from hingetulip import LineError, aio
 
 BEGUN, MODEL = "2Mbit/s 20ms queue 5", "up:gilbert:0.01,0.3"
 CHANGES = (  # words that change such a link, and the whole line of its pipe from then on
-    ("1Mbit/s", "bw 1000000bit/s"), ("30ms", "delay 30"), ("queue 7", "queue 7"), ("loss 1%", "plr 0.01"),
-    ("30ms 1Mbit/s", "delay 30 bw 1000000bit/s"), (BEGUN, "bw 2000000bit/s delay 20 queue 5"),
+    ("1Mbit/s", "bw 1000000bit/s"),
+    ("30ms", "delay 30"),
+    ("queue 7", "queue 7"),
+    ("loss 1%", "plr 0.01"),
+    ("30ms 1Mbit/s", "delay 30 bw 1000000bit/s"),
+    (BEGUN, "bw 2000000bit/s delay 20 queue 5"),
 )
 
 
@@ -103,6 +107,7 @@ class OneRule(unittest.TestCase):
         plan.event(["5s", "up", "1Mbit/s"])
         self.assertIn("at 5000000000 pipe 1 config bw 1Mbit/s plr 0.5", plan.text(1).splitlines())
         with aio.Network() as net:
+
             class Losses:
                 def next(self) -> int:
                     return 0

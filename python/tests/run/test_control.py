@@ -30,7 +30,13 @@ class InAFolder(unittest.TestCase):
     def running(self, *words: object) -> Iterator["subprocess.Popen[str]"]:
         """A run with a socket, which lasts until the file `go` is there."""
         command = [
-            *HINGE, *map(str, words), "--control", str(self.socket), "--transcript", str(self.history), "--quiet",
+            *HINGE,
+            *map(str, words),
+            "--control",
+            str(self.socket),
+            "--transcript",
+            str(self.history),
+            "--quiet",
             *["--no-realtime"] * (words[0] == "net"),  # of which a user without rights is told
         ]
         loop = ["--", "sh", "-c", f"until [ -e {self.go} ]; do sleep 0.05; done"] if words[0] != "udp" else []
@@ -61,49 +67,46 @@ class OfRuns(InAFolder):
             for words, lines in (
                 (["ipfw", "pipe", "1", "config", "bw", "1Mbit/s"], ["pipe 1 config bw 1000000bit/s"]),
                 (["up", "9ms"], ["pipe 1 config delay 9"]),
-                (["2Mbit/s 3ms"], [f"pipe {pipe} config bw 2000000bit/s delay 3" for pipe in (1, 2)])
+                (["2Mbit/s 3ms"], [f"pipe {pipe} config bw 2000000bit/s delay 3" for pipe in (1, 2)]),
             ):
                 done = self.change(*words)
-                self.assertEqual(
-                    (done.returncode, found(r"^\d+\.\d{6} s: (.*)$", done.stdout)), (0, lines), done.stderr
-                )
+                self.assertEqual((done.returncode, found(r"^\d+\.\d{6} s: (.*)$", done.stdout)), (0, lines), done.stderr)
         self.assertEqual(
             self.obeyed()[2:],
             [
-                "pipe 1 config bw 1000000bit/s", "pipe 1 config delay 9", "pipe 1 config bw 2000000bit/s delay 3",
-                "pipe 2 config bw 2000000bit/s delay 3"
+                "pipe 1 config bw 1000000bit/s",
+                "pipe 1 config delay 9",
+                "pipe 1 config bw 2000000bit/s delay 3",
+                "pipe 2 config bw 2000000bit/s delay 3",
             ],
         )
 
     def test_an_outage_ends_with_the_line_that_holds(self) -> None:
         with self.running("run", "--up", "5ms"):
             self.change("up", "7ms")
-            moments = [
-                float(one) for one in found(r"^(\d+\.\d+) s: ", self.change("up", "outage", "200ms", "lossy").stdout)
-            ]
+            moments = [float(one) for one in found(r"^(\d+\.\d+) s: ", self.change("up", "outage", "200ms", "lossy").stdout)]
             after = moments[1] * 1e9
             until(lambda: ask(str(self.socket), status=True).status["moment"] >= after, 20)  # type: ignore[index]
-        self.assertEqual(
-            self.obeyed()[2:], ["pipe 1 config delay 7", "pipe 1 config delay 7 plr 1", "pipe 1 config delay 7"]
-        )
+        self.assertEqual(self.obeyed()[2:], ["pipe 1 config delay 7", "pipe 1 config delay 7 plr 1", "pipe 1 config delay 7"])
         self.assertEqual(round((moments[1] - moments[0]) * 1e6), 200_000)
 
     def test_what_is_refused(self) -> None:
         with self.running("run", "--up", "5ms"):
             for words, status, wanted in (
                 (["up", "outage", "1s"], 2, "an outage from now on loses packets: write `outage LENGTH lossy`"),
-                (["sideways", "5ms"], 2, "'sideways'"), (["pipe", "1", "config", "bw", "3x"], 3, "word 5 '3x': not a bandwidth; write 8Mbit/s"),
-                (["queue", "delete", "9"], 3, "queue delete 9: no-such-queue"), (["up", "# nothing"], 2, "no words of a link"),
-                (["up", f"{'9' * 5000}bit/s"], 2, "words of more than 4,000 letters")
+                (["sideways", "5ms"], 2, "'sideways'"),
+                (["pipe", "1", "config", "bw", "3x"], 3, "word 5 '3x': not a bandwidth; write 8Mbit/s"),
+                (["queue", "delete", "9"], 3, "queue delete 9: no-such-queue"),
+                (["up", "# nothing"], 2, "no words of a link"),
+                (["up", f"{'9' * 5000}bit/s"], 2, "words of more than 4,000 letters"),
             ):
                 done = self.change(*words)
-                self.assertEqual((done.returncode, wanted in done.stdout + done.stderr), (status, True),
-                                 (words, done.stdout, done.stderr))
+                self.assertEqual(
+                    (done.returncode, wanted in done.stdout + done.stderr), (status, True), (words, done.stdout, done.stderr)
+                )
         self.assertEqual(len(self.obeyed()), 2)
         done = self.change("up", "5ms")
-        self.assertEqual(
-            (done.returncode, done.stderr), (2, f"hinge change: {self.socket}: No such file or directory\n")
-        )
+        self.assertEqual((done.returncode, done.stderr), (2, f"hinge change: {self.socket}: No such file or directory\n"))
 
     def test_it_is_asked(self) -> None:
         with self.running("run", "--up", "5ms"):
@@ -118,9 +121,7 @@ class OfRuns(InAFolder):
     def test_a_place_that_is_taken_and_one_that_was_left(self) -> None:
         self.socket.write_text("")
         done = run("--up", "1ms", "--control", self.socket, "--", "true")
-        self.assertEqual(
-            (done.returncode, done.stderr), (6, f"hinge run: --control {self.socket}: Address already in use\n")
-        )
+        self.assertEqual((done.returncode, done.stderr), (6, f"hinge run: --control {self.socket}: Address already in use\n"))
         self.socket.unlink()
         with socket.socket(socket.AF_UNIX) as left:
             left.bind(str(self.socket))
@@ -137,22 +138,15 @@ class OfNets(InAFolder):
         net.write_text("host a\nhost b\nmain c\nlink a b 1ms\nlink a c 2ms\nlink b c 3ms\n")
         with self.running("net", net):
             done = self.change("cut", "c", "from", "a", "1h")
-            self.assertEqual(found(r"s: (.*)$", done.stdout),
-                             [
-                                 "pipe 3 config delay 2 plr 1", "pipe 3 config delay 2", "pipe 4 config delay 2 plr 1",
-                                 "pipe 4 config delay 2"
-                             ])
+            self.assertEqual(
+                found(r"s: (.*)$", done.stdout),
+                ["pipe 3 config delay 2 plr 1", "pipe 3 config delay 2", "pipe 4 config delay 2 plr 1", "pipe 4 config delay 2"],
+            )
             self.assertEqual(found(r"s: (.*)$", self.change("c", "b", "up", "9ms").stdout), ["pipe 6 config delay 9"])
             refused = self.change("c", "d", "9ms")
-            self.assertEqual(
-                (refused.returncode, refused.stderr), (2, "hinge change: change line 1: 'd': no host of this net\n")
-            )
-            self.assertEqual(
-                [way["pipe"] for way in json.loads(hinge("status", self.socket).stdout)["ways"]], [1, 2, 3, 4, 5, 6]
-            )
-        self.assertEqual(
-            self.obeyed()[6:], ["pipe 3 config delay 2 plr 1", "pipe 4 config delay 2 plr 1", "pipe 6 config delay 9"]
-        )
+            self.assertEqual((refused.returncode, refused.stderr), (2, "hinge change: change line 1: 'd': no host of this net\n"))
+            self.assertEqual([way["pipe"] for way in json.loads(hinge("status", self.socket).stdout)["ways"]], [1, 2, 3, 4, 5, 6])
+        self.assertEqual(self.obeyed()[6:], ["pipe 3 config delay 2 plr 1", "pipe 4 config delay 2 plr 1", "pipe 6 config delay 9"])
 
 
 @needs_rooms
@@ -173,24 +167,31 @@ class OfHosts(InAFolder):
     def test_a_command_on_a_host_of_a_net(self) -> None:
         with self.net():
             done = self.exec(
-                "a", "--", "sh", "-c",
-                "hostname; echo $HINGE_HOST $HINGE_NET; pwd; ping -c 1 -q c >/dev/null && exit 3", folder=self.folder
+                "a",
+                "--",
+                "sh",
+                "-c",
+                "hostname; echo $HINGE_HOST $HINGE_NET; pwd; ping -c 1 -q c >/dev/null && exit 3",
+                folder=self.folder,
             )
             self.assertEqual(
                 (done.returncode, done.stdout.split()), (3, ["a", "a", str(self.folder), str(self.folder)]), done.stderr
             )
-            self.assertEqual((
-                                 hinge("net", "exec", self.socket, "r", "hostname").stdout,
-                                 self.exec("c", "--", "/no/such").returncode,
-                             ),
-                             ("r\n", 127))
-            refused = self.exec("d", "--", "true")
             self.assertEqual(
-                (refused.returncode, refused.stderr), (2, "hinge exec: 'd': no host of this net, which are a, r, c\n")
+                (
+                    hinge("net", "exec", self.socket, "r", "hostname").stdout,
+                    self.exec("c", "--", "/no/such").returncode,
+                ),
+                ("r\n", 127),
             )
+            refused = self.exec("d", "--", "true")
+            self.assertEqual((refused.returncode, refused.stderr), (2, "hinge exec: 'd': no host of this net, which are a, r, c\n"))
             shell = subprocess.run(
-                [*HINGE, "exec", str(self.socket), "r"], input="hostname", capture_output=True, text=True,
-                env={**os.environ, "SHELL": "/bin/sh"}
+                [*HINGE, "exec", str(self.socket), "r"],
+                input="hostname",
+                capture_output=True,
+                text=True,
+                env={**os.environ, "SHELL": "/bin/sh"},
             )
             self.assertEqual((shell.returncode, shell.stdout), (0, "r\n"), shell.stderr)
         self.assertEqual(self.history.read_text().count("\nc,0,submit,"), 4)
@@ -217,13 +218,13 @@ class OfHosts(InAFolder):
             until(self.socket.exists, 30)
             command = subprocess.Popen(
                 [*HINGE, "exec", str(self.socket), "a", "--", "sh", "-c", f"setsid sleep {mark} & exec sleep {mark}"],
-                stderr=subprocess.PIPE, text=True
+                stderr=subprocess.PIPE,
+                text=True,
             )
-            until(lambda: len(
-                      subprocess.run(["pgrep", "-f", f"^sleep {mark}"], capture_output=True, text=True).stdout.split()
-                  )
-                  == 2,
-                  30)
+            until(
+                lambda: len(subprocess.run(["pgrep", "-f", f"^sleep {mark}"], capture_output=True, text=True).stdout.split()) == 2,
+                30,
+            )
             end(run, command)
             command.wait(20)
         finally:
@@ -236,8 +237,9 @@ class OfHosts(InAFolder):
     def test_it_ends_with_the_net(self) -> None:
         for number in (signal.SIGTERM, signal.SIGKILL):
             command = self.ended(lambda run, command: run.send_signal(number))
-            self.assertEqual((command.returncode, command.communicate()[1]),
-                             (137, "hinge exec: the run has ended, and the command with it\n"))
+            self.assertEqual(
+                (command.returncode, command.communicate()[1]), (137, "hinge exec: the run has ended, and the command with it\n")
+            )
 
     @needs("pgrep", "setsid")
     def test_it_is_ended(self) -> None:
@@ -251,8 +253,7 @@ class OfHosts(InAFolder):
         self.folder.chmod(0o777), net.chmod(0o644)
         user = ["setpriv", "--reuid=65534", "--regid=65534", "--clear-groups", *HINGE]
         run = subprocess.Popen(
-            [*user, "net", str(net), "--control", str(self.socket), "--quiet"], stderr=subprocess.PIPE, text=True,
-            cwd="/"
+            [*user, "net", str(net), "--control", str(self.socket), "--quiet"], stderr=subprocess.PIPE, text=True, cwd="/"
         )
         try:
             until(lambda: self.socket.exists() or run.poll() is not None, 30)
@@ -260,7 +261,9 @@ class OfHosts(InAFolder):
                 self.skipTest(run.communicate()[1].strip())
             done = subprocess.run(
                 [*user, "exec", str(self.socket), "a", "--", "sh", "-c", "id -u; hostname; ping -c 1 -q c >/dev/null"],
-                capture_output=True, text=True, cwd="/"
+                capture_output=True,
+                text=True,
+                cwd="/",
             )
             self.assertEqual((done.returncode, done.stdout), (0, "65534\na\n"), done.stderr)
         finally:

@@ -54,7 +54,7 @@ class Drawn:
     def __init__(self, number: int) -> None:
         self.draw = random.Random(number)
         self.hosts = [f"{letter}{number}" for letter in "abcd"[:HOSTS]]
-        self.links = [(one, two) for at, one in enumerate(self.hosts) for two in self.hosts[at + 1:]]
+        self.links = [(one, two) for at, one in enumerate(self.hosts) for two in self.hosts[at + 1 :]]
         self.lines: list[Line] = []
         while len(self.lines) < LINES:
             line = self.line(len(self.lines), self.draw.randint(1, LAST))
@@ -68,7 +68,7 @@ class Drawn:
     def some(self) -> tuple[str, str, set[tuple[str, str]]]:
         """A host, words that name others or nobody, and the pipes between them."""
         one, *others = self.draw.sample(self.hosts, HOSTS)
-        named = others[:self.draw.randint(0, 2)]
+        named = others[: self.draw.randint(0, 2)]
         pipes = {way for other in named or others for way in ((one, other), (other, one))}
         return one, " ".join(["", "from", *named] if named else []), pipes
 
@@ -82,9 +82,7 @@ class Drawn:
         if kind == "heal":
             return Line(place, moment, f"heal {one}{named}", pipes, is_heal=True)
         two = self.draw.choice([name for name in self.hosts if name != one])
-        way, pipes = self.draw.choice(
-            (("", {(one, two), (two, one)}), (" up", {(one, two)}), (" down", {(two, one)}))
-        )
+        way, pipes = self.draw.choice((("", {(one, two), (two, one)}), (" up", {(one, two)}), (" down", {(two, one)})))
         if kind == "outage":
             return Line(place, moment, f"{one} {two}{way} outage {length}ns lossy", pipes, moment + length)
         delay = DELAY + 1 + place
@@ -95,15 +93,14 @@ class Drawn:
             [
                 *(f"host {name}\n" for name in self.hosts),
                 *(f"link {one} {two} {DELAY}ms\n" for one, two in self.links),
-                *(f"at {line.moment}ns {line.words}\n" for line in self.lines)
+                *(f"at {line.moment}ns {line.words}\n" for line in self.lines),
             ]
         )
 
     def is_cut(self, pipe: tuple[str, str], moment: int) -> bool:
         """Whether any cut of it has begun, and has neither ended nor been healed."""
         return any(
-            pipe in cut.pipes and cut.moment <= moment < cut.end
-            and not any(heal.ends(cut, pipe, moment) for heal in self.lines)
+            pipe in cut.pipes and cut.moment <= moment < cut.end and not any(heal.ends(cut, pipe, moment) for heal in self.lines)
             for cut in self.lines
         )
 
@@ -202,9 +199,7 @@ class ByOtherWays(OfNets):
                     taken.append((moment + int(later), behind))
                 return Answer(moment, "", "")
 
-        control = Control(
-            str(self.folder / "control"), made.plan, Page(made.plan.ways), made.at_once, dict, lines=Lines()
-        )
+        control = Control(str(self.folder / "control"), made.plan, Page(made.plan.ways), made.at_once, dict, lines=Lines())
         for moment, words in ((line.moment, line.words) for line in plan.lines):
             control.change(words)
         control.end()

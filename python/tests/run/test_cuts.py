@@ -29,8 +29,10 @@ class OfPlans(unittest.TestCase):
         for plan in (one, one + two, two + one, one + one, one + two.replace("1 8", "1 9").replace("0000 o", "9000 o")):
             self.assertEqual(self.obeyed(plan), [cut, whole], plan)
         self.assertEqual(self.obeyed("at 1 cut 1 1\nat 2 open 1 2\n"), [cut])
-        self.assertEqual(self.obeyed(one + two.replace("cut 1", "cut 2").replace("open 1", "open 2")),
-                         [cut, "pipe 2 config plr 1", "pipe 2 config", whole])
+        self.assertEqual(
+            self.obeyed(one + two.replace("cut 1", "cut 2").replace("open 1", "open 2")),
+            [cut, "pipe 2 config plr 1", "pipe 2 config", whole],
+        )
 
     def test_a_heal_ends_all_cuts(self) -> None:
         cut, whole = "pipe 1 config delay 5 plr 1", "pipe 1 config delay 5 plr 0.500000000000000000"
@@ -41,23 +43,38 @@ class OfPlans(unittest.TestCase):
     def test_a_line_in_a_cut_holds_after_it(self) -> None:
         self.assertEqual(
             self.obeyed("at 1 cut 1 1\nat 2 pipe 1 config bw 1000bit/s plr 0.25 queue 5\nat 3 open 1 1\n"),
-            ["pipe 1 config delay 5 plr 1", "pipe 1 config bw 1000bit/s queue 5 plr 1",
-             "pipe 1 config bw 1000bit/s queue 5 plr 0.250000000000000000"],
+            [
+                "pipe 1 config delay 5 plr 1",
+                "pipe 1 config bw 1000bit/s queue 5 plr 1",
+                "pipe 1 config bw 1000bit/s queue 5 plr 0.250000000000000000",
+            ],
         )
         for delete in ("pipe delete 1", "pipe 1 delete", "ipfw pipe  1 delete # in any spelling"):
-            self.assertEqual(self.obeyed(f"at 1 cut 1 1\nat 2 {delete}\nat 3 open 1 1\nat 4 cut 1 2\nat 5 pipe 1 config\n"),
-                             ["pipe 1 config delay 5 plr 1", "pipe delete 1", "pipe 1 config plr 1"])
+            self.assertEqual(
+                self.obeyed(f"at 1 cut 1 1\nat 2 {delete}\nat 3 open 1 1\nat 4 cut 1 2\nat 5 pipe 1 config\n"),
+                ["pipe 1 config delay 5 plr 1", "pipe delete 1", "pipe 1 config plr 1"],
+            )
 
     def test_a_line_in_any_spelling(self) -> None:
         self.assertEqual(
             self.obeyed("at 1 ipfw pipe 1 config bw 1KByte/s plr .25 queue 5k\nat 2 cut 1 1\nat 3 open 1 1\n"),
-            ["pipe 1 config bw 8000bit/s queue 5Kbytes plr 0.250000000000000000", "pipe 1 config bw 8000bit/s queue 5Kbytes plr 1",
-             "pipe 1 config bw 8000bit/s queue 5Kbytes plr 0.250000000000000000"],
+            [
+                "pipe 1 config bw 8000bit/s queue 5Kbytes plr 0.250000000000000000",
+                "pipe 1 config bw 8000bit/s queue 5Kbytes plr 1",
+                "pipe 1 config bw 8000bit/s queue 5Kbytes plr 0.250000000000000000",
+            ],
         )
 
     def test_lines_that_are_none(self) -> None:
-        for line in ("at 5 cut 3 1", "at 5 cut 0 1", "at 5 open 1", "at 5 cut 1 1 1", "at 5 heal x", "main line pipe 1 config",
-                     "main at 5 cut 9 9"):
+        for line in (
+            "at 5 cut 3 1",
+            "at 5 cut 0 1",
+            "at 5 open 1",
+            "at 5 cut 1 1 1",
+            "at 5 heal x",
+            "main line pipe 1 config",
+            "main at 5 cut 9 9",
+        ):
             ended = Linked(line + "\n").ended()
             self.assertEqual(ended.status, 3, line)
             self.assertRegex(ended.said, "no line")

@@ -26,8 +26,22 @@ class OfDownloads(Behind):
         with open(f"{self.folder}/data", "wb") as file:
             file.write(data)
         serve = f"cd {self.folder} && exec {sys.executable} -m http.server 8080 2>/dev/null >&2"
-        done = run("--up", "20ms", "--down", "8Mbit/s 20ms queue 100", "--server", serve, "--",
-                   "curl", "-s", "-o", f"{self.folder}/got", "-w", "%{time_total}", "http://server:8080/data")
+        done = run(
+            "--up",
+            "20ms",
+            "--down",
+            "8Mbit/s 20ms queue 100",
+            "--server",
+            serve,
+            "--",
+            "curl",
+            "-s",
+            "-o",
+            f"{self.folder}/got",
+            "-w",
+            "%{time_total}",
+            "http://server:8080/data",
+        )
         self.assertEqual(done.returncode, 0, done.stderr)
         with open(f"{self.folder}/got", "rb") as file:
             self.assertTrue(file.read() == data)
@@ -43,8 +57,22 @@ class OfDownloads(Behind):
         serve = f"cd {self.folder} && exec {sys.executable} -m http.server 8080 --bind :: 2>/dev/null >&2"
         for name in ("10.8.0.2", "[fd08::2]"):
             done, told = self.summary(
-                "--up", "1ms", "--down", "1ms", "--mtu", "1400", "--transcript", f"{self.folder}/h", "--server", serve,
-                "--", "curl", "-s", "-o", f"{self.folder}/got", f"http://{name}:8080/data"
+                "--up",
+                "1ms",
+                "--down",
+                "1ms",
+                "--mtu",
+                "1400",
+                "--transcript",
+                f"{self.folder}/h",
+                "--server",
+                serve,
+                "--",
+                "curl",
+                "-s",
+                "-o",
+                f"{self.folder}/got",
+                f"http://{name}:8080/data",
             )
             self.assertEqual(done.returncode, 0, done.stderr)
             with open(f"{self.folder}/got", "rb") as file:
@@ -62,8 +90,7 @@ class OfDownloads(Behind):
             " --address=/here.test/10.1.2.3"
         )
         done = run(
-            "--up", "30ms", "--down", "40ms", "--server", serve, "--", "dig", "+tries=1", "-p", "5353", "@server",
-            "here.test"
+            "--up", "30ms", "--down", "40ms", "--server", serve, "--", "dig", "+tries=1", "-p", "5353", "@server", "here.test"
         )
         self.assertIn("10.1.2.3", done.stdout, done.stderr)
         self.assertGreaterEqual(int(found(r"Query time: (\d+) msec", done.stdout)[0]), 70 - 4)
@@ -78,8 +105,7 @@ class OfDownloads(Behind):
             " </dev/null 2>/dev/null | grep -c '^New, TLSv1.3'; done"
         )
         done, told = self.summary(
-            "--up", "10ms loss 5%", "--down", "10ms loss 5%", "--seed", "3", "--server", serve, "--", "sh", "-c", ask,
-            seconds=120
+            "--up", "10ms loss 5%", "--down", "10ms loss 5%", "--seed", "3", "--server", serve, "--", "sh", "-c", ask, seconds=120
         )
         self.assertEqual(done.stdout.split(), ["1"] * 20, done.stderr)
         self.assertGreater(told["up"]["lost"] + told["down"]["lost"], 0)
@@ -92,9 +118,22 @@ class OfDownloads(Behind):
             file.write(bytes(10**5))
         serve = f"exec gtlsserver -q -d {self.folder} 10.8.0.2 4433 {key} {certificate}"
         done, told = self.summary(
-            "--up", "20ms", "--down", "8Mbit/s 20ms", "--loss", "down:list:20,40-42", "--server", serve, "--",
-            "gtlsclient", "-q", "--exit-on-all-streams-close", f"--download={self.folder}/got", "10.8.0.2", "4433",
-            "https://server/data"
+            "--up",
+            "20ms",
+            "--down",
+            "8Mbit/s 20ms",
+            "--loss",
+            "down:list:20,40-42",
+            "--server",
+            serve,
+            "--",
+            "gtlsclient",
+            "-q",
+            "--exit-on-all-streams-close",
+            f"--download={self.folder}/got",
+            "10.8.0.2",
+            "4433",
+            "https://server/data",
         )
         self.assertEqual(done.returncode, 0, done.stdout + done.stderr)
         self.assertEqual(os.path.getsize(f"{self.folder}/got/data"), 10**5)
@@ -134,15 +173,22 @@ class OfOutside(Behind):
         with open(f"{self.folder}/data", "w") as file:
             file.write("from outside")
         with subprocess.Popen(
-            [sys.executable, "-u", "-m", "http.server", "0", "--bind", own], cwd=self.folder, stdout=subprocess.PIPE,
-            stderr=subprocess.DEVNULL, text=True
+            [sys.executable, "-u", "-m", "http.server", "0", "--bind", own],
+            cwd=self.folder,
+            stdout=subprocess.PIPE,
+            stderr=subprocess.DEVNULL,
+            text=True,
         ) as server:
             assert server.stdout
             port = found(r"port (\d+)", server.stdout.readline())[0]
             ask = ["curl", "-s", "-m", "9", "-w", " %{time_total}", f"http://{gateway}:{port}/data"]
             done = subprocess.run(
                 [*before, *HINGE, "run", "--quiet", option, "--up", "30ms", "--down", "30ms", "--", *ask],
-                capture_output=True, text=True, timeout=30, stdin=subprocess.DEVNULL, env={**os.environ, "PATH": path}
+                capture_output=True,
+                text=True,
+                timeout=30,
+                stdin=subprocess.DEVNULL,
+                env={**os.environ, "PATH": path},
             )
             server.terminate()
         self.assertEqual(done.stderr, "")

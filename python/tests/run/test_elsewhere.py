@@ -46,11 +46,20 @@ LINES = {
     "slow-3g": "--preset slow-3g",
 }
 CORRECTED = {
-    "10mbit": "10Mbit/s", "10M": "10Mbit/s", "56k": "56Kbit/s", "1Gbps": "1Gbit/s", "0.5s": "500ms",
-    "10Mbps 20ms": "10Mbit/s 20ms", "rate 10mbit delay 20ms loss 1% limit 100": "10Mbit/s 20ms loss 1% queue 100",
-    "delay 100ms 10ms": "100ms jitter 10ms", "delay 100ms 10ms distribution normal": "100ms jitter 10ms",
-    "netem delay 50ms loss 0.3% 25%": "50ms loss 0.3%", "bandwidth 5mbit latency 30ms": "5Mbit/s delay 30ms",
-    "bw=1Mbit/s delay=5ms": "bw 1Mbit/s delay 5ms", "20ms limit 30 rate 1mbit": "20ms queue 30 1Mbit/s", "2% 20ms": "loss 2% 20ms",
+    "10mbit": "10Mbit/s",
+    "10M": "10Mbit/s",
+    "56k": "56Kbit/s",
+    "1Gbps": "1Gbit/s",
+    "0.5s": "500ms",
+    "10Mbps 20ms": "10Mbit/s 20ms",
+    "rate 10mbit delay 20ms loss 1% limit 100": "10Mbit/s 20ms loss 1% queue 100",
+    "delay 100ms 10ms": "100ms jitter 10ms",
+    "delay 100ms 10ms distribution normal": "100ms jitter 10ms",
+    "netem delay 50ms loss 0.3% 25%": "50ms loss 0.3%",
+    "bandwidth 5mbit latency 30ms": "5Mbit/s delay 30ms",
+    "bw=1Mbit/s delay=5ms": "bw 1Mbit/s delay 5ms",
+    "20ms limit 30 rate 1mbit": "20ms queue 30 1Mbit/s",
+    "2% 20ms": "loss 2% 20ms",
     "30pkts 5Mbit/s": "queue 30 5Mbit/s",
 }
 
@@ -115,8 +124,19 @@ class Links(unittest.TestCase):
 
 class Options(unittest.TestCase):
     def test_each_foreign_option_says_what_is_taken(self) -> None:
-        values = {"--jitter": "5ms", "--limit": "30", "--queue": "30", "--target-bw": "1000", "--plr": "0.1", "--rate": "1mbit",
-                  "--bandwidth": "10Mbps", "--bw": "56k", "--speed": "1Gbit/s", "--duplicate": "1", "--both": "5ms"}
+        values = {
+            "--jitter": "5ms",
+            "--limit": "30",
+            "--queue": "30",
+            "--target-bw": "1000",
+            "--plr": "0.1",
+            "--rate": "1mbit",
+            "--bandwidth": "10Mbps",
+            "--bw": "56k",
+            "--speed": "1Gbit/s",
+            "--duplicate": "1",
+            "--both": "5ms",
+        }
         for option in ELSEWHERE:
             with self.subTest(option):
                 said = refused([option, values.get(option, "5"), "true"])
@@ -129,13 +149,17 @@ class Options(unittest.TestCase):
 
     def test_both_ways(self) -> None:
         self.assertEqual(
-            ("5ms", "7ms"), (run_options(["--link", "5ms", "--down", "7ms", "true"]).up, run_options(["--down", "7ms", "--link", "5ms", "true"]).down)
+            ("5ms", "7ms"),
+            (
+                run_options(["--link", "5ms", "--down", "7ms", "true"]).up,
+                run_options(["--down", "7ms", "--link", "5ms", "true"]).down,
+            ),
         )
 
     def test_words_of_a_link_in_the_place_of_the_command(self) -> None:
         self.assertEqual(
             link_as_command(["10Mbit/s", "20ms", "--", "ping", "server"]),
-            "'10Mbit/s' is no command; write --link '10Mbit/s 20ms' -- ping server"
+            "'10Mbit/s' is no command; write --link '10Mbit/s 20ms' -- ping server",
         )
         self.assertIsNone(link_as_command(["true", "--", "x"]))
         self.assertIsNone(link_as_command(["no-such-program"]))
@@ -149,9 +173,15 @@ class Hints(unittest.TestCase):
 
     def test_a_host_that_is_not_behind_the_link(self) -> None:
         for command, wanted in (
-            ("ping -c 3 8.8.8.8", "8.8.8.8"), ("curl -s https://example.com/a", "example.com"), ("/usr/bin/ssh me@host.example", None),
-            ("ping server", None), ("ping -i 0.2 10.8.0.2", None), ("curl http://server:8000/", None), ("./client example.com", None),
-            ("curl http://[2001:db8::1]:80/", "2001:db8::1"), ("wget example.com", "example.com")
+            ("ping -c 3 8.8.8.8", "8.8.8.8"),
+            ("curl -s https://example.com/a", "example.com"),
+            ("/usr/bin/ssh me@host.example", None),
+            ("ping server", None),
+            ("ping -i 0.2 10.8.0.2", None),
+            ("curl http://server:8000/", None),
+            ("./client example.com", None),
+            ("curl http://[2001:db8::1]:80/", "2001:db8::1"),
+            ("wget example.com", "example.com"),
         ):
             with self.subTest(command):
                 self.assertEqual(far_host(command.split()), wanted)

@@ -47,14 +47,22 @@ CASES = [
     Case("to one at the same port", [hello(0, 1), Sent(0, frame(MACS[1], 0))], [[], [], []]),
     Case("to one that moved", [hello(1, 1), hello(2, 1), Sent(0, frame(MACS[1], 0))], [[], [], [2]]),
     Case("from a group", [Sent(1, GROUP + GROUP + ODD), Sent(0, frame(GROUP, 0))], [[0], [1], [0, 1]]),
-    Case("to the switch itself", [Sent(0, frame(OWN_SWITCH[:5] + b"\x0f", 0)), Sent(0, frame(OWN_SWITCH[:5] + b"\x10", 0))],
-         [[], [1], [1]]),
-    Case("with tags, as they are", [Sent(0, frame(ALL, 0, b"tagged", TAG + ODD)), Sent(0, frame(ALL, 0, b"two", b"\x88\xa8\0\1" + TAG + ODD))],
-         [[], [0, 1], [0, 1]]),
+    Case(
+        "to the switch itself",
+        [Sent(0, frame(OWN_SWITCH[:5] + b"\x0f", 0)), Sent(0, frame(OWN_SWITCH[:5] + b"\x10", 0))],
+        [[], [1], [1]],
+    ),
+    Case(
+        "with tags, as they are",
+        [Sent(0, frame(ALL, 0, b"tagged", TAG + ODD)), Sent(0, frame(ALL, 0, b"two", b"\x88\xa8\0\1" + TAG + ODD))],
+        [[], [0, 1], [0, 1]],
+    ),
     Case("shorter than a frame", [Sent(0, frame(ALL, 0)[:length]) for length in range(1, 14)], [[], [], []]),
     Case("half a tag", [Sent(0, frame(ALL, 0, b"\0", TAG[:2])), Sent(0, frame(ALL, 0, b"\0\1\2", TAG[:2]))], [[], [0, 1], [0, 1]]),
     Case("half a packet", [Sent(0, frame(ALL, 0, PACKET[:end], IPV4)) for end in (0, 1, 19)], [[], [0, 1, 2], [0, 1, 2]]),
-    Case("longer than an MTU", [Sent(0, frame(ALL, 0, bytes(length))) for length in (1501, 9000, 65521)], [[], [0, 1, 2], [0, 1, 2]]),
+    Case(
+        "longer than an MTU", [Sent(0, frame(ALL, 0, bytes(length))) for length in (1501, 9000, 65521)], [[], [0, 1, 2], [0, 1, 2]]
+    ),
 ]
 
 
@@ -92,15 +100,29 @@ class OfSwitches(unittest.TestCase):
     def test_rows_of_frames(self) -> None:
         """IP is told as on other links; what isn't has protocol 0, its type as a port, and addresses of its hosts."""
         sent = [
-            frame(ALL, 0, PACKET, IPV4), frame(ALL, 0, PACKET, TAG + IPV4), frame(ALL, 0, bytes(28), ARP), frame(MACS[1], 0),
-            frame(ALL, 0, PACKET, ODD), frame(ALL, 0, ip6("fd08::1", "fd08::2", 17, b"\0\7\0\10" + bytes(4)), IPV6)
+            frame(ALL, 0, PACKET, IPV4),
+            frame(ALL, 0, PACKET, TAG + IPV4),
+            frame(ALL, 0, bytes(28), ARP),
+            frame(MACS[1], 0),
+            frame(ALL, 0, PACKET, ODD),
+            frame(ALL, 0, ip6("fd08::1", "fd08::2", 17, b"\0\7\0\10" + bytes(4)), IPV6),
         ]
         _, ended = self.switched([Sent(0, data) for data in sent])
-        self.assertEqual(found(r"submit,pipe,1,(.*?,\d+,\d+,\d+,\d+),", ended.history)[:-1], [
-            "10.8.0.1,10.8.0.2,17,5,6,40", "10.8.0.1,10.8.0.2,17,5,6,40", "240.0.0.1,240.0.0.2,0,0,2054,28",
-            "240.0.0.1,240.0.0.3,0,0,34997,1", "240.0.0.1,240.0.0.2,0,0,34997,40", "240.0.0.4,240.0.0.5,17,7,8,48"])
-        self.assertEqual(found(r"^#,address,(.*)$", ended.history)[:2], [
-            "240.0.0.1,fe80:0000:0000:0000:0000:00ff:fe00:0000", "240.0.0.2,fe80:0000:0000:0000:fdff:ffff:feff:ffff"])
+        self.assertEqual(
+            found(r"submit,pipe,1,(.*?,\d+,\d+,\d+,\d+),", ended.history)[:-1],
+            [
+                "10.8.0.1,10.8.0.2,17,5,6,40",
+                "10.8.0.1,10.8.0.2,17,5,6,40",
+                "240.0.0.1,240.0.0.2,0,0,2054,28",
+                "240.0.0.1,240.0.0.3,0,0,34997,1",
+                "240.0.0.1,240.0.0.2,0,0,34997,40",
+                "240.0.0.4,240.0.0.5,17,7,8,48",
+            ],
+        )
+        self.assertEqual(
+            found(r"^#,address,(.*)$", ended.history)[:2],
+            ["240.0.0.1,fe80:0000:0000:0000:0000:00ff:fe00:0000", "240.0.0.2,fe80:0000:0000:0000:fdff:ffff:feff:ffff"],
+        )
 
     def test_each_port_has_its_own_link(self) -> None:
         """Its losses and its delay: of two frames to all one is lost on the way to port 1."""
@@ -108,11 +130,15 @@ class OfSwitches(unittest.TestCase):
         plan = "line pipe 1 config delay 5\nline pipe 6 config delay 7\nline pipe 4 config plr 0.5\nlist 3 2\n"
         got, ended = self.switched(sent, plan)
         self.assertEqual(got, [[], [sent[0].frame], [one.frame for one in sent]])
-        stays = [due - came for came, due in ((int(came), int(due)) for came, due in found(r"^d,\d+,\d+,(\d+),(\d+)$", ended.history))]
+        stays = [
+            due - came for came, due in ((int(came), int(due)) for came, due in found(r"^d,\d+,\d+,(\d+),(\d+)$", ended.history))
+        ]
         self.assertEqual({round(stay / 1e6) for stay in stays}, {0, 5, 7})
 
     def test_jitter_and_copies(self) -> None:
-        got, _ = self.switched([Sent(0, frame(ALL, 0, b"x"))], "line pipe 60000 config delay 3\njitter 3 60000 1 1\ncopies 5 2147483648 1\n")
+        got, _ = self.switched(
+            [Sent(0, frame(ALL, 0, b"x"))], "line pipe 60000 config delay 3\njitter 3 60000 1 1\ncopies 5 2147483648 1\n"
+        )
         self.assertEqual(got, [[], [frame(ALL, 0, b"x")], [frame(ALL, 0, b"x")] * 2])
 
     def test_any_bytes_end_nothing(self) -> None:
@@ -120,12 +146,13 @@ class OfSwitches(unittest.TestCase):
         for _ in range(300):
             kind = random.choice([IPV4, IPV6, ARP, TAG, random.randbytes(2)])
             macs = b"".join(random.choice([*MACS, ALL, OWN_SWITCH, random.randbytes(6)]) for _ in range(2))
-            data = macs + kind + random.choice([PACKET[:random.randrange(40)], random.randbytes(random.randrange(60))])
-            sent.append(Sent(random.randrange(PORTS), data[:random.randrange(1, len(data) + 1)]))
+            data = macs + kind + random.choice([PACKET[: random.randrange(40)], random.randbytes(random.randrange(60))])
+            sent.append(Sent(random.randrange(PORTS), data[: random.randrange(1, len(data) + 1)]))
         _, ended = self.switched(sent)
         whole = [sum(len(one.frame) >= 14 for one in sent if one.port == port) for port in range(PORTS)]
-        self.assertEqual([ended.counts.ways[2 * port]["came"] for port in range(PORTS)],
-                         [more + last for more, last in zip(whole, (1, 1, 0))])
+        self.assertEqual(
+            [ended.counts.ways[2 * port]["came"] for port in range(PORTS)], [more + last for more, last in zip(whole, (1, 1, 0))]
+        )
 
     def test_plans_that_no_switch_has(self) -> None:
         for text in ("switch 0 0", "switch 0 1", "switch 0 2\nswitch 2 4"):

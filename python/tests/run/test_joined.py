@@ -52,8 +52,7 @@ class OfNetworks(unittest.TestCase):
     def state(self) -> list[str]:
         """Rules, routes, interfaces and settings."""
         settings = self.inside(
-            "sh", "-c",
-            "cd /proc/sys/net/ipv4/conf; grep . */rp_filter */accept_local */forwarding */proxy_arp ../ip_early_demux"
+            "sh", "-c", "cd /proc/sys/net/ipv4/conf; grep . */rp_filter */accept_local */forwarding */proxy_arp ../ip_early_demux"
         ).stdout
         return [
             " ".join(ip("-n", self.name, *words).split())
@@ -66,8 +65,24 @@ class OfNetworks(unittest.TestCase):
 
     def test_a_command_there_goes_through_the_link(self) -> None:
         before = self.state()
-        done = run("--quiet", "--netns", self.path, "--up", "10Mbit/s 20ms", "--down", "30ms", "--transcript",
-                   self.folder / "h", "--", "ping", "-c", "3", "-i", "0.1", OUTSIDE)
+        done = run(
+            "--quiet",
+            "--netns",
+            self.path,
+            "--up",
+            "10Mbit/s 20ms",
+            "--down",
+            "30ms",
+            "--transcript",
+            self.folder / "h",
+            "--",
+            "ping",
+            "-c",
+            "3",
+            "-i",
+            "0.1",
+            OUTSIDE,
+        )
         self.assertEqual((done.returncode, self.took(done) >= DELAY, self.state()), (0, True, before), done.stderr)
         audited_as_lawful(self, self.folder / "h")
         self.assertEqual((self.folder / "h").read_text().count(f"c,0,submit,pipe,1,{INSIDE},{OUTSIDE},1,"), 3)
@@ -76,8 +91,10 @@ class OfNetworks(unittest.TestCase):
     def test_what_runs_there_is_reached_through_the_link(self) -> None:
         (self.folder / "data").write_bytes(os.urandom(200_000))
         server = subprocess.Popen(
-            ["ip", "netns", "exec", self.name, sys.executable, "-m", "http.server", "8000"], cwd=self.folder,
-            stdout=subprocess.DEVNULL, stderr=subprocess.DEVNULL
+            ["ip", "netns", "exec", self.name, sys.executable, "-m", "http.server", "8000"],
+            cwd=self.folder,
+            stdout=subprocess.DEVNULL,
+            stderr=subprocess.DEVNULL,
         )
         self.addCleanup(server.wait)
         self.addCleanup(server.kill)
@@ -86,8 +103,17 @@ class OfNetworks(unittest.TestCase):
         before = self.state()
         begun = subprocess.Popen(
             [
-                *HINGE, "run", "--netns", str(server.pid), "--up", "2Mbit/s 20ms", "--down", "30ms", "--control",
-                str(self.folder / "c"), "--quiet"
+                *HINGE,
+                "run",
+                "--netns",
+                str(server.pid),
+                "--up",
+                "2Mbit/s 20ms",
+                "--down",
+                "30ms",
+                "--control",
+                str(self.folder / "c"),
+                "--quiet",
             ]
         )
         try:
@@ -119,7 +145,7 @@ class OfNetworks(unittest.TestCase):
             (["--netns", "/etc/passwd"], 6, "it is no network"),
             (["--netns", str(os.getpid())], 2, "it is this system's own network"),
             (["--netns", self.path, "--server", "x"], 2, "--server: there is no such thing"),
-            (["--netns", self.path, "--simulated"], 2, "--simulated: there is no such thing")
+            (["--netns", self.path, "--simulated"], 2, "--simulated: there is no such thing"),
         ):
             done = run(*words, "--", "true")
             self.assertEqual((done.returncode, wanted in done.stderr), (status, True), done.stderr)

@@ -8,9 +8,7 @@ import struct
 import time
 import unittest
 
-from linked import (
-    AT_ONCE, SEEDS, Ended, Linked, audited_as_lawful, found, ip4, ip6, needs_host, stopped, until, with_sigterm
-)
+from linked import AT_ONCE, SEEDS, Ended, Linked, audited_as_lawful, found, ip4, ip6, needs_host, stopped, until, with_sigterm
 from hinge.captures.random_words import word
 from hinge.loss import LOST, GilbertElliott
 from hinge.run.page import ENDED_WELL
@@ -38,8 +36,9 @@ class OfPackets(unittest.TestCase):
         self.assertGreaterEqual(time.monotonic() - begun, 0.1)
         self.assertEqual(got, sent)
         up = ended.counts.ways[0]
-        self.assertEqual((up["came"], up["sent"], up["came_bytes"], ended.counts["state"]),
-                         (50, 50, sum(range(100, 150)), ENDED_WELL))
+        self.assertEqual(
+            (up["came"], up["sent"], up["came_bytes"], ended.counts["state"]), (50, 50, sum(range(100, 150)), ENDED_WELL)
+        )
         self.assertEqual((sum(up.late.bins), sum(up.unread.bins), up.underway), (50, 50, 0))
 
     def test_the_way_back(self) -> None:
@@ -52,12 +51,16 @@ class OfPackets(unittest.TestCase):
         ports = struct.pack("!HHHH", 7, 8, 8, 0)
         options, later = struct.pack("!BB6x", 17, 0) + ports, struct.pack("!BBHI", 17, 0, 8, 0) + ports
         packets = [
-            ip6("fd08::1", "fd08::2", 17, ports), ip6("fd08::1", "fd08::2", 0, options),
-            ip6("fd08::1", "fd08::3", 44, later), b"\x15odd"
+            ip6("fd08::1", "fd08::2", 17, ports),
+            ip6("fd08::1", "fd08::2", 0, options),
+            ip6("fd08::1", "fd08::3", 44, later),
+            b"\x15odd",
         ]
         _, ended = self.run_link("line pipe 1 config\n", packets, 3)
-        self.assertEqual(found(r"pipe,1,(.*?,\d+,\d+,\d+,\d+),", ended.history), [
-            "240.0.0.1,240.0.0.2,17,7,8,48", "240.0.0.1,240.0.0.2,17,7,8,56", "240.0.0.1,240.0.0.3,17,0,0,56"])
+        self.assertEqual(
+            found(r"pipe,1,(.*?,\d+,\d+,\d+,\d+),", ended.history),
+            ["240.0.0.1,240.0.0.2,17,7,8,48", "240.0.0.1,240.0.0.2,17,7,8,56", "240.0.0.1,240.0.0.3,17,0,0,56"],
+        )
         self.assertIn("#,address,240.0.0.2,fd08:0000:0000:0000:0000:0000:0000:0002\n", ended.history)
         self.assertEqual(ended.counts.ways[0]["not_ip"], 1)
 
@@ -66,13 +69,18 @@ class OfPackets(unittest.TestCase):
         for rule in ("tcp port 443 => queue 3", "dscp ef => queue 4", "udp dst 10.8.0.0/30 dst-port 5-7 => queue 3"):
             plan.rule(rule)
         sent = [
-            ip4(CLIENT, SERVER, 6, 443, 9, 40), ip4(CLIENT, SERVER, 6, 9, 443, 40), ip4(CLIENT, SERVER, 6, 9, 9, 40),
-            ip4(CLIENT, SERVER, 1, 9, 9, 40, tos=46 << 2), ip4(CLIENT, SERVER, 17, 9, 7, 40),
-            ip4(CLIENT, "10.8.0.9", 17, 9, 7, 40), ip4(CLIENT, SERVER, 6, 443, 9, 40, fragment=1)
+            ip4(CLIENT, SERVER, 6, 443, 9, 40),
+            ip4(CLIENT, SERVER, 6, 9, 443, 40),
+            ip4(CLIENT, SERVER, 6, 9, 9, 40),
+            ip4(CLIENT, SERVER, 1, 9, 9, 40, tos=46 << 2),
+            ip4(CLIENT, SERVER, 17, 9, 7, 40),
+            ip4(CLIENT, "10.8.0.9", 17, 9, 7, 40),
+            ip4(CLIENT, SERVER, 6, 443, 9, 40, fragment=1),
         ]
         _, ended = self.run_link(plan.text(1), sent, 7)
-        self.assertEqual(found(r"submit,(\w+,\d+)", ended.history),
-                         ["queue,3", "queue,3", "pipe,1", "queue,4", "queue,3", "pipe,1", "pipe,1"])
+        self.assertEqual(
+            found(r"submit,(\w+,\d+)", ended.history), ["queue,3", "queue,3", "pipe,1", "queue,4", "queue,3", "pipe,1", "pipe,1"]
+        )
 
     def test_networks_of_ipv6_in_the_map(self) -> None:
         plan = plan_of("pipe 1 config", "queue 1 config pipe 1", "queue 2 config pipe 1")
@@ -80,8 +88,10 @@ class OfPackets(unittest.TestCase):
             plan.rule(rule)
         far, near = "fd08:1:7fff::9", "fd08:1:8000::9"
         sent = [
-            ip6("fd08::1", far, 17, bytes(8)), ip6("fd08::1", near, 17, bytes(8)), udp(1),
-            ip4("10.8.0.3", SERVER, 17, 1, 1, 40)
+            ip6("fd08::1", far, 17, bytes(8)),
+            ip6("fd08::1", near, 17, bytes(8)),
+            udp(1),
+            ip4("10.8.0.3", SERVER, 17, 1, 1, 40),
         ]
         _, ended = self.run_link(plan.text(1), sent, 4)
         self.assertEqual(found(r"submit,(\w+,\d+)", ended.history), ["queue,1", "queue,2", "queue,2", "queue,2"])
@@ -186,16 +196,16 @@ class OfTheEnd(unittest.TestCase):
             link.near.send(udp(number))
         until(lambda: link.came() == 3)
         ended = link.end()
-        self.assertEqual(
-            (ended.counts["underway"], ended.counts.ways[0].underway, ended.counts.ways[0]["discarded"]), (3, 3, 0)
-        )
+        self.assertEqual((ended.counts["underway"], ended.counts.ways[0].underway, ended.counts.ways[0]["discarded"]), (3, 3, 0))
         self.assertNotIn("\nd,", ended.history)
         audited_as_lawful(self, link.transcript)
 
     def test_a_wrong_line_is_told_before_the_first_packet(self) -> None:
         for text, told in (
-            ("line pipe 1 config bw 8Mbps\n", "word 5: bad number"), ("at 5 queue 1 config weight 2\n", "needs a pipe"),
-            ("at 5 pipe delete 7\n", "no-such-pipe"), ("nonsense\n", "no line of a plan")
+            ("line pipe 1 config bw 8Mbps\n", "word 5: bad number"),
+            ("at 5 queue 1 config weight 2\n", "needs a pipe"),
+            ("at 5 pipe delete 7\n", "no-such-pipe"),
+            ("nonsense\n", "no line of a plan"),
         ):
             link = Linked(text)
             self.assertEqual((link.process.wait(5), told in link.process.stderr.read().decode()), (3, True))
@@ -203,12 +213,54 @@ class OfTheEnd(unittest.TestCase):
 
     def test_a_plan_has_no_other_lines(self) -> None:
         """Each is told whole, and no packet is taken."""
-        wrong = ["transcript", "transcript x", "at", "at x pipe 1 config", "outage 5 1", "outage 5 0 9", "outage 5 3 9", "hold 1 5", "hold 3 5 6",
-                 "hold 1 6 5", "slots 0 1", "slots 3 1", "slots 1", "slots 1 x", "slots 1 5 4", "slots 1 0", "map 0 0 1", "seed", "seed 2 1", "seed -1 1",
-                 "gilbert 0 1 2 3", "gilbert 5 1 2 3 4", "list 0 x", "list 0 1 x", "list 2 1", "jitter 0 9 2", "jitter 0 0 2 1", "jitter 0 9 0 1",
-                 "jitter 0 65535 2 1", "jitter 0 2147483647 2147483647 1", "jitter 7 9 2 1", "copies 0 5", "copies 2 5 1", "switch ", "switch 0 2", "switch 0 x", "switch -1",
-                 "realtime now", "simulated now", "epoch", "epoch x", "epoch 5 x",
-                 "control 0", "contents too", "lines", "map 0 0 1 -1 -1 " + "x " * 4 + "0 65535 0 65535"]
+        wrong = [
+            "transcript",
+            "transcript x",
+            "at",
+            "at x pipe 1 config",
+            "outage 5 1",
+            "outage 5 0 9",
+            "outage 5 3 9",
+            "hold 1 5",
+            "hold 3 5 6",
+            "hold 1 6 5",
+            "slots 0 1",
+            "slots 3 1",
+            "slots 1",
+            "slots 1 x",
+            "slots 1 5 4",
+            "slots 1 0",
+            "map 0 0 1",
+            "seed",
+            "seed 2 1",
+            "seed -1 1",
+            "gilbert 0 1 2 3",
+            "gilbert 5 1 2 3 4",
+            "list 0 x",
+            "list 0 1 x",
+            "list 2 1",
+            "jitter 0 9 2",
+            "jitter 0 0 2 1",
+            "jitter 0 9 0 1",
+            "jitter 0 65535 2 1",
+            "jitter 0 2147483647 2147483647 1",
+            "jitter 7 9 2 1",
+            "copies 0 5",
+            "copies 2 5 1",
+            "switch ",
+            "switch 0 2",
+            "switch 0 x",
+            "switch -1",
+            "realtime now",
+            "simulated now",
+            "epoch",
+            "epoch x",
+            "epoch 5 x",
+            "control 0",
+            "contents too",
+            "lines",
+            "map 0 0 1 -1 -1 " + "x " * 4 + "0 65535 0 65535",
+        ]
         for text in wrong:
             link = Linked(text + "\n")
             status, said = link.process.wait(5), link.process.stderr.read().decode()

@@ -75,11 +75,13 @@ class OfTime(unittest.TestCase):
         self.assertEqual([audited(part).split()[0] for part in parts], ["lawful"] * 4)
         texts = [open(part).read() for part in parts]
         self.assertEqual([text.count("submit") for text in texts], [1, 1, 1, 0])
-        self.assertEqual([found("c,0,configure,(.*)", text) for text in texts],
-                         [["pipe 1 config delay 5", "queue 2 config pipe 1 weight 7"]] * 4)
-        self.assertEqual((ended.status, ended.counts.ways[0]["sent"], sorted(os.listdir(link.folder.name))),
-                         (0, 3, sorted(map(os.path.basename, parts))))
-
+        self.assertEqual(
+            [found("c,0,configure,(.*)", text) for text in texts], [["pipe 1 config delay 5", "queue 2 config pipe 1 weight 7"]] * 4
+        )
+        self.assertEqual(
+            (ended.status, ended.counts.ways[0]["sent"], sorted(os.listdir(link.folder.name))),
+            (0, 3, sorted(map(os.path.basename, parts))),
+        )
 
     def test_a_deleted_queue_is_in_no_later_part(self) -> None:
         """By both forms of the line, and a number that another line has with a pipe."""
@@ -103,7 +105,9 @@ class OfTime(unittest.TestCase):
         self.assertLess(link.page.read()["moment"], 600_000_000)
         until(lambda: link.page.read()["moment"] >= 600_000_000)
         ended = link.end()
-        self.assertEqual((ended.status, ended.counts.ways[0]["came"], found("submit,.*,0.0.0.0,255,", ended.history)), (0, 1101, []))
+        self.assertEqual(
+            (ended.status, ended.counts.ways[0]["came"], found("submit,.*,0.0.0.0,255,", ended.history)), (0, 1101, [])
+        )
 
 
 @needs_host
@@ -127,7 +131,5 @@ class OfALoadedMachine(unittest.TestCase):
             for load in loads:
                 load.kill(), load.wait()
         counts = link.end().counts
-        self.assertRegex(
-            "\n".join(void(counts, [0, 0], 1.0)), r"up: of 100 packets more than one was (late|unread) by over 1 ms"
-        )
+        self.assertRegex("\n".join(void(counts, [0, 0], 1.0)), r"up: of 100 packets more than one was (late|unread) by over 1 ms")
         self.assertGreater(max(counts.ways[0].unread.most, counts.ways[0].late.most), 1_000_000)

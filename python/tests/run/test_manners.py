@@ -32,30 +32,30 @@ class OfServers(InAFolder):
     def test_its_group_gets_sigterm_whether_it_is_the_shell_or_not(self) -> None:
         told = self.folder / "told"
         for words in ("", "exec "):
-            script = (
-                f"{words}sh -c 'trap \"echo ended >> {told}; exit\" TERM; echo on >> {told}; while :; do sleep 0.05;"
-                " done'"
-            )
+            script = f'{words}sh -c \'trap "echo ended >> {told}; exit" TERM; echo on >> {told}; while :; do sleep 0.05;' " done'"
             status, said, server = self.server(
                 script, "--server-wait", "50ms", "--", "sh", "-c", f"until grep -q on {told}; do sleep 0.05; done"
             )
-            self.assertEqual(
-                (status, "killed" in said, server["by"], told.read_text()), (0, False, "SIGTERM", "on\nended\n")
-            )
+            self.assertEqual((status, "killed" in said, server["by"], told.read_text()), (0, False, "SIGTERM", "on\nended\n"))
             told.unlink()
 
     def test_what_was_killed_or_crashed_is_told(self) -> None:
         ready = self.folder / "ready"
         deaf = f"trap '' TERM; touch {ready}; while :; do sleep 0.1; done"
-        status, said, server = self.server(deaf, "--server-wait", "50ms", "--server-end", "200ms", "--", "sh", "-c",
-                                           f"until [ -e {ready} ]; do sleep 0.05; done")
-        self.assertEqual((status, server["by"], found("run: (the server was .*)", said)),
-                         (0, "SIGKILL", ["the server was killed, since SIGTERM didn't end it in 0.2 s"]))
+        status, said, server = self.server(
+            deaf, "--server-wait", "50ms", "--server-end", "200ms", "--", "sh", "-c", f"until [ -e {ready} ]; do sleep 0.05; done"
+        )
+        self.assertEqual(
+            (status, server["by"], found("run: (the server was .*)", said)),
+            (0, "SIGKILL", ["the server was killed, since SIGTERM didn't end it in 0.2 s"]),
+        )
         crash = f"until [ -e {self.folder}/go ]; do sleep 0.05; done; touch {self.folder}/gone; kill -SEGV $$"
         command = f"touch {self.folder}/go; until [ -e {self.folder}/gone ]; do sleep 0.05; done; sleep 0.2; exit 5"
         status, said, server = self.server(crash, "--server-wait", "50ms", "--", "sh", "-c", command)
-        self.assertEqual((status, server["status"], server["by"], found("run: (the server ended .*)", said)),
-                         (5, 139, "itself", ["the server ended with SIGSEGV before the command did"]))
+        self.assertEqual(
+            (status, server["status"], server["by"], found("run: (the server ended .*)", said)),
+            (5, 139, "itself", ["the server ended with SIGSEGV before the command did"]),
+        )
 
     def test_a_server_that_ends_by_itself_is_let(self) -> None:
         status, _, server = self.server("exec sleep 0.1", "--server-wait", "20ms", "--", "true")
@@ -78,7 +78,9 @@ class OfStreams(InAFolder):
         for closed in ("<&-", ">&-", "2>&-", "<&- >&- 2>&-"):
             done = subprocess.run(
                 ["sh", "-c", f'"$@" {closed}', "sh", *HINGE, "run", "--quiet", "--", "sh", "-c", "exit 3"],
-                capture_output=True, text=True, timeout=60
+                capture_output=True,
+                text=True,
+                timeout=60,
             )
             self.assertEqual((done.returncode, done.stdout, done.stderr), (3, "", ""), closed)
 
@@ -91,38 +93,30 @@ class OfFiles(InAFolder):
             (self.folder / "old").write_text("kept")
             done = run("--transcript", self.folder / name, "--json", self.folder / "." / name, "--", "true")
             self.assertEqual(
-                (done.returncode, "the same file as" in done.stderr, (self.folder / "new").exists()), (2, True, False),
-                done.stderr
+                (done.returncode, "the same file as" in done.stderr, (self.folder / "new").exists()), (2, True, False), done.stderr
             )
         self.assertEqual((self.folder / "old").read_text(), "kept")
 
     def test_two_runs_do_not_share_a_transcript(self) -> None:
         path, go = self.folder / "history", self.folder / "go"
-        first = subprocess.Popen([
-                                     *HINGE, "run", "--quiet", "--transcript", str(path), "--", "sh", "-c",
-                                     f"until [ -e {go} ]; do sleep 0.05; done"
-                                 ])
+        first = subprocess.Popen(
+            [*HINGE, "run", "--quiet", "--transcript", str(path), "--", "sh", "-c", f"until [ -e {go} ]; do sleep 0.05; done"]
+        )
         until(path.exists, 30)
         second = run("--quiet", "--transcript", path, "--", "true")
         go.touch()
-        self.assertEqual(
-            (first.wait(20), second.returncode, second.stderr), (0, 6, f"hinge: {path}: another run writes it\n")
-        )
+        self.assertEqual((first.wait(20), second.returncode, second.stderr), (0, 6, f"hinge: {path}: another run writes it\n"))
         audited_as_lawful(self, path)
         self.assertEqual(run("--quiet", "--transcript", path, "--", "true").returncode, 0)
 
     def test_a_line_feed_in_a_name(self) -> None:
         done = run("--transcript", f"{self.folder}/a\nline pipe 1 config", "--", "true")
-        self.assertEqual(
-            (done.returncode, "a line feed in its name" in done.stderr, os.listdir(self.folder)), (2, True, [])
-        )
+        self.assertEqual((done.returncode, "a line feed in its name" in done.stderr, os.listdir(self.folder)), (2, True, []))
 
     def test_a_summary_that_cannot_be_written_takes_no_status(self) -> None:
         for command, status in (("exit 4", 4), ("exit 0", 6)):
             done = run("--quiet", "--json", "/dev/full", "--", "sh", "-c", command)
-            self.assertEqual(
-                (done.returncode, done.stderr), (status, "hinge run: --json /dev/full: No space left on device\n")
-            )
+            self.assertEqual((done.returncode, done.stderr), (status, "hinge run: --json /dev/full: No space left on device\n"))
 
     def test_a_transcript_that_nobody_reads_does_not_hold_back_a_signal(self) -> None:
         fifo = self.folder / "fifo"
@@ -134,6 +128,7 @@ class OfFiles(InAFolder):
 
     def test_a_signal_while_its_files_are_read(self) -> None:
         """A FIFO into which nothing is written puts off the plan for ever."""
+
         def reader() -> Optional[int]:
             with contextlib.suppress(OSError):
                 return os.open(fifo, os.O_WRONLY | os.O_NONBLOCK)
@@ -141,9 +136,7 @@ class OfFiles(InAFolder):
 
         fifo = self.folder / "fifo"
         os.mkfifo(fifo)
-        for words in (
-            ["run", "--config", str(fifo), "--", "true"], ["udp", "--config", str(fifo), "0", "9"], ["net", str(fifo)]
-        ):
+        for words in (["run", "--config", str(fifo), "--", "true"], ["udp", "--config", str(fifo), "0", "9"], ["net", str(fifo)]):
             for number, status in ((signal.SIGTERM, -signal.SIGTERM), (signal.SIGINT, 130)):
                 begun = subprocess.Popen([*HINGE, *words], stderr=subprocess.DEVNULL)
                 writers: list[int] = []
@@ -155,15 +148,11 @@ class OfFiles(InAFolder):
     def test_an_empty_link_does_not_replace_a_line(self) -> None:
         path = self.folder / "history"
         run("--quiet", "--up", "", "--line", "pipe 1 config bw 1Mbit/s", "--transcript", path, "--", "true")
-        self.assertEqual(
-            found("^c,0,configure,(.*)$", path.read_text()), ["pipe 1 config bw 1000000bit/s", "pipe 2 config"]
-        )
+        self.assertEqual(found("^c,0,configure,(.*)$", path.read_text()), ["pipe 1 config bw 1000000bit/s", "pipe 2 config"])
 
     def test_no_server_is_at_port_0(self) -> None:
         done = hinge("udp", "0", "localhost:0")
-        self.assertEqual(
-            (done.returncode, done.stderr), (2, "hinge udp: SERVER: port 0 is none at which a server listens\n")
-        )
+        self.assertEqual((done.returncode, done.stderr), (2, "hinge udp: SERVER: port 0 is none at which a server listens\n"))
 
 
 if __name__ == "__main__":

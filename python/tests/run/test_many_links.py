@@ -54,9 +54,7 @@ class OfManyLinks(unittest.TestCase):
     """Three links of one host: ends 0 and 1, 2 and 3, 4 and 5."""
 
     def test_each_way_has_its_pipe_and_its_counts(self) -> None:
-        link = Linked(
-            "".join(f"seed {way} 1\nline pipe {way + 1} config delay {10 * (6 - way)}\n" for way in range(6)), links=3
-        )
+        link = Linked("".join(f"seed {way} 1\nline pipe {way + 1} config delay {10 * (6 - way)}\n" for way in range(6)), links=3)
         for way in range(6):
             link.ends[way].send(udp(way))
         self.assertEqual([link.ends[way ^ 1].recv(99) for way in range(6)], [udp(way) for way in range(6)])
@@ -68,9 +66,7 @@ class OfManyLinks(unittest.TestCase):
             for begun, due in sorted(found(r"^d,\d+,\d+,(\d+),(\d+)$", ended.history), key=lambda one: int(one[0]))
         ]
         self.assertEqual(dues, [10**7 * (6 - way) for way in range(6)])
-        self.assertEqual(
-            [(way["came"], way["sent"], sum(way.unread.bins)) for way in ended.counts.ways], [(1, 1, 1)] * 6
-        )
+        self.assertEqual([(way["came"], way["sent"], sum(way.unread.bins)) for way in ended.counts.ways], [(1, 1, 1)] * 6)
 
     def test_what_a_plan_says_of_a_link_is_of_that_alone(self) -> None:
         """A loss, an outage and a change of the second link, of three."""
@@ -129,13 +125,9 @@ class OfItsClock(unittest.TestCase):
         turns."""
         with tempfile.TemporaryDirectory() as name:
             counter, told = Path(name, "counter.so"), Path(name, "reads")
-            subprocess.run(
-                ["cc", "-shared", "-fPIC", "-x", "c", "-", "-o", str(counter)], input=COUNTER, text=True, check=True
-            )
+            subprocess.run(["cc", "-shared", "-fPIC", "-x", "c", "-", "-o", str(counter)], input=COUNTER, text=True, check=True)
             with mock.patch.dict(os.environ, {"LD_PRELOAD": str(counter), "CLOCK_READS": str(told)}):
-                link = Linked(
-                    "\n".join(["line pipe 1 config delay 1", "line pipe 2 config bw 10Mbit/s delay 1", *plan, ""])
-                )
+                link = Linked("\n".join(["line pipe 1 config delay 1", "line pipe 2 config bw 10Mbit/s delay 1", *plan, ""]))
             for number in range(50):
                 link.near.send(udp(number)), link.far.recv(99)
                 link.far.send(udp(number)), link.near.recv(99)

@@ -24,9 +24,7 @@ class OfRooms(InAFolder):
         self.assertEqual((done.returncode, done.stdout.splitlines()[:2]), (7, ["b", "b"]), done.stderr)
         six = 2 if os.path.exists("/proc/net/if_inet6") else 1
         self.assertEqual(self.packets(), {way: six for way in ("a > r", "r > a", "r > s", "s > r", "s > b", "b > s")})
-        self.assertEqual(
-            found(r"^#,host,r,(.*)$", self.history()), ["10.8.0.2,fd08::2,10.9.1.2,fd09:1::2,10.9.2.1,fd09:2::1"]
-        )
+        self.assertEqual(found(r"^#,host,r,(.*)$", self.history()), ["10.8.0.2,fd08::2,10.9.1.2,fd09:1::2,10.9.2.1,fd09:2::1"])
         self.assertEqual(found(r"^#,pipe,(.*)$", self.history())[:3], ["1,a,r", "2,r,a", "3,r,s"])
 
     def test_a_host_that_is_no_router_hands_nothing_on(self) -> None:
@@ -35,17 +33,16 @@ class OfRooms(InAFolder):
 
     def test_several_links_between_two_hosts(self) -> None:
         done = self.net(f"host a\nmain b {PING} a && {PING} a.b.2 && {PING} a.b.2\nlink a b 1ms\nlink a b 2ms\n")
-        self.assertEqual(
-            (done.returncode, [way["came"] for way in self.summary()["ways"]]), (0, [1, 1, 2, 2]), done.stderr
-        )
+        self.assertEqual((done.returncode, [way["came"] for way in self.summary()["ways"]]), (0, [1, 1, 2, 2]), done.stderr)
 
     def test_twenty_hosts_in_a_mesh(self) -> None:
         names = [f"h{number}" for number in range(1, 21)]
         hosts = "".join(f"host {name}\n" for name in names[1:])
-        links = "".join(f"link {one} {two} 1ms\n" for place, one in enumerate(names) for two in names[place + 1:])
+        links = "".join(f"link {one} {two} 1ms\n" for place, one in enumerate(names) for two in names[place + 1 :])
         done = self.net(
             f"{hosts}main h1 for n in {' '.join(names[1:])}; do {PING} $n >/dev/null || exit 1; done\n{links}",
-            "--quiet", "--no-realtime",
+            "--quiet",
+            "--no-realtime",
         )
         self.assertEqual((done.returncode, len(self.summary()["ways"]), done.stderr), (0, 380, ""))
         self.assertEqual(self.packets(), {way: 1 for name in names[1:] for way in (f"h1 > {name}", f"{name} > h1")})
@@ -53,8 +50,7 @@ class OfRooms(InAFolder):
 
     def test_a_cut_from_the_beginning(self) -> None:
         done = self.net(
-            f"host a\nhost c\nmain b {PING} c && ! ping -c 3 -i 0.2 -W 1 -q a\nlink a b\nlink b c\nlink a c\nat 0s cut"
-            " a 1h\n"
+            f"host a\nhost c\nmain b {PING} c && ! ping -c 3 -i 0.2 -W 1 -q a\nlink a b\nlink b c\nlink a c\nat 0s cut" " a 1h\n"
         )
         lost = {f"{way['from']} > {way['to']}": way["lost"] for way in self.summary()["ways"] if way["came"]}
         self.assertEqual((done.returncode, lost), (0, {"b > a": 3, "b > c": 0, "c > b": 0}), done.stderr)
@@ -64,16 +60,17 @@ class OfRooms(InAFolder):
             f"host a\nhost c\nmain b {PING} a && {PING} c\nlink a b 1ms\nlink c b 1ms\nline b c queue 1 config pipe"
             " 1\nmap b c icmp => queue 1\n"
         )
-        self.assertEqual((done.returncode, found(r"^c,0,submit,(\w+,\d+),", self.history())),
-                         (0, ["pipe,2", "pipe,1", "queue,1", "pipe,3"]), done.stderr)
+        self.assertEqual(
+            (done.returncode, found(r"^c,0,submit,(\w+,\d+),", self.history())),
+            (0, ["pipe,2", "pipe,1", "queue,1", "pipe,3"]),
+            done.stderr,
+        )
 
     def test_a_seed_draws_the_same_losses(self) -> None:
         runs = []
         for _ in range(2):
             self.net("host a\nmain b ping -c 40 -i 0.005 -W 1 -q a\nlink a b loss 30%\n", "--seed", "5")
-            runs.append(
-                found(r"^r,(lost|queued)", "".join(entry for entry in self.history().split("c,0,submit,pipe,2,")[1:]))
-            )
+            runs.append(found(r"^r,(lost|queued)", "".join(entry for entry in self.history().split("c,0,submit,pipe,2,")[1:])))
         self.assertEqual(len(runs[0]) >= 40 and runs[0], runs[1])
 
 
@@ -101,14 +98,19 @@ class OfCommands(InAFolder):
                 f" {script}; while :; do sleep 1; done\nhost idle\nmain m while ! [ -e {script} ]; do sleep 0.1; done;"
                 " sleep 0.3\nlink m fine\n"
             ),
-            "--end-wait", "300ms", "--quiet"
+            "--end-wait",
+            "300ms",
+            "--quiet",
         )
         ends = {name: (one["status"], one["by"]) for name, one in self.summary()["hosts"].items()}
         self.assertEqual(
             ends,
             {
-                "fine": (143, "SIGTERM"), "early": (3, "itself"), "dead": (139, "itself"), "deaf": (137, "SIGKILL"),
-                "m": (0, "itself")
+                "fine": (143, "SIGTERM"),
+                "early": (3, "itself"),
+                "dead": (139, "itself"),
+                "deaf": (137, "SIGKILL"),
+                "m": (0, "itself"),
             },
         )
         self.assertRegex(
@@ -133,12 +135,14 @@ class OfCommands(InAFolder):
         done = self.net(f"host a exec {server}\nmain b {client}\nlink a b\nwait a port 7\n")
         self.assertEqual(done.returncode, 0, done.stderr)
         done = self.net("host a exit 5\nmain b true\nlink a b\nwait a port 7 9s\n")
-        self.assertEqual((done.returncode, found("net: (a doesn't .*)", done.stderr)),
-                         (0, ["a doesn't listen at port 7; its command ended with 5"]))
+        self.assertEqual(
+            (done.returncode, found("net: (a doesn't .*)", done.stderr)),
+            (0, ["a doesn't listen at port 7; its command ended with 5"]),
+        )
 
     def test_the_command_of_the_command_line(self) -> None:
         text = "host a\nmain b\nlink a b\n"
-        self.assertEqual(self.net(text, "--", "sh", "-c", "echo \"$0\"; exit 4", "a  b").stdout, "a  b\n")
+        self.assertEqual(self.net(text, "--", "sh", "-c", 'echo "$0"; exit 4', "a  b").stdout, "a  b\n")
         self.assertEqual([self.net(text).returncode, self.net(text + "host c\n", "--", "false").returncode], [2, 1])
 
     def test_a_shell_is_the_main_command(self) -> None:
@@ -147,13 +151,14 @@ class OfCommands(InAFolder):
         words = [*HINGE, "net", str(self.file), "--quiet", "--no-realtime", "--shell"]
         env = {**os.environ, "SHELL": "/bin/sh"}
         done = subprocess.run(
-            [*words, "a"], capture_output=True, text=True, env=env,
-            input=f"until [ -s {told} ]; do sleep 0.01; done; hostname; echo $HINGE_HOST; exit 6"
+            [*words, "a"],
+            capture_output=True,
+            text=True,
+            env=env,
+            input=f"until [ -s {told} ]; do sleep 0.01; done; hostname; echo $HINGE_HOST; exit 6",
         )
         self.assertEqual((done.returncode, done.stdout, done.stderr, told.read_text()), (6, "a\na\n", "", "on\n"))
-        self.assertEqual(
-            hinge("net", self.file, "--shell", "z").stderr, f"hinge net: --shell z: no host of {self.file}\n"
-        )
+        self.assertEqual(hinge("net", self.file, "--shell", "z").stderr, f"hinge net: --shell z: no host of {self.file}\n")
 
     def test_it_stays_until_it_is_ended(self) -> None:
         self.file.write_text("host a true\nmain b exit 5\nlink a b\n")
@@ -170,8 +175,9 @@ class OfCommands(InAFolder):
             (["--while-open", str(read_end)], lambda begun: os.close(write_end)),
         ):
             begun = subprocess.Popen(
-                [*HINGE, "net", str(self.file), "--quiet", "--control", str(control), *words], pass_fds=[read_end],
-                stderr=subprocess.DEVNULL
+                [*HINGE, "net", str(self.file), "--quiet", "--control", str(control), *words],
+                pass_fds=[read_end],
+                stderr=subprocess.DEVNULL,
             )
             until(lambda: ended() == {"a": 0, "b": 5}, 30)
             with self.assertRaises(subprocess.TimeoutExpired):
@@ -179,18 +185,16 @@ class OfCommands(InAFolder):
             end(begun)
             self.assertEqual(begun.wait(20), 5)
         os.close(read_end)
-        self.assertIn(
-            "argument --while-open: '77' is no open descriptor", hinge("net", self.file, "--while-open", "77").stderr
-        )
+        self.assertIn("argument --while-open: '77' is no open descriptor", hinge("net", self.file, "--while-open", "77").stderr)
         self.assertEqual(
             hinge("net", self.file, "--stay", "--simulated").stderr,
-            (
-                "hinge net: --stay, --while-open: nobody can end a machine of its own; simulated time ends with its"
-                " commands\n"
-            ),
+            ("hinge net: --stay, --while-open: nobody can end a machine of its own; simulated time ends with its" " commands\n"),
         )
 
     def test_without_a_main_command_it_is_over_when_all_are(self) -> None:
         done = self.net("host a sleep 0.1; exit 3\nhost b true\nlink a b\n")
-        self.assertEqual((done.returncode, {name: one["status"] for name, one in self.summary()["hosts"].items()}),
-                         (3, {"a": 3, "b": 0}), done.stderr)
+        self.assertEqual(
+            (done.returncode, {name: one["status"] for name, one in self.summary()["hosts"].items()}),
+            (3, {"a": 3, "b": 0}),
+            done.stderr,
+        )

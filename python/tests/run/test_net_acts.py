@@ -32,8 +32,7 @@ class OfHosts(InAFolder):
         self.assertEqual([one["words"] for one in summary["acts"]], ["kill a", "restart a", "kill a"])
         for act, late in zip(summary["acts"], (0.3, 0.6, 0.9)):
             self.assertGreaterEqual(act["moment"], summary["main"] + late * 10**9 * 0.99)
-        self.assertEqual({name: one["by"] for name, one in summary["hosts"].items()},
-                         {"a": "kill", "b": "SIGTERM", "c": "itself"})
+        self.assertEqual({name: one["by"] for name, one in summary["hosts"].items()}, {"a": "kill", "b": "SIGTERM", "c": "itself"})
         self.assertEqual(found("^#,act,(.*)", self.history()), ["kill a", "restart a", "kill a"])
         self.assertRegex(done.stderr, r"net: a: killed by an act after [0-9.]+ s, and not begun again\n")
 
@@ -53,11 +52,14 @@ class OfHosts(InAFolder):
         command = f"echo begun >> {self.folder}/told; while :; do echo on; sleep 0.02; done"
         done = self.net(
             f"host a {command}\nmain c sleep 3\n{TWO}at 200ms stop a 1s\nat 300ms stop a 200ms\nat 1500ms kill a 200ms\n"
-            "at 1600ms kill a 400ms\n", "--logs", str(self.folder / "logs"),
+            "at 1600ms kill a 400ms\n",
+            "--logs",
+            str(self.folder / "logs"),
         )
         self.assertEqual((done.returncode, self.lines()), (0, ["begun"] * 2), done.stderr)
-        self.assertEqual([one["words"] for one in self.summary()["acts"]],
-                         ["stop a", "stop a", "cont a", "kill a", "kill a", "restart a"])
+        self.assertEqual(
+            [one["words"] for one in self.summary()["acts"]], ["stop a", "stop a", "cont a", "kill a", "kill a", "restart a"]
+        )
         moments = [one["moment"] for one in self.summary()["acts"]]
         self.assertGreaterEqual(moments[2], self.summary()["main"] + 1_190_000_000)
 
@@ -68,7 +70,7 @@ class OfHosts(InAFolder):
         before = set(os.listdir(str(own_folder())))
         told = f"import os; print(os.waitpid(-1, os.WUNTRACED)[1], file=open('{self.folder}/told', 'w'), flush=True)"
         done = self.net(
-            f'host a exec python3 -c "import os; os.posix_spawn(\'/bin/sleep\', [\'sleep\', \'1.5\'], {{}}); {told}"\n'
+            f"host a exec python3 -c \"import os; os.posix_spawn('/bin/sleep', ['sleep', '1.5'], {{}}); {told}\"\n"
             f"main c sleep 0.6; until [ -s {self.folder}/told ]; do sleep 0.05; done\n{TWO}at 200ms stop a 300ms\n"
         )
         self.assertEqual((done.returncode, self.lines()), (0, ["0"]), done.stderr)
@@ -78,15 +80,19 @@ class OfHosts(InAFolder):
         done = self.net(
             f"host a echo begun >> {self.folder}/told; [ $(wc -l < {self.folder}/told) -gt 1 ] || exec sleep 1000\nhost c\n{TWO}"
             "at 300ms kill a\nat 900ms restart a\n",
-            "--quiet", "--no-realtime",
+            "--quiet",
+            "--no-realtime",
         )
-        self.assertEqual((done.returncode, done.stderr, self.lines()),
-                         (0, f"hinge net: a: ended with 0 after {self.summary()['hosts']['a']['after']:.1f} s\n", ["begun"] * 2))
+        self.assertEqual(
+            (done.returncode, done.stderr, self.lines()),
+            (0, f"hinge net: a: ended with 0 after {self.summary()['hosts']['a']['after']:.1f} s\n", ["begun"] * 2),
+        )
 
     def test_while_it_runs(self) -> None:
         net = Net(self.folder / "net")
         self.addCleanup(net.close)
         net.host("a", "echo begun; exec sleep 1000"), net.host("b"), net.link("a", "b", "1ms")
+
         def sleeps() -> int:
             return net.run("b", "cat /proc/[0-9]*/cmdline | tr '\\0' ' '").stdout.count("sleep 1000 ")
 
@@ -102,8 +108,9 @@ class OfHosts(InAFolder):
         self.assertRaisesRegex(NetError, "'b': it has no command that could begin again", net.restart, "b")
         net.cut("a", 1), net.heal("a")
         net.end()
-        self.assertEqual(found("^#,act,(.*)", net.history.read_text()),
-                         ["kill a", "restart a", "stop a", "cont a", "cut a 1s", "heal a"])
+        self.assertEqual(
+            found("^#,act,(.*)", net.history.read_text()), ["kill a", "restart a", "stop a", "cont a", "cut a 1s", "heal a"]
+        )
 
 
 @needs_rooms
@@ -114,10 +121,13 @@ class OfMoments(InAFolder):
     def test_a_change_before_the_main_command_is_told(self) -> None:
         done = self.net(self.SLOW + "at start+100ms cut a 200ms\nat 1h heal a\nat 10s cut a 2h\nat start+1h c a 6ms\n")
         self.assertEqual([way["lost"] for way in self.summary()["ways"]], [0, 0])
-        self.assertEqual(found("before the main command, which began at [0-9.]+ s: (.*)", done.stderr),
-                         ["`at start+0.1s cut a 200ms`"])
-        self.assertEqual(found("CAUTION, not yet when the run ended: (.*)", done.stderr),
-                         ["`at 3600s heal a`, `at 10s cut a 2h`, `at start+3600s c a 6ms`"])
+        self.assertEqual(
+            found("before the main command, which began at [0-9.]+ s: (.*)", done.stderr), ["`at start+0.1s cut a 200ms`"]
+        )
+        self.assertEqual(
+            found("CAUTION, not yet when the run ended: (.*)", done.stderr),
+            ["`at 3600s heal a`, `at 10s cut a 2h`, `at start+3600s c a 6ms`"],
+        )
 
     def test_a_change_behind_its_beginning(self) -> None:
         done = self.net(self.SLOW + "at 0s cut a 500ms\n")
@@ -129,7 +139,9 @@ class OfMoments(InAFolder):
     def test_a_cut_that_begins_in_another_doesnt_end_it(self) -> None:
         done = self.net(
             "host n1\nhost n2 ping -i 0.1 -c 40 n1\nmain n3 sleep 3\nlink n1 n2 5ms\nlink n1 n3 5ms\nlink n2 n3 5ms\n"
-            "at 500ms cut n1 2s\nat 800ms cut n2 500ms\n", "--logs", str(self.folder / "logs")
+            "at 500ms cut n1 2s\nat 800ms cut n2 500ms\n",
+            "--logs",
+            str(self.folder / "logs"),
         )
         self.assertEqual(done.returncode, 0, done.stderr)
         seen = [int(one) for one in found(r"icmp_seq=(\d+) ", (self.folder / "logs" / "n2.log").read_text())]
@@ -146,9 +158,9 @@ class OfMoments(InAFolder):
         told = found("drawn: (at .*)", done.stderr)
         shown = hinge("net", self.file, "--dry-run", "--seed", "3").stdout.splitlines()
         self.assertGreaterEqual(len(told), 3)  # more where the main command ends late
-        self.assertEqual(told, shown[shown.index("# by seed 3") + 1:][:len(told)])
+        self.assertEqual(told, shown[shown.index("# by seed 3") + 1 :][: len(told)])
         self.assertEqual(found("^#,act,(.*)", self.history()), [line.split(" ", 2)[2] for line in told])
-        self.assertEqual(found("^#,drawn,(.*)", self.history())[:len(told)], told)
+        self.assertEqual(found("^#,drawn,(.*)", self.history())[: len(told)], told)
 
 
 if __name__ == "__main__":

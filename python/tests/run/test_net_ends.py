@@ -25,8 +25,11 @@ class OfOutside(InAFolder):
     def answers(self, option: str, host: str) -> list[str]:
         """What each host gets of a server outside."""
         with subprocess.Popen(
-            [sys.executable, "-u", "-m", "http.server", "0", "--bind", "127.0.0.1"], cwd=self.folder,
-            stdout=subprocess.PIPE, stderr=subprocess.DEVNULL, text=True
+            [sys.executable, "-u", "-m", "http.server", "0", "--bind", "127.0.0.1"],
+            cwd=self.folder,
+            stdout=subprocess.PIPE,
+            stderr=subprocess.DEVNULL,
+            text=True,
         ) as server:
             assert server.stdout
             port = found(r"port (\d+)", server.stdout.readline())[0]
@@ -36,7 +39,12 @@ class OfOutside(InAFolder):
                     f"main a {ask}; until [ -s {self.folder}/logs/b.log ]; do sleep 0.05; done\nhost b {ask}; exec"
                     " sleep 100\nrouter r\nlink a r 30ms\nlink r b 30ms\n"
                 ),
-                option, host, "--quiet", "--no-realtime", "--logs", str(self.folder / "logs")
+                option,
+                host,
+                "--quiet",
+                "--no-realtime",
+                "--logs",
+                str(self.folder / "logs"),
             )
             server.terminate()
         self.assertEqual(done.stderr, "")
@@ -67,9 +75,7 @@ class OfTheEnd(InAFolder):
         for number, status in ((signal.SIGTERM, 143), (signal.SIGINT, 130), (signal.SIGKILL, -9)):
             for wait in ("", "wait a port 9 1h\n"):
                 mark = f"{7000 + os.getpid() % 1000}.{int(number)}{len(wait)}"
-                self.file.write_text(
-                    f"host a setsid sleep {mark} & sleep {mark}\nmain b exec sleep {mark}\nlink a b\n{wait}"
-                )
+                self.file.write_text(f"host a setsid sleep {mark} & sleep {mark}\nmain b exec sleep {mark}\nlink a b\n{wait}")
                 begun = subprocess.Popen([*HINGE, "net", str(self.file), "--quiet"], stderr=subprocess.DEVNULL)
                 try:
                     until(lambda: self.left(f"^(setsid )?sleep {mark}") == (2 if wait else 3), 30)
@@ -86,10 +92,7 @@ class OfTheEnd(InAFolder):
         try:
             until(lambda: self.left(f"^sleep {mark}") == 1, 30)
             parents = [
-                int(pid)
-                for pid in subprocess.run(
-                    ["pgrep", "-P", str(begun.pid)], capture_output=True, text=True
-                ).stdout.split()
+                int(pid) for pid in subprocess.run(["pgrep", "-P", str(begun.pid)], capture_output=True, text=True).stdout.split()
             ]
             links = subprocess.run(
                 ["pgrep", "-P", ",".join(map(str, parents)), "hinge-link"], capture_output=True, text=True
@@ -109,7 +112,9 @@ class OfUsers(InAFolder):
         self.folder.chmod(0o755), self.file.chmod(0o644)
         done = subprocess.run(
             ["setpriv", "--reuid=65534", "--regid=65534", "--clear-groups", *HINGE, "net", str(self.file)],
-            capture_output=True, text=True, cwd="/"
+            capture_output=True,
+            text=True,
+            cwd="/",
         )
         if done.returncode == 6:
             self.skipTest(done.stderr.strip())

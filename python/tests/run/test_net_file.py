@@ -99,7 +99,7 @@ WRONG = (  # a net's file, and what is said of it
     *(
         (TWO + f"switch s a b\n{line}\n", "line 4: 's': a switch, on which nothing runs")
         for line in ("wait s port 1", "main s true", "at 1s kill s", "at 1s skew s +1s", "nemesis stop-one every 2s for 1s of a s")
-    )
+    ),
 )
 
 
@@ -109,23 +109,24 @@ class OfDescriptions(OfFiles):
             "# a comment\nhost  a   printf '#  %s' \"$1\" # the shell's\nrouter r\nmain b\nlink a r \\\n  5ms #"
             " here\nlink r b\nhost c  one \\\n two\nwait a port 80 2s\n"
         )
-        self.assertEqual({name: (host.command, host.forwards) for name, host in net.hosts.items()},
-                         {
-                             "a": ("printf '#  %s' \"$1\" # the shell's", False), "r": ("", True), "b": ("", False),
-                             "c": ("one two", False)
-                         })
-        self.assertEqual((net.main, [(link.ends, link.ways) for link in net.links]),
-                         ("b", [(("a", "r"), ("5ms", "5ms")), (("r", "b"), ("", ""))]))
         self.assertEqual(
-            [tuple(wait) for wait in map(lambda one: (one.host, one.port, one.lasting), net.waits)], [("a", 80, 2.0)]
+            {name: (host.command, host.forwards) for name, host in net.hosts.items()},
+            {"a": ("printf '#  %s' \"$1\" # the shell's", False), "r": ("", True), "b": ("", False), "c": ("one two", False)},
         )
+        self.assertEqual(
+            (net.main, [(link.ends, link.ways) for link in net.links]),
+            ("b", [(("a", "r"), ("5ms", "5ms")), (("r", "b"), ("", ""))]),
+        )
+        self.assertEqual([tuple(wait) for wait in map(lambda one: (one.host, one.port, one.lasting), net.waits)], [("a", 80, 2.0)])
 
     def test_a_line_may_name_what_a_later_one_describes(self) -> None:
         net = self.net("at 1s cut a 2s\nlink a b\nmain a true\nhost b\nhost a\n")
         self.assertEqual((net.main, net.hosts["a"].command), ("a", "true"))
 
     def test_words_end_at_any_blank(self) -> None:
-        text = "host a sleep 9\nmain b true\nlink a b 5ms\nwait a port 80 2s\nmtu a b 1 900\nat 1s cut a from b 2s\nat 2s kill a 1s\n"
+        text = (
+            "host a sleep 9\nmain b true\nlink a b 5ms\nwait a port 80 2s\nmtu a b 1 900\nat 1s cut a from b 2s\nat 2s kill a 1s\n"
+        )
         plain, planned = self.net(text), self.plan(text)
         for blank in ("\t", "\x1f", "\xa0", "\u2003", "\u3000", " \x1f "):
             spaced = self.net(text.replace(" ", blank))
@@ -143,15 +144,17 @@ class OfDescriptions(OfFiles):
             ("link a b\nline a b queue 1 config pipe 2 weight 0\n", "line 4: '0': "),
             ("link a b\nline a b queue 1 config pipe 2 wight 3\n", "line 4: 'wight': "),
             ("link a b\nat 1s a b pipe 1 config bw 5mbit\n", "line 4: '5mbit': "),
-            ("link a b\nat 1s a b queue delete 2\n", "line 4: at 1s a b queue delete 2: no such queue")
+            ("link a b\nat 1s a b queue delete 2\n", "line 4: at 1s a b queue delete 2: no such queue"),
         ):
             self.assertIn(wanted, self.wrong(TWO + text))
             self.assertRaises(Unobeyed, lambda: NetPlan(self.net(TWO + text), 1500))
 
     def test_statuses_of_files(self) -> None:
         for text, status in (
-            (TWO + "lnk a b\n", 2), (TWO + "link a b 5mss\n", 2), (TWO + "link a b\nline a b queue 1 config\n", 3),
-            (TWO + "link a b 5ms\n", 0)
+            (TWO + "lnk a b\n", 2),
+            (TWO + "link a b 5mss\n", 2),
+            (TWO + "link a b\nline a b queue 1 config\n", 3),
+            (TWO + "link a b 5ms\n", 0),
         ):
             self.path.write_text(text)
             self.assertEqual(hinge("net", self.path, "--dry-run").returncode, status)
@@ -159,11 +162,13 @@ class OfDescriptions(OfFiles):
 
 class OfPlans(OfFiles):
     def test_each_link_has_its_pipes(self) -> None:
-        self.assertEqual(self.plan("host a\nhost b\nswitch s a b 5ms / 6ms\nlink b a 1Mbit/s\n"),
-                         [
-                             f"line pipe {pipe} config {words}"
-                             for pipe, words in enumerate(["delay 5ms", "delay 6ms"] * 2 + ["bw 1Mbit/s"] * 2, 1)
-                         ])
+        self.assertEqual(
+            self.plan("host a\nhost b\nswitch s a b 5ms / 6ms\nlink b a 1Mbit/s\n"),
+            [
+                f"line pipe {pipe} config {words}"
+                for pipe, words in enumerate(["delay 5ms", "delay 6ms"] * 2 + ["bw 1Mbit/s"] * 2, 1)
+            ],
+        )
 
     def test_presets(self) -> None:
         self.assertEqual(
@@ -178,7 +183,8 @@ class OfPlans(OfFiles):
 
     def test_a_link_is_named_from_either_end(self) -> None:
         said = {
-            "loss a b up:list:3": ["list 0 3"], "loss b a up:list:3": ["list 1 3"],
+            "loss a b up:list:3": ["list 0 3"],
+            "loss b a up:list:3": ["list 1 3"],
             "loss b a list:3": ["list 0 3", "list 1 3"],
             "at 1s a b 5ms / 6ms": ["at 1000000000 pipe 1 config delay 5ms", "at 1000000000 pipe 2 config delay 6ms"],
             "at 1s b a 5ms / 6ms": ["at 1000000000 pipe 1 config delay 6ms", "at 1000000000 pipe 2 config delay 5ms"],
@@ -187,12 +193,10 @@ class OfPlans(OfFiles):
             "at 1s b a up outage 1s lossy": ["at 1000000000 cut 2 1", "at 2000000000 open 2 1"],
             "at start+1s a b up 5ms": ["at 1000000000 pipe 1 config delay 5ms"],
             "main a true\nat 1s a b up 5ms": ["main at 1000000000 pipe 1 config delay 5ms"],
-            "main a true\nat main+1s a b up outage 1s": ["main hold 1 1000000000 2000000000", "main outage 1000000000 1 1500"]
+            "main a true\nat main+1s a b up outage 1s": ["main hold 1 1000000000 2000000000", "main outage 1000000000 1 1500"],
         }
         for text, lines in said.items():
-            self.assertEqual(
-                [line for line in self.plan(f"{TWO}link a b\n{text}\n") if not line.startswith("line")], lines, text
-            )
+            self.assertEqual([line for line in self.plan(f"{TWO}link a b\n{text}\n") if not line.startswith("line")], lines, text)
 
     def test_the_second_link_between_two_hosts(self) -> None:
         self.assertIn(
@@ -205,8 +209,10 @@ class OfPlans(OfFiles):
             " config pipe 1 queue 9\nmap a b tcp => queue 1\nmap c b up udp => queue 1\nmap c b down => pipe 2\n"
         )
         self.assertEqual(told[-2:], ["line queue 1 config pipe 1 weight 3", "line queue 2 config pipe 4 queue 9"])
-        self.assertEqual([line.split()[1:5] for line in told if line.startswith("map")],
-                         [["0", "1", "1", "6"], ["3", "1", "2", "17"], ["2", "0", "3", "-1"]])
+        self.assertEqual(
+            [line.split()[1:5] for line in told if line.startswith("map")],
+            [["0", "1", "1", "6"], ["3", "1", "2", "17"], ["2", "0", "3", "-1"]],
+        )
 
     def test_rules_name_hosts(self) -> None:
         net = "host a\nhost b\nlink a b\nline a b queue 1 config pipe 1\n"
@@ -228,9 +234,7 @@ class OfPlans(OfFiles):
 
     def test_a_cut_is_of_all_links_or_of_those_to_some(self) -> None:
         net = "host a\nhost b\nhost c\nlink a b\nlink a c\nlink b c\n"
-        for text, pipes in (
-            ("at 1s cut a 1s", "1234"), ("at 1s cut c from b 1s", "56"), ("at 1s cut b from a c 1s", "1256")
-        ):
+        for text, pipes in (("at 1s cut a 1s", "1234"), ("at 1s cut c from b 1s", "56"), ("at 1s cut b from a c 1s", "1256")):
             self.assertEqual([line.split()[3] for line in self.plan(net + text) if " cut " in line], list(pipes))
 
     def test_a_cut_without_an_end_lasts_until_it_is_healed(self) -> None:
@@ -238,12 +242,13 @@ class OfPlans(OfFiles):
         said = {
             "at 1s cut b\nat 3s heal a\n": {1: "cut 1, heal 3", 2: "cut 1, heal 3", 3: "cut 1", 4: "cut 1"},
             "at 3s heal b\nat 2s heal b from a\nat 1s cut b\n": {
-                1: "cut 1, heal 2, heal 3", 2: "cut 1, heal 2, heal 3", 3: "cut 1, heal 3", 4: "cut 1, heal 3"
+                1: "cut 1, heal 2, heal 3",
+                2: "cut 1, heal 2, heal 3",
+                3: "cut 1, heal 3",
+                4: "cut 1, heal 3",
             },
             "at 1s cut a\nat 2s heal a\nat 4s cut a\n": {pipe: "cut 1, heal 2, cut 4" for pipe in (1, 2)},
-            "at 1s cut a 5s\nat 2s heal b\n": {
-                1: "cut 1, heal 2, open 6", 2: "cut 1, heal 2, open 6", 3: "heal 2", 4: "heal 2"
-            }
+            "at 1s cut a 5s\nat 2s heal b\n": {1: "cut 1, heal 2, open 6", 2: "cut 1, heal 2, open 6", 3: "heal 2", 4: "heal 2"},
         }
         for text, wanted in said.items():
             moments: dict[int, list[str]] = {}
@@ -304,15 +309,17 @@ class OfPlans(OfFiles):
         self.assertEqual([one.is_drawn for one in made.told], [True, False, *[True] * (len(moments) - 1)])
         written = NetPlan(self.net(net + "at 1s cut b 1s\n" + "\n".join(made.drawn) + "\n"), 1500)
         self.assertEqual(sorted(written.acts), sorted(made.acts))
-        for wrong in ("at 9s..5s cut a", "at 5s.. cut a", "nemesis stop-one every 3s..2s for 1s", "nemesis stop-one every 3s for 2s..4s"):
+        for wrong in (
+            "at 9s..5s cut a",
+            "at 5s.. cut a",
+            "nemesis stop-one every 3s..2s for 1s",
+            "nemesis stop-one every 3s for 2s..4s",
+        ):
             self.assertRaisesRegex(Wrong, "line 4: ", NetPlan, self.net(f"{net}{wrong}\n"), 1500)
 
     def test_a_nemesis_is_the_lines_that_it_draws(self) -> None:
         net = "host a x\nhost b x\nhost c x\nmain m x\nlink a b\nlink b c\nlink a c\nlink m a\n"
-        text = (
-            net
-            + "nemesis partition-halves every 2s for 1s until 9s\nnemesis kill-one every 3s for 1s until 6s of b c\n"
-        )
+        text = net + "nemesis partition-halves every 2s for 1s until 9s\nnemesis kill-one every 3s for 1s until 6s of b c\n"
         made = NetPlan(self.net(text), 1500, 5)
         lines = made.drawn
         self.assertEqual(NetPlan(self.net(text), 1500, 5).drawn, lines)
@@ -320,10 +327,7 @@ class OfPlans(OfFiles):
         self.assertEqual([line.split()[1] for line in lines if " cut " in line], [f"{n}s" for n in (2, 4, 6, 8)])
         for line in lines[:4]:
             self.assertRegex(line, "cut (a from b c|b from a c|c from a b) 1s$")
-        self.assertRegex(
-            "\n".join(lines[4:]),
-            r"^at 3s kill (b|c) 1s\nat 6s kill (b|c) 1s$"
-        )
+        self.assertRegex("\n".join(lines[4:]), r"^at 3s kill (b|c) 1s\nat 6s kill (b|c) 1s$")
         written = NetPlan(self.net(net + "\n".join(lines) + "\n"), 1500)
         self.assertEqual((written.plan.text(1), written.acts), (made.plan.text(1), made.acts))
 
@@ -353,9 +357,7 @@ class OfWays(OfFiles):
 
     def test_the_shortest_by_the_first_link(self) -> None:
         self.assertEqual(
-            self.ways(
-                "a", "host a\nhost b\nrouter r\nrouter s\nlink a r\nlink a s\nlink s b\nlink r b\nlink r s\nlink a s\n"
-            ),
+            self.ways("a", "host a\nhost b\nrouter r\nrouter s\nlink a r\nlink a s\nlink s b\nlink r b\nlink r s\nlink a s\n"),
             {"r": 0, "s": 1, "b": 0},
         )
 

@@ -54,8 +54,14 @@ class InAFolder(unittest.TestCase):
 class OfNets(InAFolder):
     def test_commands_on_hosts(self) -> None:
         net = self.two()
-        done = net.run("a", "hostname; cat; echo $HINGE_HOST $X >&2; exit 3", check=False, input="said\n",
-                       env={**os.environ, "X": "x"}, cwd=self.folder)
+        done = net.run(
+            "a",
+            "hostname; cat; echo $HINGE_HOST $X >&2; exit 3",
+            check=False,
+            input="said\n",
+            env={**os.environ, "X": "x"},
+            cwd=self.folder,
+        )
         self.assertEqual((done.returncode, done.stdout, done.stderr), (3, "a\nsaid\n", "a x\n"))
         self.assertEqual(net.run("b", ["sh", "-c", "pwd; printf '%s' \"$1\"", "sh", "a  b"], cwd="/").stdout, "/\na  b")
         with self.assertRaisesRegex(CommandFailed, "^a: echo out; false: status 1\nout$"):
@@ -63,9 +69,7 @@ class OfNets(InAFolder):
         self.assertRaises(subprocess.TimeoutExpired, net.run, "a", "sleep 100", timeout=0.5)
         self.assertRaisesRegex(CommandFailed, "no host of this net, which are a, b", net.run, "c", "true")
         net.run("a", f"{PING} b && {PING} {net.address('b')} && {PING} {net.address('a')}")
-        self.assertEqual(
-            [(way["from"], way["to"], way["came"]) for way in net.status()["ways"]], [("a", "b", 2), ("b", "a", 2)]
-        )
+        self.assertEqual([(way["from"], way["to"], way["came"]) for way in net.status()["ways"]], [("a", "b", 2), ("b", "a", 2)])
         self.assertEqual((net.audit().split()[0], [way["came"] for way in net.status()["ways"]]), ("lawful", [2, 2]))
 
     def test_what_is_between_links(self) -> None:
@@ -78,19 +82,18 @@ class OfNets(InAFolder):
         net.run("a", f"{PING} c")
         self.assertEqual([(way["pipe"], way["came"]) for way in net.status()["ways"]], [(1, 1), (2, 1), (3, 1), (4, 1)])
         self.assertEqual(net.paths(), "lawful between links")
-        lines = [
-            line.split(",")[-1] for line in net.history.read_text().splitlines() if line.startswith("c,0,configure")
-        ]
-        self.assertEqual(
-            lines, [f"pipe {pipe} config delay {delay}" for pipe, delay in ((1, 1), (2, 2), (3, 3), (4, 3))]
-        )
+        lines = [line.split(",")[-1] for line in net.history.read_text().splitlines() if line.startswith("c,0,configure")]
+        self.assertEqual(lines, [f"pipe {pipe} config delay {delay}" for pipe, delay in ((1, 1), (2, 2), (3, 3), (4, 3))])
 
     def test_a_partition_and_its_end(self) -> None:
         net = self.two()
         pings = []
         for change in (
-            lambda: net.cut("a"), lambda: net.heal("a", off=["b"]), lambda: net.cut("b", off=["a"]),
-            lambda: net.change("b", "a", "9ms", "8ms"), lambda: net.heal("b")
+            lambda: net.cut("a"),
+            lambda: net.heal("a", off=["b"]),
+            lambda: net.cut("b", off=["a"]),
+            lambda: net.change("b", "a", "9ms", "8ms"),
+            lambda: net.heal("b"),
         ):
             change()
             pings.append(net.run("a", f"{PING} b", check=False).returncode)
@@ -111,11 +114,7 @@ class OfNets(InAFolder):
         until(lambda: net.run("a", PING + " b", check=False).returncode == 0, 20)
         self.assertGreaterEqual(net.status()["moment"] / 1e9, cut.seconds)
         net.end()
-        lines = [
-            line.split(",")[-1]
-            for line in net.history.read_text().splitlines()
-            if line.startswith("c,0,configure,pipe 1")
-        ]
+        lines = [line.split(",")[-1] for line in net.history.read_text().splitlines() if line.startswith("c,0,configure,pipe 1")]
         self.assertEqual(lines[-2:], ["pipe 1 config delay 9 plr 1", "pipe 1 config delay 9"])
 
     def test_a_port_is_waited_for(self) -> None:
@@ -145,13 +144,9 @@ class OfNets(InAFolder):
 
     def test_what_is_refused(self) -> None:
         net = self.two()
-        self.assertRaisesRegex(
-            NetError, "^the link: '10mbit': not a bandwidth; write 10Mbit/s$", net.link, "a", "b", "10mbit"
-        )
+        self.assertRaisesRegex(NetError, "^the link: '10mbit': not a bandwidth; write 10Mbit/s$", net.link, "a", "b", "10mbit")
         net.cut("a", 1, at=2), net.heal("a", at=3)
-        self.assertRaisesRegex(
-            NetError, r"described.net line 5: 'heal': no cut of such a link goes on then", net.start
-        )
+        self.assertRaisesRegex(NetError, r"described.net line 5: 'heal': no cut of such a link goes on then", net.start)
         net = Net(self.folder / "second", mtu=7)
         net.host("a"), net.host("b"), net.link("a", "b")
         self.assertRaisesRegex(NetError, "argument --mtu: '7' is no number from 576 to 65535", net.start)
@@ -193,8 +188,10 @@ class OfNets(InAFolder):
         for number in (signal.SIGKILL, signal.SIGTERM, signal.SIGINT):
             folder = self.folder / str(int(number))
             caller = subprocess.Popen(
-                [sys.executable, "-c", LAUNCHER.format(mark=mark), str(folder)], stdout=subprocess.PIPE,
-                stderr=subprocess.DEVNULL, text=True
+                [sys.executable, "-c", LAUNCHER.format(mark=mark), str(folder)],
+                stdout=subprocess.PIPE,
+                stderr=subprocess.DEVNULL,
+                text=True,
             )
             assert caller.stdout
             self.assertEqual(caller.stdout.readline(), "begun\n")

@@ -49,13 +49,16 @@ class OfRoutes(InAFolder):
     def test_a_host_that_may_have_a_command_later_is_told(self) -> None:
         self.file.write_text("host a\nhost r\nmain c true\nlink a r\nlink r c\n")
         done = hinge("net", self.file, "--control", self.folder / "control")
-        self.assertEqual((done.returncode, done.stderr.splitlines()[0]),
-                         (0, "hinge net: c has no way to a: r hands nothing on; write router r"))
+        self.assertEqual(
+            (done.returncode, done.stderr.splitlines()[0]), (0, "hinge net: c has no way to a: r hands nothing on; write router r")
+        )
 
     def test_jitter_hands_on_what_no_host_may(self) -> None:
         """A packet whose time to live is 1, and one to a group of the link."""
         self.folder.joinpath("asker.py").write_text(ASKER.partition("print")[0])
-        done = self.net(f"host a\nmain c {PING} -t 1 a && {sys.executable} {self.folder / 'asker.py'} && {PING} a\nlink a c 1ms jitter 3ms\n")
+        done = self.net(
+            f"host a\nmain c {PING} -t 1 a && {sys.executable} {self.folder / 'asker.py'} && {PING} a\nlink a c 1ms jitter 3ms\n"
+        )
         self.assertEqual((done.returncode, self.packets()), (0, {"c > a": 3, "a > c": 2}), done.stderr)
         self.assertEqual(hinge("look", self.folder / "out").stdout.splitlines()[-1], "lawful between links")
 
@@ -74,13 +77,15 @@ class OfRoutes(InAFolder):
         self.assertEqual(
             self.net(text).stdout.splitlines(),
             [
-                "10.8.0.1 dev to-r scope link src 10.8.0.3 ", "10.8.0.2 dev to-r scope link src 10.8.0.3 ", at_link,
-                "224.0.0.0/4 dev to-r scope link src 10.8.0.3 metric 1 "
-            ]
+                "10.8.0.1 dev to-r scope link src 10.8.0.3 ",
+                "10.8.0.2 dev to-r scope link src 10.8.0.3 ",
+                at_link,
+                "224.0.0.0/4 dev to-r scope link src 10.8.0.3 metric 1 ",
+            ],
         )
         self.assertEqual(
             self.net(text + "routes none\n").stdout.splitlines(),
-            ["10.8.0.2 dev to-r scope link src 10.8.0.3 metric 16777216 ", at_link]
+            ["10.8.0.2 dev to-r scope link src 10.8.0.3 metric 16777216 ", at_link],
         )
 
     def test_members_of_a_group(self) -> None:
@@ -90,16 +95,17 @@ class OfRoutes(InAFolder):
         log = self.folder / "logs" / "a.log"
         done = self.net(
             f"host a exec {sys.executable} member.py\nrouter r\nmain c until grep -q on {log}; do sleep 0.01; done;"
-            f" exec {sys.executable} asker.py\nlink c a 1ms\nlink r c 1ms\n".replace("member.py", str(self.folder / "member.py")).replace(
-                "asker.py", str(self.folder / "asker.py")), "--logs", str(self.folder / "logs")
+            f" exec {sys.executable} asker.py\nlink c a 1ms\nlink r c 1ms\n".replace(
+                "member.py", str(self.folder / "member.py")
+            ).replace("asker.py", str(self.folder / "asker.py")),
+            "--logs",
+            str(self.folder / "logs"),
         )
-        self.assertEqual(
-            (done.returncode, (self.folder / "logs" / "c.log").read_text()), (0, "answer\n"), done.stderr
-        )
+        self.assertEqual((done.returncode, (self.folder / "logs" / "c.log").read_text()), (0, "answer\n"), done.stderr)
         packets = found(r"^c,0,submit,(pipe,\d,[\d.]+,[\d.]+,\d+),", self.history())
         self.assertEqual(
             [packet for packet in packets if not packet.endswith(",224.0.0.22,2")],  # which IGMP repeats
-            ["pipe,1,10.8.0.3,224.0.0.251,17", "pipe,2,10.8.0.1,10.8.0.3,17"]
+            ["pipe,1,10.8.0.3,224.0.0.251,17", "pipe,2,10.8.0.1,10.8.0.3,17"],
         )
         self.assertTrue(packets[0].startswith("pipe,2,10.9.1.2,224.0.0.22"), packets)
         self.assertEqual(hinge("look", self.folder / "out").stdout.splitlines()[-1], "lawful between links")
@@ -146,8 +152,11 @@ class OfOspf(InAFolder):
     def test_a_ring_of_routers_finds_another_way(self) -> None:
         """With nothing of the kit's routes deleted: by the one link, and when that is cut by the others."""
         done = hinge("net", EXAMPLE, "--transcripts", self.folder / "out", "--quiet", seconds=120)
-        self.assertEqual((done.returncode, done.stdout.splitlines()),
-                         (0, ["r1 is reached by r1", "r1 is reached by r3", "converged"]), done.stderr)
+        self.assertEqual(
+            (done.returncode, done.stdout.splitlines()),
+            (0, ["r1 is reached by r1", "r1 is reached by r3", "converged"]),
+            done.stderr,
+        )
         self.history()
         paths = hinge("look", self.folder / "out").stdout.splitlines()
         self.assertEqual(paths[-1], "lawful between links", paths)

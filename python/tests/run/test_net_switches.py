@@ -122,12 +122,26 @@ class OfSwitches(InAFolder):
         """Each a net of a, b and the main host c at a switch, by a line of its own and what c does."""
         slow = "switch s a b c 5ms"
         cases = [
-            ("the neighbour's own address", slow, f"{PING} a >&2; ip neigh show 10.8.0.1", "10.8.0.1 dev to-s lladdr 02:00:00:00:00:01 REACHABLE"),
+            (
+                "the neighbour's own address",
+                slow,
+                f"{PING} a >&2; ip neigh show 10.8.0.1",
+                "10.8.0.1 dev to-s lladdr 02:00:00:00:00:01 REACHABLE",
+            ),
             ("no router between them", slow, "ping -c 1 -t 1 -W 5 b | grep -o ttl=64", "ttl=64"),
-            ("four links to and fro, and as many for ARP", slow,
-             "ping -c 2 -i 0.2 -W 5 a | awk -F'[= ]' '/time=/ { t[++n] = $(NF - 1) } END { print (t[1] >= 40), (t[2] >= 20) }'", "1 1"),
+            (
+                "four links to and fro, and as many for ARP",
+                slow,
+                "ping -c 2 -i 0.2 -W 5 a | awk -F'[= ]' '/time=/ { t[++n] = $(NF - 1) } END { print (t[1] >= 40), (t[2] >= 20) }'",
+                "1 1",
+            ),
             ("a cut of a port", f"{slow}\nat start+0s cut a", f"{PING} b >&2 && ! ping -c 1 -W 1 -q a >&2 && echo cut", "cut"),
-            ("jitter and copies", "switch s a b c 2ms jitter 3ms duplicate 20%", f"ping -c 9 -i 0.02 -q a >&2; {PING} b >&2; echo on", "on"),
+            (
+                "jitter and copies",
+                "switch s a b c 2ms jitter 3ms duplicate 20%",
+                f"ping -c 9 -i 0.02 -q a >&2; {PING} b >&2; echo on",
+                "on",
+            ),
             ("one network", slow, f"{PING} b.s >&2; ip -o route get 10.9.1.77 | grep -c 'dev to-s src 10.9.1.3'", "1"),
         ]
         for what, line, does, wanted in cases:
@@ -161,7 +175,9 @@ class OfSwitches(InAFolder):
         sender = self.script("sender.py", SENDER.replace("bytes(place)", "b'question'").replace(", 9))", ", 5353))"))
         done = self.net(
             f"host a exec {receiver}\nmain c until grep -q on {log}; do sleep 0.01; done; {sender}; until grep -q question"
-            f" {log}; do sleep 0.01; done\nswitch s a c 1ms\n", "--logs", str(self.folder / "logs")
+            f" {log}; do sleep 0.01; done\nswitch s a c 1ms\n",
+            "--logs",
+            str(self.folder / "logs"),
         )
         self.assertEqual((done.returncode, log.read_text()), (0, "on\nquestion 1\n"), done.stderr)
 
@@ -169,7 +185,9 @@ class OfSwitches(InAFolder):
         receiver, log = self.script("untagged.py", UNTAGGED), self.folder / "logs" / "a.log"
         done = self.net(
             f"host a exec {receiver}\nmain c until grep -q on {log}; do sleep 0.01; done; {self.script('tagged.py', TAGGED)} && until"
-            f" grep -q 0x8100 {log}; do sleep 0.01; done; {PING} a\nswitch s a c 1ms\n", "--logs", str(self.folder / "logs")
+            f" grep -q 0x8100 {log}; do sleep 0.01; done; {PING} a\nswitch s a c 1ms\n",
+            "--logs",
+            str(self.folder / "logs"),
         )
         self.assertEqual((done.returncode, log.read_text()), (0, "on\n88b5 0x8100 5 3\n"), done.stderr)
         self.history()
@@ -188,7 +206,10 @@ class OfDhcp(InAFolder):
         )
         done = self.net(
             f"host server {server}\nhost b\nmain c {sys.executable} {self.folder}/client.py && {PING} -I 10.9.1.100 b >/dev/null\nswitch s"
-            " server b c 2ms\nwait server port 67\n", "--logs", str(self.folder / "logs"), seconds=600
+            " server b c 2ms\nwait server port 67\n",
+            "--logs",
+            str(self.folder / "logs"),
+            seconds=600,
         )
         self.assertEqual((done.returncode, (self.folder / "logs" / "c.log").read_text()), (0, "5 10.9.1.100\n"), done.stderr)
         self.history()
@@ -216,7 +237,12 @@ class OfVrrp(InAFolder):
         done = self.net(
             f"host k1 {command}\nhost k2 {command}\nmain c {one_is}; {reached}; {adverts}; {one_is}; {' '.join(HINGE)} change"
             f" {self.folder}/control cut k1; {other_is}; {reached}\nswitch s k1 k2 c 10Mbit/s 2ms\n",
-            "--logs", str(logs), "--quiet", "--control", str(self.folder / "control"), seconds=600
+            "--logs",
+            str(logs),
+            "--quiet",
+            "--control",
+            str(self.folder / "control"),
+            seconds=600,
         )
         self.assertEqual(done.returncode, 0, done.stderr)
         self.history()

@@ -74,8 +74,10 @@ class OfStatus(InAFolder):
         """What a net's main command gets of its own net, in both forms."""
         ask = f"{' '.join(HINGE)} status {self.folder}/control"
         done = self.net(
-            f"{text.replace('ASK', f'{ask} --openmetrics > {self.folder}/text; {ask} > {self.folder}/json')}", "--quiet",
-            "--control", str(self.folder / "control")
+            f"{text.replace('ASK', f'{ask} --openmetrics > {self.folder}/text; {ask} > {self.folder}/json')}",
+            "--quiet",
+            "--control",
+            str(self.folder / "control"),
         )
         self.assertEqual(done.returncode, 0, done.stderr)
         written = (self.folder / "text").read_text()
@@ -89,14 +91,20 @@ class OfStatus(InAFolder):
         )
         values = {(one.family, one.labels.get("from"), one.labels.get("quantile")): one.value for one in samples}
         self.assertEqual(
-            [values[f"hinge_{name}", one, None] for name in ("came_packets", "sent_packets", "lost_packets", "came_bytes")
-             for one in ("a", "b")],
-            [2, 5, 2, 2, 0, 3, 168, 420]
+            [
+                values[f"hinge_{name}", one, None]
+                for name in ("came_packets", "sent_packets", "lost_packets", "came_bytes")
+                for one in ("a", "b")
+            ],
+            [2, 5, 2, 2, 0, 3, 168, 420],
         )
         for way in status["ways"]:  # type: ignore[attr-defined]
             for name, key, scale in (
-                ("came_packets", "came", 1), ("sent_bytes", "sent_bytes", 1), ("stayed_seconds", "stayed", 1e9),
-                ("underway_packets", "underway", 1), ("system_dropped_packets", "system_drops", 1)
+                ("came_packets", "came", 1),
+                ("sent_bytes", "sent_bytes", 1),
+                ("stayed_seconds", "stayed", 1e9),
+                ("underway_packets", "underway", 1),
+                ("system_dropped_packets", "system_drops", 1),
             ):
                 self.assertEqual(values[f"hinge_{name}", way["from"], None], way[key] / scale)
             for quantile, key in (("0.5", "p50"), ("0.99", "p99"), ("0.999", "p99.9"), ("1", "max")):
@@ -110,11 +118,11 @@ class OfStatus(InAFolder):
         self.assertEqual(samples, parsed_by_prometheus(done.stdout))
         self.assertEqual(
             [(one.labels, one.value) for one in samples if one.name == "hinge_sent_packets_total"],
-            [({"way": "up"}, 1), ({"way": "down"}, 1)]
+            [({"way": "up"}, 1), ({"way": "down"}, 1)],
         )
 
     def test_the_parser_finds_what_is_wrong(self) -> None:
-        good = "# TYPE hinge_x_packets counter\n# UNIT hinge_x_packets packets\nhinge_x_packets_total{way=\"up\"} 1\n# EOF\n"
+        good = '# TYPE hinge_x_packets counter\n# UNIT hinge_x_packets packets\nhinge_x_packets_total{way="up"} 1\n# EOF\n'
         self.assertEqual(len(parsed(good)), 1)
         for old, new in (("_total", ""), ("# EOF\n", ""), (" 1\n", " one\n"), (" packets\n", " bytes\n"), ("{way", "{wAy")):
             self.assertRaises(ValueError, parsed, good.replace(old, new))

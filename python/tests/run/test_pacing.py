@@ -17,11 +17,13 @@ Passage = tuple[int, int, int, int]  # moment, bytes, start, due
 
 def passages(history: str) -> list[Passage]:
     """The packets of pipe 1 that were delivered, in the order in which they came, without those that nobody sent."""
-    came = {int(number): (int(moment), int(length)) for length, moment, number in
-            found_all(r"^c,0,submit,pipe,1,[\d.]+,[\d.]+,17,\d+,\d+,(\d+),\d+,(\d+)\nr,queued,\d+,\d+,(\d+)$", history)}
-    left = {
-        int(number): (int(start), int(due)) for number, start, due in found_all(r"^d,(\d+),\d+,(\d+),(\d+)$", history)
+    came = {
+        int(number): (int(moment), int(length))
+        for length, moment, number in found_all(
+            r"^c,0,submit,pipe,1,[\d.]+,[\d.]+,17,\d+,\d+,(\d+),\d+,(\d+)\nr,queued,\d+,\d+,(\d+)$", history
+        )
     }
+    left = {int(number): (int(start), int(due)) for number, start, due in found_all(r"^d,(\d+),\d+,(\d+),(\d+)$", history)}
     return [(*came[number], *left[number]) for number in sorted(came) if number in left]
 
 
@@ -63,9 +65,7 @@ def by_opportunities(packets: list[Passage], moments: list[int]) -> list[int]:
 
 @needs_host
 class OfTraces(unittest.TestCase):
-    def dues(
-        self, moments: list[int], sizes: list[int], gaps: list[float], more: str = ""
-    ) -> tuple[list[Passage], str]:
+    def dues(self, moments: list[int], sizes: list[int], gaps: list[float], more: str = "") -> tuple[list[Passage], str]:
         link = Linked(f"{SEEDS}slots 1 {' '.join(map(str, moments))}\nline pipe 1 config queue 1000{more}\n")
         for size, gap in zip(sizes, gaps):
             link.near.send(ip4("10.8.0.1", "10.8.0.2", 17, 1, 2, size))
@@ -114,9 +114,7 @@ class OfTraces(unittest.TestCase):
         self.close(passages(ended.history), [5])
 
     def test_what_is_no_trace(self) -> None:
-        for line in (
-            "slots 1", "slots 1 x", "slots 1 3 2", "slots 1 0", "slots 3 5", "list 0 x", "hold 1 5 4", "hold 9 1 2"
-        ):
+        for line in ("slots 1", "slots 1 x", "slots 1 3 2", "slots 1 0", "slots 3 5", "list 0 x", "hold 1 5 4", "hold 9 1 2"):
             ended = Linked(line + "\n").ended()
             self.assertEqual((ended.status, ended.said), (3, f"hinge: {line}: no line of a plan\n"))
 
@@ -130,8 +128,7 @@ class OfOutages(unittest.TestCase):
         for size in (40, 100, 800, 1200, 1500):
             for greedy in (True, False):
                 link = Linked(
-                    f"{SEEDS}hold 1 {begin} {end}\nline pipe 1 config bw 2000000bit/s queue 1000\noutage {begin} 1"
-                    " 1500\n"
+                    f"{SEEDS}hold 1 {begin} {end}\nline pipe 1 config bw 2000000bit/s queue 1000\noutage {begin} 1" " 1500\n"
                 )
                 if not greedy:
                     until(lambda: link.page.read()["moment"] >= begin)

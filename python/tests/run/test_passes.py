@@ -59,18 +59,15 @@ class OfPasses(unittest.TestCase):
         link = Linked(f"{SEEDS}line pipe 1 config delay 3\ncopies 0 {CERTAIN // 4} 9\n")
         for number in range(COUNT):
             link.near.send(udp(number))
-        wanted = [
-            udp(number)
-            for number in range(COUNT)
-            for _ in range(1 + (word(9, number + 1, 1 + OF_COPIES) < CERTAIN // 4))
-        ]
+        wanted = [udp(number) for number in range(COUNT) for _ in range(1 + (word(9, number + 1, 1 + OF_COPIES) < CERTAIN // 4))]
         self.assertTrue(COUNT < len(wanted) < 2 * COUNT)
         self.assertEqual([link.far.recv(1000) for _ in wanted], wanted)
         ended = link.end()
         audited_as_lawful(self, link.transcript)
         way = ended.counts.ways[0]
-        self.assertEqual((way["came"], way["came_bytes"], way["sent"], way.underway),
-                         (len(wanted), 100 * len(wanted), len(wanted), 0))
+        self.assertEqual(
+            (way["came"], way["came_bytes"], way["sent"], way.underway), (len(wanted), 100 * len(wanted), len(wanted), 0)
+        )
 
     def test_copies_draw_losses_of_their_own(self) -> None:
         link = Linked(f"{SEEDS}line pipe 1 config plr 0.5\ncopies 0 {CERTAIN} 9\n")
@@ -82,8 +79,7 @@ class OfPasses(unittest.TestCase):
 
     def test_a_second_pipe_that_was_deleted(self) -> None:
         link = Linked(
-            f"{SEEDS}line pipe 1 config delay 20\nline pipe {FIRST} config\njitter 0 {FIRST} 1 7\nat 0 pipe delete"
-            f" {FIRST}\n"
+            f"{SEEDS}line pipe 1 config delay 20\nline pipe {FIRST} config\njitter 0 {FIRST} 1 7\nat 0 pipe delete" f" {FIRST}\n"
         )
         link.near.send(udp(1))
         until(lambda: link.page.read().ways[0]["no_target"] == 1)
@@ -92,9 +88,7 @@ class OfPasses(unittest.TestCase):
         self.assertEqual((ended.counts.ways[0].underway, ended.counts.ways[0]["held"]), (0, 0))
 
     def test_lines_that_are_none(self) -> None:
-        for line in (
-            "jitter 0 1", "jitter 2 60000 5 7", "jitter 0 0 5 7", "jitter 0 65530 7 7", "copies 0 1", "copies 5 1 1"
-        ):
+        for line in ("jitter 0 1", "jitter 2 60000 5 7", "jitter 0 0 5 7", "jitter 0 65530 7 7", "copies 0 1", "copies 5 1 1"):
             ended = Linked(f"{SEEDS}{line}\n").ended()
             self.assertEqual((ended.status, ended.said), (3, f"hinge: {line}: no line of a plan\n"))
 
@@ -103,8 +97,10 @@ class OfWords(unittest.TestCase):
     def test_they_are_parted_from_the_others(self) -> None:
         for text, line, extra in (
             ("10Mbit/s jitter 5ms 20ms duplicate 0.5%", "pipe 1 config bw 10Mbit/s delay 20ms", Extra(5, round(CERTAIN / 200))),
-            ("jitter 1ms", "pipe 1 config", Extra(1)), ("jitter 1000ms duplicate 100%", "pipe 1 config", Extra(1000, CERTAIN)),
-            ("", "pipe 1 config", Extra()), ("duplicate 100%", "pipe 1 config", Extra(0, CERTAIN)),
+            ("jitter 1ms", "pipe 1 config", Extra(1)),
+            ("jitter 1000ms duplicate 100%", "pipe 1 config", Extra(1000, CERTAIN)),
+            ("", "pipe 1 config", Extra()),
+            ("duplicate 100%", "pipe 1 config", Extra(0, CERTAIN)),
         ):
             link = link_of(text, "x", Place.RUN)
             self.assertEqual((link.line(1), link.extra), (line, extra))
@@ -114,13 +110,19 @@ class OfWords(unittest.TestCase):
         self.assertEqual(
             [line for line in told if line.startswith("line")],
             [
-                "line pipe 1 config delay 20ms", "line pipe 2 config", "line pipe 65533 config",
-                "line pipe 65534 config delay 1", "line pipe 65535 config delay 2", "line pipe 65531 config",
-                "line pipe 65532 config delay 1"
+                "line pipe 1 config delay 20ms",
+                "line pipe 2 config",
+                "line pipe 65533 config",
+                "line pipe 65534 config delay 1",
+                "line pipe 65535 config delay 2",
+                "line pipe 65531 config",
+                "line pipe 65532 config delay 1",
             ],
         )
-        self.assertEqual([line for line in told if line.startswith(("jitter", "copies"))],
-                         ["jitter 0 65533 3 7", "jitter 1 65531 2 7", f"copies 1 {CERTAIN // 2} 7"])
+        self.assertEqual(
+            [line for line in told if line.startswith(("jitter", "copies"))],
+            ["jitter 0 65533 3 7", "jitter 1 65531 2 7", f"copies 1 {CERTAIN // 2} 7"],
+        )
         with self.assertRaisesRegex(Wrong, "jitter: pipe 65535 is needed for it, and is another's"):
             plan_words("--up", "jitter 2ms", "--line", "pipe 65535 config")
 
@@ -138,12 +140,19 @@ class OfRuns(InAFolder):
             "1",
         )
         self.assertEqual((done.returncode, "100 received, +" in done.stdout), (0, True), done.stdout + done.stderr)
-        self.assertEqual(found("^#,(?:pipe|copies),(.*)$", self.history()),
-                         [
-                             "1,a,a~r", *(f"{pipe},a~r,r" for pipe in range(65531, 65536)), "2,r,r~a",
-                             *(f"{pipe},r~a,a" for pipe in range(65526, 65531)), "3,r,b", "3", "4,b,b~r",
-                             *(f"{pipe},b~r,r" for pipe in range(65522, 65526))
-                         ])
+        self.assertEqual(
+            found("^#,(?:pipe|copies),(.*)$", self.history()),
+            [
+                "1,a,a~r",
+                *(f"{pipe},a~r,r" for pipe in range(65531, 65536)),
+                "2,r,r~a",
+                *(f"{pipe},r~a,a" for pipe in range(65526, 65531)),
+                "3,r,b",
+                "3",
+                "4,b,b~r",
+                *(f"{pipe},b~r,r" for pipe in range(65522, 65526)),
+            ],
+        )
         paths = hinge("look", self.folder / "out")
         if paths.returncode == 7:
             self.skipTest("no numpy")

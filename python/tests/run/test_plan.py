@@ -32,9 +32,7 @@ class Words(unittest.TestCase):
         for text in ("10Mbit/s 20ms queue 100 loss 1%", "bw 10Mbit/s delay 20ms queue 100 plr 0.01"):
             self.assertEqual(link_of(text, "--down").line(2), wanted)
         self.assertEqual(link_of("", "--up").line(1), "pipe 1 config")
-        self.assertRaisesRegex(
-            Wrong, "^--up: '10mbit': not a bandwidth; write 10Mbit/s$", link_of, "10mbit", "--up"
-        )
+        self.assertRaisesRegex(Wrong, "^--up: '10mbit': not a bandwidth; write 10Mbit/s$", link_of, "10mbit", "--up")
 
     def test_changes_without_words_and_numbers_of_any_length(self) -> None:
         plan = Plan()
@@ -50,8 +48,9 @@ class Words(unittest.TestCase):
             shutil.rmtree(path.parent)
 
     def test_times(self) -> None:
-        self.assertEqual([duration(text) for text in ("5s", "600ms", "0.5", "2min")],
-                         [5 * 10**9, 6 * 10**8, 5 * 10**8, 120 * 10**9])
+        self.assertEqual(
+            [duration(text) for text in ("5s", "600ms", "0.5", "2min")], [5 * 10**9, 6 * 10**8, 5 * 10**8, 120 * 10**9]
+        )
         for text in ("x", "5 s", "-1s", "1e3s", "9999999h", ""):
             self.assertRaises(Wrong, duration, text)
 
@@ -59,15 +58,18 @@ class Words(unittest.TestCase):
         plan = Plan()
         plan.link("pipe 1 config")
         for rule in (
-            "tcp", "=> queue x", "tcp => queue 1", "tcp port => pipe 1", "foo => pipe 1", "port 9-1 => pipe 1",
-            "dst 10.0.0.0/33 => pipe 1"
+            "tcp",
+            "=> queue x",
+            "tcp => queue 1",
+            "tcp port => pipe 1",
+            "foo => pipe 1",
+            "port 9-1 => pipe 1",
+            "dst 10.0.0.0/33 => pipe 1",
         ):
             self.assertRaises(Wrong, plan.rule, rule)
 
     def test_losses_that_are_wrong(self) -> None:
-        for text in (
-            "gilbert:1", "gilbert:0.1,2", "list:", "list:0", "list:5-3", "list:1-99999999", "random:1", "gilbert:nan,1"
-        ):
+        for text in ("gilbert:1", "gilbert:0.1,2", "list:", "list:0", "list:5-3", "list:1-99999999", "random:1", "gilbert:nan,1"):
             self.assertRaises(Wrong, Plan().loss, text)
 
     def test_shares_of_times(self) -> None:
@@ -79,9 +81,7 @@ class Words(unittest.TestCase):
 class OfOptions(OfFiles):
     def test_each_option_has_a_field(self) -> None:
         """Those without one print something and end."""
-        for parser, kind, more in (
-            (run.options(), RunOptions, {"more_files"}), (net.options(), NetOptions, {"command"})
-        ):
+        for parser, kind, more in ((run.options(), RunOptions, {"more_files"}), (net.options(), NetOptions, {"command"})):
             named = {action.dest for action in parser._actions if action.default != argparse.SUPPRESS}
             self.assertEqual(named | more, {field.name for field in fields(kind)})
 
@@ -96,8 +96,10 @@ class OfOptions(OfFiles):
         queue, up = "queue 1 config pipe 1 weight 3", "pipe 1 config bw 10Mbit/s"
         self.assertEqual(self.configured("--line", queue, "--up", "10Mbit/s"), [up, queue, "pipe 2 config"])
         file = self.file(f"pipe 1 config delay 3\n{queue}  # of it\n")
-        self.assertEqual(self.configured("--config", file, "--up", "10Mbit/s", "--down", "5ms"),
-                         ["pipe 2 config delay 5ms", "pipe 1 config delay 3", queue, up])
+        self.assertEqual(
+            self.configured("--config", file, "--up", "10Mbit/s", "--down", "5ms"),
+            ["pipe 2 config delay 5ms", "pipe 1 config delay 3", queue, up],
+        )
         self.assertEqual(self.configured("--line", queue), [queue, "pipe 1 config", "pipe 2 config"])
 
     def test_a_preset_is_for_what_nothing_else_says(self) -> None:
@@ -139,10 +141,7 @@ class Cautions(unittest.TestCase):
         self.assertEqual(
             cautions(slow, [0, 0], plan),
             [
-                (
-                    "CAUTION, this machine was too busy: up: of 100 packets more than one was late by over 0.1 ms (p99"
-                    " 3.000 ms)"
-                ),
+                ("CAUTION, this machine was too busy: up: of 100 packets more than one was late by over 0.1 ms (p99" " 3.000 ms)"),
                 "--late 0.1ms makes such a run void",
             ],
         )
@@ -151,7 +150,10 @@ class Cautions(unittest.TestCase):
 
     def test_a_stall_isnt_lost_among_many_packets(self) -> None:
         """One packet of a hundred thousand in 300 ms, of a run of ten seconds or of a hundred."""
-        for seconds, wanted in ((10, ["up: in more than 1 % of the time packets were unread by over 5 ms (max 300.000 ms)"]), (100, [])):
+        for seconds, wanted in (
+            (10, ["up: in more than 1 % of the time packets were unread by over 5 ms (max 300.000 ms)"]),
+            (100, []),
+        ):
             values = [100_000 if name == "came" else 300_000_000 if name == "unread_most" else 0 for name in COUNTS]
             late, unread, late_time, unread_time = ([0] * BINS for _ in range(4))
             unread[0], unread[242], unread_time[242] = 99_999, 1, 300_000_000
@@ -177,11 +179,11 @@ class OfTranscripts(OfFiles):
             file.write(b"\n")
         [line] = told(path, 1)
         size, command = AUDITED + 1, line.rpartition(": ")[2]
-        self.assertEqual((line.partition(",")[0], command),
-                         (f"{path} has {size} bytes", f"dummynet audit --most-history {size} {path}"))
+        self.assertEqual(
+            (line.partition(",")[0], command), (f"{path} has {size} bytes", f"dummynet audit --most-history {size} {path}")
+        )
         refused, read = (
-            subprocess.run([dummynet(), *words], capture_output=True, text=True)
-            for words in (["audit", path], command.split()[1:])
+            subprocess.run([dummynet(), *words], capture_output=True, text=True) for words in (["audit", path], command.split()[1:])
         )
         self.assertEqual((refused.stderr, refused.returncode), ("history too long\n", 6))
         self.assertNotIn("too long", read.stderr)

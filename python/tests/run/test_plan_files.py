@@ -19,15 +19,28 @@ class Traces(OfFiles):
     def test_seconds_with_and_without_a_header(self) -> None:
         found = Trace([Rate(0, 100), Rate(1_500_000_000, 200)], [])
         for text in (
-            "seconds,bit/s\n0,100\n1.5,200\n", "0,100\n1.5,200\n", " 0 , 100\n\n# a comment\n1.5,200 # another\n",
-            "\ufeff0,100\r\n1.5,200\r\n"
+            "seconds,bit/s\n0,100\n1.5,200\n",
+            "0,100\n1.5,200\n",
+            " 0 , 100\n\n# a comment\n1.5,200 # another\n",
+            "\ufeff0,100\r\n1.5,200\r\n",
         ):
             self.assertEqual(self.rates(text), found)
 
     def test_what_is_no_trace_is_told_by_its_line(self) -> None:
         for text in (
-            "-,5\n", "inf,5\n", "-1,5\n", "0,inf\n", "0,nan\n", "0,1e300\n", "1e300,5\n", "0,-1\n", "0,5,6\n",
-            "0,5\nx,y\n", "2,1\n1,1\n", "1\n2,3\n", "a\nb\n"
+            "-,5\n",
+            "inf,5\n",
+            "-1,5\n",
+            "0,inf\n",
+            "0,nan\n",
+            "0,1e300\n",
+            "1e300,5\n",
+            "0,-1\n",
+            "0,5,6\n",
+            "0,5\nx,y\n",
+            "2,1\n1,1\n",
+            "1\n2,3\n",
+            "a\nb\n",
         ):
             self.assertRaises(Wrong, self.rates, text)
         self.assertRaisesRegex(Wrong, "line 2: not of the form", self.rates, "0,5\nx,y\n")
@@ -44,14 +57,11 @@ class Traces(OfFiles):
     def test_a_rate_of_0_is_an_outage(self) -> None:
         """Of a pipe with masks it is one longest packet over its length: 1,500 bytes in 2 s are 6,000 bit/s."""
         text = "0,1000000\n10,0\n12,2000000\n"
-        first, last = (
-            f"at {moment}000000000 pipe 1 config bw {rate}000000bit/s delay 5" for moment, rate in ((0, 1), (12, 2))
+        first, last = (f"at {moment}000000000 pipe 1 config bw {rate}000000bit/s delay 5" for moment, rate in ((0, 1), (12, 2)))
+        self.assertEqual(
+            self.plan(text),
+            ["hold 1 10000000000 12000000000", first.replace("0000000000", "0"), last[:0] + "outage 10000000000 1 1500", last],
         )
-        self.assertEqual(self.plan(text),
-                         [
-                             "hold 1 10000000000 12000000000", first.replace("0000000000", "0"),
-                             last[:0] + "outage 10000000000 1 1500", last
-                         ])
         slow = "at 10000000000 pipe 1 config bw 6000bit/s delay 5 mask src-port 0xffff"
         self.assertIn(slow, self.plan(text, more=" mask src-port 0xffff"))
         self.assertEqual(outage_rate(2 * 10**9, 1500), 6000)
@@ -66,14 +76,18 @@ class Traces(OfFiles):
             for moment, rate in rates
         ]
         self.assertEqual(self.plan("1\n1\n2\n350\n", BIN, 700_000_000), begins)
-        self.assertEqual(self.plan("1\n1\n2\n350\n", None, 700_000_000, " mask src-port 0xffff"),
-                         [f"{line} mask src-port 0xffff" for line in begins])
+        self.assertEqual(
+            self.plan("1\n1\n2\n350\n", None, 700_000_000, " mask src-port 0xffff"),
+            [f"{line} mask src-port 0xffff" for line in begins],
+        )
 
     def test_a_trace_of_one_rate_is_one_line(self) -> None:
         """12 Mbit/s, and 1.2: mahimahi's traces of a slot each, however often they begin anew."""
         for text, rate in (("1\n", 12), ("10\n", 1.2), ("0\n", 12)):
-            self.assertEqual(self.plan(text, None, 3600 * 10**9, " mask src-port 0xffff"),
-                             [f"at 0 pipe 1 config bw {round(rate * 10**6)}bit/s delay 5 mask src-port 0xffff"])
+            self.assertEqual(
+                self.plan(text, None, 3600 * 10**9, " mask src-port 0xffff"),
+                [f"at 0 pipe 1 config bw {round(rate * 10**6)}bit/s delay 5 mask src-port 0xffff"],
+            )
 
     def test_bins_that_cannot_be(self) -> None:
         for words, wanted in (
@@ -98,9 +112,7 @@ class Timelines(OfFiles):
 
     def test_an_outage_ends_with_what_was_asked_meanwhile(self) -> None:
         self.assertEqual(
-            self.lines(
-                "1s up outage 2s\n2s pipe 1 config bw 5Mbit/s\n", "pipe 1 config bw 1Mbit/s", "queue 1 config pipe 1"
-            ),
+            self.lines("1s up outage 2s\n2s pipe 1 config bw 5Mbit/s\n", "pipe 1 config bw 1Mbit/s", "queue 1 config pipe 1"),
             ["pipe 1 config bw 6000bit/s", "outage 1 1500", "pipe 1 config bw 5Mbit/s", "pipe 1 config bw 5Mbit/s"],
         )
 
@@ -110,11 +122,14 @@ class Timelines(OfFiles):
         plan.link("pipe 1 config bw 1Mbit/s"), plan.link("pipe 2 config"), plan.link("queue 1 config pipe 2")
         plan.timeline(self.file("1s up outage 2s\n3s up outage 1s\n2s up outage 1s\n9s outage 1s\n"))
         told = [line for line in plan.text(1).splitlines() if line.startswith(("hold", "outage"))]
-        self.assertEqual(told,
-                         [
-                             "hold 1 1000000000 4000000000", "hold 1 9000000000 10000000000",
-                             *(f"outage {moment}000000000 {pipe} 1500" for moment, pipe in ((1, 1), (9, 1), (9, 2)))
-                         ])
+        self.assertEqual(
+            told,
+            [
+                "hold 1 1000000000 4000000000",
+                "hold 1 9000000000 10000000000",
+                *(f"outage {moment}000000000 {pipe} 1500" for moment, pipe in ((1, 1), (9, 1), (9, 2))),
+            ],
+        )
 
     def test_many_outages_in_a_long_trace(self) -> None:
         """36,000 lines and 2,000 outages take a second, and not their product."""
@@ -130,14 +145,16 @@ class Timelines(OfFiles):
         self.assertEqual(self.lines("1s up outage 2s\n2s pipe delete 1\n", "pipe 1 config")[-1], "pipe delete 1")
 
     def test_a_lossy_outage(self) -> None:
-        self.assertEqual(self.lines("1s down outage 2s lossy\n", "pipe 2 config delay 3"),
-                         ["cut 2 1", "open 2 1"])
+        self.assertEqual(self.lines("1s down outage 2s lossy\n", "pipe 2 config delay 3"), ["cut 2 1", "open 2 1"])
 
     def test_a_link_names_its_own_pipes(self) -> None:
         for text, wanted in (
-            ("pipe 1 config delay 1", "pipe 7 config delay 1"), ("ipfw pipe delete 2", "ipfw pipe delete 8"),
-            ("pipe 2 delete", "pipe 8 delete"), ("queue 1 config pipe 2 weight 3", "queue 1 config pipe 8 weight 3"),
-            ("pipe 9 config", "pipe 9 config"), ("pipe", "pipe")
+            ("pipe 1 config delay 1", "pipe 7 config delay 1"),
+            ("ipfw pipe delete 2", "ipfw pipe delete 8"),
+            ("pipe 2 delete", "pipe 8 delete"),
+            ("queue 1 config pipe 2 weight 3", "queue 1 config pipe 8 weight 3"),
+            ("pipe 9 config", "pipe 9 config"),
+            ("pipe", "pipe"),
         ):
             self.assertEqual((of_link(text, 3), of_link(text, 0)), (wanted, text))
 

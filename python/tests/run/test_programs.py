@@ -66,8 +66,25 @@ class OfTcp(Behind):
     def rate(self, control: str) -> float:
         """Through 10 Mbit/s and 2 x 20 ms: 34 packets are under way, and 100 may wait, so that the link is never
         idle."""
-        done = run("--up", "10Mbit/s 20ms queue 100", "--down", "20ms", "--server", "iperf3 -s -1 >/dev/null", "--",
-                   "iperf3", "-c", "server", "-t", "4", "-O", "1", "-J", "-C", control)
+        done = run(
+            "--up",
+            "10Mbit/s 20ms queue 100",
+            "--down",
+            "20ms",
+            "--server",
+            "iperf3 -s -1 >/dev/null",
+            "--",
+            "iperf3",
+            "-c",
+            "server",
+            "-t",
+            "4",
+            "-O",
+            "1",
+            "-J",
+            "-C",
+            control,
+        )
         if "congestion control" in done.stdout or "Congestion" in done.stdout and "error" in done.stdout:
             self.skipTest(f"the system has no {control} for this user")
         self.assertEqual(done.returncode, 0, done.stdout + done.stderr)
@@ -83,14 +100,29 @@ class OfTcp(Behind):
         """Queues of weight 3 and 1 on 20 Mbit/s with 2 ms, which 4 packets fill: the windows hold more, so both queues
         mostly have packets, and less than 300, so none is dropped. While both have some, the link sends without a
         pause, and three times as much of the first, give or take a packet of each."""
-        both = " ".join(
-            f"iperf3 -c server -p {port} -t 5 -O 1 -w 200K -J > {self.folder}/{port} &" for port in (5201, 5202)
+        both = " ".join(f"iperf3 -c server -p {port} -t 5 -O 1 -w 200K -J > {self.folder}/{port} &" for port in (5201, 5202))
+        done = run(
+            "--line",
+            "pipe 1 config bw 20Mbit/s delay 1",
+            "--line",
+            "queue 1 config pipe 1 weight 3 queue 300",
+            "--line",
+            "queue 2 config pipe 1 weight 1 queue 300",
+            "--map",
+            "tcp port 5201 => queue 1",
+            "--map",
+            "tcp port 5202 => queue 2",
+            "--down",
+            "1ms",
+            "--server",
+            "iperf3 -s -1 -p 5201 >/dev/null & iperf3 -s -1 -p 5202 >/dev/null; wait",
+            "--transcript",
+            f"{self.folder}/h",
+            "--",
+            "sh",
+            "-c",
+            f"sleep 0.3; {both} wait",
         )
-        done = run("--line", "pipe 1 config bw 20Mbit/s delay 1", "--line", "queue 1 config pipe 1 weight 3 queue 300",
-                   "--line", "queue 2 config pipe 1 weight 1 queue 300", "--map", "tcp port 5201 => queue 1", "--map",
-                   "tcp port 5202 => queue 2", "--down", "1ms", "--server",
-                   "iperf3 -s -1 -p 5201 >/dev/null & iperf3 -s -1 -p 5202 >/dev/null; wait", "--transcript",
-                   f"{self.folder}/h", "--", "sh", "-c", f"sleep 0.3; {both} wait")
         self.assertEqual(done.returncode, 0, done.stderr)
         audited_as_lawful(self, f"{self.folder}/h")
         with open(f"{self.folder}/h") as file:
@@ -98,9 +130,7 @@ class OfTcp(Behind):
         self.assertGreater(sum(map(len, rows)), 1000)
         for row in rows:
             # 400 ns a byte
-            self.assertEqual(
-                [packet.start for packet in row[1:]], [packet.start + 400 * packet.length for packet in row[:-1]]
-            )
+            self.assertEqual([packet.start for packet in row[1:]], [packet.start + 400 * packet.length for packet in row[:-1]])
             first, second = (sum(packet.length for packet in row if packet.queue == queue) for queue in (1, 2))
             self.assertLessEqual(abs(first / 3 - second), 1500 / 3 + 1500, (first, second, row[0].start))
 
@@ -119,8 +149,11 @@ class OfSsh(Behind):
         """A server at port 2222 for this user alone, with keys of its own. As root it wants a folder below /run, and
         gets one in the rooms."""
         options = {
-            "AuthorizedKeysFile": f"{self.key('user')}.pub", "StrictModes": "no", "UsePAM": "no", "PidFile": "none",
-            "PasswordAuthentication": "no"
+            "AuthorizedKeysFile": f"{self.key('user')}.pub",
+            "StrictModes": "no",
+            "UsePAM": "no",
+            "PidFile": "none",
+            "PasswordAuthentication": "no",
         }
         given = " ".join(f"-o {name}={value}" for name, value in options.items())
         begun = "mount -t tmpfs none /run && mkdir /run/sshd && " if os.getuid() == 0 else ""
@@ -140,13 +173,21 @@ class OfSsh(Behind):
         )
         begun = time.monotonic()
         done, told = self.summary(
-            "--up", "2Mbit/s 30ms", "--down", "2Mbit/s 40ms", "--transcript", f"{self.folder}/h", "--server", serve,
-            "--", "sh", "-c", ask
+            "--up",
+            "2Mbit/s 30ms",
+            "--down",
+            "2Mbit/s 40ms",
+            "--transcript",
+            f"{self.folder}/h",
+            "--server",
+            serve,
+            "--",
+            "sh",
+            "-c",
+            ask,
         )
         with open(f"{self.folder}/log") as log:
-            self.assertEqual(
-                (done.returncode, done.stdout.split()), (0, ["42-there", "100000"]), done.stderr + log.read()
-            )
+            self.assertEqual((done.returncode, done.stdout.split()), (0, ["42-there", "100000"]), done.stderr + log.read())
         self.assertGreater(time.monotonic() - begun, 0.4 + 2 * 0.07)
         self.assertGreater(told["up"]["sent_bytes"], 10**5)
         audited_as_lawful(self, f"{self.folder}/h")

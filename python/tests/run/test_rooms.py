@@ -12,9 +12,7 @@ import sys
 import tempfile
 import unittest
 
-from linked import (
-    AS_IN_A_CONTAINER, HINGE, audited, audited_as_lawful, found, needs, needs_mounts, needs_rooms, run, until
-)
+from linked import AS_IN_A_CONTAINER, HINGE, audited, audited_as_lawful, found, needs, needs_mounts, needs_rooms, run, until
 
 
 CHROOTED = """mount --make-rshared / && cd "$0" || exit 99
@@ -34,9 +32,14 @@ class OfCommands(unittest.TestCase):
     def test_status_and_user(self) -> None:
         got = run("--", "sh", "-c", "id -u; exit 7")
         self.assertEqual((got.returncode, got.stdout.strip()), (7, str(os.getuid())))
-        self.assertEqual(got.stderr.splitlines()[:3], [
-            "hinge run: no link is given, so nothing is slowed or lost: --link '10Mbit/s 20ms loss 1%' or --preset lte gives one",
-            "hinge run: up: nothing came", "hinge run: down: nothing came"])
+        self.assertEqual(
+            got.stderr.splitlines()[:3],
+            [
+                "hinge run: no link is given, so nothing is slowed or lost: --link '10Mbit/s 20ms loss 1%' or --preset lte gives one",
+                "hinge run: up: nothing came",
+                "hinge run: down: nothing came",
+            ],
+        )
         self.assertEqual(run("--", "/nix").returncode, 127)
         self.assertEqual(run("--", "/").returncode, 126)
         self.assertEqual(run("--", "sh", "-c", "kill -9 $$").returncode, 137)
@@ -55,7 +58,7 @@ class OfCommands(unittest.TestCase):
             (["--late", "2"], 2, "hinge run: --late 2: it has no unit; write 2ms or 2s\n"),
             (["--json", "/none/json"], 2, "hinge run: --json /none/json: it can't be written\n"),
             (["--config", "/none"], 2, "hinge run: /none: No such file or directory\n"),
-            (["--map", "tcp"], 2, "hinge run: --map tcp: it doesn't end in `=> pipe N` or `=> queue N`\n")
+            (["--map", "tcp"], 2, "hinge run: --map tcp: it doesn't end in `=> pipe N` or `=> queue N`\n"),
         ):
             got = run(*words, "--", "echo", "started")
             self.assertEqual((got.returncode, got.stdout, got.stderr), (status, "", told))
@@ -63,7 +66,9 @@ class OfCommands(unittest.TestCase):
 
     def test_an_option_of_another_tool_is_answered_by_the_words_of_a_link(self) -> None:
         for option, value, words in (
-            ("--rate", "10Mbit/s", "10Mbit/s"), ("--delay", "20ms", "20ms"), ("--jitter", "5ms", "jitter 5ms")
+            ("--rate", "10Mbit/s", "10Mbit/s"),
+            ("--delay", "20ms", "20ms"),
+            ("--jitter", "5ms", "jitter 5ms"),
         ):
             got = run(option, value, "--", "echo", "started")
             self.assertEqual((got.returncode, got.stdout), (2, ""))
@@ -98,14 +103,12 @@ class OfCommands(unittest.TestCase):
     @needs("ip")
     def test_an_interface_that_goes_away_ends_the_run(self) -> None:
         got = run("--", "sh", "-c", "sleep 0.2; ip link del dev link; sleep 1000")
-        self.assertEqual(
-            (got.returncode, "void: the link broke off before the end" in got.stderr), (75, True), got.stderr
-        )
+        self.assertEqual((got.returncode, "void: the link broke off before the end" in got.stderr), (75, True), got.stderr)
 
     def test_a_server(self) -> None:
         serve = (
             f"{sys.executable} -c \"import socket; s=socket.create_server(('',80)); c=s.accept()[0]; c.send(b'hello');"
-            " c.close()\""
+            ' c.close()"'
         )
         ask = "import socket; print(socket.create_connection(('server',80)).recv(9))"
         got = run("--up", "10ms", "--server", serve, "--", sys.executable, "-c", ask)
@@ -120,10 +123,7 @@ class OfChroots(unittest.TestCase):
         """The folder is in mounts that are shared, so that one that the run doesn't keep to itself would be seen from
         outside."""
         with tempfile.TemporaryDirectory() as folder:
-            words = [
-                "unshare", "-m", "sh", "-c", CHROOTED, folder, *HINGE, "run", "--quiet", "--", "getent", "ahostsv4",
-                "server"
-            ]
+            words = ["unshare", "-m", "sh", "-c", CHROOTED, folder, *HINGE, "run", "--quiet", "--", "getent", "ahostsv4", "server"]
             got = subprocess.run(words, capture_output=True, text=True, timeout=30)
         self.assertEqual((got.returncode, got.stderr), (0, ""))
         self.assertIn("10.8.0.2", got.stdout)
@@ -138,9 +138,7 @@ class OfContainers(unittest.TestCase):
         """Six entries: two lines, a packet there and back, and the two moments at which they leave."""
         with tempfile.TemporaryDirectory() as folder:
             words = [*AS_IN_A_CONTAINER, *HINGE, "run", "--quiet", "--up", "10ms", "--transcript", f"{folder}/h", "--"]
-            got = subprocess.run(
-                [*words, "sh", "-c", "sleep 2; ping -c 1 server6"], capture_output=True, text=True, timeout=30
-            )
+            got = subprocess.run([*words, "sh", "-c", "sleep 2; ping -c 1 server6"], capture_output=True, text=True, timeout=30)
             self.assertEqual((got.returncode, got.stderr), (0, ""))
             self.assertEqual(audited(f"{folder}/h"), "lawful 6")
 
@@ -152,8 +150,7 @@ class OfPings(unittest.TestCase):
         for name in ("server", "server6"):
             with tempfile.TemporaryDirectory() as folder:
                 got = run(
-                    "--up", "30ms", "--down", "40ms", "--transcript", f"{folder}/h", "--", "ping", "-c", "3", "-i",
-                    "0.2", name
+                    "--up", "30ms", "--down", "40ms", "--transcript", f"{folder}/h", "--", "ping", "-c", "3", "-i", "0.2", name
                 )
                 times = [float(text) for text in found(r"time=([0-9.]+)", got.stdout)]
                 self.assertEqual((got.returncode, len(times)), (0, 3), got.stderr)
@@ -182,10 +179,7 @@ class OfPings(unittest.TestCase):
 @needs("pgrep")
 class OfTheEnd(unittest.TestCase):
     def left(self, mark: str) -> list[int]:
-        return [
-            int(word)
-            for word in subprocess.run(["pgrep", "-f", mark], stdout=subprocess.PIPE, text=True).stdout.split()
-        ]
+        return [int(word) for word in subprocess.run(["pgrep", "-f", mark], stdout=subprocess.PIPE, text=True).stdout.split()]
 
     def end_all(self, mark: str) -> None:
         """A test that fails leaves nothing behind: what sleeps for two hours would hold the output of who runs it."""
@@ -197,9 +191,7 @@ class OfTheEnd(unittest.TestCase):
         for number, status in ((signal.SIGTERM, 143), (signal.SIGINT, 130), (signal.SIGKILL, -9)):
             mark = f"sleep {7000 + os.getpid() % 1000}.{int(number)}"
             self.addCleanup(self.end_all, mark)
-            words = [
-                "run", "--quiet", "--server", mark, "--server-wait", "50ms", "--", "sh", "-c", f"setsid {mark} & {mark}"
-            ]
+            words = ["run", "--quiet", "--server", mark, "--server-wait", "50ms", "--", "sh", "-c", f"setsid {mark} & {mark}"]
             begun = subprocess.Popen([*HINGE, *words], stdout=subprocess.DEVNULL, stderr=subprocess.DEVNULL)
             until(lambda: len(self.left(f"^{mark}$")) == 3, 30)
             begun.send_signal(number)
@@ -213,11 +205,19 @@ class OfNetworks(unittest.TestCase):
     """--net"""
 
     def test_addresses_of_ones_choice(self) -> None:
-        done = run("--quiet", "--net", "10.20.4.8/30", "--up", "5ms", "--", "sh", "-c",
-                   "grep -E 'server6?$' /etc/hosts; ping -c 1 -q 10.20.4.10 && ping -c 1 -q server")
+        done = run(
+            "--quiet",
+            "--net",
+            "10.20.4.8/30",
+            "--up",
+            "5ms",
+            "--",
+            "sh",
+            "-c",
+            "grep -E 'server6?$' /etc/hosts; ping -c 1 -q 10.20.4.10 && ping -c 1 -q server",
+        )
         self.assertEqual(
-            (done.returncode, done.stdout.splitlines()[:2]), (0, ["10.20.4.10 server", "fd08:a14:408::2 server6"]),
-            done.stderr
+            (done.returncode, done.stdout.splitlines()[:2]), (0, ["10.20.4.10 server", "fd08:a14:408::2 server6"]), done.stderr
         )
 
     def test_a_run_inside_a_run_reaches_the_outer_server(self) -> None:
@@ -226,8 +226,7 @@ class OfNetworks(unittest.TestCase):
         ask = ["curl", "-s", "-o", "/dev/null", "-w", "%{http_code} %{time_connect}", "http://10.8.0.2:8000/"]
         inner = [*HINGE, "run", "--quiet", "--net", "10.9.0.0/24", "--outside", "--up", "30ms", "--", *ask]
         done = run(
-            "--quiet", "--up", "20ms", "--server", f"exec {sys.executable} -m http.server 8000 >/dev/null 2>&1", "--",
-            *inner
+            "--quiet", "--up", "20ms", "--server", f"exec {sys.executable} -m http.server 8000 >/dev/null 2>&1", "--", *inner
         )
         code, _, seconds = done.stdout.partition(" ")
         self.assertEqual((done.returncode, code), (0, "200"), done.stderr)
@@ -235,8 +234,11 @@ class OfNetworks(unittest.TestCase):
 
     def test_networks_that_are_none(self) -> None:
         for text, wanted in (
-            ("10.20.0.0/31", "no network of hosts with /8 to /30"), ("10.20.0.1/24", "no network of IPv4"),
-            ("fd00::/64", "no network of IPv4"), ("127.0.0.0/8", "no network of hosts"), ("x", "no network of IPv4")
+            ("10.20.0.0/31", "no network of hosts with /8 to /30"),
+            ("10.20.0.1/24", "no network of IPv4"),
+            ("fd00::/64", "no network of IPv4"),
+            ("127.0.0.0/8", "no network of hosts"),
+            ("x", "no network of IPv4"),
         ):
             done = run("--net", text, "--", "true")
             self.assertEqual((done.returncode, wanted in done.stderr), (2, True), done.stderr)

@@ -24,8 +24,8 @@ Built = Callable[[int, int, bytes, int], bytes]
 
 def summed(data: bytes) -> int:
     total = sum(struct.unpack(f"!{len(data) // 2}H", data))
-    while total > 0xffff:
-        total = (total & 0xffff) + (total >> 16)
+    while total > 0xFFFF:
+        total = (total & 0xFFFF) + (total >> 16)
     return total
 
 
@@ -44,12 +44,8 @@ def in_ipv4(sequence: int, flags: int, data: bytes, number: int) -> bytes:
     """With an option of IP, and a right checksum of the header."""
     ends = socket.inet_aton("10.8.0.1") + socket.inet_aton("10.8.0.2")
     inside = tcp(ends, sequence, flags, data)
-    head = (
-        struct.pack("!BBHHHBBH", 0x46, 2, 24 + len(inside), number % 2**16, 0x4000, 64, 6, 0)
-        + ends
-        + bytes([1, 1, 1, 0])
-    )
-    return head[:10] + struct.pack("!H", 0xffff - summed(head)) + head[12:] + inside
+    head = struct.pack("!BBHHHBBH", 0x46, 2, 24 + len(inside), number % 2**16, 0x4000, 64, 6, 0) + ends + bytes([1, 1, 1, 0])
+    return head[:10] + struct.pack("!H", 0xFFFF - summed(head)) + head[12:] + inside
 
 
 def in_ipv6(sequence: int, flags: int, data: bytes, number: int) -> bytes:
@@ -88,8 +84,10 @@ class OfSegments(unittest.TestCase):
                 wanted = [
                     noted(
                         build(
-                            sequence + at, ACK | ECHO | (PUSH | FIN) * (at + size >= length) | REDUCED * (at == 0),
-                            data[at : at + size], number + at // size
+                            sequence + at,
+                            ACK | ECHO | (PUSH | FIN) * (at + size >= length) | REDUCED * (at == 0),
+                            data[at : at + size],
+                            number + at // size,
                         )
                     )
                     for at in range(0, length, size)
@@ -97,13 +95,15 @@ class OfSegments(unittest.TestCase):
                 got, history = self.through([noted(whole, kind | ECN, size)], len(wanted))
                 self.assertEqual([NOTE.unpack(one[:10])[:4] for one in got], [(CHECKSUM, 0, 0, 0)] * len(wanted))
                 self.assertEqual(got, wanted)
-                self.assertEqual(found(r",40000,443,(\d+),", history),
-                                 [str(headers + len(data[at : at + size])) for at in range(0, length, size)])
+                self.assertEqual(
+                    found(r",40000,443,(\d+),", history),
+                    [str(headers + len(data[at : at + size])) for at in range(0, length, size)],
+                )
 
     def test_segments_shorter_than_their_headers(self) -> None:
         data = os.urandom(1000)
         got, _ = self.through([noted(in_ipv4(5, ACK, data, 1), TCP4, 8)], 125)
-        self.assertEqual(got, [noted(in_ipv4(5 + at, ACK, data[at:at + 8], 1 + at // 8)) for at in range(0, 1000, 8)])
+        self.assertEqual(got, [noted(in_ipv4(5 + at, ACK, data[at : at + 8], 1 + at // 8)) for at in range(0, 1000, 8)])
 
     def test_what_is_not_to_be_cut_comes_as_it_is(self) -> None:
         """Packets with and without a note, a whole one among them, and one whose note doesn't fit it."""
@@ -114,7 +114,7 @@ class OfSegments(unittest.TestCase):
         )
         sent = [plain, small, noted(in_ipv4(0, ACK, data, 3), TCP4, 1500), small, odd, plain]
         got, _ = self.through(sent, 7)
-        cut = [noted(in_ipv4(at, ACK, data[at:at + 1500], 3 + at // 1500)) for at in (0, 1500)]
+        cut = [noted(in_ipv4(at, ACK, data[at : at + 1500], 3 + at // 1500)) for at in (0, 1500)]
         self.assertEqual(got, [plain, small, *cut, small, odd, plain])
 
 
@@ -123,7 +123,7 @@ def bare_ipv4(sequence: int, flags: int, data: bytes, number: int) -> bytes:
     ends = socket.inet_aton("10.8.0.1") + socket.inet_aton("10.8.0.2")
     inside = tcp(ends, sequence, flags, data)
     head = struct.pack("!BBHHHBBH", 0x45, 2, 20 + len(inside), number % 2**16, 0x4000, 64, 6, 0) + ends
-    return head[:10] + struct.pack("!H", 0xffff - summed(head)) + head[12:] + inside
+    return head[:10] + struct.pack("!H", 0xFFFF - summed(head)) + head[12:] + inside
 
 
 def of_card(packet: bytes) -> bytes:
@@ -181,10 +181,15 @@ class OfJoins(unittest.TestCase):
         data = os.urandom(1448)
         first, good = bare_ipv4(0, ACK, data, 1), bare_ipv4(1448, ACK, data, 2)
         self.assertEqual(len(self.writes([of_card(first), of_card(good)], 2896, 2)), 1)
-        stamped = good[:52 - 1] + bytes([good[51] ^ 1]) + good[52:]
+        stamped = good[: 52 - 1] + bytes([good[51] ^ 1]) + good[52:]
         others = [
-            bare_ipv4(1449, ACK, data, 2), bare_ipv4(1448, ACK, data, 3), bare_ipv4(1448, ACK | FIN, data, 2),
-            good[:8] + b"\x3f" + good[9:], stamped, good[:21] + b"?" + good[22:], bare_ipv4(1448, ACK, data + b"x", 2)
+            bare_ipv4(1449, ACK, data, 2),
+            bare_ipv4(1448, ACK, data, 3),
+            bare_ipv4(1448, ACK | FIN, data, 2),
+            good[:8] + b"\x3f" + good[9:],
+            stamped,
+            good[:21] + b"?" + good[22:],
+            bare_ipv4(1448, ACK, data + b"x", 2),
         ]
         for other in others:
             self.assertEqual(self.writes([of_card(first), of_card(other)], 2896, 2), [of_card(first), of_card(other)])

@@ -76,9 +76,7 @@ class OfDatagrams(InAFolder):
             os.sched_setaffinity(host, {one})
             os.setpriority(os.PRIO_PROCESS, host, 19)
             loads = [
-                subprocess.Popen(
-                    [sys.executable, "-c", "while 1: pass"], preexec_fn=lambda: os.sched_setaffinity(0, {one})
-                )
+                subprocess.Popen([sys.executable, "-c", "while 1: pass"], preexec_fn=lambda: os.sched_setaffinity(0, {one}))
                 for _ in range(4)
             ]
             try:
@@ -152,20 +150,20 @@ class OfWords(InAFolder):
     def test_a_transcript_that_is_the_link_file(self) -> None:
         link = self.written("link", "pipe 1 config delay 20\n")
         os.link(link, f"{self.folder}/alias")
-        self.assertEqual(self.refused(link, "--transcript", f"{self.folder}/alias"),
-                         (2, f"hinge udp: --transcript {self.folder}/alias: the same file as {link}\n"))
+        self.assertEqual(
+            self.refused(link, "--transcript", f"{self.folder}/alias"),
+            (2, f"hinge udp: --transcript {self.folder}/alias: the same file as {link}\n"),
+        )
         with open(link) as file:
             self.assertEqual(file.read(), "pipe 1 config delay 20\n")
 
     def test_what_is_wrong_is_told_before_it_listens(self) -> None:
         self.assertEqual(
             self.refused("pipe 1 config dely 20"),
-            (3, "hinge udp: LINK: word 4 'dely': no option; write delay; in full: pipe 1 config delay 20\n")
+            (3, "hinge udp: LINK: word 4 'dely': no option; write delay; in full: pipe 1 config delay 20\n"),
         )
         self.assertEqual(self.refused("queue 1 config pipe 9"), (3, "hinge: queue 1 config pipe 9: no-such-pipe\n"))
-        self.assertEqual(
-            self.refused(f"{self.folder}/none"), (2, f"hinge udp: {self.folder}/none: No such file or directory\n")
-        )
+        self.assertEqual(self.refused(f"{self.folder}/none"), (2, f"hinge udp: {self.folder}/none: No such file or directory\n"))
 
     def test_a_port_that_is_taken(self) -> None:
         with sockets(1) as [taken]:

@@ -67,9 +67,7 @@ class OfHostileEnds(InAFolder):
                 client.sendto(b"last", ("127.0.0.1", path.port))
                 self.assertEqual(late.recv(9), b"last")
                 status, said = path.end()
-        self.assertEqual(
-            (status, counts(said, "up")["came"], "system drops 0 before, 5 behind" in said), (0, 6, True), said
-        )
+        self.assertEqual((status, counts(said, "up")["came"], "system drops 0 before, 5 behind" in said), (0, 6, True), said)
 
     def test_a_client_at_port_0_is_counted(self) -> None:
         try:
@@ -91,9 +89,7 @@ class OfHostileEnds(InAFolder):
         with sockets(2) as [server, client]:
             path = Path(0, port_of(server))
             self.assertLess(0, min(rounds(client, server, path, 1)))
-            host = subprocess.run(
-                ["pgrep", "-P", str(path.process.pid), "hinge-link"], stdout=subprocess.PIPE, text=True
-            )
+            host = subprocess.run(["pgrep", "-P", str(path.process.pid), "hinge-link"], stdout=subprocess.PIPE, text=True)
             with stopped(int(host.stdout)):
                 for _ in range(4 * AT_ONCE):
                     client.sendto(b"x", ("127.0.0.1", path.port))

@@ -26,8 +26,13 @@ class Named(unittest.TestCase):
     def hinge(self, *words: object) -> Done[str]:
         env = {**os.environ, "XDG_RUNTIME_DIR": str(self.folder / "run")}
         return subprocess.run(
-            [*HINGE, *map(str, words)], capture_output=True, text=True, cwd=self.folder, env=env, timeout=60,
-            stdin=subprocess.DEVNULL
+            [*HINGE, *map(str, words)],
+            capture_output=True,
+            text=True,
+            cwd=self.folder,
+            env=env,
+            timeout=60,
+            stdin=subprocess.DEVNULL,
         )
 
     def up(self, text: str, *words: object) -> Done[str]:
@@ -41,14 +46,17 @@ class Named(unittest.TestCase):
 class OfNets(Named):
     def test_a_net_by_its_name(self) -> None:
         done = self.up(NET, "--seed", 7)
-        self.assertEqual((done.returncode, done.stdout, done.stderr),
-                         (0, "x runs, and keeps what it does in x.session: hinge down x ends it\n", ""))
+        self.assertEqual(
+            (done.returncode, done.stdout, done.stderr),
+            (0, "x runs, and keeps what it does in x.session: hinge down x ends it\n", ""),
+        )
         self.assertEqual(self.hinge("exec", "x", "a", "--", "ping", "-c", 1, "-q", "b").returncode, 0)
         self.assertEqual(self.hinge("change", "x", "a", "b", "9ms").stdout.count("config delay 9"), 2)
         self.assertEqual([way["came"] for way in json.loads(self.hinge("status", "x").stdout)["ways"]], [1, 1])
         again = self.hinge("up", "x.net")
-        self.assertEqual((again.returncode, again.stderr),
-                         (2, "hinge up: x runs already: hinge down x ends it, and --name gives another name\n"))
+        self.assertEqual(
+            (again.returncode, again.stderr), (2, "hinge up: x runs already: hinge down x ends it, and --name gives another name\n")
+        )
         down = self.hinge("down", "x")
         self.assertEqual((down.returncode, down.stderr, list(self.sockets.iterdir())), (0, "", []))
         summary = json.loads((self.folder / "x.session" / "net.json").read_text())
@@ -64,16 +72,15 @@ class OfNets(Named):
             return len(subprocess.run(["pgrep", "-f", f"^sleep {mark}"], capture_output=True, text=True).stdout.split())
 
         for end in (lambda: self.hinge("down", "x"), lambda: os.kill(outer(), signal.SIGKILL)):
-            self.assertEqual(
-                self.up(f"host a exec sleep {mark}\nhost b\nlink a b\n", "--transcripts", "out").returncode, 0
-            )
+            self.assertEqual(self.up(f"host a exec sleep {mark}\nhost b\nlink a b\n", "--transcripts", "out").returncode, 0)
             until(lambda: left() == 1)
 
             def outer() -> int:
-                return int(subprocess.run(
-                               ["pgrep", "-f", f"net x.net --transcripts out .*--control {self.sockets}/x"],
-                               capture_output=True, text=True
-                           ).stdout.split()[0])
+                return int(
+                    subprocess.run(
+                        ["pgrep", "-f", f"net x.net --transcripts out .*--control {self.sockets}/x"], capture_output=True, text=True
+                    ).stdout.split()[0]
+                )
 
             end()
             until(lambda: left() == 0, 20)
@@ -88,7 +95,8 @@ class OfNets(Named):
         done = self.up("hots a\n")
         self.assertEqual(
             (done.returncode, done.stderr.startswith("hinge up: x.net line 1: 'hots': no word of a net"), done.stdout),
-            (2, True, ""), done.stderr
+            (2, True, ""),
+            done.stderr,
         )
         done = self.up(NET, "--name", "../x")
         self.assertEqual(

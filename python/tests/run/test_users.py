@@ -16,7 +16,10 @@ from hinge.run.users import Subordinate, mapping, subordinate
 
 # Root as a user of its own, who can open tun, and whose subordinate ids are in a file.
 AS_A_USER = [
-    "unshare", "-m", "sh", "-c",
+    "unshare",
+    "-m",
+    "sh",
+    "-c",
     (
         'mount -t tmpfs none /dev/net && mknod -m 666 /dev/net/tun c 10 200 && mount --bind "$0" /etc/subuid && mount'
         ' --bind "$0" /etc/subgid && exec setpriv --reuid=65534 --regid=65534 --clear-groups "$@"'
@@ -26,15 +29,13 @@ AS_A_USER = [
 PYTHON = shutil.which("python3", path="/usr/bin:/bin") or sys.executable
 OPENS = (
     f'{PYTHON} -c "import grp, os; one, two = os.openpty(); print(os.stat(os.ttyname(two)).st_gid =='
-    ' grp.getgrnam(\'tty\').gr_gid)"'
+    " grp.getgrnam('tty').gr_gid)\""
 )
 
 
 class OfMaps(unittest.TestCase):
     def test_an_id_is_itself_and_the_others_are_subordinate(self) -> None:
-        self.assertEqual(
-            " ".join(mapping(1000, Subordinate(100000, 65536))), "0 100000 1000 1000 1000 1 1001 101000 64536"
-        )
+        self.assertEqual(" ".join(mapping(1000, Subordinate(100000, 65536))), "0 100000 1000 1000 1000 1 1001 101000 64536")
         self.assertEqual(" ".join(mapping(0, Subordinate(7, 5))), "0 0 1 1 7 5")
         self.assertEqual(" ".join(mapping(100000, Subordinate(200000, 65536))), "0 200000 65536 100000 100000 1")
         self.assertEqual(" ".join(mapping(5, Subordinate(200000, 5))), "0 200000 5 5 5 1")
@@ -43,8 +44,9 @@ class OfMaps(unittest.TestCase):
         with tempfile.TemporaryDirectory() as folder:
             path = Path(folder, "subuid")
             path.write_text("other:1:2\nroot:3:x\nroot:300000:65536\n# none\n4321:7:8\n")
-            self.assertEqual([subordinate(str(path), user) for user in (0, 4321, 999999)],
-                             [Subordinate(300000, 65536), Subordinate(7, 8), None])
+            self.assertEqual(
+                [subordinate(str(path), user) for user in (0, 4321, 999999)], [Subordinate(300000, 65536), Subordinate(7, 8), None]
+            )
             self.assertIsNone(subordinate(f"{folder}/none", 0))
 
 
@@ -57,13 +59,12 @@ class OfUsers(unittest.TestCase):
             file.write(given)
             file.flush()
             os.chmod(file.name, 0o644)
-            return subprocess.run([*AS_A_USER, file.name, *words], capture_output=True, text=True, cwd="/", timeout=60,
-                                  stdin=subprocess.DEVNULL)
+            return subprocess.run(
+                [*AS_A_USER, file.name, *words], capture_output=True, text=True, cwd="/", timeout=60, stdin=subprocess.DEVNULL
+            )
 
     def run_of(self, given: str, server: str, *command: str) -> str:
-        done = self.as_a_user(
-            given, *HINGE, "run", "--quiet", "--server", server, "--server-wait", "3s", "--", *command
-        )
+        done = self.as_a_user(given, *HINGE, "run", "--quiet", "--server", server, "--server-wait", "3s", "--", *command)
         self.assertEqual(done.returncode, 0, done.stderr)
         return done.stdout
 
@@ -79,8 +80,11 @@ class OfUsers(unittest.TestCase):
             os.chmod(file.name, 0o644)
             same = AS_A_USER[:-1] + [AS_A_USER[-1].replace('mount --bind "$0" /etc/subgid', "true")]
             done = subprocess.run(
-                [*same, file.name, *HINGE, "run", "--quiet", "--", "cat", "/proc/self/gid_map"], capture_output=True,
-                text=True, cwd="/", timeout=60
+                [*same, file.name, *HINGE, "run", "--quiet", "--", "cat", "/proc/self/gid_map"],
+                capture_output=True,
+                text=True,
+                cwd="/",
+                timeout=60,
             )
         self.assertEqual((done.returncode, done.stdout.split()), (0, ["65534", "65534", "1"]), done.stderr)
 

@@ -35,8 +35,9 @@ class Watched(unittest.TestCase):
     def test_a_terminal_is_given_back(self) -> None:
         ours, theirs = pty.openpty()
         fcntl.ioctl(theirs, termios.TIOCSWINSZ, struct.pack("HHHH", 30, 100, 0, 0))
-        done = subprocess.Popen([*HINGE, "run", *self.WORDS], stdin=theirs, stdout=theirs, stderr=theirs,
-                                env={**os.environ, "TERM": "xterm"})
+        done = subprocess.Popen(
+            [*HINGE, "run", *self.WORDS], stdin=theirs, stdout=theirs, stderr=theirs, env={**os.environ, "TERM": "xterm"}
+        )
         os.close(theirs)
         text = b""
         try:

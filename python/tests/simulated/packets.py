@@ -52,4 +52,4 @@ def shares_of(history: str, begin: int, end: int) -> "list[float]":
     """Of each hundred packets of 1,500 bytes that began between two moments: the share of queue 1."""
     found = [packet for packet in packets_of(history) if packet.size == 1500 and begin < packet.start < end]
     order = [packet.target for packet in sorted(found, key=lambda packet: packet.start)]
-    return [order[at:at + 100].count(("queue", 1)) / 100 for at in range(0, len(order) - 99, 100)]
+    return [order[at : at + 100].count(("queue", 1)) / 100 for at in range(0, len(order) - 99, 100)]

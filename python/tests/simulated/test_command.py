@@ -123,6 +123,7 @@ class OfSurroundings(Simulated):
 
     def test_side_by_side(self) -> None:
         """Three at once, of which two have one seed."""
+
         def begun(seed: int) -> "subprocess.Popen[bytes]":
             words = ["--quiet", "--up", "20ms", "--down", "20ms loss 20%", "--seed", str(seed), "--"]
             return subprocess.Popen([*SIMULATED, *words, "ping", "-c", "50", "server"], stdin=NONE, stdout=PIPE)
@@ -199,12 +200,14 @@ class OfRefusals(Simulated):
         self.assertEqual((done.returncode, done.stdout, done.stderr), (status, "", f"hinge run: {sentence}\n"))
 
     def test_the_network_outside(self) -> None:
-        self.refused(2, "--outside: simulated time has no way to the rest of the network, whose time is real",
-                     "--outside", "--", "true")
+        self.refused(
+            2, "--outside: simulated time has no way to the rest of the network, whose time is real", "--outside", "--", "true"
+        )
 
     def test_a_folder_of_its_own(self) -> None:
-        self.refused(6, "--simulated: /dev/shm isn't in the machine, whose /dev, /proc, /run, /sys are its own",
-                     "--", "true", cwd="/dev/shm")
+        self.refused(
+            6, "--simulated: /dev/shm isn't in the machine, whose /dev, /proc, /run, /sys are its own", "--", "true", cwd="/dev/shm"
+        )
 
     def test_too_much_memory(self) -> None:
         self.assertIn("'1T' is no size from 64M to 64G", self.started("--memory", "1T", "--", "true").stderr)
@@ -212,19 +215,28 @@ class OfRefusals(Simulated):
     def test_a_shell_on_a_terminal(self) -> None:
         main, second = os.openpty()
         try:
-            self.refused(2, "--simulated: there is no terminal in simulated time; give bash its commands by -c or on "
-                         "standard input", "--", "bash", stdin=second)
+            self.refused(
+                2,
+                "--simulated: there is no terminal in simulated time; give bash its commands by -c or on " "standard input",
+                "--",
+                "bash",
+                stdin=second,
+            )
         finally:
             os.close(main)
             os.close(second)
 
     def test_a_folder_without_a_kernel(self) -> None:
-        self.refused(6, f"HINGE_KERNEL: {self.folder} has no kernel and first process of this version of hinge",
-                     "--", "true", env=environment(HINGE_KERNEL=str(self.folder)))
+        self.refused(
+            6,
+            f"HINGE_KERNEL: {self.folder} has no kernel and first process of this version of hinge",
+            "--",
+            "true",
+            env=environment(HINGE_KERNEL=str(self.folder)),
+        )
 
     def test_a_build_of_a_kernel_names_all_that_it_lacks(self) -> None:
-        done = subprocess.run([*HINGE, "kernel", "--again"], env=environment(PATH=str(self.folder)), capture_output=True,
-                              text=True)
+        done = subprocess.run([*HINGE, "kernel", "--again"], env=environment(PATH=str(self.folder)), capture_output=True, text=True)
         self.assertEqual(done.returncode, 7)
         self.assertRegex(done.stderr, r"^hinge kernel: needs cc, make, .*, libc\.a.*: apt-get install gcc make .* libc6-dev.*\n$")
 

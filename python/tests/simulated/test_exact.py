@@ -79,10 +79,13 @@ class OfDatagrams(Exact):
         trace = self.folder / "trace"
         trace.write_text("1\n2\n4\n8\n")
         ran = self.sent_at_once(1500, "--up", "20ms queue 100", "--up-trace", str(trace))
-        ends = [round((packet.due - 20 * MILLISECOND) / MICROSECOND) for packet in served(packets_of(ran.history), 1)
-                if packet.size == 1500]
+        ends = [
+            round((packet.due - 20 * MILLISECOND) / MICROSECOND)
+            for packet in served(packets_of(ran.history), 1)
+            if packet.size == 1500
+        ]
         moments = [1000 * (8 * period + moment) for period in range(1000) for moment in (1, 2, 4, 8)]
-        self.assertEqual(ends, moments[moments.index(ends[0]):][:50])
+        self.assertEqual(ends, moments[moments.index(ends[0]) :][:50])
         told = [int(word) for word in ran.out.split()]
         gaps = [round((after - before) / MICROSECOND) for before, after in zip(told, told[1:])]
         self.assertEqual(gaps, [after - before for before, after in zip(ends, ends[1:])])
@@ -92,8 +95,9 @@ class OfDatagrams(Exact):
         """Pings of 84 us, each 100 ms: those before 2 s take 20.084 ms, and none begins in the 3 s of the outage."""
         (self.folder / "changes").write_text("2s up outage 3s\n")
         changes = ["--timeline", str(self.folder / "changes")]
-        ran = self.exact("--up", "8Mbit/s 20ms queue 1000", "--down", "20ms", *changes, "--",
-                         "ping", "-q", "-i", "0.1", "-c", "60", "server")
+        ran = self.exact(
+            "--up", "8Mbit/s 20ms queue 1000", "--down", "20ms", *changes, "--", "ping", "-q", "-i", "0.1", "-c", "60", "server"
+        )
         pings = [packet for packet in served(packets_of(ran.history), 1) if packet.size == 84]
         before = {packet.due - packet.came for packet in pings if packet.came < 2 * SECOND - MILLISECOND}
         self.assertEqual(before, {20 * MILLISECOND + 84 * MICROSECOND})
@@ -105,8 +109,9 @@ class OfDatagrams(Exact):
 class OfTcp(Exact):
     def carried(self, control: str, seconds: int = 10) -> Ran:
         links = ["--up", "10Mbit/s 20ms queue 100", "--down", "20ms"]
-        return self.exact(*links, "--server", "iperf3 -s -1 >/dev/null", "--", "iperf3", "-c", "server",
-                          "-t", str(seconds), "-C", control)
+        return self.exact(
+            *links, "--server", "iperf3 -s -1 >/dev/null", "--", "iperf3", "-c", "server", "-t", str(seconds), "-C", control
+        )
 
     def test_a_link_that_met_a_full_queue_is_never_idle(self) -> None:
         """From the first packet that met a full queue to a second before the last, the link serves packet after packet
@@ -128,8 +133,10 @@ class OfTcp(Exact):
 
     def test_two_flows_have_their_weights(self) -> None:
         """Weights 3 and 1: while packets wait in both queues, three of four are of the first, in any hundred to one."""
-        lines = ["pipe 1 config bw 20Mbit/s delay 1", *(f"queue {number} config pipe 1 weight {weight} queue 300"
-                                                        for number, weight in ((1, 3), (2, 1)))]
+        lines = [
+            "pipe 1 config bw 20Mbit/s delay 1",
+            *(f"queue {number} config pipe 1 weight {weight} queue 300" for number, weight in ((1, 3), (2, 1))),
+        ]
         links = [word for line in lines for word in ("--line", line)]
         links += [word for number in (1, 2) for word in ("--map", f"tcp port 520{number} => queue {number}")]
         ran = self.exact(*links, "--down", "1ms", "--server", TWO_SERVERS, "--", "sh", "-c", TWO_CLIENTS)

@@ -94,8 +94,7 @@ class OfMarks(Simulated):
         (self.folder / "test_them.py").write_text(tests)
         names = {**os.environ, "PYTHONPATH": PYTHON, "PYTEST_DISABLE_PLUGIN_AUTOLOAD": "1"}
         words = [sys.executable, "-m", "pytest", "-p", "hinge.pytest_plugin", "-q", "-rsP", "test_them.py"]
-        return subprocess.run(words, cwd=self.folder, env=names, stdin=subprocess.DEVNULL, capture_output=True,
-                              text=True)
+        return subprocess.run(words, cwd=self.folder, env=names, stdin=subprocess.DEVNULL, capture_output=True, text=True)
 
     def test_reports(self) -> None:
         done = self.run_pytest(TESTS)

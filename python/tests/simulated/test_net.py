@@ -110,8 +110,13 @@ NET = Path(__file__).resolve().parents[3] / "examples" / "net" / "etcd.net"
 class OfEtcd(Simulated):
     def test_a_partition_is_the_same_twice(self) -> None:
         words = ["--simulated", "--twice", "--seed", "1", "--late", "100us", "--real-limit", LIMIT]
-        done = subprocess.run([*HINGE, "net", str(NET), *words, "--transcripts", "session"], cwd=self.folder,
-                              stdin=subprocess.DEVNULL, capture_output=True, text=True)
+        done = subprocess.run(
+            [*HINGE, "net", str(NET), *words, "--transcripts", "session"],
+            cwd=self.folder,
+            stdin=subprocess.DEVNULL,
+            capture_output=True,
+            text=True,
+        )
         self.assertEqual(done.returncode, 0, done.stdout + done.stderr)
         self.assertEqual(done.stdout.splitlines()[-1], "consistent")
         self.assertIn("hinge net: two runs by seed 1 are the same: ", done.stderr)
@@ -141,8 +146,9 @@ class OfFaults(Simulated):
         """Those of links to the nanosecond. Of the two cuts between c and a the second ends within the first."""
         (self.folder / "faults.net").write_text(FAULTS)
         words = ["--simulated", "--twice", "--seed", "3", "--real-limit", LIMIT, "--transcripts", "session"]
-        done = subprocess.run([*HINGE, "net", "faults.net", *words], cwd=self.folder, stdin=subprocess.DEVNULL,
-                              capture_output=True, text=True)
+        done = subprocess.run(
+            [*HINGE, "net", "faults.net", *words], cwd=self.folder, stdin=subprocess.DEVNULL, capture_output=True, text=True
+        )
         self.assertEqual(done.returncode, 0, done.stdout + done.stderr)
         self.assertIn("hinge net: two runs by seed 3 are the same: ", done.stderr)
         summary = json.loads((self.folder / "session" / "net.json").read_text())
@@ -151,8 +157,10 @@ class OfFaults(Simulated):
         self.assertTrue(all(moment == float(at[:-1]) * 1e9 for word, moment, at in acts if word == "cut"), acts)
         packets = packets_of((self.folder / "session" / "net.history").read_text())
         pings = [packet for packet in packets if packet.target == ("pipe", 2)]  # from c to a
-        self.assertEqual([packet.fate == "lost" for packet in pings],
-                         [500_000_000 <= packet.came - summary["main"] < 2_500_000_000 for packet in pings])
+        self.assertEqual(
+            [packet.fate == "lost" for packet in pings],
+            [500_000_000 <= packet.came - summary["main"] < 2_500_000_000 for packet in pings],
+        )
         self.assertEqual(len(pings), 60)
 
 
@@ -164,8 +172,9 @@ class OfTheLinks(Simulated):
         """
         (self.folder / "three.net").write_text(THREE)
         words = ["--simulated", "--seed", "1", "--real-limit", LIMIT, "--transcripts", "session"]
-        done = subprocess.run([*HINGE, "net", "three.net", *words], cwd=self.folder, stdin=subprocess.DEVNULL,
-                              capture_output=True, text=True)
+        done = subprocess.run(
+            [*HINGE, "net", "three.net", *words], cwd=self.folder, stdin=subprocess.DEVNULL, capture_output=True, text=True
+        )
         self.assertEqual(done.returncode, 0, done.stdout + done.stderr)
         packets = packets_of((self.folder / "session" / "net.history").read_text())
         own = [packet.came for packet in packets if packet.target == ("pipe", 5)]
@@ -182,8 +191,9 @@ class OfClocks(Simulated):
         (self.folder / "clocks.net").write_text(CLOCKS)
         (self.folder / "looks.py").write_text(LOOKS)
         words = ["--simulated", "--seed", "1", "--real-limit", LIMIT, "--logs", "logs"]
-        done = subprocess.run([*HINGE, "net", "clocks.net", *words], cwd=self.folder, stdin=subprocess.DEVNULL,
-                              capture_output=True, text=True)
+        done = subprocess.run(
+            [*HINGE, "net", "clocks.net", *words], cwd=self.folder, stdin=subprocess.DEVNULL, capture_output=True, text=True
+        )
         self.assertEqual(done.returncode, 0, done.stdout + done.stderr)
         for name, first, length in (("m", "5.001 0.0", "1.998"), ("o", "0.0 0.0", "2.0")):
             before, *waits, behind = (self.folder / "logs" / f"{name}.log").read_text().splitlines()

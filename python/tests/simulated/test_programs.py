@@ -30,8 +30,10 @@ PidFile none
 UsePAM no
 StrictModes no
 """
-SSH = ("ssh -F none -i {0}/user -p 2222 -o StrictHostKeyChecking=no -o UserKnownHostsFile=/dev/null -o LogLevel=ERROR "
-       "server 'date +%N; head -c 9 /dev/urandom | od; sleep 1; head -c 100000 /dev/urandom' | cksum")
+SSH = (
+    "ssh -F none -i {0}/user -p 2222 -o StrictHostKeyChecking=no -o UserKnownHostsFile=/dev/null -o LogLevel=ERROR "
+    "server 'date +%N; head -c 9 /dev/urandom | od; sleep 1; head -c 100000 /dev/urandom' | cksum"
+)
 PAGE = """<p id="told"></p><script>document.getElementById("told").textContent = "a script was run"</script>"""
 # As the user postgres, since it doesn't run as root, and in the machine's own memory, where files keep their owners.
 POSTGRES = """[ $(id -u) != 0 ] || exec setpriv --reuid postgres --regid postgres --clear-groups sh "$0"
@@ -43,8 +45,10 @@ BENCHES = """bench="$(echo /usr/lib/postgresql/*/bin/pgbench) -h server -U postg
              $bench -i postgres 2>&1 && $bench -c 4 -t 25 --random-seed=rand postgres 2>&1 &&
              psql -h server -U postgres -c 'select now(), random(), gen_random_uuid(), txid_current()' &&
              psql -h server -U postgres -c 'select * from pgbench_history'"""
-ETCD = ("exec etcd --data-dir data --log-level error --listen-client-urls http://10.8.0.2:2379 "
-        "--advertise-client-urls http://server:2379 2>/dev/null")
+ETCD = (
+    "exec etcd --data-dir data --log-level error --listen-client-urls http://10.8.0.2:2379 "
+    "--advertise-client-urls http://server:2379 2>/dev/null"
+)
 PUTS = """export ETCDCTL_API=3 ETCDCTL_ENDPOINTS=http://server:2379
           for i in 1 2 3; do etcdctl put name$i value; done && etcdctl get --prefix name -w json"""
 

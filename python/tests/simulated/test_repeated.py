@@ -13,10 +13,14 @@ SERVES = f"exec {sys.executable} -m http.server 8080 2>/dev/null >&2"
 DOWNLOADS = """head -c 100000 /dev/urandom > data
                curl -s -w '%{time_total} %{local_port}' http://server:8080/data | cksum"""
 REDIS = "redis-server --port 7000 --save '' --bind 10.8.0.2 --protected-mode no >/dev/null"
-ASKS_REDIS = ("redis='redis-cli -h server -p 7000'; for i in 1 2 3 4 5; do $redis incr n; $redis time; done; "
-              "$redis info server | grep run_id")
-SAME = (r"^hinge run: two runs by seed 7 are the same: \d+ bytes of standard output, 0 bytes of standard error, "
-        r"\d+ bytes of the transcript\n$")
+ASKS_REDIS = (
+    "redis='redis-cli -h server -p 7000'; for i in 1 2 3 4 5; do $redis incr n; $redis time; done; "
+    "$redis info server | grep run_id"
+)
+SAME = (
+    r"^hinge run: two runs by seed 7 are the same: \d+ bytes of standard output, 0 bytes of standard error, "
+    r"\d+ bytes of the transcript\n$"
+)
 LOOKS = "ls -l /proc/self/fd | wc -l; date +%N; head -c 9 /dev/urandom | od"
 PINGS_OF_DRAWN_LENGTHS = """exec 2>&1 >/dev/null
                             for packet in 1 2 3; do ping -c 1 -s $((0x$(./draw) & 1023)) server; done"""
@@ -91,5 +95,8 @@ class OfTwice(Repeated):
         subprocess.run(["cc", "-o", "draw", "draw.c"], cwd=self.folder, check=True)
         done = self.two_of(PINGS_OF_DRAWN_LENGTHS, "--cpu", "host")
         self.assertEqual(done.returncode, 76, done.stdout + done.stderr)
-        self.assertRegex(done.stderr, r"the transcript parts in call \d+, at \d+\.\d{9} s: the calls differ\n"
-                                      r"(?s:.*)\nhinge run: -  *\d+  c,0,submit,pipe,1,10.8.0.1,10.8.0.2,1,0,0,")
+        self.assertRegex(
+            done.stderr,
+            r"the transcript parts in call \d+, at \d+\.\d{9} s: the calls differ\n"
+            r"(?s:.*)\nhinge run: -  *\d+  c,0,submit,pipe,1,10.8.0.1,10.8.0.2,1,0,0,",
+        )

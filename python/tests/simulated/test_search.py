@@ -38,16 +38,21 @@ def below_of(process: int) -> "list[int]":
 class OfCases(unittest.TestCase):
     def test_a_fault_is_left_out_with_its_end(self) -> None:
         lines = ["at 1s kill a", "at 2s cut b 3s", "at 3s kill b", "at 4s restart a", "at 5s restart b", "at 6s a b 5ms"]
-        self.assertEqual([part.what for part in faults_of(lines)], [
-            (lines[0], lines[3]), (lines[1],), (lines[2], lines[4]), (lines[5],)])
+        self.assertEqual(
+            [part.what for part in faults_of(lines)], [(lines[0], lines[3]), (lines[1],), (lines[2], lines[4]), (lines[5],)]
+        )
         lines = ["at 1s kill a 2s", "at 5s kill a", "at 9s restart a"]
         self.assertEqual([part.what for part in faults_of(lines)], [(lines[0],), (lines[1], lines[2])])
 
     def test_losses(self) -> None:
-        for line, other in (("link a b 1Mbit/s loss 1% 5ms / 2ms loss 3%", "link a b 1Mbit/s 5ms / 2ms"),
-                            ("loss a b 3%", ""), ("host a echo loss 1%", "host a echo loss 1%"),
-                            ("--up 1Mbit/s loss 1% 5ms", "--up 1Mbit/s 5ms"), ("--loss gilbert:0.1,0.3", ""),
-                            ("--server echo loss 1%", "--server echo loss 1%")):
+        for line, other in (
+            ("link a b 1Mbit/s loss 1% 5ms / 2ms loss 3%", "link a b 1Mbit/s 5ms / 2ms"),
+            ("loss a b 3%", ""),
+            ("host a echo loss 1%", "host a echo loss 1%"),
+            ("--up 1Mbit/s loss 1% 5ms", "--up 1Mbit/s 5ms"),
+            ("--loss gilbert:0.1,0.3", ""),
+            ("--server echo loss 1%", "--server echo loss 1%"),
+        ):
             self.assertEqual(lossless(line), other)
 
     def test_the_least(self) -> None:
@@ -60,8 +65,7 @@ class OfCases(unittest.TestCase):
 
 class OfSearches(Simulated):
     def searched(self, *words: str) -> "subprocess.CompletedProcess[str]":
-        return subprocess.run([*HINGE, "search", *words], cwd=self.folder, stdin=subprocess.DEVNULL,
-                              capture_output=True, text=True)
+        return subprocess.run([*HINGE, "search", *words], cwd=self.folder, stdin=subprocess.DEVNULL, capture_output=True, text=True)
 
     def test_a_kill_among_many(self) -> None:
         (self.folder / "three.net").write_text(THREE)
@@ -82,8 +86,19 @@ class OfSearches(Simulated):
 
     def test_a_command(self) -> None:
         """It fails where its first packet is lost, which no pause and no option but the link's loss has to do with."""
-        words = ["run", "--seeds", "1-6", "--pauses", "1/2", "--link", "1ms loss 50%", "--memory", "256M", "--",
-                 *"ping -q -c 1 -W 1 server".split()]
+        words = [
+            "run",
+            "--seeds",
+            "1-6",
+            "--pauses",
+            "1/2",
+            "--link",
+            "1ms loss 50%",
+            "--memory",
+            "256M",
+            "--",
+            *"ping -q -c 1 -W 1 server".split(),
+        ]
         done = self.searched(*words)
         self.assertEqual(done.returncode, 1, done.stdout + done.stderr)
         command = next(line.partition(": seed ")[0] for line in done.stdout.splitlines() if line.startswith("hinge run "))
@@ -96,10 +111,16 @@ class OfSearches(Simulated):
         temporary, runs = self.folder / "temporary", self.folder / "runs"
         temporary.mkdir(), runs.mkdir()
         (runs / "run-1.json").write_text('{"status": 1, "output": "it fails\\n", "record": {}}')
-        words = [*HINGE, "search", "run", "--seeds", "1-6", "-P", "2", "--runs", runs, "--", "sh", "-c",
-                 "while :; do :; done"]
-        with subprocess.Popen(words, env=environment(TMPDIR=str(temporary)), stdin=subprocess.DEVNULL, text=True,
-                              stdout=subprocess.PIPE, stderr=subprocess.PIPE, start_new_session=True) as process:
+        words = [*HINGE, "search", "run", "--seeds", "1-6", "-P", "2", "--runs", runs, "--", "sh", "-c", "while :; do :; done"]
+        with subprocess.Popen(
+            words,
+            env=environment(TMPDIR=str(temporary)),
+            stdin=subprocess.DEVNULL,
+            text=True,
+            stdout=subprocess.PIPE,
+            stderr=subprocess.PIPE,
+            start_new_session=True,
+        ) as process:
             while len([one for one in left(temporary) if one.name == "kept"]) < 2:
                 self.assertIsNone(process.poll())
                 time.sleep(0.05)
