@@ -114,7 +114,8 @@ def ports(packet: Internet) -> tuple[int, int, int]:
         return 0, 0, 0
     data, has_ports = packet.transport, len(packet.transport) >= WHOLE.get(packet.proto, 4)
     header = OTHER_HEADER if packet.proto != TCP else data[12] >> 4 << 2 if len(data) >= 14 else TCP_HEADER
-    return (*PORTS.unpack_from(data), header) if has_ports else (0, 0, header)
+    sport, dport = PORTS.unpack_from(data) if has_ports else (0, 0)
+    return sport, dport, header
 
 
 def frame_of(capture: str, place: int, raw: RawFrame) -> Optional[Frame]:
