@@ -1,4 +1,4 @@
-"""Programs that many use: two runs by one seed are equal byte for byte. docs/SIMULATED.md has the table of them."""
+"""Programs that many use: two runs by one seed are equal byte for byte. docs/SIMULATED.md lists them."""
 
 from __future__ import annotations
 
