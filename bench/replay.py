@@ -60,13 +60,12 @@ def report(words: list[str]) -> str:
 
 def forms(program: str, twin: str, config: Path, packets: Path, folder: Path) -> list[Form]:
     files = ["replay", str(config), str(packets)]
-    by_one = [*files, "--threads", "1"]
     history = ["--history", str(folder / "history")]
     return [
         Form("plain Rust", [twin, *files]),
-        Form("dummynet", [program, *by_one]),
+        Form("dummynet", [program, *files]),
         Form("plain Rust, with a history", [twin, *files, *history]),
-        Form("dummynet, with a history", [program, *by_one, *history]),
+        Form("dummynet, with a history", [program, *files, *history]),
         Form("dummynet, the audit of that history", [program, "audit", str(folder / "history")]),
     ]
 

@@ -76,7 +76,7 @@ WORDS: dict[str, Answer] = {
     "paths": Answer("hinge look FOLDER, or hinge look HISTORY SUMMARY.json", "NET"),
     "through": Answer("hinge look PACKETS REPORT --capture CAPTURE --index INDEX -o FILE.pcap", "CAPTURE"),
     "with-clock": Answer("LD_PRELOAD=$(hinge kernel --clock) COMMAND", "TESTING"),
-    "shard": Answer("dummynet replay CONFIG PACKETS --threads N --most-packets 1099511627776 > REPORT", "FILES"),
+    "shard": Answer("dummynet replay CONFIG PACKETS --most-packets 1099511627776 > REPORT", "FILES"),
     # what people look for
     **dict.fromkeys(("presets", "profiles", "profile", "preset", "conditions"), Answer("hinge run --list-presets")),
     **dict.fromkeys(("version", "-v"), Answer("hinge --version")),

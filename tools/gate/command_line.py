@@ -87,17 +87,13 @@ FORMS = [
                                ("notes", "old", "notes\n"), ("a transcript", "old", TRANSCRIPT), ("a file of one byte", "old", "d"),
                                ("a part of a history's first record", "old", HISTORY[:16]), ("a file that has a history in it", "old", "\n" + HISTORY))],
     *[Case(f"a history over notes, {how}", replay("--history", "old", *words), 6, "", OTHER, files={**FILES, "old": "notes\n"})
-      for how, words in (("two callers", ["--callers", "2"]), ("threads", ["--threads", "2"]), ("a limit", ["--most-packets", "999"]))],
+      for how, words in (("two callers", ["--callers", "2"]), ("a limit", ["--most-packets", "999"]))],
     Case("a history over notes, told before a bad configuration", ["replay", "bad", "p", "--history", "old"], 6, "", OTHER,
          files={**FILES, "bad": "bad\n", "old": "notes\n"}),
     Case("no packets, told before a history over notes", ["replay", "c", "none", "--history", "old"], 6, "", "cannot read packets\n",
          files={**FILES, "old": "notes\n"}),
     Case("sixteen callers", replay("--callers", "16"), 0, REPORT),
     Case("two callers", replay("--callers", "2"), 0, REPORT),
-    *[Case(f"{n} threads", replay("--threads", n), 0, REPORT) for n in ("1", "2", "64")],
-    Case("a history by threads", replay("--threads=3", "--history", "new"), 0, REPORT, made={"new": HISTORY}),
-    Case("packets of as many bytes by threads", replay("--threads=3", "--most-packets", str(len(PACKETS))), 0, REPORT),
-    fault("one byte more by threads", replay("--threads=3", "--most-packets", str(len(PACKETS) - 1)), 6, "packets too long"),
     Case("packets of as many bytes as are told", replay("--most-packets", str(len(PACKETS))), 0, REPORT),
     Case("a history of such packets", replay("--most-packets", str(len(PACKETS)), "--history", "new"), 0, REPORT, made={"new": HISTORY}),
     Case("the greatest limit", replay(f"--most-packets={2**40}"), 0, REPORT),
@@ -120,7 +116,7 @@ TARGETS = [
     Case("no row of a joined input has a target", [], 0, LOST_REPORT, stdin=f"{CONFIG}--\n{LOST}"),
     *[Case(f"no row has a target, {how}", replay(*words), 0, LOST_REPORT, files=LOST_FILES)
       for how, words in (("two files", []), ("one caller", ["--callers", "1"]), ("two callers", ["--callers", "2"]),
-                         ("a limit", ["--most-packets", "999"]), ("threads", ["--threads", "2"]))],
+                         ("a limit", ["--most-packets", "999"]))],
     Case("no row has a target, with a history", replay("--history", "new"), 0, LOST_REPORT, files=LOST_FILES, made={"new": LOST_HISTORY}),
     Case("the queue of a row isn't there", replay(), 0, LOST_REPORT, files={"c": CONFIG, "p": PACKETS.replace("pipe,1", "queue,1")}),
     Case("no row of two callers has a target", replay("--callers", "2"), 0, LOST_REPORT + "none,2,,,0,,\n",
@@ -155,8 +151,7 @@ FAULTS = [
     fault("no history", ["audit", "none"], 6, "cannot read history"),
     fault("a read that fails", ["replay", "/proc/self/mem", "p"], 6, "cannot read config"),
     *[fault(f"{told} with {' '.join(options)}", ["replay", *names, *options], status, line, files={**FILES, "bad": "bad\n", "rows": HEADER + "0\n"})
-      for options in (["--callers", "2"], ["--history", "new"], ["--callers", "2", "--history", "new"], ["--threads", "2"],
-                      ["--threads", "2", "--history", "new"])
+      for options in (["--callers", "2"], ["--history", "new"], ["--callers", "2", "--history", "new"])
       for told, names, status, line in (("a bad configuration", ["bad", "p"], 3, "config line 1, word 1: unknown word"),
                                         ("a bad row", ["c", "rows"], 4, "packet row 1, field 0: bad"),
                                         ("no packets", ["c", "none"], 6, "cannot read packets"))],
@@ -170,7 +165,6 @@ FAULTS = [
 # fmt: on
 SAME = "error: --history FILE would overwrite CONFIG or PACKETS\n"
 LIMITED = "error: --most-packets BYTES can't be used with --callers N\n"
-THREADED = "error: --threads N can't be used with --callers N\n"
 # fmt: off
 USAGES = [
     *[Case(f"usage: {' '.join(words)}", words, 2, "", None)
@@ -180,9 +174,7 @@ USAGES = [
                     ["live", "h"], ["live", "--callers", "2"], ["--callers", "2"], ["-x"],
                     replay("--most-packets"), replay("--most-packets", "0"), replay("--most-packets", str(2**40 + 1)), replay("--most-packets", "x"),
                     replay("--most-packets", "9", "--callers", "2"), replay("--most-history", "9"), ["--most-packets", "9"],
-                    replay("--threads"), replay("--threads", "0"), replay("--threads", "65"), replay("--threads", "x"), ["--threads", "2"],
-                    replay("--threads", "2", "--callers", "2"), ["audit", "h", "--threads", "2"],
-                    ["audit", "h", "--callers", "2"],
+                    replay("--threads", "2"), ["audit", "h", "--threads", "2"], ["audit", "h", "--callers", "2"],
                     ["audit", "h", "--most-history", "0"], ["audit", "h", "--most-history", str(2**40 + 1)], ["audit", "h", "--most-packets", "9"])],
     *[Case(f"a history over {name}, the {word}", ["replay", *names, "--history", name], 2, "", None)
       for names, name, word in ((["c", "p"], "c", "configuration"), (["c", "p"], "p", "packets"), (["none", "p"], "none", "missing file"),
@@ -238,7 +230,7 @@ def texts(tally: Tally, program: str) -> None:
             (["--help"], ["CONFIG", "PACKETS", "HISTORY", "Example:", "replay", "audit", "live"]),
             (["-h"], ["Usage: dummynet"]),
             (["help"], ["Usage: dummynet"]),
-            (["replay", "--help"], ["CONFIG", "PACKETS", "--callers", "--history", "--most-packets", "--threads"]),
+            (["replay", "--help"], ["CONFIG", "PACKETS", "--callers", "--history", "--most-packets"]),
             (["help", "replay"], ["CONFIG"]),
             (["audit", "--help"], ["HISTORY", "--most-history", "live"]),
         ):
@@ -251,8 +243,6 @@ def texts(tally: Tally, program: str) -> None:
         tally.equal("its own usage", True, "\nUsage: dummynet replay [OPTIONS] <CONFIG> <PACKETS>\n" in done.stderr.decode())
         done = run(program, replay("--most-packets", "9", "--callers", "2"), folder, "")
         tally.equal("the words of a limit of callers", LIMITED, done.stderr.decode()[: len(LIMITED)])
-        done = run(program, replay("--threads", "2", "--callers", "2"), folder, "")
-        tally.equal("the words of threads of callers", THREADED, done.stderr.decode()[: len(THREADED)])
         done = run(program, [os.fsdecode(b"\xff")], folder, "")
         tally.equal(
             "an argument that isn't UTF-8",

@@ -79,14 +79,14 @@ def session(kind: str) -> Cost:
 
 
 @cache
-def replay(kind: str, times: int = 1, status: int = 0, *more: str) -> Cost:
-    """A replay of a packet file. A long one would be read by several threads."""
+def replay(kind: str, times: int = 1, status: int = 0) -> Cost:
+    """A replay of a packet file."""
 
     @cache
     def cost(program: str, count: int) -> int:
         with TemporaryDirectory() as folder:
             inputs.write(kind, count * times, Path(folder))
-            return counted([program, "replay", f"{folder}/config", f"{folder}/packets", *more], status=status)
+            return counted([program, "replay", f"{folder}/config", f"{folder}/packets"], status=status)
 
     return cost
 
@@ -119,9 +119,9 @@ def entries(end: bytes) -> Cost:
     return cost
 
 
-def digits(field: str, threads: str) -> Cost:
+def digits(field: str) -> Cost:
     """A replay of a row that is a run of digits from a field on, and is refused."""
-    return replay(field, KIB, 4, "--threads", threads)
+    return replay(field, KIB, 4)
 
 
 CASES: dict[str, Cost] = {
@@ -135,9 +135,8 @@ CASES: dict[str, Cost] = {
     "deletes of a queue with a new mask": session("reset-masks"),
     "deletes of a pipe with a new flow": session("reset-pipe"),
     "deletes of a flow that has sent all": session("reset-sent"),
-    "KiB of digits as a moment": digits("moment", "1"),
-    "KiB of digits as an address": digits("address", "1"),
-    "KiB of digits, by four threads,": digits("moment", "4"),
+    "KiB of digits as a moment": digits("moment"),
+    "KiB of digits as an address": digits("address"),
     "rows that end in CR LF": replay("returns"),
     "rows behind a byte order mark": replay("mark"),
     "rows behind one in quotes": replay("quoted-first"),

@@ -19,7 +19,6 @@ TOP = Path(__file__).resolve().parent.parent.parent
 TALLY = re.compile(r"(\d+) passed, (\d+) failed")
 RANDOM_CASES = 400
 RUNS_BY_CALLERS = 100
-CASES_BY_THREADS = 40
 LIVE_SESSIONS = 200
 SERVICES_IN_C = 40
 TEXTS_IN_C = 60
@@ -80,7 +79,6 @@ def growths() -> list[Part]:
         "test_shaper refused_growths::",
         "test_flows scheduler::",
         "test_heap examples::",
-        "test_merge examples::",
         "test_parts heap::",
         *[f"test_flows {part}::a_refused_growth_changes_nothing" for part in ("link", "flows")],
         *[f"test_service one_caller::a_{call}_that_memory_refuses_leaves_no_trace" for call in ("call", "try")],
@@ -105,7 +103,6 @@ def parts(fresh: Optional[int], program: str) -> list[Part]:
         *growths(),
         Part("cases of the reference", [python, "tools/gate/cases.py", *words, str(RANDOM_CASES)]),
         Part("lists of the reference", [python, "tools/gate/lists.py", seed], is_long=True),
-        Part("replays by threads", [python, "tools/gate/threads.py", *words, str(CASES_BY_THREADS)]),
         Part("replays cut by pipes", [python, "tools/reference/cut_replay.py", program, "0", "12"]),
         Part("replays by callers", [python, "tools/reference/callers_checks.py", *words, str(RUNS_BY_CALLERS)]),
         Part("live sessions", [python, "tools/gate/live.py", *words, str(LIVE_SESSIONS)]),

@@ -395,7 +395,7 @@ def add_the_laws(crate):
             with open(os.path.join(crate, path), "a" if name == "Lib.antt" else "w") as file:
                 file.write(text)
     with open(os.path.join(crate, "src", "lib.rt"), "a") as file:
-        file.write("pub mod determined;\npub mod laws;\npub mod merging;\n")
+        file.write("pub mod determined;\npub mod laws;\n")
 
 
 def set_aside(proofs):

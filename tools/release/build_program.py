@@ -44,8 +44,6 @@ MINUTES = {
     "dn_wf2q": 2.9,
     "dn_shaper": 3.7,
     "dn_laws": 2.0,
-    "dn_merge": 1.0,
-    "dn_parts": 1.5,
     "dn_service": 2.2,
     "dn_files": 2.6,
     "dn_history": 2.5,

@@ -6,12 +6,10 @@ _dummynet() {
         mapfile -t COMPREPLY < <(compgen -W 'replay audit live help --help --version' -- "$word")
     elif [ "$before" = --callers ]; then
         mapfile -t COMPREPLY < <(compgen -W '1 2 4 8 16' -- "$word")
-    elif [ "$before" = --threads ]; then
-        mapfile -t COMPREPLY < <(compgen -W '1 2 4 8 16 32 64' -- "$word")
     elif [ "$before" = --most-packets ] || [ "$before" = --most-history ]; then
         mapfile -t COMPREPLY < <(compgen -W '1073741824 4294967296' -- "$word")
     elif [ "$command" = replay ] && [ "${word#-}" != "$word" ]; then
-        mapfile -t COMPREPLY < <(compgen -W '--callers --history --most-packets --threads --help' -- "$word")
+        mapfile -t COMPREPLY < <(compgen -W '--callers --history --most-packets --help' -- "$word")
     elif [ "$command" = audit ] && [ "${word#-}" != "$word" ]; then
         mapfile -t COMPREPLY < <(compgen -W '--most-history --help' -- "$word")
     elif [ "$command" = replay ] || [ "$command" = audit ]; then

@@ -17,14 +17,6 @@ callers_rule = record (new_rule (codes "callers")) {
   parser = Some (Unsigned 1 16);
 }
 
--- --threads N, of 1 to 64.
-abbrev pub threads_rule : Rule
-threads_rule = record (new_rule (codes "threads")) {
-  long = Some (codes "threads");
-  value_names = 1;
-  parser = Some (Unsigned 1 64);
-}
-
 -- --history FILE
 abbrev pub history_rule : Rule
 history_rule = record (new_rule (codes "history")) {
@@ -50,12 +42,8 @@ unlimited_form =
     history_rule
 
 -- The same with --most-packets
-abbrev pub limited_form : App
-limited_form = with_rule unlimited_form (most_rule (codes "most-packets"))
-
--- The same with --threads
 abbrev pub replay_form : App
-replay_form = with_rule limited_form threads_rule
+replay_form = with_rule unlimited_form (most_rule (codes "most-packets"))
 
 -- audit HISTORY
 abbrev pub audit_form : App

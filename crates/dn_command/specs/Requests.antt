@@ -35,7 +35,6 @@ pub record IsReplayOf (rows : List Row) (replay : Replay) : Type 0 where
   pub callers : IsCountOf (one_of (codes "callers") rows) replay.callers
   pub history : option_map (λ s. s.now) replay.history ≡ first_of (codes "history") rows
   pub most_packets : IsCountOf (one_of (codes "most-packets") rows) replay.most_packets
-  pub threads : IsCountOf (one_of (codes "threads") rows) replay.threads
 
 -- The audit that they ask for.
 pub record IsAuditOf (rows : List Row) (audit : Audit) : Type 0 where
@@ -73,14 +72,9 @@ abbrev pub LimitsCallers : Request → Type 0
 LimitsCallers (request.Replay replay) = IsTrue (is_some replay.callers) × IsTrue (is_some replay.most_packets)
 LimitsCallers _ = ⊥
 
--- Threads are given to callers, who have one each.
-abbrev pub ThreadsCallers : Request → Type 0
-ThreadsCallers (request.Replay replay) = IsTrue (is_some replay.callers) × IsTrue (is_some replay.threads)
-ThreadsCallers _ = ⊥
-
 -- Arguments that don't go together.
 abbrev pub Conflicts : Request → Type 0
-Conflicts r = Overwrites r ⊎ (LimitsCallers r ⊎ ThreadsCallers r)
+Conflicts r = Overwrites r ⊎ LimitsCallers r
 
 -- The words, the program's name first, are understood, and ask for this.
 pub record Asks (words : List Text) (r : Request) : Type 0 where
@@ -88,7 +82,6 @@ pub record Asks (words : List Text) (r : Request) : Type 0 where
   pub asked : AsksFor (subcommand_of program words) r
   pub spares_inputs : Overwrites r → ⊥
   pub fits : LimitsCallers r → ⊥
-  pub threads_once : ThreadsCallers r → ⊥
 
 -- They ask for a replay whose arguments don't go together.
 abbrev pub AskInConflict : List Text → Type 0

@@ -1,6 +1,6 @@
 ghost use Rattle.std.specs.Prelude.{◌≡◌, ◌↔◌, IfErr, IfOk, IsTrue, MatchOption, map, string_bytes};
 ghost use Rattle.clap.specs.Words.{found_of, rows_of, subcommand_rows_of};
-ghost use Rattle.dn_command.specs.Requests.{Asks, AsksFor, Conflicts, IsAuditOf, IsRefusedFor, IsReplayOf, LimitsCallers, Overwrites, ThreadsCallers, value_of};
+ghost use Rattle.dn_command.specs.Requests.{Asks, AsksFor, Conflicts, IsAuditOf, IsRefusedFor, IsReplayOf, LimitsCallers, Overwrites, value_of};
 
 use crate::form::{called_replay, form};
 use crate::refusal::Refusal;
@@ -26,7 +26,6 @@ fn replay<'a>(found: &ArgMatches<'a>) -> Replay<'a>
         callers: found.get_one::<usize>("callers"),
         history: found.get_str("history"),
         most_packets: found.get_one::<usize>("most-packets"),
-        threads: found.get_one::<usize>("threads"),
     }
 }
 
@@ -75,16 +74,6 @@ fn limits_callers(request: &Request<'_>) -> bool
     replay.callers.is_some() && replay.most_packets.is_some()
 }
 
-// Whether threads are given to callers, who have one each.
-fn threads_callers(request: &Request<'_>) -> bool
-    ensures { IsTrue result ↔ ThreadsCallers request.now }
-{
-    let Request::Replay(replay) = request else {
-        return false;
-    };
-    replay.callers.is_some() && replay.threads.is_some()
-}
-
 // Why the arguments of a request don't go together, if they don't.
 fn conflict_of(request: &Request<'_>) -> Option<&'static str>
     ensures { MatchOption result (Conflicts request.now → ⊥) (λ _. Conflicts request.now) }
@@ -94,9 +83,6 @@ fn conflict_of(request: &Request<'_>) -> Option<&'static str>
     }
     if limits_callers(request) {
         return Some("--most-packets BYTES can't be used with --callers N");
-    }
-    if threads_callers(request) {
-        return Some("--threads N can't be used with --callers N");
     }
     None
 }

@@ -1,6 +1,6 @@
 ghost use Rattle.std.specs.Prelude.{◌≡◌, IfOk, false};
 ghost use Rattle.clap.specs.Words.{rule_of};
-ghost use Rattle.dn_command.specs.Program.{IsForm, audit_form, bare_form, callers_rule, file_rule, history_rule, limited_form, live_form, most_rule, program, replay_form, threads_rule, unlimited_form};
+ghost use Rattle.dn_command.specs.Program.{IsForm, audit_form, bare_form, callers_rule, file_rule, history_rule, live_form, most_rule, program, replay_form, unlimited_form};
 
 use clap::builder::ValueParser;
 use clap::{Arg, Command};
@@ -41,18 +41,6 @@ fn callers<'a>(alloc: Global) -> Arg<'a>
         .value_name("N")
         .value_parser(ValueParser::unsigned(1, 16))
         .help("Replays by N callers in threads of their own, 1 to 16")
-}
-
-// How many threads read the packets.
-fn threads<'a>(alloc: Global) -> Arg<'a>
-    ensures rule { rule_of result ≡ threads_rule }
-    ensures local { result.global ≡ false }
-{
-    Arg::new(alloc, "threads")
-        .long("threads")
-        .value_name("N")
-        .value_parser(ValueParser::unsigned(1, 64))
-        .help("Reads PACKETS by N threads, 1 to 64. The report stays the same. Not with --callers")
 }
 
 // Where the history goes.
@@ -102,22 +90,15 @@ fn unlimited_replay<'a>(alloc: Global) -> Result<Command<'a>, AllocError>
         .arg(history(alloc))
 }
 
-// The command that replays two files, with a limit of the packets.
-fn limited_replay<'a>(alloc: Global) -> Result<Command<'a>, AllocError>
-    ensures { IfOk result (IsForm limited_form) }
+// The command that replays two files.
+fn replay<'a>(alloc: Global) -> Result<Command<'a>, AllocError>
+    ensures { IfOk result (IsForm replay_form) }
 {
     unlimited_replay(alloc)?.arg(most(
         alloc,
         "most-packets",
         "Takes PACKETS of at most so many bytes, in place of 67108864. Not with --callers",
     ))
-}
-
-// The command that replays two files.
-fn replay<'a>(alloc: Global) -> Result<Command<'a>, AllocError>
-    ensures { IfOk result (IsForm replay_form) }
-{
-    limited_replay(alloc)?.arg(threads(alloc))
 }
 
 // The same command under the name by which it is called, so that a fault of its own shows its own usage.

@@ -24,8 +24,6 @@ pub struct Replay<'a> {
     pub history: Option<&'a str>,
     /// How many bytes the packets can have at most, 1 to 2^40; as many as is usual, where no count is given.
     pub most_packets: Option<usize>,
-    /// By how many threads the packets are read, 1 to 64; by one, where no count is given.
-    pub threads: Option<usize>,
 }
 
 /// The audit of a history.

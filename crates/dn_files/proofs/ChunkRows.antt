@@ -1,28 +1,19 @@
 -- Chunks of a packet file: one row more.
-use Rattle.std.proofs.Common.{◌≡◌, ◌∙◌, refl, sym, ap, subst, ℕ, ◌+◌, ◌-◌, ◌<◌, List, [], ◌∷◌, ◌++◌, drop, take, length, arith, append_assoc, length-append, Result, Ok, Err, Some, true}
+use Rattle.std.proofs.Common.{◌≡◌, ◌∙◌, refl, sym, ap, subst, ℕ, ◌+◌, ◌-◌, ◌<◌, List, [], ◌∷◌, ◌++◌, drop, take, length, arith, append_assoc, length-append, Result, Ok, Err}
 use Rattle.std.proofs.lemmas.List.{append-nil, drop_all, take-append-drop}
 use Rattle.std.proofs.Math.Seq.{drop-append_seam, take-append_seam}
-use Rattle.csv.specs.Records.{field_at}
 use Rattle.csv.specs.Reading.{records_from}
 use Rattle.csv.specs.Machine.{next_record}
 use Rattle.csv.specs.declared.parser.State.TheVariants as st
 use Rattle.dn_records.specs.Reading.{records_after}
 use Rattle.dn_files.specs.InChunks.{BeginsWith, HasRows}
-use Rattle.dn_files.specs.PacketFile.{is_header, rows_below, rows_from, rows_of}
-use Rattle.dn_files.specs.PacketParts.{HasRead, header, rows_left, with_front}
-use Rattle.dn_files.specs.QuotedRow.{header_until}
-use Rattle.dn_files.specs.Unread.{IsBehindRow, Unread}
+use Rattle.dn_files.specs.PacketFile.{rows_from}
+use Rattle.dn_files.specs.PacketParts.{rows_left, with_front}
 use Rattle.dn_files.specs.declared.replay_fault.ReplayFault.{ReplayFault}
 use Rattle.dn_files.specs.declared.row.Row.{Row}
-use Rattle.dn_files.proofs.Headers.{header_read}
 use Rattle.dn_files.proofs.PacketParts.{later}
 use Rattle.dn_files.proofs.PlainRows.{ReadsRow}
 use Rattle.dn_files.proofs.Rows.{one_more, starts}
-
--- The header is a header.
-header-is : is_header header ≡ true
-unfolding is_header field_at
-header-is = refl
 
 -- Rows in front of rows in front of what is read.
 fronts : (first second : List Row) (read : Result (List Row) ReplayFault) → with_front (first ++ second) read ≡ with_front first (with_front second read)
@@ -30,7 +21,7 @@ fronts first second (Ok rows) = ap (λ (rs : List Row). Ok rs) (append_assoc fir
 fronts first second (Err fault) = refl
 
 -- Two chunks, one behind the other.
-pub two : (front back : List ℕ) (first second : List Row) → HasRows front first → HasRows back second → HasRows (front ++ back) (first ++ second)
+two : (front back : List ℕ) (first second : List Row) → HasRows front first → HasRows back second → HasRows (front ++ back) (first ++ second)
 two front back first second one other = record {
   first = λ number more.
       let left = records_after st.StartRecord more in
@@ -77,10 +68,6 @@ row_more text rest behind rows row begins so_far =
       has = two so_far.front line rows (row ∷ []) so_far.has (one_row rest behind row begins);
     }
 
--- Nothing is left: the rows are those of the whole text.
-pub all_read : (text : List ℕ) (rows : List Row) → GoesOn text rows [] → HasRows text rows
-all_read text rows so_far = subst (λ (t : List ℕ). HasRows t rows) (sym (so_far.stands ∙ append-nil so_far.front)) so_far.has
-
 -- What was read is the front of the text, by its length.
 pub front_is : (text rest : List ℕ) (rows : List Row) → GoesOn text rows rest → BeginsWith text (length text - length rest) rows × (drop (length text - length rest) text ≡ rest)
 front_is text rest rows so_far =
@@ -92,45 +79,6 @@ front_is text rest rows so_far =
       record { within = omega arith; first = subst (λ (t : List ℕ). HasRows t rows) (sym taken) so_far.has },
       ap (drop (length front)) so_far.stands ∙ drop-append_seam front rest,
     )
-
--- A file: its header, and a chunk behind it.
-pub whole : (text rest : List ℕ) (rows : List Row) → header_until text ≡ Some rest → HasRows rest rows → rows_of text ≡ Ok rows
-unfolding rows_below rows_from records_from next_record
-whole text rest rows e has =
-    let begins = header_read text rest e in
-    let below : rows_of text ≡ rows_from 1 (records_after st.StartRecord rest) =
-    ap rows_of begins.stands ∙ (ap rows_below (begins.reads rest) ∙ rw header-is refl) in
-    below
-    ∙ (ap (λ (t : List ℕ). rows_from 1 (records_after st.StartRecord t)) (sym (append-nil rest))
-    ∙ (sym (has.first 1 []) ∙ ap (λ (rs : List Row). Ok rs) (append-nil rows)))
-
--- A reader that has read all that was fed goes on behind a chunk as if it had read the chunk's rows itself.
-pub chunk_read : (number : ℕ) (text chunk : List ℕ) (rows new : List Row) → 0 < number → HasRead (record { number = number; text = [] }) text rows → HasRows chunk new
-    → HasRead (record { number = number + length new; text = [] }) (text ++ chunk) (rows ++ new)
-chunk_read number text chunk rows new some has begins = record {
-  front = has.front ++ chunk;
-  stands = ap (λ (t : List ℕ). t ++ chunk) (has.stands ∙ append-nil has.front) ∙ sym (append-nil (has.front ++ chunk));
-  goes_on = λ more.
-      let behind : 0 < number + length new = omega arith in
-      ap rows_of (append_assoc has.front chunk more)
-      ∙ (has.goes_on (chunk ++ more)
-      ∙ (ap (with_front rows) (later number (chunk ++ more) some ∙ sym (begins.first number more) ∙ ap (with_front new) (sym (later (number + length new) more behind)))
-      ∙ sym (fronts rows new (rows_left (number + length new) more))));
-}
-
--- The same of a reader that passes over the chunk, as the code sees it.
-pub passed_over : (number count : ℕ) (left : List ℕ) (old : Unread) (text chunk : List ℕ) (rows new : List Row) → record { number = number; text = left } ≡ old → IsBehindRow old
-    → HasRead old text rows → HasRows chunk new → length new ≡ count → HasRead (record { number = number + count; text = left }) (text ++ chunk) (rows ++ new)
-passed_over number count left old text chunk rows new view behind has begins counted =
-    let empty : left ≡ [] = ap (λ (u : Unread). u.text) view ∙ behind.1 in
-    let same : number ≡ old.number = ap (λ (u : Unread). u.number) view in
-    let some : 0 < number = (let p = behind.0 in omega arith) in
-    let seen : HasRead (record { number = number; text = left }) text rows = subst (λ (u : Unread). HasRead u text rows) (sym view) has in
-    let had : HasRead (record { number = number; text = [] }) text rows = subst (λ (t : List ℕ). HasRead (record { number = number; text = t }) text rows) empty seen in
-    let here = chunk_read number text chunk rows new some had begins in
-    let counts : HasRead (record { number = number + count; text = [] }) (text ++ chunk) (rows ++ new) =
-    subst (λ (n : ℕ). HasRead (record { number = number + n; text = [] }) (text ++ chunk) (rows ++ new)) counted here in
-    subst (λ (t : List ℕ). HasRead (record { number = number + count; text = t }) (text ++ chunk) (rows ++ new)) (sym empty) counts
 
 -- The rows behind none.
 none_left : (number : ℕ) → rows_from number (records_after st.StartRecord []) ≡ Ok []

@@ -1,4 +1,4 @@
--- A packet file that is read in chunks by many threads.
+-- A packet file whose rows are read a chunk at a time.
 use Rattle.std.specs.Prelude.{◌≡◌, ℕ, ◌+◌, ◌≤◌, List, ◌++◌, length, take}
 use Rattle.csv.specs.declared.parser.State.TheVariants as st
 use Rattle.dn_records.specs.Reading.{records_after}

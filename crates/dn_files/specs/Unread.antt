@@ -1,5 +1,5 @@
 -- A reader of a packet file in parts is seen as what it has left of the text.
-use Rattle.std.specs.Prelude.{◌≡◌, ℕ, ◌<◌, ◌≤◌, ◌^◌, List, []}
+use Rattle.std.specs.Prelude.{ℕ, ◌<◌, ◌≤◌, ◌^◌, List}
 
 -- The bytes that are left, and the number of the record that they begin with: 0 for the header, and rows count from 1.
 pub record Unread : Type 0 where
@@ -12,7 +12,3 @@ pub record StandsAt (number start len : ℕ) : Type 0 where
   pub within : start ≤ len
   pub behind : 0 < number → 0 < start
   pub counted : number ≤ 2 ^ 62
-
--- Nothing is left, and the header was read.
-abbrev pub IsBehindRow : Unread → Type 0
-IsBehindRow u = (0 < u.number) × (u.text ≡ [])

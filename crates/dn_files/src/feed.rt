@@ -86,25 +86,7 @@ pub fn feed_all<I: Inlet, F: Feed>(
     ensures err { IfErr result (λ fault. (known : F.Known) → F.has_come known feed.old []
         → IsRefusal (F.source_of known) (F.reading known) (I.remaining inlet.old) (I.has_failed inlet.new) fault) }
 {
-    feed_steps(alloc, inlet, feed, PART)
-}
-
-/// [`feed_all`] in parts of at most `most` bytes.
-pub fn feed_steps<I: Inlet, F: Feed>(
-    alloc: Global,
-    inlet: &mut I,
-    feed: &mut F,
-    most: usize,
-) -> Result<(), ReplayFault>
-    requires sound { I.has_failed inlet.old ≡ false }
-    requires most { 0 < most }
-    ensures ok { OnOk result ((text : List ℕ) × IsTextOf (I.remaining inlet.old) text
-        × ((known : F.Known) → F.has_come known feed.old [] → F.has_come known feed.new text)) }
-    ensures sound { OnOk result (I.has_failed inlet.new ≡ false) }
-    ensures err { IfErr result (λ fault. (known : F.Known) → F.has_come known feed.old []
-        → IsRefusal (F.source_of known) (F.reading known) (I.remaining inlet.old) (I.has_failed inlet.new) fault) }
-{
-    let Ok(mut chunk) = vec![in alloc; 0u8; most] else {
+    let Ok(mut chunk) = vec![in alloc; 0u8; PART] else {
         return Err(ReplayFault::OutOfMemory);
     };
     feed_by(inlet, feed, chunk.as_mut_slice())

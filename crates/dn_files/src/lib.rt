@@ -3,7 +3,6 @@
 //! What dn_history shares with them is public too: faults, whole inputs and outlets, and the fields of records.
 #![tactic(auto)]
 
-mod chunks;
 mod config;
 mod feed;
 mod fields;
@@ -22,9 +21,8 @@ mod row_parts;
 mod source;
 mod wide_row;
 
-pub use chunks::{rows_of_chunk, rows_of_chunk_by_threads, rows_of_text_by_threads};
 pub use config::{CONFIG_LIMIT, command_at, read_config};
-pub use feed::{Feed, feed_all, feed_steps};
+pub use feed::{Feed, feed_all};
 pub use fields::{column, is_form, is_name, number_at};
 pub use input::read_input;
 pub use line_end::{behind_first, number_at_end};

@@ -1,10 +1,8 @@
-ghost use Rattle.std.specs.Prelude.{◌≡◌, ◌≤◌, ◌<◌, ◌+◌, ◌^◌, ℕ, List, [], ◌∷◌, ◌++◌, drop, max, slice_set, Some, Ok, IfOk, IfErr, OnOk, OnErr, OnSome, MatchBool, MatchOption, IsTrue, ◌↔◌, length, vec_len};
+ghost use Rattle.std.specs.Prelude.{◌≡◌, ◌≤◌, ◌<◌, ◌+◌, ◌^◌, ℕ, List, [], ◌∷◌, ◌++◌, drop, max, slice_set, Some, Ok, IfOk, IfErr, OnOk, OnErr, OnSome, MatchOption, length, vec_len};
 ghost use Rattle.dn_records.specs.Records.{line_of};
-ghost use Rattle.dn_files.specs.InChunks.{HasRows};
 ghost use Rattle.dn_files.specs.PacketFile.{rows_of};
 ghost use Rattle.dn_files.specs.PacketParts.{BeginsNext, BeginsRow, HasRead, header};
 ghost use Rattle.dn_files.specs.Reading.{IsFaultOf};
-ghost use Rattle.dn_files.specs.Unread.{IsBehindRow};
 ghost use Rattle.dn_files.specs.declared.row.Row.{Row};
 
 use crate::packets::{rows_from_text, rows_of_text};
@@ -162,34 +160,6 @@ impl PacketReader {
     {
         self.take_header();
         self.take_row()
-    }
-
-    /// Whether all that was fed has been read, and the header with it.
-    pub fn is_behind_row(&self) -> bool
-        ensures { IsTrue result ↔ IsBehindRow self.now }
-    {
-        self.number > 0 && self.text[self.start..].is_empty()
-    }
-
-    /// Goes on behind a chunk that wasn't fed and whose rows, so many, were read elsewhere.
-    ///
-    /// False says that a row before the chunk is still left, or that the rows are too many, and nothing has changed.
-    pub fn pass_over(&mut self, rows: usize) -> bool
-        ensures passed { MatchBool result
-            ((text chunk : List ℕ) (taken new : List Row) → HasRead self.old text taken → HasRows chunk new → length new ≡ rows
-            → HasRead self.new (text ++ chunk) (taken ++ new))
-            (self.new ≡ self.old) }
-        ensures takes { IsBehindRow self.old → self.old.number + rows ≤ 2 ^ 62 → IsTrue result }
-    {
-        let count = rows as u64;
-        if count > MOST - self.number {
-            return false;
-        }
-        if self.is_behind_row() {
-            self.number += count;
-            return true;
-        }
-        false
     }
 
     /// The rows that are left, after the end of the text.

@@ -62,9 +62,6 @@ module _ (flows packets : ℕ → Bool) where
 -- ---- The part's own calls
 
 module _ (rule : Rule) (mine : Target → Bool) (is_own : ℕ → Bool) (flows packets : ℕ → Bool) where
-  abbrev ours : List Call → List Call
-  ours calls = own_of is_own calls
-
   abbrev part-of : Reply → Reply
   part-of r = own_reply_by flows packets r
 

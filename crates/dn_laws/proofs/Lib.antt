@@ -31,13 +31,6 @@ pub mod LawsHold
 mod LawWitnesses
 pub mod Least
 pub mod Masks
-pub mod MergedCalls
-pub mod MergedNumbers
-pub mod MergedParts
-pub mod MergedReplays
-pub mod MergedReplies
-pub mod Merges
-mod MergeWitnesses
 pub mod Obeyed
 pub mod Obeying
 pub mod OneLink
@@ -81,7 +74,6 @@ pub mod Timely
 pub mod ToldCommands
 pub mod ToldCounts
 pub mod ToldDeliveries
-pub mod ToldNumbers
 pub mod WaitBounds
 pub mod Waits
 mod WaitWitnesses

@@ -118,9 +118,6 @@ module _ (rule : Rule) (chosen : Choice) where
         told = ap (replies rule) e ∙ all;
       }
 
-  settings-timed : (cs : List Call) (target : Target) (packet : Packet) (m : ℕ) → settings (Submit target packet m ∷ cs) ≡ settings cs
-  settings-timed cs target packet m = λ i t. settings cs t
-
   -- A packet at the clock after the one list gets the reply that it gets after the other.
   pub submit-same : (mine whole : List Call) (clock : ℕ) (target : Target) (packet : Packet) (moment : ℕ) → IsBehind mine whole clock → length whole < call_limit →
       reply rule mine (Submit target packet (max clock moment)) ≡ reply rule whole (Submit target packet moment)

@@ -8,8 +8,6 @@ pub mod FairShare
 pub mod FlowLaws
 pub mod KeptLaws
 pub mod Laws
-pub mod MergeLaws
-pub mod Merges
 pub mod OtherPipes
 pub mod PacketLaws
 pub mod PartLaws

@@ -3,4 +3,3 @@
 
 pub mod determined;
 pub mod laws;
-pub mod merging;

@@ -7,7 +7,7 @@ use Rattle.dn_types.specs.declared.entry.Entry.{Entry}
 use Rattle.dn_types.specs.declared.reply.Reply.{Reply}
 use Rattle.dn_service.specs.Callers.{Answered, CallerView, IsSameCaller}
 use Rattle.dn_service.specs.Histories.{entry_of}
-use Rattle.dn_parts.specs.Rows.{submit, submitted}
+use Rattle.dn_replay.specs.Rows.{submit, submitted}
 use Rattle.dn_replay.specs.Callers.{calls_by, HasSubmitted, rows_at, rows_of_caller}
 use Rattle.dn_files.specs.declared.row.Row.{Row}
 use Rattle.dn_types.proofs.Histories.{calls_of-more}

@@ -13,7 +13,7 @@ use Rattle.dn_types.specs.declared.entry.Entry.{Entry}
 use Rattle.dn_service.specs.Callers.{CallerView, has_number, IsAccountedFor, IsCloseFault, IsOf, IsSameCaller, new_callers, ServiceView}
 use Rattle.dn_service.specs.declared.close_fault.CloseFault.{CloseFault}
 use Rattle.dn_service.specs.declared.close_fault.CloseFault.TheVariants.{Absent}
-use Rattle.dn_parts.specs.Rows.{submitted}
+use Rattle.dn_replay.specs.Rows.{submitted}
 use Rattle.dn_replay.specs.Callers.{AllSubmitted, calls_by, calls_given, HasSubmitted, AreCallersOf, rows_of_caller}
 use Rattle.dn_files.specs.declared.row.Row.{Row}
 

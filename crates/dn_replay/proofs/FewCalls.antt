@@ -24,7 +24,7 @@ use Rattle.dn_files.specs.declared.source.Source.{Source}
 use Rattle.dn_files.specs.declared.source.Source.TheVariants.{Config, Input, Packets}
 use Rattle.dn_files.proofs.Inputs.{short}
 use Rattle.dn_history.proofs.HistoryReading.{numbered}
-use Rattle.dn_parts.specs.Rows.{submit, submitted}
+use Rattle.dn_replay.specs.Rows.{submit, submitted}
 use Rattle.dn_replay.specs.Configuring.{applied, configured_by, configured_from, refusal, unless}
 use Rattle.dn_replay.specs.InParts.{calls_asked, IsLimit}
 use Rattle.dn_replay.specs.OnePass.{AreFew, calls_with}

@@ -1,11 +1,10 @@
--- The calls of a configuration are commands. What is kept for a report stays over them, since they submit no packet.
+-- What is kept for a report stays over the calls of a configuration, since they submit no packet.
 use Rattle.std.proofs.Common.{◌≡◌, ℕ, ◌+◌, List, [], ◌∷◌, Option, Some, None, Result, Ok, Err, subst}
 use Rattle.dn_types.specs.Replies.{reply}
 use Rattle.dn_types.specs.declared.call.Call.{Call}
 use Rattle.dn_types.specs.declared.call.Call.TheVariants.{Configure}
 use Rattle.dn_types.specs.declared.command.Command.{Command}
 use Rattle.dn_types.specs.declared.rule.Rule.TheVariants.{Ordered}
-use Rattle.dn_laws.specs.Replays.{AreCommands}
 use Rattle.dn_text.specs.Lines.{lines_of}
 use Rattle.dn_files.specs.ConfigFile.{command_at}
 use Rattle.dn_files.specs.Reading.{◌>>=◌}
@@ -38,7 +37,3 @@ module _ (Holds : List Call → Type 0) (stays : (calls : List Call) (command : 
 
 pub kept-configuration : (kept : Kept) (text : List ℕ) (calls : List Call) → configured_by text ≡ Ok calls → HasKept kept [] → HasKept kept calls
 kept-configuration kept text calls e h = lines_stay (HasKept kept) (kept-configured kept) [] 1 (lines_of text) calls e h
-
--- The calls of a configuration are commands.
-pub commands-configured : (text : List ℕ) (calls : List Call) → configured_by text ≡ Ok calls → AreCommands calls
-commands-configured text calls e = lines_stay AreCommands (λ calls command are. are) [] 1 (lines_of text) calls e tt

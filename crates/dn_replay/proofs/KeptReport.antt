@@ -32,7 +32,7 @@ use Rattle.dn_replay.specs.declared.report.line.ReportLine.{ReportLine}
 use Rattle.dn_replay.proofs.Deliveries.{deliveries-append}
 use Rattle.dn_replay.proofs.KeptOrder.{AreGiven, others-by-row, outs-as-given}
 use Rattle.dn_replay.proofs.KeptSteps.{lines-push, other-row}
-use Rattle.dn_parts.proofs.Accepting.{settled-accepts}
+use Rattle.dn_replay.proofs.Accepting.{settled-accepts}
 
 nothing-given : (n : ℕ) (given : List Delivery) → given ≡ [] → AreGiven n given
 nothing-given n given none = rw none (record { numbers = All-nil (λ d. d.packet < n); once = λ packet. omega arith; in_order = tt })

@@ -1,3 +1,4 @@
+pub mod Accepting
 pub mod AllGiven
 pub mod CallerRows
 pub mod CallerSteps
@@ -9,19 +10,19 @@ pub mod InputSteps
 pub mod KeptCalls
 pub mod KeptOrder
 pub mod KeptReport
-pub mod KeptRows
 pub mod KeptSteps
 pub mod LineBytes
 pub mod LineSteps
 pub mod MarkSteps
-pub mod ListRows
 pub mod Orders
 pub mod OtherSteps
-pub mod OutTexts
 pub mod OwnFaults
 pub mod PacketNumbers
 pub mod PartSteps
 pub mod PartsCome
 pub mod PassSteps
+pub mod PassingCalls
+pub mod PassingTraffic
+pub mod Past
 pub mod ReplaySteps
 pub mod Runs

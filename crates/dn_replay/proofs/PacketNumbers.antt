@@ -21,7 +21,7 @@ use Rattle.dn_types.specs.declared.reply.Reply.TheVariants.{Queued, Deleted, Exh
 use Rattle.dn_types.specs.declared.rule.Rule.TheVariants.{Ordered}
 use Rattle.dn_types.specs.declared.target.Target.{Target}
 use Rattle.dn_types.proofs.StepFacts.{opened-count}
-use Rattle.dn_parts.proofs.Accepting.{counts, joined, other-event, settled-accepts}
+use Rattle.dn_replay.proofs.Accepting.{counts, joined, other-event, settled-accepts}
 use Rattle.dn_replay.specs.Kept.{fate_of, is_accepted}
 
 discards : (command : Command) (flow : ℕ) (known : List FlowKey) (trace : List Event) → accepted_count (discard_reached command flow known trace) ≡ accepted_count trace

@@ -1,5 +1,5 @@
 -- One part more of a packets' text, and its end.
-use Rattle.std.proofs.Common.{◌≡◌, ◌∙◌, ◌^◌, ◌<◌, ◌≤◌, ◌+◌, ℕ, suc, arith, length, Bool, true, false, List, [], ◌∷◌, ◌++◌, Option, Result, Ok, Err, refl, sym, ap, subst}
+use Rattle.std.proofs.Common.{◌≡◌, ◌∙◌, ◌^◌, ◌<◌, ◌+◌, ℕ, suc, arith, length, Bool, true, false, List, [], ◌∷◌, ◌++◌, Option, Result, Ok, Err, refl, sym, ap, subst}
 use Rattle.std.specs.Io.KnownBytes.{Appends}
 use Rattle.std.proofs.lemmas.Bool.{false≢true}
 use Rattle.dn_types.specs.Replies.{reply}
@@ -18,28 +18,23 @@ use Rattle.dn_files.specs.declared.replay_fault.ReplayFault.{ReplayFault}
 use Rattle.dn_files.specs.declared.row.Row.{Row}
 use Rattle.dn_files.specs.declared.source.Source.TheVariants.{Report}
 use Rattle.dn_files.proofs.Inputs.{carried}
-use Rattle.dn_laws.specs.Replays.{AreCommands}
-use Rattle.dn_parts.specs.Emulated.{Emulated, HasEmulated}
-use Rattle.dn_parts.specs.Passing.{passing_limit}
-use Rattle.dn_parts.specs.Rows.{submit, submitted, told_to}
-use Rattle.dn_parts.proofs.Past.{past-first, past-last, past-submit}
-use Rattle.dn_parts.proofs.Rows.{no-row, submitted-both, submitted-length}
+use Rattle.dn_replay.specs.Rows.{submit, submitted}
+use Rattle.dn_replay.proofs.Past.{past-first, past-last, past-submit}
 use Rattle.dn_replay.specs.Kept.{all_untargeted, CanReport, HasKept}
 use Rattle.dn_replay.specs.Configuring.{configured_by}
-use Rattle.dn_replay.specs.Held.{Divides, has_entries, HasAnswered, HasDivided, HasMadeLast, HasNoted, HoldsNothing, IsUnheld, IsWhole}
-use Rattle.dn_replay.specs.KeptReports.{KeepsReplies, KeepsReply}
+use Rattle.dn_replay.specs.Held.{has_entries, HasAnswered, HasMadeLast, HasNoted, HoldsNothing, IsUnheld}
 use Rattle.dn_replay.specs.OnePass.{AreFew, calls_with, HasFed, IsAnswered, IsFresh, NoneFailed}
 use Rattle.dn_replay.specs.Replays.{IsUnreplayed}
 use Rattle.dn_replay.specs.Report.{delivered, report}
 use Rattle.dn_replay.specs.Runs.{entry_after, HasMade, history_of, replayed}
 use Rattle.dn_replay.specs.declared.config.run.Run.{Run}
 use Rattle.dn_replay.specs.declared.replays.held.Held.{Held}
-use Rattle.dn_replay.specs.declared.replays.held.Held.TheVariants.{Entries, Given, Parts}
+use Rattle.dn_replay.specs.declared.replays.held.Held.TheVariants.{Entries, Given}
 use Rattle.dn_replay.specs.declared.replays.pass.Pass.{Pass}
 use Rattle.dn_replay.specs.declared.report.kept.Kept.{Kept}
-use Rattle.dn_replay.proofs.KeptCalls.{commands-configured, kept-configuration}
+use Rattle.dn_replay.proofs.KeptCalls.{kept-configuration}
 use Rattle.dn_replay.proofs.ReplaySteps.{lawful, unread_text, unreplayed, unreported}
-use Rattle.dn_replay.proofs.Runs.{submitted-append}
+use Rattle.dn_replay.proofs.Runs.{no-row, submitted-append, submitted-both}
 
 module _ (held : Held) (run : Run) (kept : Kept) (calls : List Call) where
   pub one_row : (rows : List Row) (row : Row) → HasAnswered held run kept (submit row ∷ submitted calls rows) → HasAnswered held run kept (submitted calls (rows ++ row ∷ []))
@@ -52,67 +47,29 @@ module _ (held : Held) (run : Run) (kept : Kept) (calls : List Call) where
 pub answered-first : (held : Held) (run : Run) (kept : Kept) (calls : List Call) → HasMade run calls → HasKept kept calls → HoldsNothing held → HasAnswered held run kept calls
 answered-first Entries run kept calls made has none = (made, has)
 answered-first (Given given) run kept calls made has none = λ few. (past-first run.shaper calls given.items none made.0, has)
-answered-first (Parts divided) run kept calls made has none = absurd none
-
--- Parts whose shapers have made the commands of a configuration have answered them.
-pub divided-first : (divided : Emulated) (count : ℕ) (config : List ℕ) → ((calls : List Call) → AreCommands calls → configured_by config ≡ Ok calls → HasEmulated count divided calls)
-    → (run : Run) (kept : Kept) (calls : List Call) → configured_by config ≡ Ok calls → HasKept kept calls → HasAnswered (Parts divided) run kept calls
-divided-first divided count config emulates run kept calls accepted has = λ few. ((count, emulates calls (commands-configured config calls accepted) accepted), has)
 
 -- A pass has made the commands of a configuration, and was given no packets.
-pub fed-first : (records : Bool) (pass : Pass) (run : Run) (held : Held) (config : List ℕ) (calls : List Call) → has_entries held ≡ records → IsFresh pass → configured_by config ≡ Ok calls
-    → HasMade run calls → Divides config pass.held held → HasFed records (record pass { run = run; held = held }) calls []
-fed-first records pass run held config calls is fresh accepted made divides = record {
+pub fed-first : (records : Bool) (pass : Pass) (run : Run) (config : List ℕ) (calls : List Call) → has_entries pass.held ≡ records → IsFresh pass → configured_by config ≡ Ok calls
+    → HasMade run calls → HasFed records (record pass { run = run }) calls []
+fed-first records pass run config calls is fresh accepted made = record {
   records_is = is;
   rows = [];
   read = fresh.read;
-  answered = subst (HasAnswered held run pass.kept) (sym (no-row calls))
-      (divides run pass.kept calls fresh.holds accepted made (kept-configuration pass.kept config calls accepted fresh.kept));
+  answered = subst (HasAnswered pass.held run pass.kept) (no-row calls)
+      (answered-first pass.held run pass.kept calls made (kept-configuration pass.kept config calls accepted fresh.kept) fresh.holds);
 }
-
--- What is held stays where the links aren't divided.
-pub undivided : (config : List ℕ) (held : Held) → Divides config held held
-undivided config held run kept calls nothing accepted made has = answered-first held run kept calls made has nothing
 
 -- A Submit more, to which the shaper gave this answer, and whose row is kept.
 module _ (run : Run) (kept : Kept) (calls : List Call) (row : Row) (now : State) (r : Reply)
     (answers : (made : List Call) → StandsAfter Ordered run.shaper made → (r ≡ reply Ordered made (submit row)) × StandsAfter Ordered now (submit row ∷ made))
     (after : Kept) (note : HasKept kept calls → r ≡ reply Ordered calls (submit row) → HasKept after (submit row ∷ calls)) where
-  pub unheld : (held : Held) → IsWhole held → HasAnswered held run kept calls → IsUnheld held (record run { shaper = now }) after (submit row) r calls
-  unheld Entries whole (made, has) = let (said, stands) = answers calls made.0 in (stands, made.1, said, note has said)
-  unheld (Given given) whole noted = λ few.
+  pub unheld : (held : Held) → HasAnswered held run kept calls → IsUnheld held (record run { shaper = now }) after (submit row) r calls
+  unheld Entries (made, has) = let (said, stands) = answers calls made.0 in (stands, made.1, said, note has said)
+  unheld (Given given) noted = λ few.
       let (past, has) = noted (omega (arith, few)) in
       let (said, stands) = answers past.made past.stands in
       let (told, can) = past-submit run.shaper calls given.items past row.target row.packet row.moment r now (omega (arith, few)) said stands in
       (can, note has told)
-  unheld (Parts divided) whole noted = absurd whole
-
--- Parts have answered a Submit more, which is then kept of it.
-pub divided-row : (divided now : Emulated) (kept after : Kept) (calls : List Call) (row : Row) (r : Reply)
-    → ((parts : ℕ) (calls : List Call) → HasEmulated parts divided calls → length calls < passing_limit → r ≡ reply Ordered calls (submit row))
-    → ((parts : ℕ) (calls : List Call) → HasEmulated parts divided calls → length calls < passing_limit → HasEmulated parts now (submit row ∷ calls))
-    → KeepsReply r kept after → HasDivided divided kept calls → HasDivided now after (submit row ∷ calls)
-divided-row divided now kept after calls row r says runs keeps h = λ few.
-    let ((parts, emulated), has) = h (omega (arith, few)) in
-    ((parts, runs parts calls emulated (omega (arith, few))), keeps calls row.target row.packet row.moment has (says parts calls emulated (omega (arith, few))))
-
--- They have answered the Submits of rows, which is then kept of them.
-pub divided-rows : (divided now : Emulated) (kept after : Kept) (calls : List Call) (rows : List Row) (replies : List Reply)
-    → ((parts : ℕ) (calls : List Call) → HasEmulated parts divided calls → length calls + length rows ≤ passing_limit → replies ≡ told_to calls rows)
-    → ((parts : ℕ) (calls : List Call) → HasEmulated parts divided calls → length calls + length rows ≤ passing_limit → HasEmulated parts now (submitted calls rows))
-    → KeepsReplies replies kept after → HasDivided divided kept calls → HasDivided now after (submitted calls rows)
-divided-rows divided now kept after calls rows replies says runs keeps h = λ few.
-    let size = submitted-length calls rows in
-    let ((parts, emulated), has) = h (omega (arith, size, few)) in
-    ((parts, runs parts calls emulated (omega (arith, size, few))), keeps calls rows has (says parts calls emulated (omega (arith, size, few))))
-
--- What parts gave last is what a report needs, where the calls are few.
-pub can_report_parts : (divided : Emulated) (kept : Kept) (given : List Delivery) (calls : List Call) → HasDivided divided kept calls → length calls < 2 ^ 61
-    → (moment : ℕ) → moment ≡ 2 ^ 62 → ((parts : ℕ) (calls : List Call) → HasEmulated parts divided calls → length calls < passing_limit → given ≡ delivered (reply Ordered calls (Collect moment)))
-    → CanReport kept given calls
-can_report_parts divided kept given calls h size moment last gives =
-    let ((parts, emulated), has) = h (omega (arith, size)) in
-    record { kept_is = has; given_is = gives parts calls emulated size ∙ ap (λ (m : ℕ). delivered (reply Ordered calls (Collect m))) last }
 
 -- What is kept, and what all Collects gave, are what a report needs, where the calls are few.
 pub can_report : (shaper : State) (kept : Kept) (given all : List Delivery) (calls : List Call) → HasNoted shaper kept given calls → length calls < 2 ^ 61
@@ -134,7 +91,6 @@ can_report_recorded kept given calls entries has is gives = record { kept_is = h
 pub recorded : (held : Held) (run : Run) (kept : Kept) (calls : List Call) → HasMadeLast held run kept calls → has_entries held ≡ true → run.history.items ≡ history_of (Collect (2 ^ 62) ∷ calls)
 recorded Entries run kept calls made on = made.0.1
 recorded (Given given) run kept calls made on = absurd (false≢true on)
-recorded (Parts divided) run kept calls made on = absurd (false≢true on)
 
 -- The rows of a packets' text are few, where the calls are that are asked for.
 pub few_rows : (calls : List Call) (text : List ℕ) (rows : List Row) → rows_of text ≡ Ok rows → AreFew (calls_with calls text) → length (submitted calls rows) < 2 ^ 61

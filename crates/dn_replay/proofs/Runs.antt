@@ -9,7 +9,7 @@ use Rattle.dn_types.specs.declared.rule.Rule.TheVariants.{Ordered}
 use Rattle.dn_types.specs.declared.call.Call.TheVariants.{Configure}
 use Rattle.dn_types.specs.declared.command.Command.{Command}
 use Rattle.dn_files.specs.ConfigFile.{command_at}
-use Rattle.dn_parts.specs.Rows.{submit, submitted}
+use Rattle.dn_replay.specs.Rows.{submit, submitted}
 use Rattle.dn_replay.specs.Configuring.{applied, configured_from, refusal}
 use Rattle.dn_files.specs.Reading.{IsFaultOf}
 use Rattle.dn_replay.specs.Runs.{entry_after, history_of}
@@ -36,6 +36,12 @@ pub submitted-append : (calls : List Call) (front : List Row) (row : Row) → su
 unfolding submitted
 submitted-append calls [] row = refl
 submitted-append calls (first ∷ front) row = submitted-append (submit first ∷ calls) front row
+
+-- The rows of two lists, one behind the other.
+pub submitted-both : (calls : List Call) (front back : List Row) → submitted (submitted calls front) back ≡ submitted calls (front ++ back)
+unfolding submitted
+submitted-both calls [] back = refl
+submitted-both calls (row ∷ front) back = submitted-both (submit row ∷ calls) front back
 
 -- One row more.
 pub row-more : (calls : List Call) (rows : List Row) (i : ℕ) (row : Row) → i < length rows → row ≡ get_or rows i row → submit row ∷ submitted calls (take i rows) ≡ submitted calls (take (i + 1) rows)

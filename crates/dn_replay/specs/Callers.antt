@@ -3,7 +3,7 @@ use Rattle.std.specs.Prelude.{◌≡◌, ⊤, ℕ, zero, suc, ◌+◌, ◌%◌, 
 use Rattle.dn_types.specs.History.{calls_of}
 use Rattle.dn_types.specs.declared.call.Call.{Call}
 use Rattle.dn_service.specs.Callers.{CallerView, IsSameCaller, ServiceView}
-use Rattle.dn_parts.specs.Rows.{submitted}
+use Rattle.dn_replay.specs.Rows.{submitted}
 use Rattle.dn_replay.specs.Runs.{replayed}
 use Rattle.dn_files.specs.declared.row.Row.{Row}
 

@@ -3,15 +3,12 @@ use Rattle.std.specs.Prelude.{◌≡◌, ℕ, Bool, List, [], ◌++◌, Option, 
 use Rattle.dn_types.specs.declared.call.Call.{Call}
 use Rattle.dn_types.specs.declared.entry.Entry.{Entry}
 use Rattle.dn_text.specs.Joined.{joined_parts}
-use Rattle.dn_files.specs.InChunks.{HasRows}
-use Rattle.dn_files.specs.PacketParts.{HasRead}
-use Rattle.dn_files.specs.Unread.{Unread}
 use Rattle.dn_files.specs.declared.replay_fault.ReplayFault.{ReplayFault}
 use Rattle.dn_files.specs.declared.row.Row.{Row}
-use Rattle.dn_parts.specs.Rows.{submitted}
+use Rattle.dn_replay.specs.Rows.{submitted}
 use Rattle.dn_replay.specs.Configuring.{configured_by}
 use Rattle.dn_replay.specs.Held.{GoesOn, has_entries}
-use Rattle.dn_replay.specs.OnePass.{AreFew, calls_with, HasFed, HasReady, HasTaken, IsAnswered, IsConfigSoFar, IsCutAt, NoneFailed}
+use Rattle.dn_replay.specs.OnePass.{AreFew, calls_with, HasFed, HasTaken, IsAnswered, IsConfigSoFar, IsCutAt, NoneFailed}
 use Rattle.dn_replay.specs.Replays.{IsUnreplayed}
 use Rattle.dn_replay.specs.declared.config.config_part.ConfigPart.{ConfigPart}
 use Rattle.dn_replay.specs.declared.config.run.Run.{Run}
@@ -23,11 +20,6 @@ use Rattle.dn_replay.specs.declared.report.kept.Kept.{Kept}
 -- The packets of these rows were submitted behind whatever calls were made.
 abbrev pub Submits : List Row → Held → Run → Kept → Held → Run → Kept → Type 0
 Submits rows = GoesOn (λ calls. submitted calls rows)
-
--- A reader has taken a chunk more, whatever it is that has these rows.
-abbrev pub PassesOver : List Row → Unread → Unread → Type 0
-PassesOver rows old new = (text chunk : List ℕ) (taken : List Row) → HasRead old text taken → HasRows chunk rows
-    → HasRead new (text ++ chunk) (taken ++ rows)
 
 -- A part more of a configuration has come, in which the line `--` doesn't end.
 abbrev pub TakesLines : List ℕ → ConfigPart → ConfigPart → Type 0
@@ -49,20 +41,6 @@ Configures config old new = (calls : List Call) × (configured_by config ≡ Ok 
 -- A pass was fed a part more.
 abbrev pub FeedsPart : List ℕ → Pass → Pass → Type 0
 FeedsPart part old new = Fed old (λ records calls text. HasFed records new calls (text ++ part))
-
--- The same, but these rows, the last ones, aren't submitted yet.
-abbrev pub ReadiesPart : List ℕ → Pass → Pass → List Row → Type 0
-ReadiesPart part old new ready = Fed old (λ records calls text. HasReady records new calls (text ++ part) ready)
-
--- The rows that were ready are submitted.
-abbrev pub SubmitsReady : Pass → List Row → Pass → Type 0
-SubmitsReady old ready new = (records : Bool) (calls : List Call) (text : List ℕ)
-    → HasReady records old calls text ready → HasFed records new calls text
-
--- They are, and those of a part more are ready in their place.
-abbrev pub TakesStep : List ℕ → Pass → List Row → Pass → List Row → Type 0
-TakesStep part old ready new next = (records : Bool) (calls : List Call) (text : List ℕ)
-    → HasReady records old calls text ready → HasReady records new calls (text ++ part) next
 
 -- What a pass was fed, and is the whole text, was answered. If it wasn't, why not.
 abbrev pub AnswersFed : Pass → List Entry → Bool → Option (List ℕ) → Option (List ℕ) → Type 0

@@ -12,9 +12,7 @@ use Rattle.dn_types.specs.declared.rule.Rule.TheVariants.{Ordered}
 use Rattle.dn_types.specs.declared.target.Target.{Target}
 use Rattle.dn_files.specs.Writing.{IsUnwritten}
 use Rattle.dn_files.specs.declared.replay_fault.ReplayFault.{ReplayFault}
-use Rattle.dn_files.specs.declared.row.Row.{Row}
 use Rattle.dn_files.specs.declared.source.Source.TheVariants.{Report}
-use Rattle.dn_parts.specs.Rows.{submitted, told_to}
 use Rattle.dn_records.specs.Devices.{AppendsPart}
 use Rattle.dn_records.specs.Records.{text_of}
 use Rattle.dn_replay.specs.Kept.{accepted_row, all_untargeted, AreMarksOf, CanReport, fate_lines, HasKept, IsKeptOf, kept_lines, refusal_in, rows_kept}
@@ -32,10 +30,6 @@ KeepsReply answer old new = (calls : List Call) (target : Target) (packet : Pack
     HasKept old calls →
     answer ≡ reply Ordered calls (Submit target packet moment) →
     HasKept new (Submit target packet moment ∷ calls)
-
--- The same of the Submits of rows, which have these replies.
-abbrev pub KeepsReplies : List Reply → Kept → Kept → Type 0
-KeepsReplies answers old new = (calls : List Call) (rows : List Row) → HasKept old calls → answers ≡ told_to calls rows → HasKept new (submitted calls rows)
 
 -- Whatever is given by these marks of the packets below n, this is so of it.
 abbrev pub OfMarked : List Bool → ℕ → (List Delivery → Type 0) → Type 0

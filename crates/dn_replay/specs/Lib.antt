@@ -8,7 +8,9 @@ pub mod Kept
 pub mod KeptReports
 pub mod OnePass
 pub mod Parts
+pub mod Passing
 pub mod Replays
 pub mod Report
+pub mod Rows
 pub mod Runs
 pub mod Tables

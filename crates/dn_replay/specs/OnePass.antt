@@ -12,7 +12,7 @@ use Rattle.dn_files.specs.Reading.{◌>>=◌, IsFaultOf}
 use Rattle.dn_files.specs.declared.replay_fault.ReplayFault.{ReplayFault}
 use Rattle.dn_files.specs.declared.row.Row.{Row}
 use Rattle.dn_files.specs.declared.source.Source.{Source}
-use Rattle.dn_parts.specs.Rows.{submitted}
+use Rattle.dn_replay.specs.Rows.{submitted}
 use Rattle.dn_replay.specs.Held.{has_entries, HasAnswered, HasMadeLast, HoldsNothing}
 use Rattle.dn_replay.specs.Kept.{all_untargeted, HasKept}
 use Rattle.dn_replay.specs.Replays.{calls_of_parts, IsReplayed}
@@ -58,13 +58,6 @@ pub record HasFed (records : Bool) (pass : Pass) (calls : List Call) (text : Lis
   pub records_is : has_entries pass.held ≡ records
   pub rows : List Row
   pub read : HasRead pass.reader text rows
-  pub answered : HasAnswered pass.held pass.run pass.kept (submitted calls rows)
-
--- The same, but the last rows of that text were read and aren't submitted yet.
-pub record HasReady (records : Bool) (pass : Pass) (calls : List Call) (text : List ℕ) (ready : List Row) : Type 0 where
-  pub records_is : has_entries pass.held ≡ records
-  pub rows : List Row
-  pub read : HasRead pass.reader text (rows ++ ready)
   pub answered : HasAnswered pass.held pass.run pass.kept (submitted calls rows)
 
 -- A pass that records its calls, or doesn't, has made these and then the Collect at the last moment.

@@ -8,7 +8,7 @@ use Rattle.dn_types.specs.declared.reply.Reply.{Reply}
 use Rattle.dn_types.specs.declared.rule.Rule.TheVariants.{Ordered}
 use Rattle.dn_shaper.specs.Shaper.{StandsAfter}
 use Rattle.dn_files.specs.declared.row.Row.{Row}
-use Rattle.dn_parts.specs.Rows.{submitted}
+use Rattle.dn_replay.specs.Rows.{submitted}
 use Rattle.dn_replay.specs.declared.config.run.Run.{Run}
 
 -- The entry of a call by caller 0, after the calls before it.

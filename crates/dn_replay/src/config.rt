@@ -2,4 +2,3 @@
 
 pub(crate) mod config_part;
 pub(crate) mod run;
-pub(crate) mod shapers;

@@ -14,7 +14,5 @@ pub use dn_files::{PACKET_LIMIT, ReplayFault, Row, Source, read_config, read_pac
 pub use dn_history::{HISTORY_LIMIT, read_history, write_history};
 pub use dn_records::{FromReader, FromWriter, Inlet, Outlet};
 pub use dn_shaper::HashKey;
-pub use replays::{
-    FileReplay, Manner, replay, replay_files, replay_files_by_threads, replay_input, replay_joined,
-};
+pub use replays::{FileReplay, Manner, replay, replay_files, replay_input, replay_joined};
 pub use report::{Outcome, write_report};

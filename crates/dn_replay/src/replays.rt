@@ -2,18 +2,15 @@
 //!
 //! A report is written, and a history is kept if it is asked for.
 
-mod by_threads;
-mod chunks;
 mod file_replay;
 mod held;
 mod inlets;
 mod manner;
 mod pass;
+mod passing;
 mod stage;
-mod threading;
 mod unkeyed;
 
-pub use by_threads::replay_files_by_threads;
 pub use file_replay::FileReplay;
 pub use inlets::{replay_files, replay_input};
 pub use manner::Manner;

@@ -4,7 +4,7 @@ use dn_command::Replay;
 use dn_records::{FromReader, FromWriter};
 use dn_replay::{
     HashKey, Manner, NoGate, PACKET_LIMIT, ReplayFault, Source, replay_callers_with_key,
-    replay_files_by_threads, write_history,
+    write_history,
 };
 use std::rt::Files;
 use std::sync::Wait;
@@ -56,7 +56,6 @@ pub fn replay_files<R: Files + Print + AllocGlobal + Threads + Wait + Sync>(
     if !spares_files(rt, asked.history) {
         return Err(Fault::OtherFile);
     }
-    let threads = asked.threads.unwrap_or(1);
     let mut config = FromReader::new(config);
     let mut packets = FromReader::new(packets);
     let mut out = FromWriter::new(io::writer(rt));
@@ -67,8 +66,8 @@ pub fn replay_files<R: Files + Print + AllocGlobal + Threads + Wait + Sync>(
         records: asked.history.is_some(),
         limit,
     };
-    let entries = match (asked.callers, threads) {
-        (Some(n), _) => replay_callers_with_key(
+    let entries = match asked.callers {
+        Some(n) => replay_callers_with_key(
             rt,
             alloc,
             key,
@@ -78,21 +77,7 @@ pub fn replay_files<R: Files + Print + AllocGlobal + Threads + Wait + Sync>(
             &mut out,
             &NoGate,
         )?,
-        (None, 1) => {
-            dn_replay::replay_files(alloc, manner, &mut config, &mut packets, &mut out)?.0
-        }
-        (None, _) => {
-            replay_files_by_threads(
-                rt,
-                alloc,
-                threads,
-                manner,
-                &mut config,
-                &mut packets,
-                &mut out,
-            )?
-            .0
-        }
+        None => dn_replay::replay_files(alloc, manner, &mut config, &mut packets, &mut out)?.0,
     };
     let Some(path) = asked.history else {
         return Ok(());

@@ -1,11 +1,8 @@
-use dn_files::{
-    PacketReader, ReplayFault, Row, rows_of_chunk, rows_of_text, rows_of_text_by_threads,
-};
+use dn_files::{PacketReader, ReplayFault, Row, rows_of_text};
 use dn_types::{Number, Target};
-use std::alloc::{AllocError, Global};
+use std::alloc::Global;
 use std::process::Abort;
 use std::test::Fail;
-use std::thread::Threads;
 
 const HEADER: &str = "moment,target,number,src,dst,proto,sport,dport,len,word\n";
 
@@ -177,60 +174,5 @@ fn rows_in_any_form_are_taken_as_they_come(rt: HostRuntime) -> Result<(), Fail> 
         assert!(rt; are_the_two(rows.as_slice()) && left == 0, "{text}");
         check_parts(&rt, alloc, text.as_bytes(), &Ok(2));
     }
-    Ok(())
-}
-
-// The rows that so many threads read.
-fn rows_by_threads<R: Threads + Sync>(
-    rt: &R,
-    alloc: Global,
-    text: &[u8],
-    threads: usize,
-) -> Result<Vec<Row>, AllocError> {
-    let mut rows = Vec::new(alloc);
-    if let Some(lists) = rows_of_text_by_threads(rt, alloc, text, threads)? {
-        for list in lists {
-            rows.extend_from_slice(list.as_slice())?;
-        }
-    }
-    Ok(rows)
-}
-
-#[test]
-fn threads_read_the_rows_of_the_whole(rt: HostRuntime) -> Result<(), Fail> {
-    let alloc = rt.alloc();
-    for text in FORMS.iter() {
-        for threads in 0..9usize {
-            let rows = rows_by_threads(&rt, alloc, text.as_bytes(), threads)?;
-            assert!(rt; are_the_two(rows.as_slice()), "{threads} threads: {text}");
-        }
-    }
-    Ok(())
-}
-
-#[test]
-fn threads_leave_what_only_csv_reads(rt: HostRuntime) -> Result<(), Fail> {
-    let alloc = rt.alloc();
-    for (below, answer) in FILES.iter() {
-        let text = format!(in alloc; "{HEADER}{below}")?;
-        let rows = rows_by_threads(&rt, alloc, text.as_bytes(), 3)?;
-        assert!(rt; rows.is_empty() || *answer == Ok(rows.len()), "{below}");
-    }
-    assert!(rt; rows_of_text_by_threads(&rt, alloc, b"moment,target\n", 2)?.is_none());
-    assert!(rt; rows_of_chunk(alloc, b"0,pipe,1,10.0.0.1,10.0.0.2,17,1000,2000,1000,0")?.is_none());
-    Ok(())
-}
-
-#[test]
-fn rows_behind_a_chunk_keep_their_numbers(rt: HostRuntime) -> Result<(), Fail> {
-    let alloc = rt.alloc();
-    let mut reader = PacketReader::new(alloc);
-    assert!(rt; !reader.is_behind_row() && !reader.pass_over(2));
-    reader.feed(HEADER.as_bytes())?;
-    assert!(rt; reader.next().is_none() && reader.is_behind_row());
-    assert!(rt; reader.pass_over(2) && !reader.pass_over(usize::MAX));
-    reader.feed(b"x\n")?;
-    assert!(rt; !reader.pass_over(2));
-    assert!(rt; reader.finish() == Err(ReplayFault::BadRow { row: 3, field: 0 }));
     Ok(())
 }

@@ -4,8 +4,6 @@
 #[cfg(test)]
 mod broken;
 #[cfg(test)]
-mod by_threads;
-#[cfg(test)]
 mod fed;
 #[cfg(test)]
 mod headers;

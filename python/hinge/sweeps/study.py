@@ -123,8 +123,7 @@ class Study:
                 out.writelines(reseeded(self.packets, int(values[SEED])))
             copy_addresses(self.packets, packets)
             with open(report, "wb") as out:
-                # Each processor has a run of its own.
-                self.call([dummynet(), "replay", "--threads", "1", str(config), str(packets)], number, out)
+                self.call([dummynet(), "replay", str(config), str(packets)], number, out)
             replay = read_report(str(report), read_packets(str(packets)))
             self.keep(number, table_of(replay, Parts(replay, read_configuration(str(config))).check()))
 

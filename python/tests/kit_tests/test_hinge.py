@@ -117,7 +117,7 @@ class Help(unittest.TestCase):
         self.assertEqual(run("help", "xyz").stderr, "hinge: no command 'xyz'; `hinge help` lists the commands.\n")
         for word in ("stats", "picture", "paths", "through", "with-clock"):
             self.assertRegex(run(word, "x").stderr, rf"^hinge: no command '{word}'; write (hinge look|LD_PRELOAD=)", word)
-        gone = "dummynet replay CONFIG PACKETS --threads N --most-packets 1099511627776 > REPORT"
+        gone = "dummynet replay CONFIG PACKETS --most-packets 1099511627776 > REPORT"
         for words in (["shard"], ["shard", "c", "p", "-j", "4"], ["help", "shard"], ["shard", "--help"]):
             done = run(*words)
             self.assertEqual((2, f"hinge: no command 'shard'; write {gone} (hinge docs FILES)\n"), (done.returncode, done.stderr))

@@ -1,7 +1,7 @@
 ghost use Rattle.std.specs.Prelude.{◌≡◌, List, [], ◌∷◌, Some, Ok, OnOk, IfErr};
 ghost use Rattle.dn_types.specs.declared.call.Call.{Call as CallValue};
 ghost use Rattle.dn_types.specs.declared.call.Call.TheVariants.{Configure};
-ghost use Rattle.dn_parts.specs.Rows.{submit};
+ghost use Rattle.dn_replay.specs.Rows.{submit};
 ghost use Rattle.dn_replay.specs.Configuring.{applied, configured_by, refusal};
 ghost use Rattle.dn_files.specs.Reading.{IsFaultOf};
 ghost use Rattle.dn_replay.specs.Runs.{HasMade, AddsEntry};

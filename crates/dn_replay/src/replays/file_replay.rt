@@ -11,8 +11,7 @@ use crate::config::config_part::ConfigPart;
 use crate::replays::manner::Manner;
 use crate::replays::pass::Pass;
 use crate::replays::stage::Stage;
-use crate::replays::threading::{OneThread, Threading};
-use crate::report::{Outcome, Printing};
+use crate::report::Outcome;
 use dn_files::{CONFIG_LIMIT, Feed, ReplayFault, Source, feed_all};
 use dn_records::{Inlet, Outlet};
 use dn_types::Entry;
@@ -73,27 +72,11 @@ impl FileReplay {
         ensures accepted { OnOk result ((calls : List CallValue) × (config_calls config.now ≡ Ok calls)) }
         ensures err { IfErr result (λ fault. IsFaultOf (config_calls config.now) fault) }
     {
-        FileReplay::behind_by(alloc, &OneThread, manner, config)
-    }
-
-    /// The same. These threads may emulate its links.
-    pub(crate) fn behind_by<T: Threading>(
-        alloc: Global,
-        by: &T,
-        manner: Manner,
-        config: &[u8],
-    ) -> Result<FileReplay, ReplayFault>
-        requires { IsLimit manner.limit }
-        ensures ok { IfOk result (λ replay. HasCome manner.records replay (Some config.now) []) }
-        ensures limit { IfOk result (λ replay. replay.limit ≡ manner.limit) }
-        ensures accepted { OnOk result ((calls : List CallValue) × (config_calls config.now ≡ Ok calls)) }
-        ensures err { IfErr result (λ fault. IsFaultOf (config_calls config.now) fault) }
-    {
         if config.len() > CONFIG_LIMIT {
             return Err(ReplayFault::TooLong(Source::Config));
         }
         let mut pass = Pass::new(alloc, manner.key, manner.records);
-        match by.configure(&mut pass, config) {
+        match pass.configure(config) {
             Ok(()) => Ok(FileReplay {
                 stage: Stage::Packets,
                 pass,
@@ -122,25 +105,13 @@ impl FileReplay {
         ensures faults { IfErr result (λ fault. IsUnfed self.old self.new part.now fault) }
         ensures lacks { LacksMemory self.old → LacksMemory self.new }
     {
-        self.feed_by(&OneThread, part)
-    }
-
-    /// Takes the next part, whose rows are read by these threads.
-    pub(crate) fn feed_by<T: Threading>(&mut self, by: &T, part: &[u8]) -> Result<(), ReplayFault>
-        ensures ok { OnOk result (ComesMore part.now self.old self.new) }
-        ensures limit { self.new.limit ≡ self.old.limit }
-        ensures room { OnOk result (length part.now + (self.new.limit - self.new.length) ≤ self.old.limit - self.old.length) }
-        ensures err { IfErr result (λ fault. IsFaultBehind part.now self.old fault) }
-        ensures faults { IfErr result (λ fault. IsUnfed self.old self.new part.now fault) }
-        ensures lacks { LacksMemory self.old → LacksMemory self.new }
-    {
         if part.len() > self.limit - self.length {
             return Err(ReplayFault::TooLong(self.source));
         }
         // If memory is refused, this stage stays.
         let refused = Stage::Refused(ReplayFault::OutOfMemory);
         let stage = mem::replace(&mut self.stage, refused);
-        let Ok(next) = stage.feed(&mut self.pass, by, part) else {
+        let Ok(next) = stage.feed(&mut self.pass, part) else {
             return Err(ReplayFault::OutOfMemory);
         };
         self.stage = next;
@@ -175,25 +146,8 @@ impl FileReplay {
         ensures lacks { LacksMemory self
             → (result ≡ Err OutOfMemory) × NothingWritten (O.contents out.old) (O.contents out.new) (O.has_failed out.new) }
     {
-        self.finish_by(&OneThread, out)
-    }
-
-    /// The same with the lines of the report made by these threads.
-    pub(crate) fn finish_by<P: Printing, O: Outlet>(
-        self,
-        by: &P,
-        out: &mut O,
-    ) -> Result<(Vec<Entry>, Outcome), ReplayFault>
-        requires sound { O.has_failed out.old ≡ false }
-        ensures ok { IfOk result (λ both. AnswersCome self both.0.items both.1.untargeted (O.contents out.old) (O.contents out.new)) }
-        ensures unasked { IfOk result (λ both. has_entries self.pass.held ≡ false → both.0.items ≡ []) }
-        ensures sound { IfOk result (λ _. O.has_failed out.new ≡ false) }
-        ensures err { IfErr result (λ fault. LeavesCome self (O.contents out.old) (O.contents out.new) (O.has_failed out.new) fault) }
-        ensures lacks { LacksMemory self
-            → (result ≡ Err OutOfMemory) × NothingWritten (O.contents out.old) (O.contents out.new) (O.has_failed out.new) }
-    {
         let mut pass = self.pass;
-        let answer = self.stage.finish(self.alloc, &mut pass, by, out);
+        let answer = self.stage.finish(self.alloc, &mut pass, out);
         drop(pass);
         answer
     }

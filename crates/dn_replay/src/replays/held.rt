@@ -1,17 +1,12 @@
-ghost use Rattle.std.specs.Prelude.{◌≡◌, ◌<◌, [], List, OnOk, IfErr, false, true};
+ghost use Rattle.std.specs.Prelude.{◌≡◌, [], List, OnOk, false, true};
 ghost use Rattle.dn_types.specs.declared.call.Call.{Call as CallValue};
-ghost use Rattle.dn_files.specs.Reading.{IsFaultOf};
-ghost use Rattle.dn_replay.specs.Configuring.{configured_by};
 ghost use Rattle.dn_replay.specs.Kept.{CanReport};
-ghost use Rattle.dn_replay.specs.Held.{Divides, Ends, HasMadeLast, HoldsAnswer, HoldsNothing, has_entries};
+ghost use Rattle.dn_replay.specs.Held.{Ends, HasMadeLast, HoldsAnswer, HoldsNothing, has_entries};
 ghost use Rattle.dn_replay.specs.declared.report.kept.Kept.{Kept as KeptValue};
 
 use crate::config::run::Run;
-use crate::config::shapers::shapers_of;
+use crate::replays::passing::{collect, collect_in_passing};
 use crate::report::{Kept, last_delivered};
-use dn_files::ReplayFault;
-use dn_parts::{DividedShaper, collect, collect_in_passing};
-use dn_shaper::HashKey;
 use dn_types::{Call, Delivery, Entry, Moment, Reply};
 use std::alloc::{AllocError, Global};
 
@@ -22,8 +17,6 @@ pub(crate) enum Held {
     Entries,
     /// No Submit is recorded, and these are the packets that the Collects so far gave, in their order.
     Given(Vec<Delivery>),
-    /// No Submit is recorded, and in place of the run's shaper each of these answers the packets on its part of the links.
-    Parts(DividedShaper),
 }
 
 impl Held {
@@ -36,38 +29,6 @@ impl Held {
             return Held::Entries;
         }
         Held::Given(Vec::new(alloc))
-    }
-
-    /// Whether the links are divided. No result depends on it.
-    pub(crate) fn is_divided(&self) -> bool {
-        matches!(self, Held::Parts(_))
-    }
-
-    /// Divides the links of a configuration among so many shapers, if no call is recorded.
-    ///
-    /// Each makes all commands, as the run has done.
-    pub(crate) fn divide(
-        &mut self,
-        alloc: Global,
-        key: HashKey,
-        config: &[u8],
-        parts: usize,
-    ) -> Result<(), ReplayFault>
-        requires { 0 < parts }
-        ensures ok { OnOk result (Divides config.now self.old self.new) }
-        ensures records { has_entries self.new ≡ has_entries self.old }
-        ensures err { IfErr result (λ fault. IsFaultOf (configured_by config.now) fault) }
-    {
-        match self {
-            Held::Entries => return Ok(()),
-            Held::Given(_) | Held::Parts(_) => {}
-        }
-        let shapers = shapers_of(alloc, key, config, parts)?;
-        let Ok(divided) = DividedShaper::new(alloc, shapers) else {
-            return Err(ReplayFault::OutOfMemory);
-        };
-        *self = Held::Parts(divided);
-        Ok(())
     }
 
     /// Holds the answer of the run to a Submit, of which the report's row is kept already.
@@ -86,23 +47,17 @@ impl Held {
         match self {
             Held::Entries => run.add_entry(call, reply),
             Held::Given(given) => collect_in_passing(&mut run.shaper, given, kept.rows()),
-            Held::Parts(_) => Ok(()),
         }
     }
 
-    /// Takes all packets that are due by the last moment. Then no parts are left.
-    pub(crate) fn collect_rest(&mut self, alloc: Global, run: &mut Run) -> Result<(), AllocError>
+    /// Takes all packets that are due by the last moment.
+    pub(crate) fn collect_rest(&mut self, run: &mut Run) -> Result<(), AllocError>
         ensures { OnOk result (Ends self.old run.old self.new run.new) }
     {
         let last = Moment::new(1 << 62).unwrap();
         match self {
             Held::Entries => run.make(Call::Collect(last)),
             Held::Given(given) => collect(&mut run.shaper, given, last),
-            Held::Parts(divided) => {
-                let given = divided.collect(alloc, last)?;
-                *self = Held::Given(given);
-                Ok(())
-            }
         }
     }
 
@@ -114,7 +69,6 @@ impl Held {
         match self {
             Held::Entries => last_delivered(run.history.as_slice()),
             Held::Given(given) => given.as_slice(),
-            Held::Parts(_) => &[],
         }
     }
 
@@ -125,7 +79,7 @@ impl Held {
     {
         match self {
             Held::Entries => run.take_history(alloc),
-            Held::Given(_) | Held::Parts(_) => Vec::new(alloc),
+            Held::Given(_) => Vec::new(alloc),
         }
     }
 }

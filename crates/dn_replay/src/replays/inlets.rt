@@ -7,18 +7,15 @@ ghost use Rattle.dn_replay.specs.Replays.{AsksForWithin, EitherFailed, InputFail
 
 use crate::replays::file_replay::FileReplay;
 use crate::replays::manner::Manner;
-use crate::replays::threading::{Feeding, OneThread, Threading};
 use crate::report::Outcome;
-use dn_files::{CONFIG_LIMIT, ReplayFault, Source, feed_steps, read_input};
+use dn_files::{CONFIG_LIMIT, ReplayFault, Source, read_input};
 use dn_records::{Inlet, Outlet};
 use dn_types::Entry;
 use std::alloc::Global;
 
 /// Feeds a replay of which nothing has come what an inlet has left, and answers it.
-fn answer<T: Threading, I: Inlet, O: Outlet>(
-    alloc: Global,
-    by: &T,
-    replay: FileReplay,
+fn answer<I: Inlet, O: Outlet>(
+    mut replay: FileReplay,
     inlet: &mut I,
     out: &mut O,
 ) -> Result<(Vec<Entry>, Outcome), ReplayFault>
@@ -31,46 +28,14 @@ fn answer<T: Threading, I: Inlet, O: Outlet>(
     ensures err { IfErr result (λ fault.
         LeavesWhole (I.remaining inlet.old) (I.has_failed inlet.new) replay (O.contents out.old) (O.contents out.new) (O.has_failed out.new) fault) }
 {
-    let mut feeding = Feeding { replay, by };
-    match feed_steps(alloc, inlet, &mut feeding, by.step()) {
-        Ok(()) => feeding.replay.finish_by(by, out),
+    match replay.read(inlet) {
+        Ok(()) => replay.finish(out),
         Err(fault) => {
             // The proof of a drop by a call has one step, where that of a drop at the end has one for each field.
-            drop(feeding);
+            drop(replay);
             Err(fault)
         }
     }
-}
-
-/// Two inputs are read, the rows of the packets by these threads, and what they ask for is answered.
-pub(crate) fn replay_inputs<T: Threading, C: Inlet, P: Inlet, O: Outlet>(
-    alloc: Global,
-    by: &T,
-    manner: Manner,
-    config: &mut C,
-    packets: &mut P,
-    out: &mut O,
-) -> Result<(Vec<Entry>, Outcome), ReplayFault>
-    requires limit { IsLimit manner.limit }
-    requires config { C.has_failed config.old ≡ false }
-    requires packets { P.has_failed packets.old ≡ false }
-    requires out { O.has_failed out.old ≡ false }
-    ensures ok { IfOk result (λ both. AnswersFiles manner (C.remaining config.old) (P.remaining packets.old)
-        both.0.items both.1.untargeted (O.contents out.old) (O.contents out.new)) }
-
-    // A history is lawful, and the report of one caller is its report.
-    ensures lawful { IfOk result (λ both. manner.records ≡ true → IsLawful Ordered both.0.items) }
-    ensures callers { IfOk result (λ both. manner.records ≡ true → All (λ e. e.caller < 1) both.0.items) }
-
-    // Which read failed, if one did. With a result no write failed.
-    ensures inputs { EitherFailed (C.remaining config.old) (C.has_failed config.new) (P.has_failed packets.new) (read_of result) }
-    ensures sound { IfOk result (λ _. O.has_failed out.new ≡ false) }
-    ensures err { IfErr result (λ fault. IsUnanswered (FilesAsk manner (C.remaining config.old) (P.remaining packets.old))
-        (O.contents out.old) (O.contents out.new) (O.has_failed out.new) fault) }
-{
-    let text = read_input(alloc, config, CONFIG_LIMIT, Source::Config)?;
-    let replay = FileReplay::behind_by(alloc, by, manner, text.as_slice())?;
-    answer(alloc, by, replay, packets, out)
 }
 
 /// Replays a packet file through a configuration for one caller, as [`replay`](crate::replay), and writes the report.
@@ -101,7 +66,9 @@ pub fn replay_files<C: Inlet, P: Inlet, O: Outlet>(
     ensures err { IfErr result (λ fault. IsUnanswered (FilesAsk manner (C.remaining config.old) (P.remaining packets.old))
         (O.contents out.old) (O.contents out.new) (O.has_failed out.new) fault) }
 {
-    replay_inputs(alloc, &OneThread, manner, config, packets, out)
+    let text = read_input(alloc, config, CONFIG_LIMIT, Source::Config)?;
+    let replay = FileReplay::behind(alloc, manner, text.as_slice())?;
+    answer(replay, packets, out)
 }
 
 /// [`replay_files`] over one joined input: a configuration up to the first line `--`, and then a packet file.
@@ -123,5 +90,5 @@ pub fn replay_input<I: Inlet, O: Outlet>(
     ensures err { IfErr result (λ fault. IsUnanswered (AsksForWithin manner.limit (I.remaining input.old)) (O.contents out.old) (O.contents out.new) (O.has_failed out.new) fault) }
 {
     let replay = FileReplay::joined(alloc, manner);
-    answer(alloc, &OneThread, replay, input, out)
+    answer(replay, input, out)
 }

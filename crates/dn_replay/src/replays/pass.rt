@@ -1,18 +1,16 @@
-ghost use Rattle.std.specs.Prelude.{◌≡◌, ◌<◌, [], ◌∷◌, ℕ, Bool, List, OnOk, IfOk, IfErr, false};
+ghost use Rattle.std.specs.Prelude.{◌≡◌, [], ◌∷◌, ℕ, Bool, List, OnOk, IfOk, IfErr, false};
 ghost use Rattle.dn_types.specs.declared.call.Call.{Call as CallValue};
 ghost use Rattle.dn_files.specs.Reading.{IsFaultOf};
-ghost use Rattle.dn_parts.specs.Rows.{submit as submit_of};
-ghost use Rattle.dn_replay.specs.Held.{GoesOn, HasDivided, IsWhole, has_entries};
+ghost use Rattle.dn_replay.specs.Rows.{submit as submit_of};
+ghost use Rattle.dn_replay.specs.Held.{GoesOn, has_entries};
 ghost use Rattle.dn_replay.specs.OnePass.{AreFew, HasEndedWith, HasFed, IsFresh, calls_with};
 ghost use Rattle.dn_replay.specs.Configuring.{configured_by};
 ghost use Rattle.dn_replay.specs.Feeding.{AnswersFed, Configures, Fed, FeedsPart, LeavesFed, Submits};
 
 use crate::config::run::{Run, submit};
-use crate::config::shapers::has_links;
 use crate::replays::held::Held;
-use crate::report::{Kept, Outcome, Printing, write_kept};
+use crate::report::{Kept, Outcome, write_kept};
 use dn_files::{PacketReader, ReplayFault, Row};
-use dn_parts::DividedShaper;
 use dn_records::Outlet;
 use dn_shaper::HashKey;
 use dn_types::Entry;
@@ -21,7 +19,7 @@ use std::alloc::{AllocError, Global};
 /// A run that submits the packets of a text as its parts come.
 ///
 /// Of a packet it keeps what the report needs. The run's history has the configuration's calls, and the packets' calls too
-/// if entries are held. If its links are divided, the run has made the configuration's calls alone.
+/// if entries are held.
 #[derive(Drop)]
 pub(crate) struct Pass {
     pub(crate) run: Run,
@@ -30,15 +28,9 @@ pub(crate) struct Pass {
     pub(crate) reader: PacketReader,
 }
 
-/// Submits the packet of a row to the run's shaper, and keeps what the report needs of the reply.
+/// Submits the packet of a row, and keeps what the report needs of the reply.
 #[inline(always)]
-fn submit_to_run(
-    run: &mut Run,
-    kept: &mut Kept,
-    held: &mut Held,
-    row: &Row,
-) -> Result<(), AllocError>
-    requires { IsWhole held.old }
+fn submit_row(run: &mut Run, kept: &mut Kept, held: &mut Held, row: &Row) -> Result<(), AllocError>
     ensures { OnOk result (GoesOn (λ calls. submit_of row.now ∷ calls) held.old run.old kept.old held.new run.new kept.new) }
 {
     let call = submit(row);
@@ -47,31 +39,8 @@ fn submit_to_run(
     held.hold(run, kept, call, reply)
 }
 
-/// Submits the packet of a row to the parts.
-#[inline(never)]
-fn submit_to_parts(
-    divided: &mut DividedShaper,
-    kept: &mut Kept,
-    row: &Row,
-) -> Result<(), AllocError>
-    ensures { OnOk result ((calls : List CallValue) → HasDivided divided.old kept.old calls → HasDivided divided.new kept.new (submit_of row.now ∷ calls)) }
-{
-    let reply = divided.submit_row(row)?;
-    kept.note(&reply)
-}
-
-/// Submits the packet of a row, and keeps what the report needs of the reply.
-fn submit_row(run: &mut Run, kept: &mut Kept, held: &mut Held, row: &Row) -> Result<(), AllocError>
-    ensures { OnOk result (GoesOn (λ calls. submit_of row.now ∷ calls) held.old run.old kept.old held.new run.new kept.new) }
-{
-    match held {
-        Held::Entries | Held::Given(_) => submit_to_run(run, kept, held, row),
-        Held::Parts(divided) => submit_to_parts(divided, kept, row),
-    }
-}
-
 /// Submits the packet of each row.
-pub(crate) fn submit_rows(
+fn submit_rows(
     run: &mut Run,
     kept: &mut Kept,
     held: &mut Held,
@@ -109,26 +78,6 @@ impl Pass {
         self.run.configure(config)
     }
 
-    /// The same. Where there are links to divide, each of so many shapers then answers the packets on its part of them.
-    pub(crate) fn configure_in_parts(
-        &mut self,
-        alloc: Global,
-        config: &[u8],
-        parts: usize,
-    ) -> Result<(), ReplayFault>
-        requires fresh { IsFresh self.old }
-        requires some { 0 < parts }
-        ensures ok { OnOk result (Configures config.now self.old self.new) }
-        ensures records { has_entries self.new.held ≡ has_entries self.old.held }
-        ensures err { IfErr result (λ fault. IsFaultOf (configured_by config.now) fault) }
-    {
-        self.run.configure(config)?;
-        if parts == 1 || !has_links(self.run.history.as_slice()) {
-            return Ok(());
-        }
-        self.held.divide(alloc, self.run.key, config, parts)
-    }
-
     /// Takes a part of the packets' text, and submits the rows that are whole.
     pub(crate) fn feed(&mut self, part: &[u8]) -> Result<(), AllocError>
         ensures { OnOk result (FeedsPart part.now self.old self.new) }
@@ -145,7 +94,7 @@ impl Pass {
     }
 
     /// Submits what is left of the packets' text, which has ended, and takes all packets that are due by the last moment.
-    fn submit_rest(&mut self, alloc: Global) -> Result<(), ReplayFault>
+    fn submit_rest(&mut self) -> Result<(), ReplayFault>
         ensures ok { OnOk result (Fed self.old (λ records calls text. AreFew (calls_with calls text) → HasEndedWith records self.new calls text)) }
         ensures err { IfErr result (λ fault. Fed self.old (λ records calls text. IsFaultOf (calls_with calls text) fault)) }
     {
@@ -158,7 +107,7 @@ impl Pass {
         ) else {
             return Err(ReplayFault::OutOfMemory);
         };
-        let Ok(()) = self.held.collect_rest(alloc, &mut self.run) else {
+        let Ok(()) = self.held.collect_rest(&mut self.run) else {
             return Err(ReplayFault::OutOfMemory);
         };
         Ok(())
@@ -167,10 +116,9 @@ impl Pass {
     /// Takes the end of the packets' text and all packets that are due by the last moment, and writes the report.
     ///
     /// The history of all calls is returned, or an empty one if they aren't recorded.
-    pub(crate) fn finish<P: Printing, O: Outlet>(
+    pub(crate) fn finish<O: Outlet>(
         &mut self,
         alloc: Global,
-        by: &P,
         out: &mut O,
     ) -> Result<(Vec<Entry>, Outcome), ReplayFault>
         requires fed { (records : Bool) × (calls : List CallValue) × (text : List ℕ) × HasFed records self.old calls text × AreFew (calls_with calls text) }
@@ -180,8 +128,8 @@ impl Pass {
         ensures sound { IfOk result (λ _. O.has_failed out.new ≡ false) }
         ensures err { IfErr result (λ fault. LeavesFed self.old (O.contents out.old) (O.contents out.new) (O.has_failed out.new) fault) }
     {
-        self.submit_rest(alloc)?;
-        let outcome = write_kept(alloc, by, &self.kept, self.held.all_given(&self.run), out)?;
+        self.submit_rest()?;
+        let outcome = write_kept(alloc, &self.kept, self.held.all_given(&self.run), out)?;
         let history = self.held.take_history(&mut self.run, alloc);
         Ok((history, outcome))
     }

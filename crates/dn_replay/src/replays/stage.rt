@@ -10,8 +10,7 @@ ghost use Rattle.dn_replay.specs.Feeding.{AnswersTaken, LeavesTaken, Taken, Take
 
 use crate::config::config_part::ConfigPart;
 use crate::replays::pass::Pass;
-use crate::replays::threading::Threading;
-use crate::report::{Outcome, Printing};
+use crate::report::Outcome;
 use dn_files::ReplayFault;
 use dn_records::Outlet;
 use dn_types::Entry;
@@ -33,18 +32,13 @@ pub(crate) enum Stage {
 /// Makes the commands of a configuration, which has come whole, and takes the first bytes behind it.
 ///
 /// The stage behind it is returned.
-fn begin<T: Threading>(
-    config: &[u8],
-    pass: &mut Pass,
-    by: &T,
-    packets: &[u8],
-) -> Result<Stage, AllocError>
+fn begin(config: &[u8], pass: &mut Pass, packets: &[u8]) -> Result<Stage, AllocError>
     requires { IsFresh pass.old }
     ensures { IfOk result (λ stage. TakesConfig config.now packets.now pass.old stage pass.new) }
 {
-    match by.configure(pass, config) {
+    match pass.configure(config) {
         Ok(()) => {
-            by.feed(pass, packets)?;
+            pass.feed(packets)?;
             Ok(Stage::Packets)
         }
         Err(fault) => Ok(Stage::Refused(fault)),
@@ -52,24 +46,19 @@ fn begin<T: Threading>(
 }
 
 impl Stage {
-    /// Takes a part of the text, whose rows are read by these threads, and returns the stage behind it.
-    pub(crate) fn feed<T: Threading>(
-        self,
-        pass: &mut Pass,
-        by: &T,
-        part: &[u8],
-    ) -> Result<Stage, AllocError>
+    /// Takes a part of the text, and returns the stage behind it.
+    pub(crate) fn feed(self, pass: &mut Pass, part: &[u8]) -> Result<Stage, AllocError>
         requires { CanTake self pass.old }
         ensures taken { IfOk result (λ stage. TakesPart part.now self pass.old stage pass.new) }
         ensures refused { IfOk result (λ stage. (fault : FaultValue) → self ≡ RefusedValue fault → stage ≡ self) }
     {
         match self {
             Stage::Config(mut config) => match config.feed(part)? {
-                Some(packets) => begin(config.lines.as_slice(), pass, by, packets),
+                Some(packets) => begin(config.lines.as_slice(), pass, packets),
                 None => Ok(Stage::Config(config)),
             },
             Stage::Packets => {
-                by.feed(pass, part)?;
+                pass.feed(part)?;
                 Ok(Stage::Packets)
             }
             Stage::Refused(fault) => Ok(Stage::Refused(fault)),
@@ -98,11 +87,10 @@ impl Stage {
     /// Takes the end of the text, and writes the report of what it asks for.
     ///
     /// The history is returned, which is empty if none is kept.
-    pub(crate) fn finish<P: Printing, O: Outlet>(
+    pub(crate) fn finish<O: Outlet>(
         self,
         alloc: Global,
         pass: &mut Pass,
-        by: &P,
         out: &mut O,
     ) -> Result<(Vec<Entry>, Outcome), ReplayFault>
         requires taken { (records : Bool) × (asked : List ℕ → Result (List CallValue) FaultValue) × (text : List ℕ)
@@ -116,6 +104,6 @@ impl Stage {
             → (result ≡ Err fault) × NothingWritten (O.contents out.old) (O.contents out.new) (O.has_failed out.new) }
     {
         self.end(pass)?;
-        pass.finish(alloc, by, out)
+        pass.finish(alloc, out)
     }
 }

@@ -1,7 +1,7 @@
 ghost use Rattle.std.specs.Prelude.{◌≡◌, ◌+◌, [], ◌++◌, ◌&&◌, length, not, OnOk, option_to_list};
 ghost use Rattle.std.specs.List.{list_any};
 ghost use Rattle.dn_replay.specs.Kept.{accepted_row, are_untargeted, HasKept, lacks_target, refused_row};
-ghost use Rattle.dn_replay.specs.KeptReports.{KeepsReplies, KeepsReply};
+ghost use Rattle.dn_replay.specs.KeptReports.{KeepsReply};
 
 use crate::report::fate::Fate;
 use crate::report::kept_rows::{AcceptedRow, RefusedRow};
@@ -88,16 +88,6 @@ impl Kept {
         let row = self.rows() + 1;
         keep_accepted(&mut self.accepted, row, fate)?;
         keep_refused(&mut self.refused, row, fate)?;
-        Ok(())
-    }
-
-    /// Keeps what a report needs of the replies to the next Submits.
-    pub(crate) fn note_all(&mut self, replies: &[Reply]) -> Result<(), AllocError>
-        ensures { OnOk result (KeepsReplies replies.now self.old self.new) }
-    {
-        for reply in replies {
-            self.note(reply)?;
-        }
         Ok(())
     }
 

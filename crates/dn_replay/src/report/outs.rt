@@ -22,7 +22,7 @@ pub(crate) fn row_of(accepted: &[AcceptedRow], packet: u64) -> AcceptedRow
 }
 
 /// Adds the `out` line of a delivery.
-pub(crate) fn add_delivery(text: &mut Vec<u8>, accepted: &[AcceptedRow], delivery: Delivery)
+fn add_delivery(text: &mut Vec<u8>, accepted: &[AcceptedRow], delivery: Delivery)
     requires room { length text.old.items + 160 ≤ vec_capacity text.old }
     requires known { delivery.packet < length accepted.now }
     ensures items { text.new.items ≡ text.old.items ++ line_of (line_fields (delivery_line accepted.now delivery)) }

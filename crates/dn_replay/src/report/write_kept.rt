@@ -13,8 +13,8 @@ use crate::report::line_text::{LINE, add_header};
 use crate::report::marks::given_marks;
 use crate::report::others::write_others;
 use crate::report::outcome::Outcome;
+use crate::report::outs::write_outs;
 use crate::report::parts::{PART, write_part};
-use crate::report::printing::Printing;
 use dn_files::{ReplayFault, Source};
 use dn_records::{Outlet, WriteFault};
 use dn_types::Delivery;
@@ -32,8 +32,7 @@ fn begin(text: &mut Vec<u8>)
 }
 
 /// Writes the header, the lines of the deliveries and the others.
-fn write_lines<P: Printing, O: Outlet>(
-    by: &P,
+fn write_lines<O: Outlet>(
     kept: &Kept,
     given: &[Delivery],
     marks: &[bool],
@@ -52,15 +51,14 @@ fn write_lines<P: Printing, O: Outlet>(
     ensures failed { OnErr result (O.has_failed out.new ≡ true) }
 {
     begin(text);
-    by.write_outs(kept, given, text, out)?;
+    write_outs(kept, given, text, out)?;
     write_others(kept, marks, text, out)?;
     write_part(text, out)?;
     Ok(())
 }
 
 /// Writes the report of what is kept by way of an empty text with room.
-fn write_by<P: Printing, O: Outlet>(
-    by: &P,
+fn write_by<O: Outlet>(
     kept: &Kept,
     given: &[Delivery],
     marks: Vec<bool>,
@@ -76,7 +74,7 @@ fn write_by<P: Printing, O: Outlet>(
     ensures sound { OnOk result (O.has_failed out.new ≡ false) }
     ensures err { IfErr result (λ fault. LeavesKept kept.now given.now (O.contents out.old) (O.contents out.new) (O.has_failed out.new) fault) }
 {
-    match write_lines(by, kept, given, marks.as_slice(), &mut text, out) {
+    match write_lines(kept, given, marks.as_slice(), &mut text, out) {
         Ok(()) => Ok(Outcome {
             untargeted: kept.all_untargeted(),
         }),
@@ -88,9 +86,8 @@ fn write_by<P: Printing, O: Outlet>(
 ///
 /// `given` is what a Collect at the last moment gives if none was made before it, so it is what all Collects gave. Its lines
 /// follow the deliveries in their order. The text is written in parts, for which room is made before the first is written.
-pub(crate) fn write_kept<P: Printing, O: Outlet>(
+pub(crate) fn write_kept<O: Outlet>(
     alloc: Global,
-    by: &P,
     kept: &Kept,
     given: &[Delivery],
     out: &mut O,
@@ -109,5 +106,5 @@ pub(crate) fn write_kept<P: Printing, O: Outlet>(
     let Ok(text) = Vec::with_capacity(alloc, PART + LINE) else {
         return Err(ReplayFault::OutOfMemory);
     };
-    write_by(by, kept, given, marks, text, out)
+    write_by(kept, given, marks, text, out)
 }

@@ -14,6 +14,4 @@ returns c = record {
   history = c.get_str.ensures ∙ first_value-rows (found_of c.args.found.now) (codes "history");
   most_packets = count_read _ (λ bs r. ParsesUnsigned 64 10 bs r × ExplainsUnsignedError 10 bs r × HasUnsignedDigitsIfOk bs r) (found_of c.args.found.now) (codes "most-packets")
       c.get_one-2.result c.get_one-2.ensures.none (λ t read. c.get_one-2.ensures.value t read) (λ t r gives. gives.0);
-  threads = count_read _ (λ bs r. ParsesUnsigned 64 10 bs r × ExplainsUnsignedError 10 bs r × HasUnsignedDigitsIfOk bs r) (found_of c.args.found.now) (codes "threads")
-      c.get_one-3.result c.get_one-3.ensures.none (λ t read. c.get_one-3.ensures.value t read) (λ t r gives. gives.0);
 }

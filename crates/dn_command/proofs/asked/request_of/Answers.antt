@@ -34,6 +34,5 @@ returns-clause-ok c =
       understood = sym (ap (λ (a : App). fault_of a words) is) ∙ c.in_ok-matches.ensures.kinds (ap is_simple_and_free is ∙ program_is_free);
       asked = subst (λ command. AsksFor command q) read c.asked-request.ensures;
       spares_inputs = λ overwrites. c.in_default.ensures (inl overwrites);
-      fits = λ limits. c.in_default.ensures (inr (inl limits));
-      threads_once = λ threads. c.in_default.ensures (inr (inr threads));
+      fits = λ limits. c.in_default.ensures (inr limits);
     }

@@ -1,12 +1,11 @@
-use Rattle.std.proofs.Common.{refl, inl, inr}
 use Rattle.std.proofs.lemmas.Result.{on_ok_weaker}
+use Rattle.dn_types.specs.declared.rule.Rule.TheVariants.{Ordered}
+use Rattle.dn_replay.proofs.PassSteps.{unheld}
 use Rattle.dn_replay.proofs.replays.pass.submit_row.Goals as goal
 
-pub submit_to_run-requires : goal.submit_to_run-requires
-submit_to_run-requires c = elim c.in-Entries.is [
-  | inl entries ↦ rw entries tt
-  | inr given ↦ rw given.1 tt
-]
-
-pub returns-in-Parts : goal.returns-in-Parts
-returns-in-Parts c = on_ok_weaker c.submit_to_parts.result (λ answered calls before. rw c.in-Parts.is (refl, answered calls (rw c.in-Parts.is at before))) c.submit_to_parts.ensures
+pub returns : goal.returns
+returns c =
+    on_ok_weaker c.hold.result (λ holds calls before. holds calls
+    (unheld c.args.run.now c.args.kept.now calls c.args.row.now c.apply.new.self c.in_ok-reply.reply
+    (λ made stands. rw c.submit-call.ensures at (c.in_ok-reply.ensures.ok Ordered made stands)) c.note.new.self
+    (λ kept is. c.in_ok-note.ensures calls c.args.row.now.target c.args.row.now.packet c.args.row.now.moment kept is) c.args.held.now before)) (rw c.submit-call.ensures at c.hold.ensures)

@@ -4,7 +4,7 @@ use Rattle.dn_replay.proofs.InputSteps.{begun, not_begun}
 use Rattle.dn_replay.proofs.replays.stage.begin.Goals as goal
 
 pub returns-in_ok-feed-in-Ok : goal.returns-in_ok-feed-in-Ok
-returns-in_ok-feed-in-Ok g c = λ asked text cut.
+returns-in_ok-feed-in-Ok c = λ asked text cut.
     let (calls, accepted, fed) = c.in-Ok.ensures.ok in (
       calls,
       c.args.packets.now,
@@ -13,4 +13,4 @@ returns-in_ok-feed-in-Ok g c = λ asked text cut.
     )
 
 pub returns-in-Err : goal.returns-in-Err
-returns-in-Err g c = λ asked text cut. (c.configure.ensures.records, λ more. not_begun asked text c.args.config.now c.args.packets.now c.in-Err.fault c.in-Err.ensures.err cut more)
+returns-in-Err c = λ asked text cut. (c.configure.ensures.records, λ more. not_begun asked text c.args.config.now c.args.packets.now c.in-Err.fault c.in-Err.ensures.err cut more)

@@ -14,6 +14,3 @@ pub returns-in-Entries : goal.returns-in-Entries
 returns-in-Entries c = λ kept calls ended.
     let (made, has) = rw c.in-Entries.is at ended in
     can_report_recorded kept c.last_delivered.result.now calls c.args.run.now.history.items has made.1 (rw c.as_slice.ensures.value at c.last_delivered.ensures)
-
-pub returns-in-Parts : goal.returns-in-Parts
-returns-in-Parts c = λ kept calls ended. absurd (rw c.in-Parts.is at ended)

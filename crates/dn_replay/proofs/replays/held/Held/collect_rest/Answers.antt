@@ -1,7 +1,7 @@
 use Rattle.std.proofs.Common.{◌≡◌, ◌^◌, refl}
 use Rattle.std.proofs.lemmas.Option.{MatchOption-at_some}
 use Rattle.std.proofs.lemmas.Result.{on_ok_weaker}
-use Rattle.dn_replay.proofs.PassSteps.{can_report, can_report_parts}
+use Rattle.dn_replay.proofs.PassSteps.{can_report}
 use Rattle.dn_replay.proofs.replays.held.Held.collect_rest.Goals as goal
 
 pub returns-in-Entries : goal.returns-in-Entries
@@ -20,10 +20,3 @@ returns-in-Given c =
       refl,
       can_report c.args.run.now.shaper kept c.in-Given.given.items c.collect.new.given.items calls noted few c.unwrap-last.result last (λ made stands. (collected made stands).1),
     )) c.collect.ensures
-
-pub returns-in_ok-given-in-Parts : goal.returns-in_ok-given-in-Parts
-returns-in_ok-given-in-Parts c = λ kept calls before few.
-    let last : c.unwrap-last.result ≡ 2 ^ 62 = MatchOption-at_some _ _ _ c.unwrap-last.ensures c.new.ensures.value in
-    let given = c.in_ok-given-in-Parts.given in
-    rw c.in-Parts.is
-    (refl, can_report_parts c.in-Parts.divided kept given.items calls (rw c.in-Parts.is at before) few c.unwrap-last.result last c.in_ok-given-in-Parts.ensures)

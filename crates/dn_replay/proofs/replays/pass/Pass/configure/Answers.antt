@@ -1,6 +1,6 @@
 use Rattle.std.proofs.Common.{refl}
 use Rattle.std.proofs.lemmas.Result.{on_ok_weaker}
-use Rattle.dn_replay.proofs.PassSteps.{fed-first, undivided}
+use Rattle.dn_replay.proofs.PassSteps.{fed-first}
 use Rattle.dn_replay.proofs.replays.pass.Pass.configure.Goals as goal
 
 pub returns-clause-ok : goal.returns-clause-ok
@@ -9,5 +9,5 @@ returns-clause-ok c =
     let (calls, accepted, made) = configured in (
       calls,
       accepted,
-      fed-first _ c.args.self.now c.configure.new.self c.args.self.now.held c.args.config.now calls refl c.requires accepted made (undivided c.args.config.now c.args.self.now.held),
+      fed-first _ c.args.self.now c.configure.new.self c.args.config.now calls refl c.requires accepted made,
     )) c.configure.ensures.ok

@@ -1,3 +1,0 @@
-pub mod InAll
-pub mod Numbered
-pub mod TwoLists
