@@ -36,7 +36,6 @@ SET_ASIDE = [
     "LawWitnesses",
     "DeleteWitnesses",
     "DividedWitnesses",
-    "MergeWitnesses",
     "PartWitnesses",
     "ReadingWitnesses",
     "ReplyWitnesses",
