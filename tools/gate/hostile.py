@@ -1,6 +1,6 @@
 """Calls that a stranger chose cost no more than their count: twice as many take at most 2.3 times the instructions. Rows in a form of
 CSV that isn't the plainest take little more than plain ones. A row of commas takes no more memory than one of letters. An audit takes at
-most 30 bytes of memory a byte of a history of commas, and at most 9 of another one.
+most 9 bytes of memory a byte of a history.
 
     python3 tools/gate/hostile.py PROGRAM
 
@@ -30,15 +30,17 @@ COUNTED = ["valgrind", "--tool=cachegrind", "--cache-sim=no", "--cachegrind-out-
 FEWER, MOST = 2_000, 2.3
 KIB, WIDE = 1024, 8_000
 VERSION = b"dummynet-history,3\n"
-# What a record that is none begins with, what follows many times, and how many bytes of memory a byte an audit takes at most.
-BAD_RECORDS: dict[str, tuple[bytes, bytes, int]] = {
-    "commas": (b"", b",", 30),
-    "commas behind a field in quotes": (b'"a"', b",", 30),
-    "one field in quotes": (b'"', b"x", 9),
-    "line feeds": (b"", b"\n", 9),
-    "carriage returns": (b"", b"\r", 9),
-    "short records": (b"", b"x\r", 9),
+# What a record that is none begins with, and what follows many times.
+BAD_RECORDS = {
+    "commas": (b"", b","),
+    "commas behind a field in quotes": (b'"a"', b","),
+    "one field in quotes": (b'"', b"x"),
+    "line feeds": (b"", b"\n"),
+    "carriage returns": (b"", b"\r"),
+    "short records": (b"", b"x\r"),
 }
+# How many bytes of memory a byte of a history an audit takes at most. One field in quotes takes 8, and commas 3.
+AUDITED = 9
 AUDIT_BY_LIBRARY = """
 import sys
 sys.path.insert(0, sys.argv[1])
@@ -187,12 +189,12 @@ def check_audits(program: str, tally: Tally) -> None:
     ways = {"the program": [program, "audit"], "the library": [sys.executable, "-c", AUDIT_BY_LIBRARY, str(TOP / "python")]}
     with TemporaryDirectory() as folder:
         history = Path(folder) / "bad.history"
-        for name, (front, repeated, most) in BAD_RECORDS.items():
+        for name, (front, repeated) in BAD_RECORDS.items():
             fill(history, VERSION + front, repeated)
             for way, words in ways.items():
                 used = peak([*words, str(history)], 4) / WIDE
                 print(f"an audit of {name} by {way} takes {used:.2f} bytes of memory a byte")
-                tally.note(f"an audit of {name} by {way}", "" if used <= most else f"more than {most} bytes of memory a byte")
+                tally.note(f"an audit of {name} by {way}", "" if used <= AUDITED else f"more than {AUDITED} bytes of memory a byte")
 
 
 def compare_memory(program: str, tally: Tally) -> None:

@@ -78,8 +78,5 @@ fn behind_empty(text: &[u8]) -> &[u8]
 pub(crate) fn begins_wide(alloc: Global, text: &[u8]) -> bool
     ensures { result ≡ true → BeginsWide (records_of text.now) }
 {
-    match Records::new(alloc, text).lines() {
-        Some(lines) => has_commas(behind_empty(lines), FIELDS),
-        None => false,
-    }
+    has_commas(behind_empty(Records::new(alloc, text).lines()), FIELDS)
 }

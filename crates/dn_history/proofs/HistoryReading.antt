@@ -1,16 +1,18 @@
 -- Reading the records of a history one after the other.
 use Rattle.std.proofs.Common.{◌≡◌, ◌∙◌, ℕ, zero, suc, ◌+◌, ◌-◌, ◌<◌, ◌≤◌, true, false, List, [], ◌∷◌}
-use Rattle.std.proofs.Common.{◌++◌, length, Option, Some, None, Result, Ok, Err, refl, sym, ap, arith, append_assoc}
-use Rattle.std.proofs.lemmas.List.{append-nil}
+use Rattle.std.proofs.Common.{◌++◌, length, Option, Some, None, Result, Ok, Err, refl, sym, ap, arith, append_assoc, nat_lt}
+use Rattle.std.proofs.lemmas.Bool.Decides.{nat_tests}
+use Rattle.std.proofs.lemmas.List.{append-nil, length-take, take_all}
 use Rattle.csv.specs.Machine.{Read as ReadOff, next_record as next_read}
 use Rattle.csv.specs.Reading.{default_config, records_from, records_next, strip_bom}
 use Rattle.csv.specs.declared.parser.Config.{Config}
 use Rattle.csv.specs.declared.parser.State.{State}
 use Rattle.csv.specs.declared.parser.State.TheVariants.{StartRecord}
 use Rattle.dn_types.specs.declared.entry.Entry.{Entry}
-use Rattle.dn_records.specs.Records.{Fields, Takes, records_of}
-use Rattle.dn_history.specs.HistoryFile.{before, nothing_in}
-use Rattle.dn_history.specs.RecordsLeft.{Rest, item_from, items_from, next_record}
+use Rattle.dn_records.specs.Records.{Fields, records_of}
+use Rattle.dn_records.specs.Steps.{TakesFront}
+use Rattle.dn_history.specs.HistoryFile.{before}
+use Rattle.dn_history.specs.RecordsLeft.{Rest, item_from, items_from, narrow_record, next_record, too_many}
 use Rattle.dn_files.specs.Reading.{◌>>=◌, IsFaultOf}
 use Rattle.dn_files.specs.declared.replay_fault.ReplayFault.{ReplayFault}
 use Rattle.dn_files.specs.declared.replay_fault.ReplayFault.TheVariants.{BadRecord}
@@ -39,26 +41,35 @@ numbered text =
     let shorter = bom_le text in
     omega (arith, le, shorter)
 
--- One record more, and none.
-pub took : (number : ℕ) (old new : List Fields) (fields : Fields) → Takes old new true fields
+-- One record more, one that has too many fields, and none.
+pub took : (number : ℕ) (old new : List Fields) (fields : Fields) → TakesFront too_many old new true fields → length fields < too_many
     → next_record (record { number = number; records = old }) ≡ Ok (fields, record { number = number + 1; records = new })
 unfolding next_record
-took number [] new fields takes = let no = takes.0 in cc
-took number (first ∷ rest) new fields takes = rw (takes.1, takes.2) refl
+took number [] new fields takes few = let no = takes.0 in cc
+took number (first ∷ rest) new fields takes few =
+    let count = ap (length {A = List ℕ}) takes.1 in
+    let whole : fields ≡ first = takes.1 ∙ take_all too_many first (omega (arith, count, length-take too_many first, few)) in
+    rw (whole, takes.2) refl
 
-pub missing : (number : ℕ) (old new : List Fields) (fields : Fields) → Takes old new false fields → next_record (record { number = number; records = old }) ≡ Err (BadRecord number)
-unfolding next_record
+pub wide : (number : ℕ) (old new : List Fields) (fields : Fields) → TakesFront too_many old new true fields → too_many ≤ length fields
+    → narrow_record (record { number = number; records = old }) ≡ Err (BadRecord number)
+unfolding narrow_record next_record
+wide number [] new fields takes many = let no = takes.0 in cc
+wide number (first ∷ rest) new fields takes many =
+    let count = ap (length {A = List ℕ}) takes.1 in
+    let long : too_many ≤ length first = omega (arith, count, length-take too_many first, many) in
+    let no : nat_lt (length first) too_many ≡ false = grind (arith, nat_tests) in
+    rw no refl
+
+pub missing : (number : ℕ) (old new : List Fields) (fields : Fields) → TakesFront too_many old new false fields
+    → narrow_record (record { number = number; records = old }) ≡ Err (BadRecord number)
+unfolding narrow_record next_record
 missing number [] new fields takes = refl
 missing number (first ∷ rest) new fields takes = let no = takes.0 in cc
 
-pub ended : (number : ℕ) (old new : List Fields) (fields : Fields) → Takes old new false fields
-    → nothing_in (record { number = number; records = old }) old ≡ Ok (None, record { number = number; records = new })
-ended number [] new fields takes = rw takes.1 refl
-ended number (first ∷ rest) new fields takes = let no = takes.0 in cc
-
-pub emptied : (old new : List Fields) (fields : Fields) → Takes old new false fields → length new ≤ length old
-emptied [] new fields takes = rw takes.1 (omega arith)
-emptied (first ∷ rest) new fields takes = let no = takes.0 in cc
+pub emptied : (most : ℕ) (old new : List Fields) (fields : Fields) → TakesFront most old new false fields → length new ≤ length old
+emptied most [] new fields takes = rw takes.1 (omega arith)
+emptied most (first ∷ rest) new fields takes = let no = takes.0 in cc
 
 -- A list of items, of which a front was read.
 abbrev pub with_front : {A : Type 0} → List A → Result (List A × Rest) ReplayFault → Result (List A × Rest) ReplayFault

@@ -11,6 +11,7 @@ pub mod HistorySteps
 pub mod HistoryWitness
 pub mod ItemsBack
 pub mod LineBytes
+pub mod NarrowRecords
 pub mod PartsRead
 pub mod PlainForms
 pub mod Remarks

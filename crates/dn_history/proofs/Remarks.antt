@@ -1,31 +1,40 @@
 -- Records are taken one by one, and remarks are passed over where they may be.
-use Rattle.std.proofs.Common.{◌≡◌, ◌∙◌, refl, ◌≤◌, Bool, true, false, inl, inr, List, [], ◌∷◌, length, arith}
+use Rattle.std.proofs.Common.{◌≡◌, ◌∙◌, refl, sym, ◌≤◌, take, Bool, true, false, inl, inr, List, [], ◌∷◌, length, arith}
 use Rattle.std.specs.Prelude.{◌&&◌}
 use Rattle.std.proofs.lemmas.Bool.{cases_Bool}
-use Rattle.dn_records.specs.Records.{Fields, Takes}
+use Rattle.csv.specs.Records.{field_at}
+use Rattle.dn_records.specs.Records.{Fields}
+use Rattle.dn_records.specs.Steps.{TakesFront}
+use Rattle.dn_history.specs.RecordsLeft.{too_many}
 use Rattle.dn_history.specs.Remarks.{ahead, is_remark, past_remarks}
 
+-- A remark is known by its first field.
+front-remark : (fields : Fields) → is_remark (take too_many fields) ≡ is_remark fields
+unfolding field_at
+front-remark [] = refl
+front-remark (first ∷ fields) = refl
+
 -- A record that is passed over.
-pub passed_over : (remarks : Bool) (old new whole : List Fields) (fields : Fields) → Takes old new true fields → (remarks && is_remark fields) ≡ true → ahead remarks whole ≡ ahead remarks old
+pub passed_over : (remarks : Bool) (old new whole : List Fields) (fields : Fields) → TakesFront too_many old new true fields → (remarks && is_remark fields) ≡ true → ahead remarks whole ≡ ahead remarks old
     → ahead remarks whole ≡ ahead remarks new
 passed_over remarks [] new whole fields takes over same = let no = takes.0 in cc
 passed_over false (first ∷ rest) new whole fields takes over same = cc over
 passed_over true (first ∷ rest) new whole fields takes over same =
-    let is : is_remark first ≡ true = rw takes.1 at over in
+    let is : is_remark first ≡ true = sym (front-remark first) ∙ rw takes.1 at over in
     same ∙ (rw (is, takes.2) refl)
 
 -- A record that counts.
-pub found_plain : (remarks : Bool) (old new whole : List Fields) (fields : Fields) → Takes old new true fields → (remarks && is_remark fields) ≡ false → ahead remarks whole ≡ ahead remarks old
-    → Takes (ahead remarks whole) new true fields
+pub found_plain : (remarks : Bool) (old new whole : List Fields) (fields : Fields) → TakesFront too_many old new true fields → (remarks && is_remark fields) ≡ false → ahead remarks whole ≡ ahead remarks old
+    → TakesFront too_many (ahead remarks whole) new true fields
 found_plain remarks [] new whole fields takes plain same = let no = takes.0 in cc
 found_plain false (first ∷ rest) new whole fields takes plain same = rw same (refl, takes.1, takes.2)
 found_plain true (first ∷ rest) new whole fields takes plain same =
-    let is : is_remark first ≡ false = rw takes.1 at plain in
+    let is : is_remark first ≡ false = sym (front-remark first) ∙ rw takes.1 at plain in
     let first_is : past_remarks (first ∷ rest) ≡ first ∷ rest = rw is refl in
     rw (same ∙ first_is) (refl, takes.1, takes.2)
 
 -- No record is left.
-pub none_left : (remarks : Bool) (old new whole : List Fields) (fields : Fields) → Takes old new false fields → ahead remarks whole ≡ ahead remarks old → Takes (ahead remarks whole) new false fields
+pub none_left : (remarks : Bool) (old new whole : List Fields) (fields : Fields) → TakesFront too_many old new false fields → ahead remarks whole ≡ ahead remarks old → TakesFront too_many (ahead remarks whole) new false fields
 none_left remarks (first ∷ rest) new whole fields takes same = let no = takes.0 in cc
 none_left true [] new whole fields takes same = rw same (refl, takes.1)
 none_left false [] new whole fields takes same = rw same (refl, takes.1)

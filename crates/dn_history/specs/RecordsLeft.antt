@@ -1,5 +1,5 @@
 -- The records that are left of a history file, and what is read off their front.
-use Rattle.std.specs.Prelude.{ℕ, zero, suc, ◌+◌, List, [], ◌∷◌, Result, Ok, Err}
+use Rattle.std.specs.Prelude.{ℕ, zero, suc, ◌+◌, cond, nat_lt, List, [], ◌∷◌, length, Result, Ok, Err}
 use Rattle.dn_records.specs.Records.{Fields}
 use Rattle.dn_files.specs.Reading.{◌>>=◌}
 use Rattle.dn_files.specs.declared.replay_fault.ReplayFault.{ReplayFault}
@@ -21,6 +21,18 @@ first_record number (fields ∷ records) = Ok (fields, record { number = number 
 -- The next record. One that is missing has the number that it would have.
 unfoldable pub next_record : Rest → Read Fields
 next_record rest = first_record rest.number rest.records
+
+-- A record with so many fields is none of a history, whatever they hold: the widest one has one less.
+abbrev pub too_many : ℕ
+too_many = 22
+
+abbrev pub narrow : ℕ → Read Fields → Read Fields
+narrow number (Err fault) = Err fault
+narrow number (Ok first) = cond (nat_lt (length first.0) too_many) (Ok first) (Err (BadRecord number))
+
+-- The next record, where it hasn't too many fields.
+unfoldable pub narrow_record : Rest → Read Fields
+narrow_record rest = narrow rest.number (next_record rest)
 
 -- What the record with this number says. Of a bad one the number is told.
 abbrev pub in_record : {A : Type 0} → ℕ → Result A ℕ → Result A ReplayFault

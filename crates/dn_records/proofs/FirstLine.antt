@@ -1,7 +1,8 @@
--- The first line of a text: behind a line feed no byte order mark is passed over.
-use Rattle.std.proofs.Common.{◌≡◌, ℕ, suc, ◌+◌, List, [], ◌∷◌, length, refl, arith, add-one}
+-- The first line of a text: behind an end of line no byte order mark is passed over.
+use Rattle.std.proofs.Common.{◌≡◌, sym, ap, ℕ, suc, ◌+◌, ◌==◌, List, [], ◌∷◌, length, refl, arith, add-one, inl, inr}
+use Rattle.std.proofs.lemmas.Bool.{cases_Bool, eqb-true}
 use Rattle.csv.specs.Machine.{next_record}
-use Rattle.csv.specs.Reading.{records_from, strip_bom}
+use Rattle.csv.specs.Reading.{default_config, records_from, records_next, strip_bom}
 use Rattle.csv.specs.declared.parser.State.TheVariants as st
 use Rattle.dn_records.specs.Reading.{records_after}
 use Rattle.dn_records.specs.Records.{records_of}
@@ -17,3 +18,24 @@ pub behind-feed : (text : List ℕ) → records_of (10 ∷ text) ≡ records_aft
 unfolding records_from next_record
 behind-feed text =
     rw (no-mark text, add-one) (turns (suc (length (10 ∷ text))) (length text + 1) st.StartRecord text refl (omega arith) (omega arith))
+
+-- Behind a carriage return a line feed is no record, as at the start of one.
+after-return : (text : List ℕ) → next_record default_config st.AfterCr [] [] text ≡ next_record default_config st.StartRecord [] [] text
+unfolding next_record
+after-return [] = refl
+after-return (c ∷ rest) = elim (cases_Bool (c == 10)) [ inl feed ↦ rw (eqb-true c 10 feed) refl | inr other ↦ rw other refl ]
+
+no-mark-either : (text : List ℕ) → strip_bom (13 ∷ text) ≡ 13 ∷ text
+unfolding strip_bom
+no-mark-either [] = refl
+no-mark-either (a ∷ []) = refl
+no-mark-either (a ∷ b ∷ rest) = refl
+
+pub behind-return : (text : List ℕ) → records_of (13 ∷ text) ≡ records_after st.StartRecord text
+unfolding records_from next_record
+behind-return text =
+    rw (no-mark-either text, add-one) (turns (suc (length (13 ∷ text))) (length text + 1) st.StartRecord text refl (omega arith) (omega arith))
+
+pub after-start : (text : List ℕ) → records_after st.StartRecord text ≡ records_after st.AfterCr text
+unfolding records_from
+after-start text = rw add-one (ap (records_next (records_from default_config (length text))) (sym (after-return text)))

@@ -1,4 +1,5 @@
 pub mod FirstLine
+pub mod FirstRecord
 pub mod LastFeed
 pub mod LineEnds
 pub mod Lines
@@ -6,6 +7,7 @@ pub mod NextRecord
 pub mod PlainLines
 pub mod ReadBack
 pub mod RecordSteps
+pub mod Steps
 pub mod TextSteps
 pub mod WholeRecords
 pub mod Witnesses

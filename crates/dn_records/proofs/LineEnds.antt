@@ -89,7 +89,7 @@ fields-read (first ∷ written) (field ∷ fields) all before tail =
     ∙ ap (λ (f : Fields). next_record default_config st.StartField f [] tail) (append_assoc before (field ∷ []) fields)
 
 -- The first record, where it ends before the end of the text.
-first-is : (text : List ℕ) (fields : Fields) (state : State) (left : List ℕ) → next_record default_config st.StartRecord [] [] text ≡ Some (fields, state, left) → ends_at_end state ≡ false
+pub first-is : (text : List ℕ) (fields : Fields) (state : State) (left : List ℕ) → next_record default_config st.StartRecord [] [] text ≡ Some (fields, state, left) → ends_at_end state ≡ false
     → length left < length text → records_after st.StartRecord text ≡ fields ∷ records_after state left
 unfolding records_from
 first-is text fields state left read between shorter =

@@ -1,25 +1,27 @@
 -- Records whose lines are written plainly: how a line is read from its bytes, and what is left behind it.
 use Rattle.std.proofs.Common.{◌≡◌, ◌≢◌, ◌∙◌, refl, sym, ap, subst, ℕ, ◌+◌, ◌-◌, ◌<◌, ◌≤◌, ◌==◌, Bool, true, false, inl, inr, List, [], ◌∷◌, ◌++◌, Option, Some}
 use Rattle.std.proofs.Common.{None, length, take, drop, get_or, min, arith, append_assoc, length-append, length-take}
-use Rattle.std.specs.Prelude.{◌||◌}
+use Rattle.std.specs.Prelude.{◌||◌, ◌&&◌}
 use Rattle.std.specs.List.{All, join_with_byte, list_any, onto_first, slice_split}
 use Rattle.std.specs.Option.{is_some}
-use Rattle.std.proofs.lemmas.Bool.{cases_Bool, eqb-true, false≢true, false_from_ne_true, ne_eqb, or_parts}
-use Rattle.std.proofs.lemmas.Bool.Decides.{nat_tests}
-use Rattle.std.proofs.lemmas.List.{drop_more, get_or-take, take-append-drop, take_rest}
+use Rattle.std.proofs.lemmas.Bool.{cases_Bool, eqb-true, false≢true, false_from_ne_true, or_parts}
+use Rattle.std.proofs.lemmas.List.{drop_more, get_or-take, take-append-drop, take_all, take_rest}
+use Rattle.std.proofs.lemmas.List.Sums.{count_by-le-length}
 use Rattle.std.proofs.lemmas.List.Elements.{All-from_get_or}
 use Rattle.std.proofs.lemmas.List.Folds.{list_any-append, list_any_at, list_any_none}
-use Rattle.std.proofs.lemmas.List.Splits.{join_with_byte-slice_split, slice_split_at, slice_split_none}
-use Rattle.std.proofs.Math.Seq.{drop-append_seam}
+use Rattle.std.proofs.lemmas.List.Splits.{join_with_byte-slice_split, length-slice_split, slice_split_at, slice_split_none}
+use Rattle.std.proofs.Math.Seq.{drop-append_seam, take-append_seam}
 use Rattle.memchr.specs.Find.{IsFirstByte, NoneBefore, Nowhere, Passes, is_byte, is_byte2}
-use Rattle.csv.specs.Machine.{next_record}
-use Rattle.csv.specs.Reading.{records_from, strip_bom}
+use Rattle.csv.specs.Machine.{ends_with, next_record}
+use Rattle.csv.specs.Reading.{is_bom, records_from, strip_bom}
 use Rattle.csv.specs.Writing.{default_writer, needs_byte}
 use Rattle.csv.specs.declared.parser.State.TheVariants as st
+use Rattle.csv.specs.declared.parser.Terminator.TheVariants as term
 use Rattle.dn_records.specs.PlainLines.{BeginsBare, StandsBehindLine, has_quotes}
 use Rattle.dn_records.specs.Reading.{BeginsLine, records_after}
-use Rattle.dn_records.specs.Records.{Fields, Takes, records_of}
-use Rattle.dn_records.proofs.FirstLine.{behind-feed}
+use Rattle.dn_records.specs.Records.{Fields, records_of}
+use Rattle.dn_records.specs.Steps.{BeginsFront, TakesFront}
+use Rattle.dn_records.proofs.FirstLine.{behind-feed, behind-return}
 use Rattle.dn_records.proofs.LineEnds.{BeginsFields, Opens, Writes, feed-line, field-begins, fields-then, line-reads, plain-writes, return-line}
 
 either : (a b c d : Bool) → ((a || b) || (c || d)) ≡ ((a || c) || (b || d))
@@ -141,10 +143,32 @@ bare-line text line rest begins some none =
           split-line text (13 ∷ 10 ∷ rest) rest (λ front last fs writes. return-line text front last last rest fs writes there) line (slice_split (λ b. b == 44) line) both some join bare
     ]
 
+-- The front of the pieces of a line, where as many were read, and where all were.
+pub front-full : (most : ℕ) (fields more all : Fields) → fields ++ more ≡ all → most ≤ length fields → length fields ≤ most → fields ≡ take most all
+front-full most fields more all is enough few =
+    let n : length fields ≡ most = omega (arith, enough, few) in
+    sym (take-append_seam fields more) ∙ ap (λ (k : ℕ). take k (fields ++ more)) n ∙ ap (take most) is
+
+pub front-whole : (most : ℕ) (fields all : Fields) → fields ≡ all → length fields ≤ most → fields ≡ take most all
+front-whole most fields all is few = is ∙ sym (take_all most all (rw is at few))
+
+-- A line has at most one piece more than bytes.
+pub all-pieces : (line : List ℕ) (fields : Fields) → fields ≡ take (length line + 1) (slice_split (λ b. b == 44) line) → fields ≡ slice_split (λ b. b == 44) line
+all-pieces line fields is =
+    let count = length-slice_split (λ b. b == 44) line in
+    let few = count_by-le-length (λ b. b == 44) line in
+    is ∙ take_all (length line + 1) (slice_split (λ b. b == 44) line) (omega (arith, count, few))
+
 -- The first line is the first record.
-pub takes-line : (old new : List Fields) (text : List ℕ) (fields : Fields) (rest : List ℕ) → old ≡ records_after st.StartRecord text → BeginsLine text fields rest
-    → new ≡ records_after st.StartRecord rest → Takes old new true fields
-takes-line old new text fields rest is begins goes = let first = is ∙ line-reads text fields rest begins in rw first (refl, refl, goes)
+pub takes-line : (most : ℕ) (old new : List Fields) (text : List ℕ) (fields : Fields) (rest : List ℕ) → old ≡ records_after st.StartRecord text
+    → BeginsFront most text fields rest → new ≡ records_after st.StartRecord rest → TakesFront most old new true fields
+takes-line most old new text fields rest is begins goes =
+    let first = is ∙ line-reads text begins.whole rest begins.line in rw first (refl, begins.front, goes)
+
+-- Where there was a next record, fewer are left.
+pub front-shorter : (most : ℕ) (old new : List Fields) (found : Bool) (fields : Fields) → TakesFront most old new found fields → found ≡ true → length new < length old
+front-shorter most [] new found fields takes e = absurd (false≢true (sym takes.0 ∙ e))
+front-shorter most (first ∷ rest) new found fields takes e = rw takes.2 (omega arith)
 
 -- The rest stands behind the line feed of the line.
 pub behind-line : (text : List ℕ) (fields : Fields) (rest : List ℕ) → BeginsLine text fields rest → StandsBehindLine text rest
@@ -166,29 +190,46 @@ pub none-in : records_of [] ≡ []
 unfolding records_from strip_bom next_record
 none-in = refl
 
-pub none-behind : (old : List Fields) (text : List ℕ) (fields : Fields) → old ≡ records_after st.StartRecord text → (length text == 0) ≡ true → Takes old old false fields
-unfolding records_from next_record
-none-behind old [] fields is none = rw is (refl, refl)
-none-behind old (byte ∷ rest) fields is none = let some : (length (byte ∷ rest) == 0) ≡ false = grind (arith, nat_tests) in absurd (false≢true (sym some ∙ none))
+-- Where no record is left none is taken.
+pub none-taken : (most : ℕ) (old : List Fields) (text : List ℕ) (fields : Fields) → old ≡ records_after st.StartRecord text → records_after st.StartRecord text ≡ [] → TakesFront most old old false fields
+none-taken most old text fields is none = let all = is ∙ none in rw all (refl, refl)
 
--- A text that begins with a line feed.
-pub behind-front : (text : List ℕ) → 1 ≤ length text → get_or text 0 0 ≡ 10 → records_of text ≡ records_after st.StartRecord (take (length text - 1) (drop 1 text))
+-- A text that begins with an end of line.
+pub behind-front : (text : List ℕ) → 1 ≤ length text → ends_with term.CRLF (get_or text 0 0) ≡ true → records_of text ≡ records_after st.StartRecord (take (length text - 1) (drop 1 text))
 behind-front [] some is = absurd (omega arith)
-behind-front (byte ∷ rest) some is =
-    ap records_of (ap (λ (b : ℕ). b ∷ rest) is) ∙ behind-feed rest ∙ ap (records_after st.StartRecord) (sym (take_rest (byte ∷ rest) 1))
+behind-front (byte ∷ rest) some is = rw (take_rest (byte ∷ rest) 1) (elim (cases_Bool (byte == 13)) [
+  | inl return ↦ ap (λ (b : ℕ). records_of (b ∷ rest)) (eqb-true byte 13 return) ∙ behind-return rest
+  | inr other ↦ let feed = rw other at is in ap (λ (b : ℕ). records_of (b ∷ rest)) (eqb-true byte 10 feed) ∙ behind-feed rest
+])
 
-no-mark : (first : ℕ) (rest : List ℕ) → first ≢ 239 → records_of (first ∷ rest) ≡ records_after st.StartRecord (first ∷ rest)
+-- A text without a byte.
+pub at-end : (text : List ℕ) → length text < 1 → records_of text ≡ records_after st.StartRecord text
 unfolding strip_bom
-no-mark first [] ne = refl
-no-mark first (b ∷ []) ne = refl
-no-mark first (b ∷ c ∷ rest) ne = rw (ne_eqb first 239 ne) refl
+at-end [] none = refl
+at-end (byte ∷ rest) none = absurd (omega arith)
+
+both : (p q : Bool) → (p && q) ≡ true → (p ≡ true) × (q ≡ true)
+both true q e = (refl, e)
+both false q e = cc e
+
+marked : (a b c : ℕ) (rest : List ℕ) → is_bom a b c ≡ true → ◌≡◌ {A = List ℕ} (a ∷ b ∷ c ∷ rest) (239 ∷ 187 ∷ 191 ∷ rest)
+marked a b c rest mark =
+    let (front, third) = both ((a == 239) && (b == 187)) (c == 191) mark in
+    let (first, second) = both (a == 239) (b == 187) front in
+    rw (eqb-true a 239 first, eqb-true b 187 second, eqb-true c 191 third) refl
 
 -- A text that begins with a byte order mark.
 pub at-mark : (text rest : List ℕ) → text ≡ 239 ∷ 187 ∷ 191 ∷ rest → records_of text ≡ records_after st.StartRecord rest
 unfolding strip_bom
 at-mark text rest is = rw is refl
 
--- A text that begins with another byte than a byte order mark.
-pub at-front : (text : List ℕ) → 1 ≤ length text → get_or text 0 0 ≢ 239 → records_of text ≡ records_after st.StartRecord text
-at-front [] some ne = absurd (omega arith)
-at-front (byte ∷ rest) some ne = no-mark byte rest ne
+-- A text that begins with none.
+pub at-front : (text : List ℕ) → ((rest : List ℕ) → text ≢ 239 ∷ 187 ∷ 191 ∷ rest) → records_of text ≡ records_after st.StartRecord text
+unfolding strip_bom
+at-front [] unmarked = refl
+at-front (a ∷ []) unmarked = refl
+at-front (a ∷ b ∷ []) unmarked = refl
+at-front (a ∷ b ∷ c ∷ rest) unmarked = elim (cases_Bool (is_bom a b c)) [
+  | inl mark ↦ absurd (unmarked rest (marked a b c rest mark))
+  | inr other ↦ rw other refl
+]

@@ -10,7 +10,7 @@ use Rattle.dn_records.specs.Records.{Fields, Takes}
 use Rattle.dn_records.proofs.NextRecord.{next-between, next-shorter, turns}
 
 -- the records of a text are what its first read gives
-first_read : (s : State) (y : List ℕ) (o : Option Read) → next_record default_config s [] [] y ≡ o → records_after s y ≡ records_next (records_from default_config (length y)) o
+pub first_read : (s : State) (y : List ℕ) (o : Option Read) → next_record default_config s [] [] y ≡ o → records_after s y ≡ records_next (records_from default_config (length y)) o
 unfolding records_from
 first_read s y o e = rw (add-one, e) refl
 

@@ -1,14 +1,6 @@
--- Lines that are written plainly, without quotes, at the front of a text, and the records that are left where they were read.
+-- Lines that are written plainly, without quotes, at the front of a text.
 use Rattle.std.specs.Prelude.{◌≡◌, ℕ, ◌==◌, ◌||◌, ◌⊎◌, Bool, false, List, ◌∷◌, ◌++◌}
 use Rattle.std.specs.List.{list_any}
-use Rattle.dn_records.specs.Records.{Fields, records_of}
-use Rattle.dn_records.specs.declared.records.Left.{Left}
-use Rattle.dn_records.specs.declared.records.Left.TheVariants.{Plain, Csv}
-
--- The records that are left: those of a text while its lines are plain, and then those that csv's reader has left.
-abbrev pub records_left : Left → List Fields
-records_left (Plain text) = records_of text.now
-records_left (Csv records) = records
 
 -- Whether a line has a quote or a carriage return, which mean something to CSV.
 abbrev pub has_quotes : List ℕ → Bool

@@ -4,6 +4,7 @@
 mod address;
 mod append;
 mod field;
+mod first_record;
 mod from_reader;
 mod from_writer;
 mod inlet;
@@ -14,6 +15,7 @@ mod read_fault;
 mod record_reader;
 mod record_writer;
 mod records;
+mod state;
 mod whole;
 mod whole_records;
 mod write_fault;

@@ -1,8 +1,8 @@
-ghost use Rattle.std.specs.Prelude.{◌≡◌, ◌==◌, not, true, false, IfOk, IfSome, OnOk};
+ghost use Rattle.std.specs.Prelude.{◌≡◌, ◌==◌, not, true, false, take, IfOk, IfSome, OnOk};
 ghost use Rattle.std.specs.List.{slice_split};
 ghost use Rattle.csv.specs.Records.{fields_of};
 ghost use Rattle.dn_records.specs.PlainLines.{BeginsBare, has_quotes};
-ghost use Rattle.dn_records.specs.Reading.{BeginsLine};
+ghost use Rattle.dn_records.specs.Steps.{BeginsFront};
 
 use csv::ByteRecord;
 use memchr::{memchr, memchr2};
@@ -16,13 +16,16 @@ fn has_quotes(line: &[u8]) -> bool
     memchr2(b'"', b'\r', line).is_some()
 }
 
-/// Reads the pieces of a line between its commas into a record.
-fn split_line(line: &[u8], fields: &mut ByteRecord) -> Result<(), AllocError>
-    ensures { OnOk result (fields_of fields.new ≡ slice_split (λ b. b == 44) line.now) }
+/// Reads the first pieces of a line between its commas into a record, at most so many.
+fn split_line(line: &[u8], most: usize, fields: &mut ByteRecord) -> Result<(), AllocError>
+    ensures { OnOk result (fields_of fields.new ≡ take most (slice_split (λ b. b == 44) line.now)) }
 {
     fields.clear();
     let mut left = line;
     loop {
+        if fields.len() >= most {
+            return Ok(());
+        }
         let Some(comma) = memchr(b',', left) else {
             return fields.push_field(left);
         };
@@ -45,7 +48,7 @@ pub fn read_plain_line(line: &[u8], fields: &mut ByteRecord) -> Result<bool, All
     if has_quotes(line) {
         return Ok(false);
     }
-    split_line(line, fields)?;
+    split_line(line, line.len() + 1, fields)?;
     Ok(true)
 }
 
@@ -61,24 +64,24 @@ fn line_at_front(text: &[u8]) -> Option<(&[u8], &[u8])>
     Some((&text[..feed], rest))
 }
 
-/// Reads the record of the line that a text begins with into `fields`, and returns what follows the line.
+/// Reads the front of the record of the line that a text begins with into `fields`, at most so many, and returns what follows the line.
 ///
 /// None if the line is empty, has a quote or a carriage return within it, or doesn't end.
 pub(crate) fn record_at_front<'a>(
     text: &'a [u8],
+    most: usize,
     fields: &mut ByteRecord,
 ) -> Result<Option<&'a [u8]>, AllocError>
-    ensures { IfOk result (λ found. IfSome found (λ rest. BeginsLine text.now (fields_of fields.new) rest.now)) }
+    ensures { IfOk result (λ found. IfSome found (λ rest. BeginsFront most text.now (fields_of fields.new) rest.now)) }
 {
     let Some((line, rest)) = line_at_front(text) else {
         return Ok(None);
     };
-    if line.is_empty() {
+    if line.is_empty() || has_quotes(line) {
         return Ok(None);
     }
-    match read_plain_line(line, fields) {
-        Ok(true) => Ok(Some(rest)),
-        Ok(false) => Ok(None),
+    match split_line(line, most, fields) {
+        Ok(()) => Ok(Some(rest)),
         Err(error) => Err(error),
     }
 }

@@ -1,5 +1,5 @@
 use csv::ByteRecord;
-use dn_records::{Field, Line, RecordReader, RecordWriter};
+use dn_records::{Field, Line, RecordReader, RecordWriter, Records};
 use std::alloc::{AllocError, Global};
 use std::process::Abort;
 use std::test::Fail;
@@ -55,6 +55,62 @@ fn check_text(
 fn records_are_read_one_by_one(rt: HostRuntime) -> Result<(), Fail> {
     for (text, records) in TEXTS.iter() {
         check_text(&rt, rt.alloc(), text, records)?;
+    }
+    Ok(())
+}
+
+// At most so many fields of each of these records are read, and then no record is left.
+fn check_fronts(
+    rt: &impl Abort,
+    alloc: Global,
+    text: &[u8],
+    records: &[&[&[u8]]],
+    most: usize,
+) -> Result<(), AllocError> {
+    let mut left = Records::new(alloc, text);
+    let mut row = ByteRecord::new(alloc);
+    for record in records {
+        assert!(rt; left.read(most, &mut row)?);
+        check_fields(rt, &row, &record[..record.len().min(most)]);
+    }
+    assert!(rt; !left.read(most, &mut row)?);
+    Ok(())
+}
+
+#[test]
+fn fronts_are_read_one_by_one(rt: HostRuntime) -> Result<(), Fail> {
+    for (text, records) in TEXTS.iter() {
+        for most in 0..4usize {
+            check_fronts(&rt, rt.alloc(), text, records, most)?;
+        }
+    }
+    Ok(())
+}
+
+// What stands before a million commas and behind them, up to the next record, and how many of three fields are read.
+static WIDE: [(&[u8], &[u8], usize); 4] = [
+    (b"a", b"\nb", 3),
+    (b"\"a,\"\"\"", b"\r\nb", 3),
+    (b"\r\n", b"\"c\"\rb\n", 3),
+    (b"\xef\xbb\xbf\"a", b"\"\nb", 1),
+];
+
+#[test]
+fn the_rest_of_a_wide_record_is_passed_over(rt: HostRuntime) -> Result<(), Fail> {
+    let alloc = rt.alloc();
+    let mut row = ByteRecord::new(alloc);
+    for (front, back, count) in WIDE.iter() {
+        let mut text = Vec::new(alloc);
+        text.extend_from_slice(front)?;
+        for _ in 0..1_000_000 {
+            text.push(b',')?;
+        }
+        text.extend_from_slice(back)?;
+        let mut left = Records::new(alloc, text.as_slice());
+        assert!(rt; left.read(3, &mut row)?);
+        assert!(rt; row.len() == *count);
+        assert!(rt; left.read(3, &mut row)?);
+        check_fields(&rt, &row, &[b"b"]);
     }
     Ok(())
 }

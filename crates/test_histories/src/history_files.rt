@@ -157,6 +157,33 @@ static OTHERS: [(usize, &str, Result<(Rule, usize), ReplayFault>); 18] = [
     ),
 ];
 
+// What stands before many commas in the place of the third record, and what stands behind them.
+static WIDE: [(&str, &str); 4] = [
+    ("r,configured", "\n"),
+    ("\"r\",\"configured\"", "\n"),
+    ("r,configured", "\r\n"),
+    ("r,\"configured\n\"", "\rr,configured\n"),
+];
+
+#[test]
+fn a_wide_record_is_a_bad_one(rt: HostRuntime) -> Result<(), Fail> {
+    let alloc = rt.alloc();
+    for (front, end) in WIDE.iter() {
+        let mut record = String::new(alloc);
+        record.push_str(*front)?;
+        for _ in 0..1_000_000 {
+            record.push(',')?;
+        }
+        record.push_str(*end)?;
+        let text = text_with(alloc, 3, record.as_str())?;
+        assert!(rt;
+            read(alloc, text.as_bytes()) == Err(ReplayFault::BadRecord(3)),
+            "{front}"
+        );
+    }
+    Ok(())
+}
+
 #[test]
 fn other_records_are_judged(rt: HostRuntime) -> Result<(), Fail> {
     let alloc = rt.alloc();

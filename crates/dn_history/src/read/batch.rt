@@ -58,9 +58,7 @@ pub(crate) fn read_batch<'a>(
     loop {
         match next_entry(alloc, version, batch.given, &mut records, fields) {
             Ok(Some(entry)) => {
-                let Some(left) = records.lines() else {
-                    return Ok(batch);
-                };
+                let left = records.lines();
                 if batch.given as u64 + 1 >= MOST || records.number() >= MOST {
                     return Ok(batch);
                 }

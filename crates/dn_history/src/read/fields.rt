@@ -6,6 +6,9 @@ ghost use Rattle.dn_history.specs.RecordsLeft.{in_record};
 use csv::ByteRecord;
 use dn_files::{ReplayFault, number_at};
 
+/// A record with so many fields is none of a history. The widest one has one less.
+pub(crate) const TOO_MANY: usize = 22;
+
 /// A number below 2^64 in the field at the place, or the place.
 pub(crate) fn long_at(fields: &ByteRecord, place: usize) -> Result<u64, u64>
     requires { 1 ≤ place }

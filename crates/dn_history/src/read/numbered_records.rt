@@ -1,4 +1,4 @@
-ghost use Rattle.std.specs.Prelude.{◌≡◌, ◌<◌, ◌≤◌, ◌^◌, ℕ, length, Ok, None, IfOk, IfSome, OnOk, OnSome, IfErr, MatchOption};
+ghost use Rattle.std.specs.Prelude.{◌≡◌, ◌<◌, ◌≤◌, ◌^◌, ℕ, length, Ok, None, OnOk, OnSome, IfErr, MatchOption};
 ghost use Rattle.csv.specs.Records.{fields_of};
 ghost use Rattle.csv.specs.declared.parser.State.TheVariants as st;
 ghost use Rattle.dn_records.specs.Reading.{records_after};
@@ -6,11 +6,12 @@ ghost use Rattle.dn_records.specs.Records.{records_of};
 ghost use Rattle.dn_history.specs.HistoryFile.{between, entry_from, nothing_in, reply_from};
 ghost use Rattle.dn_history.specs.HistoryItems.{delivery_item};
 ghost use Rattle.dn_history.specs.PlainRecords.{answered};
-ghost use Rattle.dn_history.specs.RecordsLeft.{item_from, next_record};
+ghost use Rattle.dn_history.specs.RecordsLeft.{item_from, narrow_record, next_record};
 ghost use Rattle.dn_history.specs.declared.history_version.HistoryVersion.{HistoryVersion as Version};
 ghost use Rattle.dn_files.specs.Reading.{IsFaultOf};
 
 use crate::history_version::HistoryVersion;
+use crate::read::fields::TOO_MANY;
 use crate::read::plain_forms::{delivery_at_front, queued_at_front, submit_at_front};
 use crate::read::remarks::read_past_remarks;
 use csv::ByteRecord;
@@ -52,9 +53,9 @@ impl<'a> NumberedRecords<'a> {
         }
     }
 
-    /// The text that is left, where all lines before it are plain.
-    pub(crate) fn lines(&self) -> Option<&'a [u8]>
-        ensures { IfSome result (λ lines. self.now.records ≡ records_after st.StartRecord lines.now) }
+    /// The text that is left.
+    pub(crate) fn lines(&self) -> &'a [u8]
+        ensures { self.now.records ≡ records_after st.StartRecord result.now }
     {
         self.records.lines()
     }
@@ -66,16 +67,19 @@ impl<'a> NumberedRecords<'a> {
         self.number
     }
 
-    /// Reads the next record into `fields`. One that is missing is a bad record.
+    /// Reads the next record into `fields`. One that is missing or has too many fields is a bad record.
     pub(crate) fn next(&mut self, fields: &mut ByteRecord) -> Result<(), ReplayFault>
         ensures ok { OnOk result (next_record self.old ≡ Ok (fields_of fields.new, self.new)) }
         ensures fewer { OnOk result (length self.new.records < length self.old.records) }
-        ensures err { IfErr result (λ fault. IsFaultOf (next_record self.old) fault) }
+        ensures err { IfErr result (λ fault. IsFaultOf (narrow_record self.old) fault) }
     {
-        let Ok(found) = self.records.read(fields) else {
+        let Ok(found) = self.records.read(TOO_MANY, fields) else {
             return Err(ReplayFault::OutOfMemory);
         };
         if !found {
+            return Err(ReplayFault::BadRecord(self.number));
+        }
+        if fields.len() >= TOO_MANY {
             return Err(ReplayFault::BadRecord(self.number));
         }
         self.number += 1;
@@ -90,7 +94,7 @@ impl<'a> NumberedRecords<'a> {
     ) -> Result<(), ReplayFault>
         ensures ok { OnOk result (next_record (between version self.old) ≡ Ok (fields_of fields.new, self.new)) }
         ensures fewer { OnOk result (length self.new.records < length self.old.records) }
-        ensures err { IfErr result (λ fault. IsFaultOf (next_record (between version self.old)) fault) }
+        ensures err { IfErr result (λ fault. IsFaultOf (narrow_record (between version self.old)) fault) }
     {
         let Ok(found) = read_past_remarks(version, &mut self.records, fields) else {
             return Err(ReplayFault::OutOfMemory);
@@ -98,17 +102,20 @@ impl<'a> NumberedRecords<'a> {
         if !found {
             return Err(ReplayFault::BadRecord(self.number));
         }
+        if fields.len() >= TOO_MANY {
+            return Err(ReplayFault::BadRecord(self.number));
+        }
         self.number += 1;
         Ok(())
     }
 
-    /// Reads on, into `fields`, to see that no record is left. One that is left is a bad record.
+    /// Reads on to see that no record is left. One that is left is a bad record.
     pub(crate) fn end(&mut self, fields: &mut ByteRecord) -> Result<(), ReplayFault>
         ensures ok { OnOk result (nothing_in self.old self.old.records ≡ Ok (None, self.new)) }
         ensures fewer { OnOk result (length self.new.records ≤ length self.old.records) }
         ensures err { IfErr result (λ fault. IsFaultOf (nothing_in self.old self.old.records) fault) }
     {
-        let Ok(found) = self.records.read(fields) else {
+        let Ok(found) = self.records.read(0, fields) else {
             return Err(ReplayFault::OutOfMemory);
         };
         if found {
@@ -123,7 +130,7 @@ impl<'a> NumberedRecords<'a> {
             (λ p. (version : Version) (count : ℕ) → entry_from version count self.old ≡ answered version p.0 p.1 self.new) }
         ensures fewer { OnSome result (length self.new.records < length self.old.records) }
     {
-        let text = self.records.lines()?;
+        let text = self.records.lines();
         let Some((caller, call, rest)) = submit_at_front(text) else {
             return None;
         };
@@ -138,7 +145,7 @@ impl<'a> NumberedRecords<'a> {
             (λ reply. (version : Version) → reply_from version self.old ≡ Ok (reply, self.new)) }
         ensures fewer { OnSome result (length self.new.records < length self.old.records) }
     {
-        let text = self.records.lines()?;
+        let text = self.records.lines();
         let Some((reply, rest)) = queued_at_front(text) else {
             return None;
         };
@@ -153,7 +160,7 @@ impl<'a> NumberedRecords<'a> {
             (λ delivery. item_from delivery_item self.old ≡ Ok (delivery, self.new)) }
         ensures fewer { OnSome result (length self.new.records < length self.old.records) }
     {
-        let text = self.records.lines()?;
+        let text = self.records.lines();
         let Some((delivery, rest)) = delivery_at_front(text) else {
             return None;
         };

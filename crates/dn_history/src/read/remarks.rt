@@ -1,10 +1,12 @@
 ghost use Rattle.std.specs.Prelude.{◌≡◌, ◌&&◌, ◌<◌, ◌≤◌, true, [], length, IfOk, OnErr};
 ghost use Rattle.csv.specs.Records.{fields_of};
-ghost use Rattle.dn_records.specs.Records.{Takes};
+ghost use Rattle.dn_records.specs.Steps.{TakesFront};
 ghost use Rattle.dn_history.specs.HistoryRecords.{has_remarks};
+ghost use Rattle.dn_history.specs.RecordsLeft.{too_many};
 ghost use Rattle.dn_history.specs.Remarks.{ahead, is_remark};
 
 use crate::history_version::HistoryVersion;
+use crate::read::fields::TOO_MANY;
 use csv::ByteRecord;
 use dn_files::column;
 use dn_records::Records;
@@ -27,7 +29,7 @@ fn is_passed_over(version: HistoryVersion, fields: &ByteRecord) -> bool
     version.has_remarks() && is_remark(fields)
 }
 
-/// Reads the next record between two entries into `fields`, and returns whether there was one.
+/// Reads the front of the next record between two entries into `fields`, and returns whether there was one.
 ///
 /// It reads past the remarks that the version may have there. After an error no record is left.
 #[tactic(auto, using(crate::proofs::Remarks::passed_over, crate::proofs::Remarks::found_plain, crate::proofs::Remarks::none_left, crate::proofs::HistoryReading::emptied))]
@@ -36,12 +38,12 @@ pub(crate) fn read_past_remarks(
     records: &mut Records<'_>,
     fields: &mut ByteRecord,
 ) -> Result<bool, AllocError>
-    ensures ok { IfOk result (λ found. Takes (ahead (has_remarks version) records.old) records.new found (fields_of fields.new)) }
+    ensures ok { IfOk result (λ found. TakesFront too_many (ahead (has_remarks version) records.old) records.new found (fields_of fields.new)) }
     ensures fewer { IfOk result (λ found. found ≡ true → length records.new < length records.old) }
     ensures err { OnErr result (records.new ≡ []) }
 {
     loop {
-        match records.read(fields) {
+        match records.read(TOO_MANY, fields) {
             Ok(true) => {
                 if !is_passed_over(version, fields) {
                     return Ok(true);

@@ -27,6 +27,6 @@ loop-entry-preserved c =
       read = rw (rw good at c.push.ensures.items)
           (one-read c.args.version c.args.given c.loop-entry.batch.given _ c.loop-entry.records c.next_entry.new.records c.loop-entry.batch.entries.items c.in-Ok-Some.entry
           c.loop-entry.invariant.read step c.in-Ok-Some.ensures.fewer);
-      left = rw (c.number-in-Ok-Some.ensures, ← c.in-Some.ensures) refl;
+      left = rw (c.number-in-Ok-Some.ensures, ← c.lines-left.ensures) refl;
       few = (omega (arith, c.if-batch-ge-MOST.false), omega (arith, c.if-number-ge-MOST.false, c.number.ensures, c.number-in-Ok-Some.ensures));
     }

@@ -9,4 +9,4 @@ pub returns : goal.returns
 returns c =
     let text = c.args.text.now in
     let rest = c.args.rest.now in
-    c.put_text.ensures ∙ rw (take_rest text (length text - length rest - 1)) (ap records_of (rest-is text rest c.requires) ∙ behind-feed rest)
+    rw (take_rest text (length text - length rest - 1)) (ap records_of (rest-is text rest c.requires) ∙ behind-feed rest)

@@ -5,26 +5,26 @@ use Rattle.dn_records.proofs.PlainLines.{behind-line}
 use Rattle.dn_history.proofs.read.numbered_records.NumberedRecords.take_delivery.Goals as goal
 
 pub go_on-requires : goal.go_on-requires
-go_on-requires c = behind-line c.in_ok-text.text.now (codes "d" ∷ c.in-Some.ensures.others) c.in-Some.rest.now c.in-Some.ensures.line
+go_on-requires c = behind-line c.lines-text.result.now (codes "d" ∷ c.in-Some.ensures.others) c.in-Some.rest.now c.in-Some.ensures.line
 
 pub overflow_add-self : goal.overflow_add-self
 overflow_add-self c =
-    let count = one-counted c.self.inside.records c.go_on.new.self c.in_ok-text.text.now c.in-Some.rest.now
-    (codes "d") c.in-Some.ensures.others c.in_ok-text.ensures c.in-Some.ensures.line c.go_on.ensures in
+    let count = one-counted c.self.inside.records c.go_on.new.self c.lines-text.result.now c.in-Some.rest.now
+    (codes "d") c.in-Some.ensures.others c.lines-text.ensures c.in-Some.ensures.line c.go_on.ensures in
     omega (arith, count, c.self.invariant)
 
 pub invariant_of-self : goal.invariant_of-self
 invariant_of-self c =
-    let count = one-counted c.self.inside.records c.go_on.new.self c.in_ok-text.text.now c.in-Some.rest.now
-    (codes "d") c.in-Some.ensures.others c.in_ok-text.ensures c.in-Some.ensures.line c.go_on.ensures in
+    let count = one-counted c.self.inside.records c.go_on.new.self c.lines-text.result.now c.in-Some.rest.now
+    (codes "d") c.in-Some.ensures.others c.lines-text.ensures c.in-Some.ensures.line c.go_on.ensures in
     omega (arith, count, c.self.invariant)
 
 pub returns-clause-delivery : goal.returns-clause-delivery
 returns-clause-delivery c =
-    rw (← c.self.view_is) (delivery-taken c.self.inside.records c.go_on.new.self c.in_ok-text.text.now c.in-Some.rest.now c.in-Some.delivery
-    c.in_ok-text.ensures c.in-Some.ensures c.go_on.ensures c.self.inside.number)
+    rw (← c.self.view_is) (delivery-taken c.self.inside.records c.go_on.new.self c.lines-text.result.now c.in-Some.rest.now c.in-Some.delivery
+    c.lines-text.ensures c.in-Some.ensures c.go_on.ensures c.self.inside.number)
 
 pub returns-clause-fewer : goal.returns-clause-fewer
 returns-clause-fewer c =
-    rw (← c.self.view_is) (one-fewer c.self.inside.records c.go_on.new.self c.in_ok-text.text.now c.in-Some.rest.now
-    (codes "d") c.in-Some.ensures.others c.in_ok-text.ensures c.in-Some.ensures.line c.go_on.ensures)
+    rw (← c.self.view_is) (one-fewer c.self.inside.records c.go_on.new.self c.lines-text.result.now c.in-Some.rest.now
+    (codes "d") c.in-Some.ensures.others c.lines-text.ensures c.in-Some.ensures.line c.go_on.ensures)
