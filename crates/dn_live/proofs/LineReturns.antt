@@ -95,7 +95,7 @@ unfolding records_from
 return-read [] some other feed none = absurd (omega arith)
 return-read (b ∷ line) some other feed none =
     let (quote, return) = or_parts (list_any (λ c. c == 34) (b ∷ line)) (list_any (λ c. c == 13) (b ∷ line)) none in
-    at-front ((b ∷ line) ++ 13 ∷ []) (omega arith) other
+    at-front ((b ∷ line) ++ 13 ∷ []) (λ rest is. other (ap (λ (t : List ℕ). get_or t 0 0) is))
     ∙ rw (add-one, first-read b line (record { quote = quote; return = return; feed = feed }))
     (ap (λ (t : List Fields). slice_split (λ c. c == 44) (b ∷ line) ∷ t) (none-behind (length ((b ∷ line) ++ 13 ∷ []))))
 
