@@ -16,6 +16,7 @@ from hinge.run.words import Wrong
 
 PATIENCE = 20.0  # s: more than a run takes for an order, so that its refusal comes before
 LONGEST_REPLY = 1 << 26  # bytes: a status has some thousand of each link
+LONGEST_ANSWER = 8192  # bytes
 MOST_DOORS = 8  # descriptors with an answer
 NUMBERS = count(1)
 
@@ -69,3 +70,11 @@ def process_at(path: str) -> int:
 def is_answered(path: str) -> bool:
     with socket.socket(socket.AF_UNIX, socket.SOCK_STREAM) as sock, within(path) as near:
         return sock.connect_ex(near) == 0
+
+
+def answer_of(path: str, words: str) -> str:
+    """What the first process of a simulated machine answers to a line."""
+    with socket.socket(socket.AF_UNIX, socket.SOCK_STREAM) as line:
+        line.connect(path)
+        line.sendall(os.fsencode(f"{words}\n"))
+        return line.recv(LONGEST_ANSWER).decode(errors="replace")

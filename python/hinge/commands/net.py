@@ -18,6 +18,7 @@ from hinge.command import Fault, parser, say
 from hinge.commands.exec import main as exec_main
 from hinge.net.clocks import IN_REAL_TIME
 from hinge.net.description import Description, read_description
+from hinge.net.disks import refuse_disks
 from hinge.net.net_inside import NetInside, NetOrder
 from hinge.net.net_plan import NetPlan
 from hinge.net.net_rooms import NETWORK, NetEnds
@@ -51,10 +52,12 @@ words of FILE, one line each (hinge docs NET):
   mtu A B BYTES                       of the interfaces of a link
   routes none                         none but to direct neighbours
   wait NAME port N [TIME]             before the main command begins
+  disk HOST PATH [64M]                that `crash` empties, in simulated time
   loss A B MODEL    line A B LINE    map A B RULE    trace A B FILE
   at TIME A B outage LENGTH [lossy]   at TIME A B LINK
   at TIME cut A [from B ..] [LENGTH]  at TIME heal A [from B ..]
   at TIME kill|stop HOST [LENGTH]     at TIME restart|cont HOST
+  at TIME crash HOST [LENGTH]         a kill that loses what isn't synced
   at TIME skew HOST +2s [100ppm]      its clock, in simulated time
   nemesis KIND every TIME for TIME [until TIME] [of HOST ..]
                                       faults that the seed draws
@@ -194,6 +197,7 @@ def net_order(options: NetOptions, net: Description, mask: Mask) -> NetOrder:
     net_plan = NetPlan(net, net.longest(options.mtu), seed)
     if not is_simulated() and any(act.word == "skew" for act in net_plan.acts):
         raise Wrong(f"{options.file}: skew: {IN_REAL_TIME}")
+    refuse_disks(options.file, net.hosts.values())
     plan = net_plan.plan
     text = plan.text(seed, absolute(options.transcript), options.realtime, MOST, is_simulated())
     return NetOrder(

@@ -7,11 +7,12 @@ from dataclasses import dataclass, field, replace
 from typing import Callable, NamedTuple, Optional
 
 from hinge.arguments import is_number
+from hinge.net.disks import DISK, Disk, read_disk
 from hinge.net.statements import Statement, statements
 from hinge.run.words import Wrong, bytes_of_mtu
 
 NAME = re.compile(r"[A-Za-z][A-Za-z0-9-]{0,62}", re.ASCII)
-ACTS = ("kill", "stop", "cont", "restart", "skew")  # of hosts
+ACTS = ("kill", "stop", "cont", "restart", "skew", "crash")  # of hosts
 TAKEN = {"localhost", "cut", "heal", "from", *ACTS}
 HOST, MAIN, ROUTER = "host NAME [COMMAND]", "main NAME [COMMAND]", "router NAME [COMMAND]"
 MTU, ROUTES = "mtu A B [N] BYTES", "routes none"
@@ -27,6 +28,7 @@ class Host:
     forwards: bool = False
     is_switch: bool = False
     command: str = ""  # of the shell
+    disks: list[Disk] = field(default_factory=list)
 
 
 @dataclass(frozen=True)
@@ -168,6 +170,9 @@ class Description:
         statement.done(WAIT)
         self.waits.append(Wait(host, int(port), lasting))
 
+    def disk(self, statement: Statement) -> None:
+        self.hosts[self.room(statement, DISK)].disks.append(read_disk(statement))
+
     def declare_switch(self, statement: Statement) -> None:
         rest = statement.rest
         host = self.declare(statement, SWITCH, forwards=True)
@@ -221,6 +226,7 @@ FOLLOWS: tuple[dict[str, Does], ...] = (
     {"link": Description.link, "switch": Description.switch},
     {
         "wait": Description.wait,
+        "disk": Description.disk,
         "mtu": Description.mtu,
         "routes": Description.routes,
         **{

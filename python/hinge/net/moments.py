@@ -6,7 +6,7 @@ from typing import NamedTuple
 
 from hinge.net.nemesis import spelled_ns
 
-ENDS = {"kill": "restart", "stop": "cont"}  # of faults
+ENDS = {"kill": "restart", "crash": "restart", "stop": "cont"}  # of faults
 
 
 class Moment(NamedTuple):
@@ -34,5 +34,5 @@ class Act(NamedTuple):
     moment: Moment
     word: str
     host: str
-    fault: int = 0  # the number of a kill or a stop, which its end has too
+    fault: int = 0  # the number of a kill, a crash or a stop, which its end has too
     more: str = ""  # of `skew`, for the kernel

@@ -133,10 +133,11 @@ KINDS: dict[str, Kind] = {
     "partition-majorities": majorities,
     "isolate-one": of_one("cut"),
     "kill-one": of_one("kill"),
+    "crash-one": of_one("crash"),
     "stop-one": of_one("stop"),
 }
 LEAST = {"partition-halves": 2, "partition-one": 2, "partition-ring": 4, "partition-majorities": 3}  # hosts
-OF_COMMANDS = ("kill-one", "stop-one")
+OF_COMMANDS = ("kill-one", "crash-one", "stop-one")
 
 
 def named_hosts(net: Description, statement: Statement, kind: str) -> list[str]:
@@ -150,7 +151,10 @@ def named_hosts(net: Description, statement: Statement, kind: str) -> list[str]:
         items = [
             name
             for name, host in net.hosts.items()
-            if not host.forwards and name != net.main and (host.command or kind not in OF_COMMANDS)
+            if not host.forwards
+            and name != net.main
+            and (host.command or kind not in OF_COMMANDS)
+            and (host.disks or kind != "crash-one")
         ]
     least = LEAST.get(kind, 1)
     if len(set(items)) < len(items):

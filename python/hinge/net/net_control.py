@@ -33,7 +33,7 @@ def opened_control(net: NetInside) -> Optional[Control]:
     def enter_host(name: str) -> HostRoom:
         if name not in net.rooms.network:
             raise Wrong(f"{name!r}: no host of this net, which are {', '.join(net.rooms.network)}")
-        return HostRoom(doors.to(net.rooms.network[name]), net.variables(name))
+        return HostRoom(doors.to(net.rooms.network[name], net.disks.mounts.get(name)), net.variables(name))
 
     def act(words: str) -> Optional[ObeyedLine]:
         if words.split()[:1] and words.split()[0] not in ACTS:

@@ -14,6 +14,7 @@ from hinge.net.acts import Acts, GroupProcesses, HostProcesses, sees_own_process
 from hinge.net.cgroups import Cgroups
 from hinge.net.clocks import number_of, set_clock, take_clock
 from hinge.net.description import Description
+from hinge.net.disks import Disks
 from hinge.net.moments import Act
 from hinge.net.net_control import opened_control
 from hinge.net.net_plan import NetPlan
@@ -72,6 +73,7 @@ class NetInside:
         self.rooms = NetRooms(self.net, order.mtu)
         if outside and order.outside:
             self.rooms.lead_out(outside, order.outside)
+        self.disks = Disks(self.net.hosts.values())
         self.started: dict[str, int] = {}
         self.silent: list[str] = []  # of the ports that were waited for in vain
         self.begun = time.monotonic()
@@ -141,9 +143,11 @@ class NetInside:
             if sees_own_processes() or process is None
             else GroupProcesses(process)
         )
-        does = {"kill": on_host.kill, "restart": on_host.kill, "stop": on_host.stop, "cont": on_host.cont}
+        does = {"kill": on_host.kill, "crash": on_host.kill, "restart": on_host.kill, "stop": on_host.stop, "cont": on_host.cont}
         does[act.word]()
         self.processes.reap()
+        if act.word == "crash":
+            self.disks.ask("lose", act.host)
         if act.word == "restart":
             self.begin(act.host)
 
@@ -160,6 +164,7 @@ class NetInside:
         is_main, is_first = name == self.net.main, name not in self.started
 
         def enter_host() -> None:
+            self.disks.enter(name)
             if not is_main:
                 os.setpgid(0, 0)
                 os.dup2(os.open(os.devnull, os.O_RDONLY), 0)
@@ -249,7 +254,7 @@ class NetInside:
 
     def was_killed(self, name: str) -> bool:
         """Whether a host's command is one that an act has ended."""
-        return self.acts.last(name) == "kill"
+        return self.acts.last(name) in ("kill", "crash")
 
     def run(self) -> int:
         link, fault = self.started_links()

@@ -12,6 +12,7 @@ from hinge.captures.rule_words import NETS
 from hinge.checks.lines import judged_lines
 from hinge.net.clocks import MOST_CLOCKS, number_of, read_skew
 from hinge.net.description import ACTS, Description
+from hinge.net.disks import DISK
 from hinge.net.moments import ENDS, Act, Moment, Said
 from hinge.net.nemesis import FORM, OF_MOMENTS, SPAN, Draw, drawn_lines, read_nemesis, read_span
 from hinge.net.net_rooms import own_addresses
@@ -24,7 +25,7 @@ from hingetulip_words.advice import advice
 from hingetulip_words.link import NO_WORDS, Place
 
 CUT, HEAL = "at TIME cut A [from B ..] [LENGTH]", "at TIME heal A [from B ..]"
-ACT = "at TIME kill|stop HOST [LENGTH], cont|restart HOST, or skew HOST +TIME [PPM]"
+ACT = "at TIME kill|crash|stop HOST [LENGTH], cont|restart HOST, or skew HOST +TIME [PPM]"
 LOSS, LINE, MAP = "loss A B [N] MODEL", "line A B [N] LINE", "map A B [N] RULE"
 TRACE, AT = "trace A B [N] FILE", "at TIME A B [N] [up|down] outage LENGTH [lossy], or LINK, or a line"
 BACK = {"up": "down", "down": "up"}
@@ -224,13 +225,15 @@ class NetPlan:
         word = statement.take(ACT)
         host = self.net.room(statement, ACT)
         more = self.skew(statement, host) if word == "skew" else ""
-        end = ENDS.get(word, "") if statement.peek() else ""
-        length = statement.take_time(ACT) if end else 0
+        end = ENDS.get(word, "") if statement.peek() or word == "crash" else ""
+        length = statement.take_time(ACT) if end and statement.peek() else 0
         statement.done(ACT)
         if host == self.net.main and word != "skew":
             raise statement.wrong(host, "it has the main command, whose end is the end")
         if "restart" in (word, end) and not self.net.hosts[host].command:
             raise statement.wrong(host, "it has no command that could begin again")
+        if word == "crash" and not self.net.hosts[host].disks:
+            raise statement.wrong(host, f"it has no disk: {DISK}")
         self.faults += word in ENDS
         fault = self.faults if word in ENDS else 0
         self.acts.append(Act(moment, word, host, fault, more))

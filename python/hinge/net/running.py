@@ -138,6 +138,11 @@ class Net(Described):
         """All that runs on a host is gone at once. Its command begins again after so long, or by `restart`."""
         return self.obey(f"kill {host}{with_length(lasting)}", at=at)
 
+    def crash(self, host: str, lasting: Optional[Time] = None, *, at: Optional[Time] = None) -> list[Obeyed]:
+        """All that runs on a host is gone, and what its disks didn't flush. Its command begins again at once, or after
+        so long. In simulated time."""
+        return self.obey(f"crash {host}{with_length(lasting)}", at=at)
+
     def restart(self, host: str, *, at: Optional[Time] = None) -> list[Obeyed]:
         """A host's command begins again, after a kill or at once."""
         return self.obey(f"restart {host}", at=at)

@@ -5,7 +5,7 @@ from __future__ import annotations
 
 import os
 import socket
-from typing import Sequence
+from typing import Optional, Sequence
 
 from hinge.run.processes import Mask
 from hinge.run.rooms import start
@@ -24,9 +24,11 @@ class Doors:
             *(os.open(f"/proc/thread-self/ns/{kind}", os.O_RDONLY | os.O_CLOEXEC) for kind, _ in KINDS),
         ]
 
-    def to(self, network: int) -> list[int]:
-        """Those of the room with this network."""
-        return [*self.shared, network]
+    def to(self, network: int, mounts: Optional[list[int]] = None) -> list[int]:
+        """Those of the room with this network, and with a root and a mount namespace of its own, if it has such."""
+        root, users, namespace, processes = self.shared
+        root, namespace = mounts or (root, namespace)
+        return [root, users, namespace, processes, network]
 
 
 def is_here(namespace: int, kind: str) -> bool:

@@ -153,10 +153,10 @@ def sha256_of(path: Path) -> str:
 
 def add_init(kernel: Kernel) -> None:
     """Compiles the first process of a kernel's machines."""
-    words = ["cc", "-std=c17", "-O2", "-static", "-s", "-o", str(kernel.init), str(INIT)]
+    words = ["cc", "-std=c17", "-O2", "-static", "-s", "-o", str(kernel.init), *map(str, INIT)]
     process = subprocess.run(words, capture_output=True, text=True, errors="replace")
     if process.returncode:
-        raise Fault(f"{INIT} isn't compiled: {process.stderr.strip()}", FAILED)
+        raise Fault(f"{INIT[0]} isn't compiled: {process.stderr.strip()}", FAILED)
 
 
 def version_of(tree: Path) -> str:

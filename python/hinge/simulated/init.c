@@ -24,7 +24,10 @@
 /* Where the job keeps what outlives the machine. */
 #define KEPT "/run/kept"
 #define SCRATCH "/run/scratch"
+#define DISKS "/run/disks"
 enum { SECOND = 1000000000, CANNOT_EXECUTE = 126, NOT_FOUND = 127, GROUPS = 1000, NAMES = 100000 };
+
+void serve_disks(const char *path); /* disks.c */
 
 static void tell(const char *path, const char *text) {
     int file = open(path, O_WRONLY | O_CREAT | O_TRUNC | O_DSYNC | O_CLOEXEC, 0600);
@@ -214,6 +217,7 @@ int main(void) {
     struct timespec begin = {1000, 0};
     clock_nanosleep(CLOCK_MONOTONIC, TIMER_ABSTIME, &begin, NULL);
     tell_lines("/proc/pauses", pauses);
+    serve_disks(DISKS);
     uint64_t begun = now();
     pid_t child = fork();
     if (child < 0) stop("fork");

@@ -10,7 +10,7 @@ from typing import Iterator, NamedTuple
 from hinge.run.system import Missing
 
 HERE = Path(__file__).resolve().parent
-CONFIG, PATCH, INIT = HERE / "kernel.config", HERE / "kernel.patch", HERE / "init.c"
+CONFIG, PATCH, INIT = HERE / "kernel.config", HERE / "kernel.patch", (HERE / "init.c", HERE / "disks.c")
 # Where the released one is: beside this module where that was installed, and in a clone's release.
 RELEASED = (HERE / "kernels", HERE.parents[2] / "release" / "kernels")
 LETTERS = 16  # of a checksum in the name of a folder
@@ -34,7 +34,7 @@ class Kernel(NamedTuple):
 
     @property
     def init(self) -> Path:
-        return self.folder / f"init-{checksum_of(INIT)}"
+        return self.folder / f"init-{checksum_of(*INIT)}"
 
     @property
     def checksum(self) -> str:

@@ -63,6 +63,7 @@ def kernel_words(kernel: Kernel, settings: Settings) -> list[str]:
         f"hinge_seed={settings.seed}",
         f"hinge_cpu={settings.cpu}",
         "norandmaps",
+        "null_blk.nr_devices=0",
         "con=null",
         "ssl=null",
         "stderr=1",

@@ -40,7 +40,7 @@ WRONG = (  # a net's file, and what is said of it
     (
         "hots a\n",
         (
-            "line 1: 'hots': no word of a net, which are at, host, line, link, loss, main, map, mtu, nemesis, router,"
+            "line 1: 'hots': no word of a net, which are at, disk, host, line, link, loss, main, map, mtu, nemesis, router,"
             " routes, switch, trace, wait; did you mean 'host'?"
         ),
     ),

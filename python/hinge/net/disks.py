@@ -1,0 +1,91 @@
+"""Disks of hosts in simulated time: what was written to one and not synced is lost when its host crashes."""
+
+from __future__ import annotations
+
+import os
+import re
+import shutil
+from itertools import count
+from typing import TYPE_CHECKING, Iterable, NamedTuple
+
+from hinge.border.asking import answer_of
+from hinge.net.statements import Statement
+from hinge.run.system import NEWNS, Missing, is_simulated, join, unshare
+from hinge.run.words import Wrong
+
+if TYPE_CHECKING:
+    from hinge.net.description import Host
+
+DISK = "disk HOST PATH [SIZE]"
+PLACE = "/run/disks"  # of the simulated machine's first process
+USUAL, LEAST, MOST = 64, 16, 65_536  # MiB; the least that has a journal
+MAKER, PACKAGE = "mkfs.ext4", "e2fsprogs"
+MAKERS = os.pathsep.join((os.environ.get("PATH", ""), "/usr/sbin", "/sbin"))
+IN_REAL_TIME = "hosts have disks that a crash can empty in simulated time alone; add --simulated"
+
+
+class Disk(NamedTuple):
+    path: str  # where its host finds it
+    size: int  # MiB
+
+
+def read_disk(statement: Statement) -> Disk:
+    """As `/data`, or `data 256M` in the folder of the net's file."""
+    path = os.path.abspath(os.path.join(os.path.dirname(statement.path), statement.take(DISK)))
+    word = statement.take(DISK) if statement.peek() else f"{USUAL}M"
+    match = re.fullmatch(r"(\d{1,5})([MG])", word, re.ASCII)
+    size = int(match[1]) << {"M": 0, "G": 10}[match[2]] if match else 0
+    if not LEAST <= size <= MOST:
+        raise statement.wrong(word, f"no size from {LEAST}M to {MOST >> 10}G: {DISK}")
+    statement.done(DISK)
+    return Disk(path, size)
+
+
+def refuse_disks(path: str, hosts: Iterable[Host]) -> None:
+    """Where this system can't have those of a net's file."""
+    if any(host.disks for host in hosts):
+        if not is_simulated():
+            raise Wrong(f"{path}: disk: {IN_REAL_TIME}")
+        if shutil.which(MAKER, path=MAKERS) is None:
+            raise Missing(f"{path}: disk: there is no {MAKER}: apt-get install {PACKAGE}")
+
+
+def opened_mounts() -> list[int]:
+    """The root and the mount namespace of this process."""
+    return [os.open("/", os.O_RDONLY | os.O_CLOEXEC), os.open("/proc/thread-self/ns/mnt", os.O_RDONLY | os.O_CLOEXEC)]
+
+
+def enter_mounts(mounts: list[int]) -> None:
+    """Has this process see the files of a mount namespace, in the folder in which it is."""
+    folder, (root, namespace) = os.getcwd(), mounts
+    join(namespace, NEWNS)
+    os.fchdir(root)
+    os.chroot(".")
+    os.chdir(folder)
+
+
+class Disks:
+    """Made in the first process, before it begins a thread. A host with disks has mounts of its own, which outlive its
+    processes, so that no end of a process writes to a disk."""
+
+    def __init__(self, hosts: Iterable[Host]) -> None:
+        numbers = count(1)
+        self.of = {host.name: [(next(numbers), disk) for disk in host.disks] for host in hosts if host.disks}
+        self.mounts: dict[str, list[int]] = {}
+        own = opened_mounts() if self.of else []
+        for name in self.of:
+            unshare(NEWNS)
+            self.mounts[name] = opened_mounts()
+            self.ask("make", name)
+            enter_mounts(own)
+
+    def ask(self, does: str, host: str) -> None:
+        """Has the machine's first process make the disks of a host, or lose what they didn't flush."""
+        for number, disk in self.of[host]:
+            answer = answer_of(PLACE, f"{does} {number} {disk.size} {self.mounts[host][1]} {disk.path}")
+            if answer != "done":
+                raise Missing(f"disk {host} {disk.path}: {answer}")
+
+    def enter(self, host: str) -> None:
+        if host in self.mounts:
+            enter_mounts(self.mounts[host])
