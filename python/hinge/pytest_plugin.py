@@ -40,6 +40,7 @@ from hinge.testing.marks import fault_of, is_unused, link_of
 from hingetulip_words.presets import either_way
 
 if TYPE_CHECKING:
+    from hinge.faults import Faults
     from hinge.net import Net
     from hinge.testing.emulated import Emulated, UdpPath
     from hingetulip.aio import Network
@@ -70,9 +71,10 @@ class MakeUdpPath(Protocol):
 
 
 def pytest_addoption(parser: pytest.Parser) -> None:
-    parser.getgroup("hingetulip").addoption(
-        "--link-seed", type=int, default=1, metavar="N", help="seed of emulated links (default: 1)"
-    )
+    group = parser.getgroup("hingetulip")
+    group.addoption("--link-seed", type=int, default=1, metavar="N", help="seed of emulated links (default: 1)")
+    group.addoption("--link-faults", metavar="FILE", help="the faults of sim_net's links, in the place of their losses")
+    group.addoption("--link-shrink", action="store_true", help="tell the fewest losses with which a test with sim_net fails")
 
 
 def pytest_configure(config: pytest.Config) -> None:
@@ -109,7 +111,17 @@ def emulated_links(request: pytest.FixtureRequest) -> Generator[list[Emulated], 
         pytest.fail("\n".join(wrong), pytrace=False)
 
 
-LINKS = pytest.StashKey["list[Emulated]"]()
+LINKS, TRIED = pytest.StashKey["list[Emulated]"](), pytest.StashKey["Faults"]()
+
+
+def faults_for(item: pytest.Item) -> Optional[Faults]:
+    """The faults by which a test runs, if it is given any: those that a shrinking tries, else those of the command line."""
+    from hinge.faults import read_faults
+
+    if TRIED in item.stash:
+        return item.stash[TRIED]
+    path = item.config.getoption("--link-faults")
+    return None if path is None else read_faults(path)
 
 
 @pytest.fixture
@@ -147,11 +159,13 @@ def udp_path(request: pytest.FixtureRequest, emulated_links: list[Emulated], lin
 @pytest.fixture
 def sim_net(request: pytest.FixtureRequest, emulated_links: list[Emulated], link_seed: int, tmp_path: Path) -> Network:
     """A network of hosts in simulated time."""
+    from hinge.faults import FaultyNetwork
     from hinge.testing.emulated import SimulatedPath
 
-    product = SimulatedPath(link_seed, tmp_path / "link.history", *link_of(request.node))
-    emulated_links.append(product)
-    return product.net
+    history, (there, back) = tmp_path / "link.history", link_of(request.node)
+    product = FaultyNetwork(faults_for(request.node), seed=link_seed, history=history, options=there, back=back)
+    emulated_links.append(SimulatedPath(product, history))
+    return product
 
 
 @pytest.fixture
@@ -233,17 +247,28 @@ def links_of(item: pytest.Item) -> list[str]:
 
 
 @pytest.hookimpl(tryfirst=True)  # type: ignore[misc]
-def pytest_runtest_protocol(item: pytest.Item) -> Optional[bool]:
-    """A test with the mark or the net `simulated` runs in a machine of its own, and there as any other."""
-    mark = item.get_closest_marker("simulated")
-    if mark is None and "simulated_net" in getattr(item, "fixturenames", ()):
+def pytest_runtest_protocol(item: pytest.Item, nextitem: Optional[pytest.Item]) -> Optional[bool]:
+    """A test with the mark or the net `simulated` runs in a machine of its own, and there as any other. With --link-shrink one that
+    fails runs again with fewer losses."""
+    mark, names = item.get_closest_marker("simulated"), getattr(item, "fixturenames", ())
+    if mark is None and "simulated_net" in names:
         mark = pytest.mark.simulated.mark
-    if mark is None or INSIDE in os.environ or fault_of(item) is not None:
+    is_in_machine = mark is not None and INSIDE not in os.environ and fault_of(item) is None
+    if not is_in_machine and not ("sim_net" in names and item.config.getoption("--link-shrink")):
         return None  # a wrong mark is told by the test's setup
-    from hinge.simulated.one_test import reports
-
     item.ihook.pytest_runtest_logstart(nodeid=item.nodeid, location=item.location)
-    for report in reports(item, mark, links_of(item), seed_of(item)):
+    for report in reports_of(item, nextitem, mark if is_in_machine else None):
         item.ihook.pytest_runtest_logreport(report=report)
     item.ihook.pytest_runtest_logfinish(nodeid=item.nodeid, location=item.location)
     return True
+
+
+def reports_of(item: pytest.Item, nextitem: Optional[pytest.Item], mark: Optional[pytest.Mark]) -> list[pytest.TestReport]:
+    """Those of a test in a machine, by its mark, or of one that is shrunk if it fails."""
+    if mark is not None:
+        from hinge.simulated.one_test import reports
+
+        return reports(item, mark, links_of(item), seed_of(item))
+    from hinge.testing.least import reports_with_least
+
+    return reports_with_least(item, nextitem)

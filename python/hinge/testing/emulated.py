@@ -7,9 +7,11 @@ import select
 import signal
 import subprocess
 import sys
+from collections import Counter
 from pathlib import Path
-from typing import Optional, Protocol
+from typing import Iterator, Optional, Protocol
 
+from hinge.faults import IS_LOST, Fault, Faults, FaultyNetwork
 from hinge.program import dummynet
 from hingetulip.aio import Network
 from hingetulip.aio.options import Options
@@ -25,21 +27,39 @@ def audited(history: Path) -> str:
     return (process.stdout or process.stderr).strip()
 
 
-def dropped_in_history(history: Path) -> list[str]:
-    """The packets that a history says were lost or refused, a line each, and how many more there are than a report
-    lists."""
-    lines, row, call = list[str](), 0, [""]
+def submissions(history: Path) -> Iterator[tuple[list[str], list[str]]]:
+    """The packets of a history: the fields of each call, and those of its reply."""
+    call = [""]
     with open(history, encoding="utf-8") as file:
         for record in (line.rstrip("\n").split(",") for line in file):
             if record[0] == "c":
                 call = record
-                row += call[2] == "submit"
-            elif record[0] == "r" and call[2:3] == ["submit"] and record[1] != "queued":
-                lines.append(
-                    f"  row {row:>5}, {int(record[2]) / 1e9:.9f} s, {call[5]}:{call[8]} > {call[6]}:{call[9]},"
-                    f" {call[10]} bytes: {record[1]}"
-                )
+            elif record[0] == "r" and call[2:3] == ["submit"]:
+                yield call, record
+
+
+def dropped_in_history(history: Path) -> list[str]:
+    """The packets that a history says were lost or refused, a line each, and how many more there are than a report
+    lists."""
+    lines = [
+        f"  row {row:>5}, {int(reply[2]) / 1e9:.9f} s, {call[5]}:{call[8]} > {call[6]}:{call[9]}, {call[10]} bytes: {reply[1]}"
+        for row, (call, reply) in enumerate(submissions(history), 1)
+        if reply[1] != "queued"
+    ]
     return lines[:MOST_DROPPED] + ([f"  and {len(lines) - MOST_DROPPED} more"] if len(lines) > MOST_DROPPED else [])
+
+
+def losses_of(net: Network, history: Path) -> Faults:
+    """The losses of a network's links, as faults."""
+    names = {("pipe", str(link.pipe)): f"{link.near.name} > {link.far.name}" for link in net.links.values()}
+    names.update({("queue", str(queue)): names["pipe", str(it.pipe)] for it in net.links.values() for queue in it.queues.values()})
+    faults, count = list[Fault](), Counter[str]()
+    for call, reply in submissions(history):
+        if name := names.get((call[3], call[4])):
+            count[name] += 1
+            if reply[1] == "lost":
+                faults.append(Fault(name, count[name], IS_LOST))
+    return Faults(*faults)
 
 
 class Emulated(Protocol):
@@ -97,11 +117,9 @@ class UdpPath:
 class SimulatedPath:
     """The network of simulated time of a test."""
 
-    def __init__(self, seed: int, history: Path, there: str, back: Optional[str]) -> None:
-        self.history, self.told = history, ""
+    def __init__(self, net: FaultyNetwork, history: Path) -> None:
+        self.net, self.history, self.told, self.faults = net, history, "", net.faults
         self.verdict: Optional[str] = None
-        self.net = Network(seed=seed, history=history, options=there, back=back)
-        self.faults = self.net.faults
 
     def finish(self) -> None:
         if self.verdict is None:
@@ -112,8 +130,19 @@ class SimulatedPath:
             self.net.close()
             self.verdict = audited(self.history)
 
+    def chosen(self) -> Faults:
+        """The faults of its links: those that it was given, else its losses."""
+        return losses_of(self.net, self.history) if self.net.chosen is None else self.net.chosen
+
     def report(self) -> str:
-        return f"{self.told}\n{closing(self.net.seed, self.verdict, self.history)}"
+        lines = [self.told, closing(self.net.seed, self.verdict, self.history)]
+        faults, path = self.chosen(), self.history.with_suffix(".faults")
+        path.write_text(str(faults), encoding="utf-8")
+        if self.net.chosen is None:
+            lines += [f"its losses as faults: --link-faults {path}"] * bool(faults)
+        else:
+            lines += [f"fault: {fault}{': it came to no packet' * (fault in self.net.unmet())}" for fault in faults]
+        return "\n".join(lines)
 
 
 def no_report(fault: Exception) -> str:

@@ -156,9 +156,9 @@ class Loop(asyncio.BaseEventLoop):
         """The numbers themselves."""
         return str(sockaddr[0]), str(sockaddr[1])
 
-    async def create_datagram_endpoint(
+    async def create_datagram_endpoint(  # type: ignore[override]
         self,
-        protocol_factory: Callable[[], Protocol],  # type: ignore[override]
+        protocol_factory: Callable[[], Protocol],
         local_addr: Optional[Address] = None,
         remote_addr: Optional[Address] = None,
         *,
