@@ -2,6 +2,7 @@
 
 from __future__ import annotations
 
+import asyncio
 import itertools
 import unittest
 
@@ -9,6 +10,9 @@ from kit import MIXED, folder, needs_tshark, replay, rows_of, run, write
 
 from hinge.captures.packet_rows import HEADER
 from hinge.loss import KEPT, LOST, Bernoulli, Chosen, GilbertElliott, Listed, Words, read_model
+from hinge.pictures.drawn import provenance_of
+from hinge.replays.asked import read_sources
+from hingetulip.aio import Network
 
 MANY = 100_000
 
@@ -78,6 +82,28 @@ class Models(unittest.TestCase):
         report = replay("model", write("model.config", "pipe 1 config plr 0.5\n"), write("model.csv", f"{HEADER}\n{rows}"))
         lost = {int(row["row"]) for row in rows_of(report) if row["event"] == "lost"}
         self.assertEqual(lost, {number for number, word in enumerate(words, 1) if word == LOST})
+
+    def test_a_picture_names_the_model_and_not_the_rate_under_which_it_decides(self) -> None:
+        """The words of each packet say which: random ones stay a rate of 0.5."""
+        told = dict[str, str]()
+        for name, loss in {"gilbert": GilbertElliott(0.02, 0.2), "random": None}.items():
+            path = folder() / f"{name}.history"
+            with Network(history=path, seed=7) as net:
+                one, other = net.host("10.0.0.1"), net.host("10.0.0.2")
+                net.link(one, other, "8Mbit/s plr 0.5", loss=loss)
+                transport, _ = net.run(one.endpoint(asyncio.DatagramProtocol, remote=("10.0.0.2", 7)))
+                for _ in range(400):
+                    transport.sendto(b"x")
+                    net.run(asyncio.sleep(0.001))
+                rows = [dropped.row for dropped in net.dropped]
+            told[name] = provenance_of(read_sources([str(path)], None, [], 1, []))[0]
+            why = run("look", path, "--why", rows[0]).stdout
+            self.assertIn({"gilbert": "lost by a model", "random": "lost by the loss rate"}[name], why)
+        self.assertRegex(
+            told["gilbert"],
+            r"^pipe 1 config bw 8000000bit/s losses by a model \(\d+(\.\d+)? % of 400 packets, [3-9]\.\d+ in a row\)$",
+        )
+        self.assertEqual(told["random"], "pipe 1 config bw 8000000bit/s plr 0.500000000000000000")
 
 
 @needs_tshark
