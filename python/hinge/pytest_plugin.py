@@ -35,8 +35,8 @@ from typing import TYPE_CHECKING, Callable, Coroutine, Generator, Optional, Prot
 
 import pytest
 
-from hinge.testing import async_fixtures
-from hinge.testing.marks import fault_of, is_unused, link_of
+from hinge.testing import async_fixtures, table
+from hinge.testing.marks import fault_of, link_of, unused, vary_of
 from hingetulip_words.presets import either_way
 
 if TYPE_CHECKING:
@@ -50,6 +50,7 @@ MARKS = (
         'link(options, back=options, preset=name): the link of a test, as "8Mbit/s 20ms plr 0.05", and that of the'
         " way back if it is another"
     ),
+    "vary(delay, jitter, phase, drift, cuts): what the seed varies in sim_net, as delay='5..100ms', drift='100ppm'",
     ("simulated(**options): the test runs in a simulated machine of its own, with options of `hinge run`, as" " server=COMMAND"),
 )
 INSIDE = "HINGE_TEST_REPORTS"  # in a simulated machine: the file that the reports of its test go to
@@ -79,6 +80,7 @@ def pytest_addoption(parser: pytest.Parser) -> None:
 
 def pytest_configure(config: pytest.Config) -> None:
     config.pluginmanager.register(async_fixtures)
+    config.pluginmanager.register(table.Table())
     for mark in MARKS:
         config.addinivalue_line("markers", mark)
     if INSIDE in os.environ:
@@ -159,11 +161,12 @@ def udp_path(request: pytest.FixtureRequest, emulated_links: list[Emulated], lin
 @pytest.fixture
 def sim_net(request: pytest.FixtureRequest, emulated_links: list[Emulated], link_seed: int, tmp_path: Path) -> Network:
     """A network of hosts in simulated time."""
-    from hinge.faults import FaultyNetwork
     from hinge.testing.emulated import SimulatedPath
+    from hinge.testing.varied import VariedNetwork
 
-    history, (there, back) = tmp_path / "link.history", link_of(request.node)
-    product = FaultyNetwork(faults_for(request.node), seed=link_seed, history=history, options=there, back=back)
+    history, item = tmp_path / "link.history", request.node
+    there, back = link_of(item)
+    product = VariedNetwork(vary_of(item), faults_for(item), seed=link_seed, history=history, options=there, back=back)
     emulated_links.append(SimulatedPath(product, history))
     return product
 
@@ -214,16 +217,19 @@ def pytest_runtest_setup(item: pytest.Item) -> None:
     fault = fault_of(item)
     if fault is not None:
         pytest.fail(fault, pytrace=False)
-    if is_unused(item):
-        item.warn(pytest.PytestWarning("the mark link is of no effect: no fixture of the test is sim_net, udp_path or net"))
+    for text in unused(item):
+        item.warn(pytest.PytestWarning(text))
 
 
 @pytest.hookimpl(hookwrapper=True)  # type: ignore[misc]
 def pytest_runtest_makereport(item: pytest.Item, call: pytest.CallInfo[None]) -> Generator[None, pytest.TestReport, None]:
     outcome = yield
     report = outcome.get_result()
+    links: list[Emulated] = item.stash.get(LINKS, [])
+    if report.when == "call":
+        report.user_properties += table.row_of(item, seed_of(item), links)
     if report.when == "call" and report.failed:
-        for link in item.stash.get(LINKS, []):
+        for link in links:
             try:
                 link.finish()
                 text = link.report()

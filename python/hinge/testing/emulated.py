@@ -16,6 +16,7 @@ from hinge.program import dummynet
 from hingetulip.aio import Network
 from hingetulip.aio.options import Options
 from hingetulip.aio.report import MOST_DROPPED
+from hingetulip.records import Outcome
 
 START = Path(__file__).resolve().parents[1] / "__main__.py"
 PATIENCE = 30  # s until a path is ready, and until it has ended
@@ -129,6 +130,13 @@ class SimulatedPath:
                 self.told = no_report(fault)
             self.net.close()
             self.verdict = audited(self.history)
+
+    def is_disturbed(self) -> Optional[bool]:
+        """Whether a packet was lost, met a full queue, or was late or doubled by more than its link; None if none came to a link."""
+        links = self.net.links.values()
+        counts = [sum(link.outcomes[place] for link in links) for place in Outcome]
+        has_more = any(link.copies is not None or link.jitter is not None and link.jitter.pipes for link in links)
+        return bool(sum(counts[1:])) or has_more if any(counts) else None
 
     def chosen(self) -> Faults:
         """The faults of its links: those that it was given, else its losses."""

@@ -3,10 +3,11 @@
 from __future__ import annotations
 
 import difflib
-from typing import Mapping, NamedTuple, Optional
+from typing import Iterator, Mapping, NamedTuple, Optional
 
 import pytest
 
+from hinge.testing.variation import Variation, variation_of
 from hingetulip_words.advice import OPTIONS, OTHER_NAMES
 from hingetulip_words.link import WordError, as_words, read_link
 from hingetulip_words.presets import either_way
@@ -81,10 +82,19 @@ def link_of(item: pytest.Item) -> Ends:
     return Ends("", None) if mark is None else ends_of(mark)
 
 
+def vary_of(item: pytest.Item) -> Variation:
+    """What the marks `vary` of a test say, the nearest last."""
+    marks = list(item.iter_markers("vary"))
+    if any(mark.args for mark in marks):
+        raise WrongMark("the mark vary takes spans by their names alone, as vary(delay='5..100ms')")
+    return variation_of({name: text for mark in reversed(marks) for name, text in mark.kwargs.items()})
+
+
 def fault_of(item: pytest.Item) -> Optional[str]:
     """What is wrong with the marks of a test, if anything is."""
     try:
         link_of(item)
+        vary_of(item)
     except ValueError as error:
         return str(error)
     in_simulated_time = item.get_closest_marker("simulated")
@@ -93,8 +103,11 @@ def fault_of(item: pytest.Item) -> Optional[str]:
     return None
 
 
-def is_unused(item: pytest.Item) -> bool:
-    """Whether a test itself has the mark `link`, and nothing that takes it."""
-    has_own = any(mark.name == "link" for mark in getattr(item, "own_markers", ()))
-    takes = any(name in FIXTURES for name in getattr(item, "fixturenames", ()))
-    return has_own and not takes and item.get_closest_marker("simulated") is None
+def unused(item: pytest.Item) -> Iterator[str]:
+    """The marks of a test itself that nothing takes, as a warning each."""
+    own, names = {mark.name for mark in getattr(item, "own_markers", ())}, getattr(item, "fixturenames", ())
+    takes_link = any(name in FIXTURES for name in names) or item.get_closest_marker("simulated") is not None
+    if "link" in own and not takes_link:
+        yield "the mark link is of no effect: no fixture of the test is sim_net, udp_path or net"
+    if "vary" in own and "sim_net" not in names:
+        yield "the mark vary is of no effect: no fixture of the test is sim_net"
