@@ -9,10 +9,11 @@ import unittest
 from kit import MIXED, folder, needs_tshark, replay, rows_of, run, write
 
 from hinge.captures.packet_rows import HEADER
-from hinge.loss import KEPT, LOST, Bernoulli, Chosen, GilbertElliott, Listed, Words, read_model
+from hinge.loss import KEPT, LOST, Bernoulli, BurstsByTime, Chosen, GilbertElliott, Listed, Words, read_model
 from hinge.pictures.drawn import provenance_of
 from hinge.replays.asked import read_sources
 from hingetulip.aio import Network
+from hingetulip.records import Outcome
 
 MANY = 100_000
 
@@ -37,6 +38,28 @@ class Models(unittest.TestCase):
     def test_gilbert_elliott_loses_in_both_states(self) -> None:
         lost = sum(word == LOST for word in drawn(GilbertElliott(0.1, 0.3, 0.5, 0.02, seed=5)))
         self.assertAlmostEqual(lost / MANY, (0.1 * 0.5 + 0.3 * 0.02) / 0.4, delta=0.006)
+
+    def test_bursts_by_time_have_one_length_however_many_packets_come(self) -> None:
+        """In the long run a link is bad for a fifth of the time, 0.5 s in a row."""
+        for step in (0.01, 0.1):
+            moments = itertools.count()
+            lost = [word == LOST for word in drawn(BurstsByTime(2, 0.5, seed=3, clock=lambda: next(moments) * step))]
+            self.assertAlmostEqual(sum(lost) / MANY, 0.2, delta=0.02)
+            self.assertAlmostEqual(sum(runs(lost)) / len(runs(lost)) * step, 0.5 if step == 0.01 else 0.55, delta=0.05)
+        with self.assertRaises(TypeError):
+            BurstsByTime(2, 0.5).next()
+        with self.assertRaises(ValueError):
+            BurstsByTime(2, 0)
+
+    def test_a_link_gives_its_clock(self) -> None:
+        with Network(seed=3) as net:
+            one, other = net.host("10.0.0.1"), net.host("10.0.0.2")
+            link = net.link(one, other, "20ms", loss=BurstsByTime(10, 2))
+            transport, _ = net.run(one.endpoint(asyncio.DatagramProtocol, remote=("10.0.0.2", 7)))
+            for _ in range(1000):
+                transport.sendto(b"x")
+                net.run(asyncio.sleep(1))
+            self.assertAlmostEqual(link.counts[Outcome.LOST] / 1000, 1 / 6, delta=0.05)
 
     def test_rates_of_zero_and_one(self) -> None:
         self.assertEqual(set(drawn(GilbertElliott(0, 1), 1000)), {KEPT})
