@@ -16,12 +16,11 @@ from __future__ import annotations
 import re
 from dataclasses import dataclass
 from pathlib import Path
-from typing import TYPE_CHECKING, Any, Callable, Coroutine, Iterable, Mapping, Optional, Tuple, TypeVar, Union
+from typing import TYPE_CHECKING, Any, Callable, Coroutine, Iterable, Optional, Tuple, TypeVar, Union
 
 from hinge.border.files import read_text
 from hinge.loss import KEPT, LOST
-from hingetulip.aio import Datagram, Host, Link, Network, Words
-from hingetulip.aio.datagram import MOST_BYTES
+from hingetulip.aio import Datagram, Host, Link, Network
 from hingetulip.aio.jitter import DelayOf, whole
 
 if TYPE_CHECKING:
@@ -121,25 +120,13 @@ class FaultyNetwork(Network):
         self.chosen = None if faults is None else Faults(*faults)
         self.plans: dict[str, Plan] = {}
 
-    def link(
-        self,
-        near: Host,
-        far: Host,
-        options: Optional[str] = None,
-        *,
-        classes: Optional[Mapping[str, str]] = None,
-        classify: Optional[Callable[[Datagram], str]] = None,
-        loss: Optional[Words] = None,
-        copies: Optional[Callable[[Datagram], int]] = None,
-        jitter: Optional[DelayOf] = None,
-        mtu: int = MOST_BYTES,
-    ) -> Link:
+    def link(self, near: Host, far: Host, options: Optional[str] = None, **more: Any) -> Link:
         if self.chosen is not None:
             name = f"{getattr(near, 'name', near)} > {getattr(far, 'name', far)}"
-            loss = plan = self.plans[name] = Plan([fault for fault in self.chosen if fault.link == name], copies, jitter)
-            copies, jitter = plan.copies, plan.jitter
-        more: dict[str, Any] = {"classes": classes, "classify": classify, "loss": loss, "copies": copies, "jitter": jitter}
-        return super().link(near, far, options, mtu=mtu, **more)
+            faults = [fault for fault in self.chosen if fault.link == name]
+            plan = self.plans[name] = Plan(faults, more.get("copies"), more.get("jitter"))
+            more.update(loss=plan, copies=plan.copies, jitter=plan.jitter)
+        return super().link(near, far, options, **more)
 
     def unmet(self) -> Faults:
         """The faults whose packet never came."""

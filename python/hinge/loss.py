@@ -20,6 +20,7 @@ from hinge.captures.random_words import word
 
 LOST, KEPT = 0, (1 << 31) - 1
 PARTS = 1 << 31  # of a rate, as the program has it
+MOST_LISTED = 10**6  # packets of a range
 Rate = Union[float, Fraction]
 
 
@@ -139,7 +140,7 @@ def read_numbers(text: str) -> list[int]:
     for part in text.split(","):
         ends = re.fullmatch(r"(\d{1,9})(?:-(\d{1,9}))?", part)
         low, high = (int(ends[1]), int(ends[2] or ends[1])) if ends else (0, 0)
-        if not 1 <= low <= high:
+        if not 1 <= low <= high < low + MOST_LISTED:
             raise ValueError(f"{part!r} is no packet number and no range of them, from 1")
         numbers.extend(range(low, high + 1))
     return numbers

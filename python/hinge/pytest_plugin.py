@@ -176,7 +176,7 @@ def net(request: pytest.FixtureRequest, emulated_links: list[Emulated], link_see
     """A net of hosts with any programs, in real time, or in simulated time in a test with the mark `simulated`. Its
     links are those of the mark `link`, where nothing else is said of them."""
     from hinge.net import Net
-    from hinge.testing.net_of_test import NetOfTest
+    from hinge.testing.emulated import NetOfTest
 
     there, back = link_of(request.node)
     product = Net(tmp_path / "net", seed=link_seed, link=there, back=back)

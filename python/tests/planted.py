@@ -1,4 +1,4 @@
-"""Four small protocols in which a bug is planted by its name, as tests of faults find them; without a name they are right."""
+"""Three small protocols in which a bug is planted by its name, as tests of faults find them; without a name they are right."""
 
 from __future__ import annotations
 
@@ -9,7 +9,6 @@ from typing import Optional
 WINDOW, REPEATED_AFTER, TRIES = 8, 0.2, 60
 FIRST = 244  # number of a packet: a byte wraps soon
 TERM = 1.0  # s of a lease
-PACKET, FRAME = 1000, 0.033  # bytes and s of a video
 
 
 def now() -> float:
@@ -147,45 +146,3 @@ class Node(Socket):
         while True:
             self.transport.sendto(struct.pack("!d", now()))
             await asyncio.sleep(0.3)
-
-
-class Player(Socket):
-    """Of a video: tells how late packets come, and how many are missing."""
-
-    def __init__(self, bug: str = "") -> None:
-        super().__init__(bug)
-        self.delays, self.last, self.missing = [], -1, 0
-
-    def datagram_received(self, data: bytes, source: object) -> None:
-        number, sent = struct.unpack("!Id", data[:12])
-        self.delays.append(now() - sent)
-        self.missing, self.last = self.missing + max(0, number - self.last - 1), max(self.last, number)
-        self.transport.sendto(struct.pack("!dI", now() - sent, self.missing), source)
-
-
-class Camera(Socket):
-    """Sends as fast as the delay allows."""
-
-    def __init__(self, bug: str = "") -> None:
-        super().__init__(bug)
-        self.rate, self.number, self.missing, self.least, self.cut = 1e6, 0, 0, 9.0, -1.0
-
-    def datagram_received(self, data: bytes, source: object) -> None:
-        delay, missing = struct.unpack("!dI", data)
-        self.least = min(self.least, delay)
-        if missing > self.missing and self.bug == "cuts for each loss":
-            self.rate = max(1e5, self.rate * 0.7)
-        self.missing = missing
-        if now() - self.cut > 0.2:
-            if delay > self.least + 0.05 and self.bug != "deaf to delay":
-                self.rate, self.cut = max(1e5, self.rate * 0.8), now()
-            else:
-                self.rate = min(20e6, self.rate + 2e3)
-
-    async def run(self, seconds: float) -> None:
-        end = now() + seconds
-        while now() < end:
-            for _ in range(max(1, round(self.rate * FRAME / 8 / PACKET))):
-                self.transport.sendto(struct.pack("!Id", self.number, now()).ljust(PACKET, b"x"))
-                self.number += 1
-            await asyncio.sleep(FRAME)

@@ -9,7 +9,7 @@ from pathlib import Path
 from random import Random
 from typing import Awaitable, Callable, Optional
 
-from planted import Adder, Asker, Camera, Player, Receiver, Sender
+from planted import Adder, Asker, Receiver, Sender
 from pytest_runs import Runs, lacking
 from simulated_hosts import Ends
 
@@ -47,15 +47,6 @@ async def questions(bug: str) -> None:
     assert server.total == 12
 
 
-async def video(bug: str) -> None:
-    one, other = two_hosts("4Mbit/s 30ms queue 100KB")
-    _, player = await other.endpoint(Player, 7)
-    _, camera = await one.endpoint(lambda: Camera(bug), remote=("b", 7))
-    await camera.run(12)
-    late = sorted(player.delays)
-    assert late[len(late) * 9 // 10] < 0.2 and camera.rate > 1.5e6
-
-
 # The most faults that are left of each bug, in runs of its protocol.
 PLANTED: list[tuple[str, Protocol, int]] = [
     ("takes a packet twice", transfer, 1),
@@ -65,7 +56,6 @@ PLANTED: list[tuple[str, Protocol, int]] = [
     ("wraps wrongly", transfer, 1),
     ("executes twice", questions, 1),
     ("takes any reply", questions, 1),
-    ("deaf to delay", video, 0),
 ]
 
 

@@ -11,7 +11,7 @@ from planted import Node, Store, now
 from pytest_runs import Runs
 from simulated_hosts import Ends
 
-from hinge.testing.variation import Variation, variation_of
+from hinge.testing.marks import Variation, variation_of
 from hinge.testing.varied import VariedNetwork
 from hingetulip import aio
 
@@ -134,20 +134,10 @@ class OfTests(Runs):
             @pytest.mark.link("20ms plr 0.01")
             async def test_swept(sim_net):
                 assert await session(sim_net) == 60 and sim_net.links[sim_net.host("10.0.0.1"), sim_net.host("10.0.0.2")].delay < 10**7
-
-            @pytest.mark.vary(delay="1ms")
-            def test_without(tmp_path):
-                pass
-
-            @pytest.mark.vary(dealy="1ms")
-            def test_wrong(sim_net):
-                pass
             """,
             "--strict-markers",
         )
         self.assertRegex(done.text, r"\n\S+::test_swept: (\d+) of 20 seeds failed: [\d, ]+( and \d more)? \(delay 1\.\.9ms\)\n")
-        self.assertIn("the mark vary is of no effect: no fixture of the test is sim_net\n", done.text)
-        self.assertIn("the mark vary takes no 'dealy'; write delay\n", done.text)
         self.assertNotIn("in no test was a packet", done.text)
 
     def test_that_nothing_ever_happened(self) -> None:

@@ -9,7 +9,7 @@ import subprocess
 import sys
 from collections import Counter
 from pathlib import Path
-from typing import Iterator, Optional, Protocol
+from typing import TYPE_CHECKING, Iterator, Optional, Protocol
 
 from hinge.faults import IS_LOST, Fault, Faults, FaultyNetwork
 from hinge.program import dummynet
@@ -18,7 +18,11 @@ from hingetulip.aio.options import Options
 from hingetulip.aio.report import MOST_DROPPED
 from hingetulip.records import Outcome
 
+if TYPE_CHECKING:
+    from hinge.net.running import Net
+
 START = Path(__file__).resolve().parents[1] / "__main__.py"
+ADDRESS = re.compile(r"\b10\.\d+\.\d+\.\d+\b")
 PATIENCE = 30  # s until a path is ready, and until it has ended
 
 
@@ -151,6 +155,40 @@ class SimulatedPath:
         else:
             lines += [f"fault: {fault}{': it came to no packet' * (fault in self.net.unmet())}" for fault in faults]
         return "\n".join(lines)
+
+
+class NetOfTest:
+    """The net of a test. One that never began is lawful."""
+
+    def __init__(self, net: Net) -> None:
+        self.net, self.history = net, net.history
+        self.verdict: Optional[str] = None
+        self.faults: list[str] = []
+
+    def finish(self) -> None:
+        if self.verdict is None:
+            self.net.close()
+            self.verdict = audited(self.history) if self.history.exists() else "lawful, since the net didn't begin"
+
+    def named(self, line: str) -> str:
+        """A line with the names of hosts in the place of their addresses."""
+        names = {address: name for name, own in self.net.addresses().items() for address in own}
+        return ADDRESS.sub(lambda result: names.get(result[0], result[0]), line)
+
+    def report(self) -> str:
+        if not self.history.exists():
+            return self.net.told() or "the net didn't begin"
+        changes = [f"  {one.seconds:.6f} s, changed: {one.line}" for one in self.net.obeyed]
+        message = [
+            f"{name} printed last ({self.log(name)}):\n{text}"
+            for name in self.net.addresses()
+            if (text := self.net.last_lines(name))
+        ]
+        losses = [self.named(line) for line in dropped_in_history(self.history)]
+        return "\n".join([self.net.told(), *changes, *losses, *message, closing(self.net.drawn_seed(), self.verdict, self.history)])
+
+    def log(self, host: str) -> Path:
+        return self.net.folder / "logs" / f"{host}.log"
 
 
 def no_report(fault: Exception) -> str:

@@ -10,7 +10,7 @@ from random import Random
 from typing import Any, Coroutine, Optional, TypeVar
 
 from hinge.faults import FaultyNetwork
-from hinge.testing.variation import Span, Variation
+from hinge.testing.marks import Span, Variation
 from hingetulip.aio import Datagram, Host, Link
 from hingetulip.aio.jitter import DelayOf
 
