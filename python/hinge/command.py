@@ -139,11 +139,13 @@ class Progress:
     def __init__(self, what: str) -> None:
         self.what = what
         self.began = self.told = time.monotonic()
-        self.shown = False
+        self.shown, self.is_seen = False, sys.stderr.isatty()
 
     def at(self, count: int) -> None:
+        if not self.is_seen:
+            return
         now = time.monotonic()
-        if now - self.began < PROGRESS_AFTER or now - self.told < 0.5 or not sys.stderr.isatty():
+        if now - self.began < PROGRESS_AFTER or now - self.told < 0.5:
             return
         self.told, self.shown = now, True
         tell_over(f"{self.what}: {count:,}")

@@ -120,7 +120,7 @@ def of_page(tally: Tally, pytest: Pytest) -> None:
     section = re.search(r"^-+ emulated link -+\n(.*?hinge look )", told, re.M | re.S)
     wanted = printed[1].partition("hinge look ")[0] + "hinge look " if printed else "no report"
     tally.equal("the report of the page's first test", wanted, section[1] if section else told)
-    least = re.search(r"^\[\.\.\]\n(.* packet \d+ lost\nfails by .*\n)", text, re.M)
+    least = re.search(r"^(.* packet \d+ lost\nfails by .*\n)", text, re.M)
     tally.note("the least faults of that test", "" if least and least[1] in told else told)
     if pytest.has("hypothesis"):
         told, lines = pytest.run("faults", more, "-k", "in_order"), re.findall(r"# (Faults\(.*\))", faults)

@@ -6,6 +6,8 @@ The outermost IP header counts. Fragments aren't put together again, since a lin
 from __future__ import annotations
 
 import socket
+from functools import lru_cache
+from struct import Struct
 from typing import NamedTuple, Optional
 
 from hinge.captures.capture_reader import RawFrame
@@ -20,6 +22,7 @@ EXTENSIONS = {0: 2, FRAGMENT: 8, 43: 1, 60: 2}
 HOP_BY_HOP, JUMBO, PADDING = 0, 0xC2, 0
 WHOLE = {132: 12}  # bytes of a header that has to be whole; of the others the ports are enough
 TCP_HEADER, OTHER_HEADER = 20, 8  # of a packet that was cut, or of a later fragment
+HEADER4, PORTS = Struct("!BBHxxHxBxx4s4s"), Struct("!HH")
 
 
 class Frame(NamedTuple):
@@ -51,24 +54,22 @@ class Internet(NamedTuple):
     transport: bytes
 
 
+@lru_cache(maxsize=1 << 16)
+def address4(data: bytes) -> str:
+    """An address as it is written, one text for all its packets."""
+    return socket.inet_ntop(socket.AF_INET, data)
+
+
 def internet4(data: bytes) -> Optional[Internet]:
     """An IPv4 packet, None where its header isn't valid or not whole."""
     if len(data) < 20 or data[0] >> 4 != 4:
         return None
-    own, length = 4 * (data[0] & 15), number_at(data, 2)
+    version, service, length, fragment, proto, src, dst = HEADER4.unpack_from(data)
+    own = 4 * (version & 15)
     if own < 20 or 0 < length < own or own > len(data):
         return None
-    is_later = number_at(data, 6) & 0x1FFF
-    transport = b"" if is_later else data[own : length or len(data)]
-    return Internet(
-        socket.inet_ntop(socket.AF_INET, data[12:16]),
-        socket.inet_ntop(socket.AF_INET, data[16:20]),
-        data[9],
-        length,
-        own,
-        data[1] >> 2,
-        transport,
-    )
+    transport = b"" if fragment & 0x1FFF else data[own : length or len(data)]
+    return Internet(address4(src), address4(dst), proto, length, own, service >> 2, transport)
 
 
 def internet6(data: bytes) -> Optional[Internet]:
@@ -113,7 +114,8 @@ def ports(packet: Internet) -> tuple[int, int, int]:
         return 0, 0, 0
     data, has_ports = packet.transport, len(packet.transport) >= WHOLE.get(packet.proto, 4)
     header = OTHER_HEADER if packet.proto != TCP else data[12] >> 4 << 2 if len(data) >= 14 else TCP_HEADER
-    return (number_at(data, 0), number_at(data, 2), header) if has_ports else (0, 0, header)
+    sport, dport = PORTS.unpack_from(data) if has_ports else (0, 0)
+    return sport, dport, header
 
 
 def frame_of(capture: str, place: int, raw: RawFrame) -> Optional[Frame]:

@@ -8,6 +8,7 @@ from heapq import heappop, heappush, heapreplace
 from typing import Iterable, Iterator, NamedTuple, TextIO
 
 from hinge.captures.addresses import StandIns
+from hinge.captures.frame_table import FrameTable
 from hinge.captures.frames import Frame
 from hinge.captures.random_words import direction_of
 from hinge.captures.targets import Targets
@@ -163,11 +164,11 @@ class PacketRows:
     counts: Counter[str] = field(default_factory=Counter)
     row: int = 0
 
-    def packets(self, frames: list[Frame]) -> Iterator[tuple[Packet, str]]:
+    def packets(self, frames: FrameTable) -> Iterator[tuple[Packet, str]]:
         """The packets of all frames that have a target, in order of time, each with its target."""
-        frames.sort(key=lambda frame: (frame.time, frame.number))
-        cutter = Cutter(self.card, frames[0].time if frames else 0)
-        for packet, target in in_order(self.sent(frames, cutter), cutter.began):
+        cutter = Cutter(self.card, next((frame.time for frame in frames), 0))
+        packets = in_order(self.sent(frames, cutter), cutter.began) if self.card.mtu else self.whole(frames, cutter.began)
+        for packet, target in packets:
             if packet.moment > LAST_MOMENT:
                 raise Fault(
                     f"frame {packet.frame.number} of the capture comes {packet.moment:,} ns after the first packet, "
@@ -178,14 +179,24 @@ class PacketRows:
             yield packet, target
         self.counts["split"] = cutter.split
 
-    def sent(self, frames: list[Frame], cutter: Cutter) -> Iterator[Sent]:
-        """Those of each frame."""
+    def mapped(self, frames: FrameTable) -> Iterator[tuple[Frame, str]]:
+        """The frames that have a target."""
         for frame in frames:
             target = self.targets.of(frame)
             if target is None:
                 self.counts["unmapped"] += 1
                 continue
             self.meetings.add(target, frame.src, frame.dst)
+            yield frame, target
+
+    def whole(self, frames: FrameTable, began: int) -> Iterator[tuple[Packet, str]]:
+        """The packets where no card cuts any."""
+        for frame, target in self.mapped(frames):
+            yield Packet(frame.time - began, frame.length, frame), target
+
+    def sent(self, frames: FrameTable, cutter: Cutter) -> Iterator[Sent]:
+        """Those of each frame."""
+        for frame, target in self.mapped(frames):
             packets = cutter.packets(frame)
             yield Sent(next(packets), packets, target)
 
@@ -194,21 +205,21 @@ class PacketRows:
         frame, on_link = packet.frame, packet.length + self.link_bytes
         src, dst = self.addresses.of(frame.src), self.addresses.of(frame.dst)
         self.row += 1
-        self.counts["cut"] += on_link > MAX_LEN
+        if on_link > MAX_LEN:
+            self.counts["cut"] += 1
         word = self.words.next(target)
-        return (
-            f"{packet.moment},{target},{src},{dst},{frame.proto},{frame.sport},{frame.dport}," f"{min(on_link, MAX_LEN)},{word}\n"
-        )
+        return f"{packet.moment},{target},{src},{dst},{frame.proto},{frame.sport},{frame.dport},{min(on_link, MAX_LEN)},{word}\n"
 
     def write(self, items: Iterable[tuple[Packet, str]], out: TextIO, index: TextIO | None) -> None:
         """A row for each packet, and in the index its frame."""
         out.write(f"{HEADER}\n")
         if index is not None:
             index.write("row,frame\n")
-        progress = Progress("rows")
+        progress, size = Progress("rows"), 0
         for packet, target in items:
-            self.counts["bytes"] += out.write(self.line(packet, target))
+            size += out.write(self.line(packet, target))
             if index is not None:
                 index.write(f"{self.row},{packet.frame.number}\n")
             progress.at(self.row)
+        self.counts["bytes"] = size
         progress.done()

@@ -12,6 +12,7 @@ from hinge.arguments import bounded
 from hinge.border.files import Input, read_again
 from hinge.captures.addresses import addresses_file, write_addresses
 from hinge.captures.dissect import frames
+from hinge.captures.frame_table import FrameTable
 from hinge.captures.packet_rows import Card, PacketRows, TargetWords
 from hinge.captures.rule_words import HELP, TARGET, BadRule
 from hinge.captures.targets import MapRule, Targets, directions, read_rule
@@ -164,13 +165,14 @@ def write_packets(options: PacketsOptions, capture: Input) -> None:
         targets = Targets(capture.path, options.map, options.sender)
     except BadRule as bad:
         raise Fault(f"--map: {bad}", USAGE) from None
-    items = list(frames(capture))
+    packets, count = FrameTable(), 0
+    for count, frame in frames(capture):
+        if frame is not None:
+            packets.add(frame)
     targets.resolve()
-    packets = [frame for _, frame in items if frame is not None]
     rows = PacketRows(targets, Card(options.mtu, options.rate), options.l2, TargetWords(options.seed, dict(options.loss)))
-    packet = rows.packets(packets)
     with writing(options.o) as out, writing(options.index) if options.index else contextlib.nullcontext() as index:
-        rows.write(packet, out, index)
+        rows.write(rows.packets(packets), out, index)
         if options.o is not None and options.o != "-":
             write_addresses(options.o, rows.addresses)
     for address, stand_in in rows.addresses.stand_ins.items():
@@ -179,11 +181,11 @@ def write_packets(options: PacketsOptions, capture: Input) -> None:
         say(text)
     counts = rows.counts
     say(
-        f"{len(items)} frames, {rows.row} rows, seed {options.seed}; {len(items) - len(packets)} not IP, "
+        f"{count} frames, {rows.row} rows, seed {options.seed}; {count - len(packets)} not IP, "
         f"{counts['unmapped']} without a target, {counts['split']} split at the MTU, {counts['cut']} longer than 65535 "
         f"bytes"
     )
-    long = sum(frame.length > LONGEST for frame in packets)
+    long = packets.longer(LONGEST)
     if long and not options.mtu:
         say(
             f"{long} packets are longer than {LONGEST} bytes, since the card was still to cut them, or had joined "

@@ -1,4 +1,4 @@
-"""The report of a live session, by the calls that docs/FILES.md makes of a packet file."""
+"""The report of a live session, by calls from the rows of a packet file, as docs/FILES.md says."""
 
 from __future__ import annotations
 

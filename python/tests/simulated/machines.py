@@ -89,8 +89,8 @@ class Repeated(Simulated):
         """Two runs by a seed; the files that the second finds aren't there for the first."""
         one, other = self.run_by(7, *LINK, *words), self.run_by(7, *LINK, *words)
         self.assertEqual(one.status, 0, one.out + one.err)
-        self.assertIs(one.summary["repeatable"], True, one.err)
-        self.assertEqual((one.out, one.summary["simulated"]), (other.out, other.summary["simulated"]))
+        self.assertEqual([ran.summary["repeatable"] for ran in (one, other)], [True, True], one.err + other.err)
+        self.assertEqual((one.out, one.summary["simulated"]), (other.out, other.summary["simulated"]), one.err + other.err)
         self.assertTrue(one.history == other.history, "the transcripts differ")
         self.assert_lawful(one.history)
         return one

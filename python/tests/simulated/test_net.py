@@ -39,7 +39,7 @@ class Waiter(ctypes.Structure):
     _fields_ = [("value", ctypes.c_uint64), ("place", ctypes.c_uint64), ("flags", ctypes.c_uint32), ("none", ctypes.c_uint32)]
 
 def ahead():
-    return round(time.time() - time.monotonic() - before, 3)
+    return round(time.time() - time.monotonic() - before, 3) + 0.0  # no -0.0
 
 def after(length):
     moment = time.time() + length

@@ -1,4 +1,4 @@
-"""Programs that many use: two runs by one seed are equal byte for byte. docs/SIMULATED.md has the table of them."""
+"""Programs that many use: two runs by one seed are equal byte for byte. docs/SIMULATED.md lists them."""
 
 from __future__ import annotations
 
@@ -82,8 +82,10 @@ class OfServers(Repeated):
 
     @needs("java", "javac")
     def test_java(self) -> None:
+        """Without the files below /tmp in which a Java program looks for others that ended, since the first run changes
+        what the second finds there."""
         subprocess.run(["javac", "-d", self.folder, PROGRAMS / "Web.java"], check=True)
-        java = f"java -cp {self.folder} Web"
+        java = f"java -XX:-UsePerfData -cp {self.folder} Web"
         self.twice("--server-wait", "60s", "--server", f"exec {java} serve", "--", "sh", "-c", java)
 
     @needs("chromium")

@@ -129,6 +129,9 @@ class OfSearches(Simulated):
             out, err = process.communicate()
         self.assertEqual(out, "seed 1: status 1: it fails\n1 of 1 runs failed, 5 more are left\n", err)
         self.assertEqual(process.returncode, 128 + signal.SIGINT)
+        end = time.monotonic() + 60
+        while any(Path(f"/proc/{one}").exists() for one in below) and time.monotonic() < end:
+            time.sleep(0.05)  # those that were killed end when they have a processor
         self.assertEqual((left(temporary), [one for one in below if Path(f"/proc/{one}").exists()]), ([], []))
 
     def test_none_that_fails(self) -> None:
