@@ -28,7 +28,7 @@ if TYPE_CHECKING:
 
 T = TypeVar("T")
 IS_LOST, IS_TWICE, IS_LATE = "lost", "twice", "late"
-LINE = re.compile(r"(?P<link>\S+ > \S+) packet (?P<packet>[1-9]\d{0,17}) (?:(?P<kind>lost|twice)|late (?P<ms>\d{1,7})ms)")
+LINE = re.compile(r"(?P<link>\S.* > .*\S) packet (?P<packet>[1-9]\d{0,17}) (?:(?P<kind>lost|twice)|late (?P<ms>\d{1,7})ms)")
 DELAYS = (5, 20, 50, 100, 300, 1000)  # ms, of packets that hypothesis draws as late
 MOST_TRAINS, MOST_OF_TRAIN, MOST_APART = 3, 8, 12
 

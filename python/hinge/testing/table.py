@@ -30,9 +30,9 @@ class Sweep:
     seeds: list[int] = field(default_factory=list)
     failed: list[int] = field(default_factory=list)
 
-    def told(self) -> str:
+    def text(self) -> str:
         more = f" and {len(self.failed) - MOST_SEEDS} more" * (len(self.failed) > MOST_SEEDS)
-        listed = f": {', '.join(map(str, self.failed[:MOST_SEEDS]))}{more}" if self.failed else ""
+        listed = f": {', '.join(map(str, sorted(self.failed)[:MOST_SEEDS]))}{more}" if self.failed else ""
         return f"{len(self.failed)} of {len(self.seeds)} seeds failed{listed}{f' ({self.varied})' if self.varied else ''}"
 
 
@@ -54,7 +54,7 @@ class Table:
             sweep.failed += [row["seed"]] * report.failed
 
     def pytest_terminal_summary(self, terminalreporter: Any) -> None:
-        lines = [f"{name}: {sweep.told()}" for name, sweep in self.sweeps.items() if len(sweep.seeds) > 1 or sweep.varied]
+        lines = [f"{name}: {sweep.text()}" for name, sweep in self.sweeps.items() if len(sweep.seeds) > 1 or sweep.varied]
         lines += [UNDISTURBED] * (self.is_disturbed is False)
         if lines:
             terminalreporter.section("emulated links")

@@ -104,7 +104,7 @@ class Link:
 
     def _release(self) -> None:
         self.holds -= 1
-        while self.held and not self.holds:
+        while self.held and not self.holds and not self.net.closing:
             self.net.take(*self.held.pop(0))
 
     def change(self, options: str) -> None:
