@@ -22,6 +22,7 @@ from hinge.border.files import read_text
 from hinge.loss import KEPT, LOST
 from hingetulip.aio import Datagram, Host, Link, Network
 from hingetulip.aio.jitter import DelayOf, whole
+from hingetulip.aio.options import BY_MODEL
 
 if TYPE_CHECKING:
     from hypothesis.strategies import SearchStrategy
@@ -126,7 +127,10 @@ class FaultyNetwork(Network):
             faults = [fault for fault in self.chosen if fault.link == name]
             plan = self.plans[name] = Plan(faults, more.get("copies"), more.get("jitter"))
             more.update(loss=plan, copies=plan.copies, jitter=plan.jitter)
-        return super().link(near, far, options, **more)
+        made = super().link(near, far, options, **more)
+        if self.chosen is not None and not float(made.options.settings["plr"]):  # under which no word loses a packet
+            made.change(f"{made.options.without('plr')} plr {BY_MODEL}")
+        return made
 
     def unmet(self) -> Faults:
         """The faults whose packet never came."""

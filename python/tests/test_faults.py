@@ -115,7 +115,7 @@ class Packets(unittest.TestCase):
         """What came to a host to which five packets are sent, one each 10 ms, and in which ms."""
         with FaultyNetwork(Faults(*lines)) as net:
             one, other = net.host("10.0.0.1", name="a"), net.host("10.0.0.2", name="b")
-            net.link(one, other, "20ms plr 0.5", **more)
+            net.link(one, other, "20ms plr 0", **more)
 
             async def main() -> Ends:
                 _, ends = await other.endpoint(Ends, 7)
