@@ -10,6 +10,7 @@ words never depend on the other one.
 
 from __future__ import annotations
 
+import math
 import re
 from dataclasses import dataclass, field
 from fractions import Fraction
@@ -19,6 +20,7 @@ from hinge.captures.random_words import word
 
 LOST, KEPT = 0, (1 << 31) - 1
 PARTS = 1 << 31  # of a rate, as the program has it
+MOST_LISTED = 10**6  # packets of a range
 Rate = Union[float, Fraction]
 
 
@@ -81,6 +83,39 @@ class GilbertElliott:
 
 
 @dataclass
+class BurstsByTime:
+    """Losses that come together in time, however many packets come: a link is good for `good` seconds on average and then bad for `bad`
+    seconds, in which it loses all. A link of hingetulip.aio gives its clock."""
+
+    good: float
+    bad: float
+    seed: Optional[int] = None
+    direction: Optional[int] = None
+    clock: Optional[Callable[[], float]] = None
+    is_bad: bool = field(default=True, init=False)  # before the beginning
+    until: float = field(default=0, init=False)
+
+    def __post_init__(self) -> None:
+        if not (self.good > 0 and self.bad > 0):
+            raise ValueError(f"bursts of {self.bad} s after {self.good} s: both have to be above 0")
+        self.bind(1, 1)
+
+    def bind(self, seed: int, direction: int) -> None:
+        """As that of GilbertElliott."""
+        own = (seed if self.seed is None else self.seed, direction if self.direction is None else self.direction)
+        self.random = Bernoulli(*own)
+
+    def next(self) -> int:
+        if self.clock is None:
+            raise TypeError("bursts by time are of a link that has a clock, as those of hingetulip.aio")
+        now = self.clock()
+        while self.until <= now:
+            self.is_bad = not self.is_bad
+            self.until -= math.log1p(-self.random.next() / PARTS) * (self.bad if self.is_bad else self.good)
+        return LOST if self.is_bad else KEPT
+
+
+@dataclass
 class Chosen:
     """The packets that a function says, by their numbers from 1."""
 
@@ -105,7 +140,7 @@ def read_numbers(text: str) -> list[int]:
     for part in text.split(","):
         ends = re.fullmatch(r"(\d{1,9})(?:-(\d{1,9}))?", part)
         low, high = (int(ends[1]), int(ends[2] or ends[1])) if ends else (0, 0)
-        if not 1 <= low <= high:
+        if not 1 <= low <= high < low + MOST_LISTED:
             raise ValueError(f"{part!r} is no packet number and no range of them, from 1")
         numbers.extend(range(low, high + 1))
     return numbers

@@ -35,11 +35,12 @@ from typing import TYPE_CHECKING, Callable, Coroutine, Generator, Optional, Prot
 
 import pytest
 
-from hinge.testing import async_fixtures
-from hinge.testing.marks import fault_of, is_unused, link_of
+from hinge.testing import async_fixtures, table
+from hinge.testing.marks import fault_of, link_of, unused, vary_of
 from hingetulip_words.presets import either_way
 
 if TYPE_CHECKING:
+    from hinge.faults import Faults
     from hinge.net import Net
     from hinge.testing.emulated import Emulated, UdpPath
     from hingetulip.aio import Network
@@ -49,6 +50,7 @@ MARKS = (
         'link(options, back=options, preset=name): the link of a test, as "8Mbit/s 20ms plr 0.05", and that of the'
         " way back if it is another"
     ),
+    "vary(delay, jitter, phase, drift, cuts): what the seed varies in sim_net, as delay='5..100ms', drift='100ppm'",
     ("simulated(**options): the test runs in a simulated machine of its own, with options of `hinge run`, as" " server=COMMAND"),
 )
 INSIDE = "HINGE_TEST_REPORTS"  # in a simulated machine: the file that the reports of its test go to
@@ -70,13 +72,15 @@ class MakeUdpPath(Protocol):
 
 
 def pytest_addoption(parser: pytest.Parser) -> None:
-    parser.getgroup("hingetulip").addoption(
-        "--link-seed", type=int, default=1, metavar="N", help="seed of emulated links (default: 1)"
-    )
+    group = parser.getgroup("hingetulip")
+    group.addoption("--link-seed", type=int, default=1, metavar="N", help="seed of emulated links (default: 1)")
+    group.addoption("--link-faults", metavar="FILE", help="the faults of sim_net's links, in the place of their losses")
+    group.addoption("--link-shrink", action="store_true", help="tell the fewest losses with which a test with sim_net fails")
 
 
 def pytest_configure(config: pytest.Config) -> None:
     config.pluginmanager.register(async_fixtures)
+    config.pluginmanager.register(table.Table())
     for mark in MARKS:
         config.addinivalue_line("markers", mark)
     if INSIDE in os.environ:
@@ -109,7 +113,17 @@ def emulated_links(request: pytest.FixtureRequest) -> Generator[list[Emulated], 
         pytest.fail("\n".join(wrong), pytrace=False)
 
 
-LINKS = pytest.StashKey["list[Emulated]"]()
+LINKS, TRIED = pytest.StashKey["list[Emulated]"](), pytest.StashKey["Faults"]()
+
+
+def faults_for(item: pytest.Item) -> Optional[Faults]:
+    """The faults by which a test runs, if it is given any: those that a shrinking tries, else those of the command line."""
+    from hinge.faults import read_faults
+
+    if TRIED in item.stash:
+        return item.stash[TRIED]
+    path = item.config.getoption("--link-faults")
+    return None if path is None else read_faults(path)
 
 
 @pytest.fixture
@@ -148,10 +162,13 @@ def udp_path(request: pytest.FixtureRequest, emulated_links: list[Emulated], lin
 def sim_net(request: pytest.FixtureRequest, emulated_links: list[Emulated], link_seed: int, tmp_path: Path) -> Network:
     """A network of hosts in simulated time."""
     from hinge.testing.emulated import SimulatedPath
+    from hinge.testing.varied import VariedNetwork
 
-    product = SimulatedPath(link_seed, tmp_path / "link.history", *link_of(request.node))
-    emulated_links.append(product)
-    return product.net
+    history, item = tmp_path / "link.history", request.node
+    there, back = link_of(item)
+    product = VariedNetwork(vary_of(item), faults_for(item), seed=link_seed, history=history, options=there, back=back)
+    emulated_links.append(SimulatedPath(product, history))
+    return product
 
 
 @pytest.fixture
@@ -159,7 +176,7 @@ def net(request: pytest.FixtureRequest, emulated_links: list[Emulated], link_see
     """A net of hosts with any programs, in real time, or in simulated time in a test with the mark `simulated`. Its
     links are those of the mark `link`, where nothing else is said of them."""
     from hinge.net import Net
-    from hinge.testing.net_of_test import NetOfTest
+    from hinge.testing.emulated import NetOfTest
 
     there, back = link_of(request.node)
     product = Net(tmp_path / "net", seed=link_seed, link=there, back=back)
@@ -200,16 +217,19 @@ def pytest_runtest_setup(item: pytest.Item) -> None:
     fault = fault_of(item)
     if fault is not None:
         pytest.fail(fault, pytrace=False)
-    if is_unused(item):
-        item.warn(pytest.PytestWarning("the mark link is of no effect: no fixture of the test is sim_net, udp_path or net"))
+    for text in unused(item):
+        item.warn(pytest.PytestWarning(text))
 
 
 @pytest.hookimpl(hookwrapper=True)  # type: ignore[misc]
 def pytest_runtest_makereport(item: pytest.Item, call: pytest.CallInfo[None]) -> Generator[None, pytest.TestReport, None]:
     outcome = yield
     report = outcome.get_result()
+    links: list[Emulated] = item.stash.get(LINKS, [])
+    if report.when == "call":
+        report.user_properties += table.row_of(item, seed_of(item), links)
     if report.when == "call" and report.failed:
-        for link in item.stash.get(LINKS, []):
+        for link in links:
             try:
                 link.finish()
                 text = link.report()
@@ -233,17 +253,28 @@ def links_of(item: pytest.Item) -> list[str]:
 
 
 @pytest.hookimpl(tryfirst=True)  # type: ignore[misc]
-def pytest_runtest_protocol(item: pytest.Item) -> Optional[bool]:
-    """A test with the mark or the net `simulated` runs in a machine of its own, and there as any other."""
-    mark = item.get_closest_marker("simulated")
-    if mark is None and "simulated_net" in getattr(item, "fixturenames", ()):
+def pytest_runtest_protocol(item: pytest.Item, nextitem: Optional[pytest.Item]) -> Optional[bool]:
+    """A test with the mark or the net `simulated` runs in a machine of its own, and there as any other. With --link-shrink one that
+    fails runs again with fewer losses."""
+    mark, names = item.get_closest_marker("simulated"), getattr(item, "fixturenames", ())
+    if mark is None and "simulated_net" in names:
         mark = pytest.mark.simulated.mark
-    if mark is None or INSIDE in os.environ or fault_of(item) is not None:
+    is_in_machine = mark is not None and INSIDE not in os.environ and fault_of(item) is None
+    if not is_in_machine and not ("sim_net" in names and item.config.getoption("--link-shrink")):
         return None  # a wrong mark is told by the test's setup
-    from hinge.simulated.one_test import reports
-
     item.ihook.pytest_runtest_logstart(nodeid=item.nodeid, location=item.location)
-    for report in reports(item, mark, links_of(item), seed_of(item)):
+    for report in reports_of(item, nextitem, mark if is_in_machine else None):
         item.ihook.pytest_runtest_logreport(report=report)
     item.ihook.pytest_runtest_logfinish(nodeid=item.nodeid, location=item.location)
     return True
+
+
+def reports_of(item: pytest.Item, nextitem: Optional[pytest.Item], mark: Optional[pytest.Mark]) -> list[pytest.TestReport]:
+    """Those of a test in a machine, by its mark, or of one that is shrunk if it fails."""
+    if mark is not None:
+        from hinge.simulated.one_test import reports
+
+        return reports(item, mark, links_of(item), seed_of(item))
+    from hinge.testing.least import reports_with_least
+
+    return reports_with_least(item, nextitem)

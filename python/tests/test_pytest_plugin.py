@@ -36,7 +36,7 @@ class Plugin(Runs):
         )
         self.assertEqual((done.counts, done.status), ({"passed": 33}, 0), done.text)
 
-    def test_a_preset(self) -> None:
+    def test_presets(self) -> None:
         done = self.run_pytest(
             """
             @pytest.mark.link(preset="dsl")
@@ -44,10 +44,15 @@ class Plugin(Runs):
                 sim_net.path(sim_net.host("10.0.0.1"), sim_net.host("10.0.0.2"))
                 assert [link.line for link in sim_net.links.values()] == [
                     "pipe 1 config bw 384Kbit/s delay 25ms queue 10", "pipe 2 config bw 1500Kbit/s delay 25ms queue 30"]
+
+            @pytest.mark.link(preset="Slow 3G")
+            def test_in_capital_letters(sim_net):
+                sim_net.path(sim_net.host("10.0.0.1"), sim_net.host("10.0.0.2"))
+                assert {link.line[14:] for link in sim_net.links.values()} == {"bw 400Kbit/s delay 200ms queue 10"}
             """,
             "--strict-markers",
         )
-        self.assertEqual((done.counts, done.status), ({"passed": 1}, 0), done.text)
+        self.assertEqual((done.counts, done.status), ({"passed": 2}, 0), done.text)
 
     def test_a_mark_that_says_what_it_does_not_take_is_refused(self) -> None:
         rows = {
@@ -61,6 +66,9 @@ class Plugin(Runs):
             'link("10Mbit/s", "20ms", "loss 1%")': "has 3 texts, and takes one for the way there",
             'link("10Mbit/s", "20ms", back="5ms")': "has the way back twice",
             "link(20)": "takes texts, and 20 is none",
+            "link()": "the mark link has no words of a link; write link(",
+            "vary(dealy='5ms')": "the mark vary takes no 'dealy'; write delay",
+            "vary('5ms')": "the mark vary takes spans by their names alone",
             'link(preset="ltee")': "'ltee': no preset; write lte",
             'simulated("lte")': "takes options by name alone",
         }
@@ -96,25 +104,15 @@ class Plugin(Runs):
                 pass
 
             @pytest.mark.link("20ms")
+            @pytest.mark.vary(delay="20ms")
             def test_of_its_own():
                 pass
             """,
             "--strict-markers",
         )
-        self.assertEqual(done.counts, {"passed": 2, "warning": 1}, done.text)
+        self.assertEqual(done.counts, {"passed": 2, "warnings": 2}, done.text)
+        self.assertIn("the mark vary is of no effect: no fixture of the test is sim_net\n", done.text)
         self.assertIn("the mark link is of no effect: no fixture of the test is sim_net, udp_path or net", done.text)
-
-    def test_a_preset_in_capital_letters(self) -> None:
-        done = self.run_pytest(
-            """
-            @pytest.mark.link(preset="Slow 3G")
-            def test_it(sim_net):
-                sim_net.path(sim_net.host("10.0.0.1"), sim_net.host("10.0.0.2"))
-                assert {link.line[14:] for link in sim_net.links.values()} == {"bw 400Kbit/s delay 200ms queue 10"}
-            """,
-            "--strict-markers",
-        )
-        self.assertEqual((done.counts, done.status), ({"passed": 1}, 0), done.text)
 
     def test_a_failure_has_the_link(self) -> None:
         done = self.run_pytest(
@@ -135,16 +133,6 @@ class Plugin(Runs):
         self.assertEqual(len(rows), 20)
         self.assertIn(f"  and {lost - 20} more\n", section)
         self.assertRegex(section, r"simulated time 100\.0\d+ s\nseed 1, lawful \d+: hinge look /.*/link\.history\n")
-
-    def test_a_mark_without_words_is_refused(self) -> None:
-        done = self.run_pytest(
-            """
-            @pytest.mark.link()
-            def test_it(sim_net):
-                raise AssertionError
-            """
-        )
-        self.assertIn("the mark link has no words of a link; write link(", done.text)
 
     def test_a_stuck_test_names_who_waits(self) -> None:
         done = self.run_pytest(
@@ -281,12 +269,16 @@ class Plugin(Runs):
             def test_no_host(sim_net):
                 sim_net.path(sim_net.host("10.0.0.1"), "10.0.0.2")
 
+            def test_no_word(sim_net):
+                sim_net.path(sim_net.host("10.0.0.1"), sim_net.host("10.0.0.2"), "8Mbps")
+
             async def test_next(sim_net):
                 assert await session(sim_net, 1) == 1
             """
         )
-        self.assertEqual(done.counts, {"passed": 1, "failed": 2}, done.text)
+        self.assertEqual(done.counts, {"passed": 1, "failed": 3}, done.text)
         self.assertIn("no report: ZeroDivisionError", done.text)
+        self.assertIn("LineError: '8Mbps': not a bandwidth; write 8Mbit/s", done.text)
         self.assertIn("TypeError: a link is between two hosts, and '10.0.0.2' is none", done.text)
 
     def test_an_exception_that_nobody_takes_fails_its_test(self) -> None:
@@ -311,12 +303,3 @@ class Plugin(Runs):
         self.assertEqual((done.counts["passed"], done.counts["errors"]), (3, 2), done.text)
         self.assertIn("nobody took an exception: server on 10.0.0.1: ValueError('in the task')", done.text)
         self.assertIn("nobody took an exception: Exception in callback", done.text)
-
-    def test_a_line_that_cannot_be_obeyed(self) -> None:
-        done = self.run_pytest(
-            """
-            def test_it(sim_net):
-                sim_net.path(sim_net.host("10.0.0.1"), sim_net.host("10.0.0.2"), "8Mbps")
-            """
-        )
-        self.assertIn("LineError: '8Mbps': not a bandwidth; write 8Mbit/s", done.text)

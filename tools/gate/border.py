@@ -60,7 +60,7 @@ ALLOWED = {
     "simulated/streams.py": {"open": OWN, "sys.stdin": "what the command reads"},
     "simulated/twice.py": {"open": OWN},
     "sweeps/study.py": {"open": OWN, "write_text": OWN},
-    "testing/emulated.py": {"open": "the history of a test"},
+    "testing/emulated.py": {"open": "the history of a test", "write_text": OWN},
 }
 
 

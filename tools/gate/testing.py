@@ -3,7 +3,7 @@
     python3 tools/gate/testing.py
 
 Both runs have to write the same histories, byte for byte, where time is simulated. Pytest has to be one of /usr/bin/python3 or of this
-Python. An example whose package the machine lacks says so. The test that the page begins with is run too.
+Python. An example whose package the machine lacks says so. The page's tests of simulated time are run too.
 """
 
 from __future__ import annotations
@@ -15,7 +15,7 @@ import subprocess
 import sys
 from pathlib import Path
 from tempfile import TemporaryDirectory
-from typing import Optional
+from typing import Optional, Union
 
 from tally import Tally
 
@@ -57,7 +57,10 @@ class Pytest:
     def __init__(self, interpreter: str, place: Path) -> None:
         self.interpreter, self.place, self.env = interpreter, place, environment(place)
 
-    def run(self, folder: str, *files: Path) -> str:
+    def has(self, module: str) -> bool:
+        return subprocess.run([self.interpreter, "-c", f"import {module}"], capture_output=True).returncode == 0
+
+    def run(self, folder: str, *files: Union[Path, str]) -> str:
         """What pytest prints."""
         options = ["-v", "-rs", "-p", "hinge.pytest_plugin", "-p", "no:cacheprovider", f"--basetemp={self.place / folder}"]
         words = [self.interpreter, "-m", "pytest", *options, *files]
@@ -106,16 +109,24 @@ def examples(tally: Tally, pytest: Pytest) -> None:
 
 
 def of_page(tally: Tally, pytest: Pytest) -> None:
-    """The page's first test fails as the page prints it."""
+    """The page's first test fails as the page prints it, and with the losses that are left of it; hypothesis finds what the page says."""
     text = PAGE.read_text()
-    body = re.search(r"^```python\n(.*?)^```$", text, re.M | re.S)
+    body, faults = re.findall(r"^```python\n(.*?)^```$", text, re.M | re.S)[:2]
     printed = re.search(r"^-+ emulated link -+\n(.*?)^```$", text, re.M | re.S)
-    file = pytest.place / "test_sync.py"
-    file.write_text(body[1] if body else "")
-    told = pytest.run("page", file)
+    file, more = pytest.place / "test_sync.py", pytest.place / "test_faults.py"
+    file.write_text(body)
+    more.write_text(f"{body}\n{faults}")
+    told = pytest.run("page", file, "--link-shrink")
     section = re.search(r"^-+ emulated link -+\n(.*?hinge look )", told, re.M | re.S)
     wanted = printed[1].partition("hinge look ")[0] + "hinge look " if printed else "no report"
     tally.equal("the report of the page's first test", wanted, section[1] if section else told)
+    least = re.search(r"^(.* packet \d+ lost\nfails by .*\n)", text, re.M)
+    tally.note("the least faults of that test", "" if least and least[1] in told else told)
+    if pytest.has("hypothesis"):
+        told, lines = pytest.run("faults", more, "-k", "in_order"), re.findall(r"# (Faults\(.*\))", faults)
+        tally.note("what hypothesis finds", "" if lines and f"faults={lines[0]}," in told else told)
+    else:
+        print("what hypothesis finds: skipped, since there is no python3-hypothesis")
 
 
 def main() -> int:

@@ -9,7 +9,7 @@ from hinge.outputs import Format, format_of, written
 from hinge.pictures.chart import save
 from hinge.pictures.html_page import save_page
 from hinge.pictures.panels import MOST_FLOWS, drawing
-from hinge.pictures.provenance import provenance
+from hinge.pictures.provenance import provenance, with_models
 from hinge.pictures.series import NS_PER_MS, Series, fitting_step, series, span_of
 from hinge.replays.explain import Explainer
 from hinge.replays.groups import group
@@ -65,7 +65,8 @@ def series_of(sources: list[Source], by: str, top: Optional[int], step_ms: Optio
 def provenance_of(sources: list[Source]) -> list[str]:
     """What is written under a picture of all of these, which have one configuration."""
     names = [name for source in sources for name in source.files]
-    return provenance([text for _, text in sources[0].changes], list(dict.fromkeys(names)), sources[0].seed)
+    lines = with_models([text for _, text in sources[0].changes], sources[0].replay.packets)
+    return provenance(lines, list(dict.fromkeys(names)), sources[0].seed)
 
 
 def draw_sources(sources: list[Source], path: str, options: LookOptions) -> None:

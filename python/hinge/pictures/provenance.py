@@ -2,13 +2,19 @@
 
 from __future__ import annotations
 
+import re
 from pathlib import Path
 from typing import Optional, Sequence
 
 from hinge.border.terminal import printable
+from hinge.configurations.configured import setting_of
+from hinge.lazy import np
+from hinge.loss import KEPT, LOST
+from hinge.replays.replay import Packets
 from hinge.version import version
 
 MOST_LINES = 12  # of a configuration
+BY_MODEL = re.compile(r"\bplr 0?\.50*(?!\S)")  # the rate under which the words of a model decide
 
 
 def provenance(lines: Sequence[str], files: Sequence[str], seed: Optional[str] = None) -> list[str]:
@@ -17,3 +23,23 @@ def provenance(lines: Sequence[str], files: Sequence[str], seed: Optional[str] =
     names = printable(", ".join(Path(name).name for name in files))
     product = "; ".join([f"of {names}", *([f"seed {seed}"] if seed else []), f"hinge {version()}"])
     return ["; ".join(view), product] if view else [product]
+
+
+def model_of(packets: Packets, target: tuple[str, int]) -> str:
+    """What a model of losses did to the packets of a pipe or queue; nothing where random words decided."""
+    is_own = packets.target == (packets.targets.index(target) if target in packets.targets else -1)
+    words = packets.word[is_own] & KEPT
+    is_lost = words == LOST
+    if not len(words) or not (is_lost | (words == KEPT)).all():
+        return ""
+    count, bursts = int(is_lost.sum()), int(np.count_nonzero(np.diff(is_lost.astype(int), prepend=0) == 1))
+    in_a_row = f", {count / bursts:.3g} in a row" if bursts else ""
+    return f"losses by a model ({count / len(words) * 100:.3g} % of {len(words):,} packets{in_a_row})"
+
+
+def with_models(lines: Sequence[str], packets: Packets) -> list[str]:
+    """The lines of a configuration, with models of losses in the place of the rate under which their words decide."""
+    return [
+        BY_MODEL.sub(lambda rate: model_of(packets, setting_of(line)[:2]) or rate[0], line) if BY_MODEL.search(line) else line
+        for line in lines
+    ]

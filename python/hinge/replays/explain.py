@@ -7,6 +7,7 @@ from dataclasses import dataclass
 from hinge.command import ROWS, Fault
 from hinge.configurations.configured import Pipe, Queue
 from hinge.lazy import Integers, np
+from hinge.loss import LOST as LOST_WORD
 from hinge.replays.link_order import LinkOrder, WaitedFor
 from hinge.replays.links import BITS_NS, Parts
 from hinge.replays.replay import FULL, HELD, LOST, NONE, OUT
@@ -141,6 +142,8 @@ class Explainer:
         word, own = int(self.packets.word[place]), self.own(place)
         if word & LOW_31_BITS >= own.loss:
             raise self.another_configuration(f"row {place + 1} would not have been lost")
+        if word & LOW_31_BITS == LOST_WORD and own.loss == LOSS_PARTS // 2:
+            return f"It was lost by a model of losses or a list of them, since the word that it was given is {word}."
         return (
             f"It was lost by the loss rate of {self.target_name(place)}: the low 31 bits of its random word {word} are "
             f"{word & LOW_31_BITS:,}, less than {own.loss:,}, which is the rate of {own.loss / LOSS_PARTS:.6g} in "

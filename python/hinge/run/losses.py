@@ -5,10 +5,8 @@ from __future__ import annotations
 
 import re
 
-from hinge.loss import parts, read_rates
+from hinge.loss import parts, read_numbers, read_rates
 from hinge.run.words import WAYS, Wrong
-
-MOST_LISTED = 10**6
 
 
 def gilbert(text: str) -> str:
@@ -20,14 +18,7 @@ def gilbert(text: str) -> str:
 
 def listed(text: str) -> str:
     """`3,10-20`: the numbers of packets, from 1."""
-    numbers: set[int] = set()
-    for part in text.split(","):
-        low, _, high = part.partition("-")
-        span = range(int(low), int(high or low) + 1)
-        if not 1 <= int(low) <= int(high or low) or len(span) > MOST_LISTED:
-            raise ValueError
-        numbers |= set(span)
-    return " ".join(map(str, sorted(numbers)))
+    return " ".join(map(str, sorted(set(read_numbers(text)))))
 
 
 MODELS = {"gilbert": gilbert, "list": listed}

@@ -7,15 +7,22 @@ import select
 import signal
 import subprocess
 import sys
+from collections import Counter
 from pathlib import Path
-from typing import Optional, Protocol
+from typing import TYPE_CHECKING, Iterator, Optional, Protocol
 
+from hinge.faults import IS_LOST, Fault, Faults, FaultyNetwork
 from hinge.program import dummynet
 from hingetulip.aio import Network
 from hingetulip.aio.options import Options
 from hingetulip.aio.report import MOST_DROPPED
+from hingetulip.records import Outcome
+
+if TYPE_CHECKING:
+    from hinge.net.running import Net
 
 START = Path(__file__).resolve().parents[1] / "__main__.py"
+ADDRESS = re.compile(r"\b10\.\d+\.\d+\.\d+\b")
 PATIENCE = 30  # s until a path is ready, and until it has ended
 
 
@@ -25,21 +32,39 @@ def audited(history: Path) -> str:
     return (process.stdout or process.stderr).strip()
 
 
-def dropped_in_history(history: Path) -> list[str]:
-    """The packets that a history says were lost or refused, a line each, and how many more there are than a report
-    lists."""
-    lines, row, call = list[str](), 0, [""]
+def submissions(history: Path) -> Iterator[tuple[list[str], list[str]]]:
+    """The packets of a history: the fields of each call, and those of its reply."""
+    call = [""]
     with open(history, encoding="utf-8") as file:
         for record in (line.rstrip("\n").split(",") for line in file):
             if record[0] == "c":
                 call = record
-                row += call[2] == "submit"
-            elif record[0] == "r" and call[2:3] == ["submit"] and record[1] != "queued":
-                lines.append(
-                    f"  row {row:>5}, {int(record[2]) / 1e9:.9f} s, {call[5]}:{call[8]} > {call[6]}:{call[9]},"
-                    f" {call[10]} bytes: {record[1]}"
-                )
+            elif record[0] == "r" and call[2:3] == ["submit"]:
+                yield call, record
+
+
+def dropped_in_history(history: Path) -> list[str]:
+    """The packets that a history says were lost or refused, a line each, and how many more there are than a report
+    lists."""
+    lines = [
+        f"  row {row:>5}, {int(reply[2]) / 1e9:.9f} s, {call[5]}:{call[8]} > {call[6]}:{call[9]}, {call[10]} bytes: {reply[1]}"
+        for row, (call, reply) in enumerate(submissions(history), 1)
+        if reply[1] != "queued"
+    ]
     return lines[:MOST_DROPPED] + ([f"  and {len(lines) - MOST_DROPPED} more"] if len(lines) > MOST_DROPPED else [])
+
+
+def losses_of(net: Network, history: Path) -> Faults:
+    """The losses of a network's links, as faults."""
+    names = {("pipe", str(link.pipe)): f"{link.near.name} > {link.far.name}" for link in net.links.values()}
+    names.update({("queue", str(queue)): names["pipe", str(it.pipe)] for it in net.links.values() for queue in it.queues.values()})
+    faults, count = list[Fault](), Counter[str]()
+    for call, reply in submissions(history):
+        if name := names.get((call[3], call[4])):
+            count[name] += 1
+            if reply[1] == "lost":
+                faults.append(Fault(name, count[name], IS_LOST))
+    return Faults(*faults)
 
 
 class Emulated(Protocol):
@@ -97,11 +122,9 @@ class UdpPath:
 class SimulatedPath:
     """The network of simulated time of a test."""
 
-    def __init__(self, seed: int, history: Path, there: str, back: Optional[str]) -> None:
-        self.history, self.told = history, ""
+    def __init__(self, net: FaultyNetwork, history: Path) -> None:
+        self.net, self.history, self.told, self.faults = net, history, "", net.faults
         self.verdict: Optional[str] = None
-        self.net = Network(seed=seed, history=history, options=there, back=back)
-        self.faults = self.net.faults
 
     def finish(self) -> None:
         if self.verdict is None:
@@ -112,8 +135,60 @@ class SimulatedPath:
             self.net.close()
             self.verdict = audited(self.history)
 
+    def is_disturbed(self) -> Optional[bool]:
+        """Whether a packet was lost, met a full queue, or was late or doubled by more than its link; None if none came to a link."""
+        links = self.net.links.values()
+        counts = [sum(link.outcomes[place] for link in links) for place in Outcome]
+        has_more = any(link.copies is not None or link.jitter is not None and link.jitter.pipes for link in links)
+        return bool(sum(counts[1:])) or has_more if any(counts) else None
+
+    def chosen(self) -> Faults:
+        """The faults of its links: those that it was given, else its losses."""
+        return losses_of(self.net, self.history) if self.net.chosen is None else self.net.chosen
+
     def report(self) -> str:
-        return f"{self.told}\n{closing(self.net.seed, self.verdict, self.history)}"
+        lines = [self.told, closing(self.net.seed, self.verdict, self.history)]
+        faults, path = self.chosen(), self.history.with_suffix(".faults")
+        path.write_text(str(faults), encoding="utf-8")
+        if self.net.chosen is None:
+            lines += [f"its losses as faults: --link-faults {path}"] * bool(faults)
+        else:
+            lines += [f"fault: {fault}{': it came to no packet' * (fault in self.net.unmet())}" for fault in faults]
+        return "\n".join(lines)
+
+
+class NetOfTest:
+    """The net of a test. One that never began is lawful."""
+
+    def __init__(self, net: Net) -> None:
+        self.net, self.history = net, net.history
+        self.verdict: Optional[str] = None
+        self.faults: list[str] = []
+
+    def finish(self) -> None:
+        if self.verdict is None:
+            self.net.close()
+            self.verdict = audited(self.history) if self.history.exists() else "lawful, since the net didn't begin"
+
+    def named(self, line: str) -> str:
+        """A line with the names of hosts in the place of their addresses."""
+        names = {address: name for name, own in self.net.addresses().items() for address in own}
+        return ADDRESS.sub(lambda result: names.get(result[0], result[0]), line)
+
+    def report(self) -> str:
+        if not self.history.exists():
+            return self.net.told() or "the net didn't begin"
+        changes = [f"  {one.seconds:.6f} s, changed: {one.line}" for one in self.net.obeyed]
+        message = [
+            f"{name} printed last ({self.log(name)}):\n{text}"
+            for name in self.net.addresses()
+            if (text := self.net.last_lines(name))
+        ]
+        losses = [self.named(line) for line in dropped_in_history(self.history)]
+        return "\n".join([self.net.told(), *changes, *losses, *message, closing(self.net.drawn_seed(), self.verdict, self.history)])
+
+    def log(self, host: str) -> Path:
+        return self.net.folder / "logs" / f"{host}.log"
 
 
 def no_report(fault: Exception) -> str:

@@ -3,7 +3,10 @@
 from __future__ import annotations
 
 import difflib
-from typing import Mapping, NamedTuple, Optional
+import re
+from dataclasses import dataclass, fields
+from random import Random
+from typing import Iterator, Mapping, NamedTuple, Optional
 
 import pytest
 
@@ -14,6 +17,9 @@ from hingetulip_words.presets import either_way
 TAKES = ("back", "preset")
 FIXTURES = ("sim_net", "udp_path", "net", "simulated_net")
 SAMPLE = '"10Mbit/s 20ms loss 1%"'
+UNITS = {"ms": 1e-3, "s": 1.0}
+SPAN = re.compile(r"(?:(?P<low>\d+(?:\.\d+)?)(?P<unit_of_low>ms|s)?\.\.)?(?P<high>\d+(?:\.\d+)?)(?P<unit>ms|s)")
+DRIFT = re.compile(r"(\d+(?:\.\d+)?)ppm")
 
 
 class WrongMark(ValueError):
@@ -81,10 +87,80 @@ def link_of(item: pytest.Item) -> Ends:
     return Ends("", None) if mark is None else ends_of(mark)
 
 
+@dataclass(frozen=True)
+class Span:
+    """Seconds from the least to the most."""
+
+    low: float
+    high: float
+    text: str
+
+    def __str__(self) -> str:
+        return self.text
+
+    def drawn(self, random: Random) -> float:
+        return random.uniform(self.low, self.high)
+
+    def ms(self, random: Random) -> int:
+        return random.randint(round(self.low * 1000), round(self.high * 1000))
+
+
+@dataclass(frozen=True)
+class Variation:
+    """What the mark `vary` says."""
+
+    delay: Optional[Span] = None  # of each link
+    jitter: Optional[Span] = None  # of each packet, more
+    phase: Optional[Span] = None  # after which a task of a host begins
+    drift: Optional[Span] = None  # s that the clock of a host gains in a second
+    cuts: Optional[Span] = None  # in turn for how long no host is cut off, and for how long one is
+
+    def __str__(self) -> str:
+        """As the mark says it."""
+        return ", ".join(f"{name} {getattr(self, name)}" for name in NAMES if getattr(self, name) is not None)
+
+
+NAMES = tuple(each.name for each in fields(Variation))
+
+
+def span_of(name: str, text: object) -> Span:
+    """As `5..100ms` or `80ms`, which begins at 0; a drift as `100ppm`. ValueError: it is none."""
+    if name == "drift":
+        match = DRIFT.fullmatch(str(text))
+        if match:
+            return Span(-float(match[1]) / 1e6, float(match[1]) / 1e6, str(text))
+        raise ValueError(f"the mark vary: drift {text!r} is no drift; write drift='100ppm'")
+    match = SPAN.fullmatch(str(text))
+    if match:
+        unit = UNITS[match["unit"]]
+        low, high = float(match["low"] or 0) * UNITS.get(match["unit_of_low"], unit), float(match["high"]) * unit
+        if low <= high:
+            return Span(low, high, str(text))
+    raise ValueError(f"the mark vary: {name} {text!r} is no span of times; write {name}='5..100ms'")
+
+
+def variation_of(words: Mapping[str, object]) -> Variation:
+    """ValueError: the mark takes no such word, or it is no span."""
+    for name in words:
+        if name not in NAMES:
+            near = (difflib.get_close_matches(name, NAMES, 1) or [", ".join(NAMES)])[0]
+            raise ValueError(f"the mark vary takes no {name!r}; write {near}")
+    return Variation(**{name: span_of(name, text) for name, text in words.items()})
+
+
+def vary_of(item: pytest.Item) -> Variation:
+    """What the marks `vary` of a test say, the nearest last."""
+    marks = list(item.iter_markers("vary"))
+    if any(mark.args for mark in marks):
+        raise WrongMark("the mark vary takes spans by their names alone, as vary(delay='5..100ms')")
+    return variation_of({name: text for mark in reversed(marks) for name, text in mark.kwargs.items()})
+
+
 def fault_of(item: pytest.Item) -> Optional[str]:
     """What is wrong with the marks of a test, if anything is."""
     try:
         link_of(item)
+        vary_of(item)
     except ValueError as error:
         return str(error)
     in_simulated_time = item.get_closest_marker("simulated")
@@ -93,8 +169,11 @@ def fault_of(item: pytest.Item) -> Optional[str]:
     return None
 
 
-def is_unused(item: pytest.Item) -> bool:
-    """Whether a test itself has the mark `link`, and nothing that takes it."""
-    has_own = any(mark.name == "link" for mark in getattr(item, "own_markers", ()))
-    takes = any(name in FIXTURES for name in getattr(item, "fixturenames", ()))
-    return has_own and not takes and item.get_closest_marker("simulated") is None
+def unused(item: pytest.Item) -> Iterator[str]:
+    """The marks of a test itself that nothing takes, as a warning each."""
+    own, names = {mark.name for mark in getattr(item, "own_markers", ())}, getattr(item, "fixturenames", ())
+    takes_link = any(name in FIXTURES for name in names) or item.get_closest_marker("simulated") is not None
+    if "link" in own and not takes_link:
+        yield "the mark link is of no effect: no fixture of the test is sim_net, udp_path or net"
+    if "vary" in own and "sim_net" not in names:
+        yield "the mark vary is of no effect: no fixture of the test is sim_net"

@@ -34,8 +34,8 @@ def current_host() -> Host:
 class Host:
     """A host. What runs in its tasks opens its sockets there, and its first address is the source of what it sends.
 
-    `offset` is by how many seconds its `time.time()` is ahead of the network's; timers and `time.monotonic()` are the
-    same on all hosts.
+    `offset` is by how many seconds its `time.time()` is ahead of the network's, and `drift` how many it gains in a second; timers and
+    `time.monotonic()` are the same on all hosts.
     """
 
     def __init__(self, net: Network, addresses: tuple[str, ...], name: Optional[str]) -> None:
@@ -46,7 +46,7 @@ class Host:
         self.groups = Counter[str]()
         """How many sockets have joined each group."""
         self.next_port = FIRST_FREE_PORT
-        self.offset = 0.0
+        self.offset = self.drift = 0.0
         self.is_up = True
 
     def __repr__(self) -> str:
@@ -58,6 +58,9 @@ class Host:
 
     def create_task(self, coroutine: Coroutine[Any, Any, T], *, name: Optional[str] = None) -> asyncio.Task[T]:
         """A task that runs on this host, and so do the tasks that it makes."""
+        return self._task(coroutine, name)
+
+    def _task(self, coroutine: Coroutine[Any, Any, T], name: Optional[str] = None) -> asyncio.Task[T]:
         context = contextvars.copy_context()
         context.run(here.set, self)
         return context.run(lambda: self.net.loop.create_task(coroutine, name=name))
@@ -81,7 +84,7 @@ class Host:
     ) -> tuple[Transport, Protocol]:
         """A datagram endpoint on this host, for a caller in any task: at a port, or at a free one, and connected where
         `remote` is given."""
-        return await self.create_task(self.net.loop.create_datagram_endpoint(factory, (ANY, port), remote))
+        return await self._task(self.net.loop.create_datagram_endpoint(factory, (ANY, port), remote))
 
     def free_port(self) -> int:
         """A port without a socket, as systems give them: the next one, and after the last the first."""

@@ -12,6 +12,7 @@ from hingetulip.aio.options import Options, said
 from hingetulip.records import Outcome
 
 if TYPE_CHECKING:
+    from hingetulip.aio.emulator import Way
     from hingetulip.aio.host import Host
     from hingetulip.aio.network import Network
 
@@ -53,12 +54,16 @@ class Link:
         self.outcomes = [0] * len(Outcome)  # packets by the number of their outcome
         self.mtu = mtu  # bytes of the longest datagram with its headers
         self.delay = 0  # ns: a packet is under way for no less
+        self.cuts = self.holds = 0  # that last
+        self.held: list[tuple[Way, Datagram]] = []
         self.queues = {name: net.number_of("queue") for name in classes or {}}
         self.copies, self.jitter = copies, None if jitter is None else Jitter(net, jitter)
         self.loss: Words = Drawn(net.seed, self.pipe) if loss is None else loss
         bind = getattr(loss, "bind", None)  # a model without a seed of its own takes the network's, and a direction is a link's
         if bind is not None:
             bind(net.seed, self.pipe)
+        if hasattr(loss, "clock"):  # of a model by time
+            setattr(loss, "clock", net.loop.time)
         self.has_model = loss is not None
         self.options = Options(options, has_model=self.has_model)
         self.class_options = {name: Options(text, "queue", self.has_model) for name, text in (classes or {}).items()}
@@ -81,7 +86,26 @@ class Link:
         return self._line(self.options)
 
     def _line(self, options: Options) -> str:
-        return f"pipe {self.pipe} config {options}".strip()
+        return f"pipe {self.pipe} config {options.all_lost() if self.cuts else options}".strip()
+
+    def cut(self, seconds: float) -> None:
+        """The link loses all packets that come to it, for so long; those under way arrive."""
+        self._cut(1)
+        self.net.loop.call_later(seconds, self._cut, -1)
+
+    def _cut(self, more: int) -> None:
+        self.cuts += more
+        self.net.obey(self.line)
+
+    def hold(self, seconds: float) -> None:
+        """Packets that come to the link wait before it for so long, and then enter it in their order."""
+        self.holds += 1
+        self.net.loop.call_later(seconds, self._release)
+
+    def _release(self) -> None:
+        self.holds -= 1
+        while self.held and not self.holds and not self.net.closing:
+            self.net.take(*self.held.pop(0))
 
     def change(self, options: str) -> None:
         """Gives the whole link anew, `link.change("2Mbit/s 20ms")`: an option that is left out has its default.

@@ -71,13 +71,16 @@ class Network(Traffic):
         self._made[kind] += 1
         return self._made[kind]
 
+    def new_host(self, addresses: tuple[str, ...], name: Optional[str]) -> Host:
+        return Host(self, addresses, name)
+
     def host(self, *addresses: str, name: Optional[str] = None) -> Host:
         """The host with these addresses, of which the first is one of IPv4, and which is made if there is none yet. Others
         find it by its name too. A history has an address of IPv6 as the first one."""
         texts = (str(ipaddress.IPv4Address(addresses[0])), *(str(ipaddress.ip_address(it)) for it in addresses[1:]))
         if texts[0] in self.hosts:
             return self.hosts[texts[0]]
-        made = Host(self, texts, name)
+        made = self.new_host(texts, name)
         for text in (*texts, made.name):
             if self.hosts.setdefault(text, made) is not made:
                 raise ValueError(f"another host has {text}")
@@ -143,6 +146,20 @@ class Network(Traffic):
         """What goes from a host to another takes the link to a third. Without it a datagram goes over the fewest links."""
         self.routes.give(near, target, self.links[near, via])
         self.forget_ways()
+
+    def links_of(self, host: Host) -> list[Link]:
+        """The links to and from a host."""
+        return [link for ends, link in self.links.items() if host in ends]
+
+    def cut(self, host: Host, seconds: float) -> None:
+        """The links of a host lose all packets that come to them, for so long."""
+        for link in self.links_of(host):
+            link.cut(seconds)
+
+    def hold(self, host: Host, seconds: float) -> None:
+        """What comes to the links of a host waits there for so long."""
+        for link in self.links_of(host):
+            link.hold(seconds)
 
     def address_of(self, name: str, version: int = 4) -> str:
         """The address of a host by its address or name. gaierror: there is no such host."""

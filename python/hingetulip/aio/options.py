@@ -33,5 +33,13 @@ class Options:
         """ns of the delay."""
         return int(self.settings.get("delay", "0").rstrip("ms")) * MS
 
+    def without(self, name: str) -> str:
+        """All but one."""
+        return in_full({key: text for key, text in self.settings.items() if key != name})
+
+    def all_lost(self) -> str:
+        """The same with the loss of all packets."""
+        return f"{self.without('plr')} plr 1".strip()
+
     def __str__(self) -> str:
         return in_full(self.settings)

@@ -40,7 +40,7 @@ def simulated(loop: Loop, source: random.Random) -> Iterator[None]:
 def offset() -> float:
     """The seconds by which the clock of the present host is ahead."""
     host = here.get(None)
-    return 0 if host is None else host.offset
+    return 0 if host is None else host.offset + host.drift * host.net.loop.time()
 
 
 @contextmanager

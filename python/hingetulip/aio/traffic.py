@@ -51,7 +51,7 @@ class Traffic:
             return None
         source, target, _ = it
         way = self._ways.get((near, source, target, it.__class__)) or self._way_to(near, it)
-        return self._send_otherwise(near, it, is_heard) if way is None else self._take(way, it)
+        return self._send_otherwise(near, it, is_heard) if way is None else self.take(way, it)
 
     def _way_to(self, near: Host, it: Datagram) -> Optional[Way]:
         """The way of a datagram that takes one link, and is kept for those that follow it; None if it takes none or many."""
@@ -91,16 +91,18 @@ class Traffic:
         if is_heard:
             near.take_of_group(it)
         links = self.routes.out.get(near, ())
-        faults = [self._take(self._way_over(link, it), it) for link in links]
+        faults = [self.take(self._way_over(link, it), it) for link in links]
         return next((it for it in faults if it is not None), None) if links else fault(errno.ENETUNREACH)
 
-    def _take(self, way: Way, it: Datagram) -> Optional[OSError]:
+    def take(self, way: Way, it: Datagram) -> Optional[OSError]:
         """A datagram goes over a link, if it isn't too long for it."""
         link, length = way.link, len(it[2]) + way.before
         if length > link.mtu:
             self.refused[f"{link.near.name} > {link.far.name}: {length} bytes, and the link's MTU is {link.mtu}"] += 1
             return fault(errno.EMSGSIZE)
-        if link.copies is None or it.__class__ is Refusal:
+        if link.holds:
+            link.held.append((way, it))
+        elif link.copies is None or it.__class__ is Refusal:
             self._enter(way, it, length)
         else:
             for _ in range(link.copies(it)):

@@ -2,13 +2,18 @@
 
 from __future__ import annotations
 
+import asyncio
 import itertools
 import unittest
 
 from kit import MIXED, folder, needs_tshark, replay, rows_of, run, write
 
 from hinge.captures.packet_rows import HEADER
-from hinge.loss import KEPT, LOST, Bernoulli, Chosen, GilbertElliott, Listed, Words, read_model
+from hinge.loss import KEPT, LOST, Bernoulli, BurstsByTime, Chosen, GilbertElliott, Listed, Words, read_model
+from hinge.pictures.drawn import provenance_of
+from hinge.replays.asked import read_sources
+from hingetulip.aio import Network
+from hingetulip.records import Outcome
 
 MANY = 100_000
 
@@ -33,6 +38,28 @@ class Models(unittest.TestCase):
     def test_gilbert_elliott_loses_in_both_states(self) -> None:
         lost = sum(word == LOST for word in drawn(GilbertElliott(0.1, 0.3, 0.5, 0.02, seed=5)))
         self.assertAlmostEqual(lost / MANY, (0.1 * 0.5 + 0.3 * 0.02) / 0.4, delta=0.006)
+
+    def test_bursts_by_time_have_one_length_however_many_packets_come(self) -> None:
+        """In the long run a link is bad for a fifth of the time, 0.5 s in a row."""
+        for step in (0.01, 0.1):
+            moments = itertools.count()
+            lost = [word == LOST for word in drawn(BurstsByTime(2, 0.5, seed=3, clock=lambda: next(moments) * step))]
+            self.assertAlmostEqual(sum(lost) / MANY, 0.2, delta=0.02)
+            self.assertAlmostEqual(sum(runs(lost)) / len(runs(lost)) * step, 0.5 if step == 0.01 else 0.55, delta=0.05)
+        with self.assertRaises(TypeError):
+            BurstsByTime(2, 0.5).next()
+        with self.assertRaises(ValueError):
+            BurstsByTime(2, 0)
+
+    def test_a_link_gives_its_clock(self) -> None:
+        with Network(seed=3) as net:
+            one, other = net.host("10.0.0.1"), net.host("10.0.0.2")
+            link = net.link(one, other, "20ms", loss=BurstsByTime(10, 2))
+            transport, _ = net.run(one.endpoint(asyncio.DatagramProtocol, remote=("10.0.0.2", 7)))
+            for _ in range(1000):
+                transport.sendto(b"x")
+                net.run(asyncio.sleep(1))
+            self.assertAlmostEqual(link.counts[Outcome.LOST] / 1000, 1 / 6, delta=0.05)
 
     def test_rates_of_zero_and_one(self) -> None:
         self.assertEqual(set(drawn(GilbertElliott(0, 1), 1000)), {KEPT})
@@ -78,6 +105,28 @@ class Models(unittest.TestCase):
         report = replay("model", write("model.config", "pipe 1 config plr 0.5\n"), write("model.csv", f"{HEADER}\n{rows}"))
         lost = {int(row["row"]) for row in rows_of(report) if row["event"] == "lost"}
         self.assertEqual(lost, {number for number, word in enumerate(words, 1) if word == LOST})
+
+    def test_a_picture_names_the_model_and_not_the_rate_under_which_it_decides(self) -> None:
+        """The words of each packet say which: random ones stay a rate of 0.5."""
+        told = dict[str, str]()
+        for name, loss in {"gilbert": GilbertElliott(0.02, 0.2), "random": None}.items():
+            path = folder() / f"{name}.history"
+            with Network(history=path, seed=7) as net:
+                one, other = net.host("10.0.0.1"), net.host("10.0.0.2")
+                net.link(one, other, "8Mbit/s plr 0.5", loss=loss)
+                transport, _ = net.run(one.endpoint(asyncio.DatagramProtocol, remote=("10.0.0.2", 7)))
+                for _ in range(400):
+                    transport.sendto(b"x")
+                    net.run(asyncio.sleep(0.001))
+                rows = [dropped.row for dropped in net.dropped]
+            told[name] = provenance_of(read_sources([str(path)], None, [], 1, []))[0]
+            why = run("look", path, "--why", rows[0]).stdout
+            self.assertIn({"gilbert": "lost by a model", "random": "lost by the loss rate"}[name], why)
+        self.assertRegex(
+            told["gilbert"],
+            r"^pipe 1 config bw 8000000bit/s losses by a model \(\d+(\.\d+)? % of 400 packets, [3-9]\.\d+ in a row\)$",
+        )
+        self.assertEqual(told["random"], "pipe 1 config bw 8000000bit/s plr 0.500000000000000000")
 
 
 @needs_tshark
