@@ -110,11 +110,13 @@ class NetInside:
         start, end = self.net.links[number].ends[way], self.net.links[number].ends[1 - way]
         pipe = 2 * number + way + 1
         extra, second = self.order.made.plan.extras.get(pipe - 1, (Extra(), range(0)))
+        model = self.order.made.plan.decided.get(pipe - 1)
         between = self.rooms.ends.label(start, number).replace(".", "~", 1) if second else end
         return [
             f"remark pipe,{pipe},{start},{between}",
             *(f"remark pipe,{other},{between},{end}" for other in second),
             *[f"remark copies,{pipe}"] * bool(extra.duplicate),
+            *[f"remark model,{pipe},{model}"] * bool(model),
         ]
 
     def started_links(self) -> tuple[Link, Optional[int]]:

@@ -38,6 +38,7 @@ class Topology:
     pipes: dict[int, tuple[int, int]] = field(default_factory=dict)
     same: dict[int, int] = field(default_factory=dict)  # the pipe by which each is told
     copied: set[int] = field(default_factory=set)  # pipes that a packet may enter twice
+    models: dict[int, str] = field(default_factory=dict)  # of losses, by pipes
     switches: set[int] = field(default_factory=set)
     outside: int = NO_HOST  # the host behind which all other addresses are
     stand_ins: dict[int, str] = field(default_factory=dict)  # the addresses of IPv6 that they stand for
@@ -50,8 +51,8 @@ class Topology:
         return self.hosts.index(name)
 
     def read(self, text: str) -> None:
-        """Takes a remark `#,host,NAME,ADDRESS,..`, `#,pipe,N,FROM,TO`, `#,copies,N`, `#,switch,NAME` or
-        `#,outside,NAME`."""
+        """Takes a remark `#,host,NAME,ADDRESS,..`, `#,pipe,N,FROM,TO`, `#,copies,N`, `#,model,N,MODEL`,
+        `#,switch,NAME` or `#,outside,NAME`."""
         _, kind, *words = text.split(",")
         if kind == "switch":
             self.switches.add(self.number(words[0]))
@@ -61,6 +62,9 @@ class Topology:
             return
         if kind == "copies":
             self.copied.add(int(words[0]))
+            return
+        if kind == "model":
+            self.models[int(words[0])] = ",".join(words[1:])
             return
         if kind == "pipe":
             self.add_pipe(int(words[0]), (self.number(words[1]), self.number(words[2])))
@@ -195,7 +199,7 @@ class Reader:
         self.records, self.late = 0, b""
 
     def note_remarks(self, file: HistoryFile, data: bytes) -> None:
-        for text in remarks(data, [b"host", b"switch", b"outside", b"pipe", b"copies"]):
+        for text in remarks(data, [b"host", b"switch", b"outside", b"pipe", b"copies", b"model"]):
             self.topology.read(text)
         self.topology.read_stand_ins(file.addresses)
         self.late += b"".join(f"\n{text}".encode() for text in remarks(data, [b"late"]))

@@ -12,6 +12,7 @@ from typing import Iterator, NamedTuple
 from hinge.lazy import Reals, np
 from hinge.paths.matching import Matched
 from hinge.paths.report import WayFigures
+from hinge.pictures.provenance import BY_MODEL
 from hinge.replays.remarks import KINDS, Lateness, late_remark
 from hinge.replays.replay import OUT
 
@@ -56,7 +57,7 @@ class Looked(NamedTuple):
     def words(self) -> dict[int, str]:
         """What each pipe was at first, in the words of a configuration."""
         changes = [change for moment, text in self.obeyed if (change := read_change(moment, text))]
-        return {change.pipe: change.words for change in reversed(changes)}
+        return {change.pipe: with_model(self.found, change) for change in reversed(changes)}
 
     def remarks(self) -> Iterator[str]:
         if self.lateness:
@@ -71,6 +72,12 @@ def read_change(moment: int, text: str) -> WayChange | None:
     rates = LOSES.findall(match[2])
     is_cut = bool(rates) and ALL.fullmatch(rates[-1]) is not None
     return WayChange(moment, int(match[1]), match[2].removesuffix(" plr 1") if is_cut else match[2], is_cut)
+
+
+def with_model(matching: Matched, change: WayChange) -> str:
+    """The words of a change, with a model of losses in the place of the rate under which it decides."""
+    model = matching.passages.topology.models.get(change.pipe)
+    return BY_MODEL.sub(f"loss {model}", change.words) if model else change.words
 
 
 def timeline(matching: Matched, items: list[tuple[int, str]]) -> Timeline:
@@ -111,7 +118,7 @@ def told_changes(matching: Matched, line: Timeline) -> Iterator[str]:
         like[-1].append(change) if like else groups.append([change])
     for group in groups:
         names = ", ".join(dict.fromkeys(name_of_way(matching, change.pipe) for change in group))
-        yield f"{group[0].moment / SECOND:10.3f} s  {names}: {'cut' if group[0].is_cut else group[0].words or 'open'}"
+        yield f"{group[0].moment / SECOND:10.3f} s  {names}: {'cut' if group[0].is_cut else with_model(matching, group[0]) or 'open'}"
 
 
 def words_of_change(change: WayChange) -> str:

@@ -42,3 +42,10 @@ def loss_lines(text: str, link: int = 0) -> dict[int, str]:
         return {way: f"{kind} {way} {MODELS[kind](value)}" for way in (2 * link + way for way in ways)}
     except ValueError:
         raise Wrong(f"--loss {text}: none of gilbert:P,R[,B[,G]] and list:N,N-M{remedy(text)}") from None
+
+
+def model_name(text: str) -> str:
+    """How a picture names the model; a list may be too long for one."""
+    first, _, more = text.partition(":")
+    model = more if first in WAYS else text
+    return "list" if model.startswith("list:") else model

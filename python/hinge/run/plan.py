@@ -40,7 +40,7 @@ from hinge.arguments import is_number
 from hinge.border.files import untrusted
 from hinge.checks.lines import Placed, refuse_wrong
 from hinge.run.changes import Change, Changes, Outage
-from hinge.run.losses import loss_lines
+from hinge.run.losses import loss_lines, model_name
 from hinge.run.rules import Rule
 from hinge.run.traces import MAHIMAHI_BYTES, MOST_BINS, MS, Rate, counted, read_trace
 from hinge.run.words import (
@@ -99,7 +99,7 @@ class Plan:
         self.ways = 2 * links
         self.configured: list[str] = []
         self.rest: list[str] = []
-        self.decided: set[int] = set()  # the ways on which a model decides about losses
+        self.decided: dict[int, str] = {}  # the ways on which a model decides about losses, and its name
         self.current: dict[Target, str] = {}  # the lines at the beginning
         self.longest = longest
         self.changes = Changes(self.current, longest)
@@ -154,7 +154,7 @@ class Plan:
     def loss(self, text: str, link: int = 0) -> None:
         lines = loss_lines(text, link)
         self.rest += lines.values()
-        self.decided |= lines.keys()
+        self.decided |= dict.fromkeys(lines, model_name(text))
 
     def lossy(self, line: str) -> str:
         """A line by which words decide about losses, where a model draws them."""

@@ -87,6 +87,16 @@ class OfNets(unittest.TestCase):
         )
         self.assertEqual((told["span_ns"], told["seed"], told["lawful_between_links"]), (9_920 * MS, "7", True))
 
+    def test_a_model_of_losses_has_its_name(self) -> None:
+        """And the rate under which it decides has none."""
+        text = cut_link().replace("config delay 10\n", "config delay 10 plr 0.500000000000000000\n")
+        text = text.replace("config delay 20\n", "config delay 20 plr 0.500000000000000000\n")
+        rate, _ = self.looked(text)
+        self.assertIn("     6.000 s  a > r: delay 20 plr 0.500000000000000000", rate)
+        lines, _ = self.looked(text.replace("#,seed,7", "#,seed,7\n#,model,1,gilbert:0.01,0.3", 1), "-o", "x.svg")
+        self.assertIn("     6.000 s  a > r: delay 20 loss gilbert:0.01,0.3", lines)
+        self.assertIn("10ms loss gilbert:0.01,0.3", (folder() / "x.svg").read_text())
+
     def test_a_row_of_letters(self) -> None:
         lines, _ = self.looked(cut_link())
         head, row = lines[3:5]
