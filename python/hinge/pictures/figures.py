@@ -7,7 +7,7 @@ import csv
 from dataclasses import dataclass
 from typing import IO, Optional
 
-from hinge.lazy import Integers, np
+from hinge.lazy import Integers, few as np
 from hinge.replays.groups import group
 from hinge.replays.links import Parts
 from hinge.replays.replay import EVENT_NAMES, FULL, HELD, LOST, NONE, OUT, Replay

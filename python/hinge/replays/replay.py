@@ -11,7 +11,7 @@ from typing import Iterable
 
 from hinge.captures.addresses import read_addresses
 from hinge.command import ROWS, Fault
-from hinge.lazy import Integers, Mask, np
+from hinge.lazy import Integers, Mask, few as np
 from hinge.replays.columns import Address, Number, OneOf, numbered
 from hinge.replays.tables import read_table
 from hinge.replays.units import socket_address
@@ -130,7 +130,7 @@ def read_report(path: str, packets: Packets) -> Replay:
     count = np.bincount(place, minlength=len(packets)) if len(place) and place.min() >= 0 else np.zeros(len(packets), int)
     if len(place) != len(packets) or len(count) != len(packets) or (count != 1).any():
         raise Fault(f"{path}: its {len(place)} lines aren't those of the {len(packets)} rows of {packets.path}", ROWS)
-    union = {name: np.empty_like(column) for name, column in columns.items()}
+    union = {name: np.empty(len(column), np.int64) for name, column in columns.items()}
     for name, column in columns.items():
         union[name][place] = column
     if (union["at"] < packets.moment).any():
