@@ -2,7 +2,6 @@
 
 from __future__ import annotations
 
-import difflib
 import importlib
 import sys
 from pathlib import Path
@@ -52,7 +51,9 @@ def list_of_commands() -> str:
 
 def refuse(words: list[str]) -> NoReturn:
     """Ends the kit because its first word is no command, with what to type."""
-    from hinge.elsewhere import answer_of  # which a wrong word alone needs
+    import difflib  # which a wrong word alone needs, as the next
+
+    from hinge.elsewhere import answer_of
 
     answer, near = answer_of(words), difflib.get_close_matches(words[0], COMMANDS, 1)
     if answer is not None:

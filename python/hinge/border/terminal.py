@@ -5,7 +5,6 @@ from __future__ import annotations
 import io
 import os
 import sys
-import traceback
 from typing import TextIO, cast
 
 
@@ -33,6 +32,8 @@ def tell(text: str, end: str = "\n") -> None:
 def note_defect() -> None:
     """Shows where an exception came from that is told as a line, for who looks for a defect of the kit."""
     if "HINGE_TRACEBACK" in os.environ:
+        import traceback  # which takes longer to load than a help may
+
         tell(traceback.format_exc(), "")
 
 

@@ -8,8 +8,6 @@ from typing import Iterator, Optional
 from hinge.lazy import Integers, few as np
 from hinge.replays.replay import Replay
 
-WAYS = ("tuple", "flow", "target")
-
 
 @dataclass(frozen=True)
 class Groups:

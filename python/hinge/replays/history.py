@@ -3,17 +3,20 @@
 from __future__ import annotations
 
 from dataclasses import dataclass
+from typing import Optional, Sequence
 
-from hinge.captures.addresses import read_addresses
+from hinge.border.files import untrusted
+from hinge.captures.addresses import addresses_file, read_addresses
 from hinge.checks.lines import judged_lines
-from hinge.command import ROWS, Fault, working
+from hinge.command import ROWS, USAGE, Fault, say, working
 from hinge.lazy import Integers, few as np
+from hinge.outputs import refuse_inputs
 from hinge.replays.columns import Address, Bad, Fields, Number, OneOf, numbered
 from hinge.replays.links import Configuration
-from hinge.replays.record_lines import Records, is_history, read_records
+from hinge.replays.record_lines import Records, is_history, is_history_file, read_records
 from hinge.replays.remarks import lateness_in, seed_in
 from hinge.replays.replay import FULL, HELD, KINDS, LOST, NONE, OUT, Packets, Replay, named_tuples
-from hinge.replays.source import Source
+from hinge.replays.source import Source, of_reports
 
 FATES = {b"r,queued,": HELD, b"r,lost,": LOST, b"r,full,": FULL, b"r,no-target,": NONE}
 MOVING = (*FATES, b"r,advanced,", b"r,delivered,")  # the replies whose second number is the clock
@@ -193,3 +196,37 @@ def read_history(path: str) -> Source:
     data = file.records.data.tobytes()
     report = [(moment, text) for _, moment, text in changes]
     return Source(replay, (path,), report, configuration, True, cut, seed_in(data), lateness_in(data))
+
+
+def read_sources(
+    files: list[str],
+    config: Optional[str],
+    outputs: Sequence[Optional[str]] = (),
+    most: int = 1,
+    inputs: Sequence[Optional[str]] = (),
+) -> list[Source]:
+    """What the command line names: a history, or a packet file and at most so many reports. None of the outputs is one
+    of them, or of some more inputs."""
+    refuse_inputs(outputs, (*files, addresses_file(files[0]), config, *inputs))
+    first, *reports = files
+    if len(reports) > most:
+        raise Fault(
+            f"a packet file has {'one report' if most == 1 else f'{most} reports'} here, and these are " f"{len(reports)}", USAGE
+        )
+    if reports and is_history_file(first):
+        raise Fault(f"{first} is a history, and comes alone; two are compared by hinge look --diff", USAGE)
+    if reports:
+        with untrusted(first):
+            return of_reports(first, reports, config)
+    if config:
+        raise Fault(
+            f"--config is of a packet file with its report, and {first} is alone: a history has its " f"configuration", USAGE
+        )
+    with untrusted(first):
+        source = read_history(first)
+    if source.cut is not None:
+        say(
+            f"{first} has no end behind line {source.cut}: the session was killed, or still goes on; it is looked at "
+            f"up to there"
+        )
+    return [source]
