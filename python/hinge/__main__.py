@@ -16,6 +16,7 @@ from hinge.border import terminal  # noqa: E402
 from hinge.version import version  # noqa: E402
 
 COMMANDS = {
+    "try": "a first look, by Python alone: a download over a link, as a picture of text",
     "packets": "a capture as a packet file",
     "ipfw": "configuration lines from files of ipfw and dnctl",
     "why": "what happened to a packet of a replay",

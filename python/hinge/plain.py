@@ -4,7 +4,7 @@ from __future__ import annotations
 
 import operator
 from bisect import bisect_left, bisect_right
-from itertools import accumulate, compress, repeat
+from itertools import accumulate, chain, compress, repeat
 from typing import Any, Callable, Iterable, Iterator, Optional, Sequence
 
 int64, uint8 = int, int
@@ -113,8 +113,8 @@ def arange(*bounds: int) -> Array:
     return Array(range(*bounds))
 
 
-def append(one: Any, other: Any) -> Array:
-    return Array([*(one if isinstance(one, Array) else [one]), *(other if isinstance(other, Array) else [other])])
+def append(*rows: Any) -> Array:
+    return Array(chain.from_iterable(row if isinstance(row, Array) else [row] for row in rows))
 
 
 def where(choice: Array, one: Any, other: Any) -> Array:

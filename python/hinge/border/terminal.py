@@ -7,6 +7,8 @@ import os
 import sys
 from typing import TextIO, cast
 
+BLOCKS, ASCII_BLOCKS = "\u2581\u2582\u2583\u2584\u2585\u2586\u2587\u2588", ".:-=+*%#"
+
 
 def printable(text: str) -> str:
     """A line that may name a file or quote one, without what a terminal would obey."""
@@ -16,6 +18,15 @@ def printable(text: str) -> str:
 def lines(text: str) -> str:
     """The same of several lines."""
     return text if text.isprintable() else "\n".join(map(printable, text.split("\n")))
+
+
+def blocks() -> str:
+    """Eight letters of growing height, or darkness where standard output has no others than ASCII."""
+    try:
+        BLOCKS.encode(sys.stdout.encoding or "ascii")
+        return BLOCKS
+    except (UnicodeEncodeError, LookupError):
+        return ASCII_BLOCKS
 
 
 def show(text: str = "", end: str = "\n") -> None:
