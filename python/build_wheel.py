@@ -125,6 +125,8 @@ def beside() -> Iterator[File]:
     share = f"{BASE}.data/data/share"
     for page in ("README.md", "CHANGELOG.md", *sorted(str(path.relative_to(TOP)) for path in TOP.glob("docs/*.md"))):
         yield File(f"{share}/doc/{NAME}/{page}", (TOP / page).read_bytes())
+    for shell, place in (("zsh", "zsh/site-functions/_hinge"), ("fish", "fish/vendor_completions.d/hinge.fish")):
+        yield File(f"{share}/{place}", (TOP / "tools" / "release" / f"hinge-completion.{shell}").read_bytes())
     for name in ("dummynet", "hinge"):
         yield File(f"{share}/man/man1/{name}.1", manual(f"{name}.1"))
         yield File(

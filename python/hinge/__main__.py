@@ -2,7 +2,6 @@
 
 from __future__ import annotations
 
-import difflib
 import importlib
 import sys
 from pathlib import Path
@@ -17,6 +16,7 @@ from hinge.border import terminal  # noqa: E402
 from hinge.version import version  # noqa: E402
 
 COMMANDS = {
+    "try": "a first look, by Python alone: a download over a link, as a picture of text",
     "packets": "a capture as a packet file",
     "ipfw": "configuration lines from files of ipfw and dnctl",
     "why": "what happened to a packet of a replay",
@@ -37,6 +37,7 @@ COMMANDS = {
     "docs": "the pages of the documentation",
 }
 USAGE = 2  # the exit status
+NOT_OF_DUMMYNET = "--not-of-dummynet"  # how ./dummynet asks what to write for words that it doesn't know
 HELP, VERSION = ("help", "-h", "--help"), ("--version", "-V")
 
 
@@ -50,16 +51,20 @@ def list_of_commands() -> str:
     )
 
 
-def refuse(words: list[str]) -> NoReturn:
-    """Ends the kit because its first word is no command, with what to type."""
-    from hinge.elsewhere import answer_of  # which a wrong word alone needs
+def refuse(words: list[str], program: str = "hinge") -> NoReturn:
+    """Ends the kit because the first word is no command of it or of dummynet, with what to type."""
+    import difflib  # which a wrong word alone needs, as the next
+
+    from hinge.elsewhere import answer_of
 
     answer, near = answer_of(words), difflib.get_close_matches(words[0], COMMANDS, 1)
-    if answer is not None:
+    if words[0] in COMMANDS:
+        text = f"write hinge {' '.join(words)}"
+    elif answer is not None:
         text = answer.text()
     else:
         text = f"did you mean `hinge {near[0]}`?" if near else "`hinge help` lists the commands."
-    terminal.tell(f"hinge: no command {words[0]!r}; {text}")
+    terminal.tell(f"{program}: no command {words[0]!r}; {text}")
     sys.exit(USAGE)
 
 
@@ -85,6 +90,8 @@ def main() -> None:
         command.run(lambda: terminal.show(list_of_commands(), ""))
     if words[0] in VERSION:
         command.run(lambda: terminal.show(f"hinge {version()}"))
+    if words[0] == NOT_OF_DUMMYNET and len(words) > 1:
+        refuse(words[1:], "dummynet")
     if words[0] not in COMMANDS:
         refuse(words)
     sys.argv[1:] = words[1:]

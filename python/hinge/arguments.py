@@ -1,13 +1,20 @@
-"""What the command lines have in common: their inputs, and numbers of a range."""
+"""What the command lines have in common: their inputs, and numbers of a range. A help needs nothing else, so numbers and names of other
+modules stand here."""
 
 from __future__ import annotations
 
 import argparse
-from typing import TYPE_CHECKING, Callable
+from dataclasses import dataclass
+from typing import Callable, Optional
 
-if TYPE_CHECKING:
-    from hinge.outputs import Format
+from hinge.outputs import Format, format_of
 
+SOURCE = (
+    "a history or the transcript of a live session, or a packet file and the report that dummynet wrote of it; "
+    "`-` is standard input"
+)
+WAYS = ("tuple", "flow", "target")  # that tell flows apart
+TABLE_FLOWS, PICTURE_FLOWS = 40, 8  # the most
 MOST_DIGITS = 20  # of a number: none that the kit reads is longer, and Python refuses to read one of thousands
 
 
@@ -46,3 +53,56 @@ def rows_between(text: str) -> range:
     if not (is_number(first) and is_number(last) and 1 <= int(first) <= int(last)):
         raise argparse.ArgumentTypeError(f"{text!r} is neither a row, as 17, nor rows, as 1-40")
     return range(int(first), int(last) + 1)
+
+
+def add_source(
+    line: argparse.ArgumentParser, form: str = "(HISTORY | PACKETS REPORT)", words: str = "SOURCE", told: str = SOURCE
+) -> None:
+    """What a table, a picture or a paragraph is made of, and how the usage shows it."""
+    line.usage = f"{line.prog} [OPTION ..] {form}"
+    line.add_argument("source", nargs="+", metavar=words, help=told)
+    line.add_argument("--config", metavar="FILE", help="the configuration of the packet file's replay; a history has its own")
+
+
+def add_flows(line: argparse.ArgumentParser, most: int, default: Optional[int], text: str) -> None:
+    """What a flow is, and how many of them are told apart."""
+    line.add_argument(
+        "--by",
+        choices=WAYS,
+        default="tuple",
+        help="what a flow is: packets of a five-tuple (the default), a flow of " "dummynet, or all packets to a pipe or queue",
+    )
+    line.add_argument(
+        "--top", metavar="N", type=bounded(1, most), default=default, help=f"the N largest flows, the rest as one (default: {text})"
+    )
+
+
+@dataclass(frozen=True)
+class LookOptions:
+    """What `hinge look` is told, each field by the name of its option."""
+
+    source: list[str]
+    config: Optional[str]
+    o: list[str]
+    by: str
+    top: Optional[int]
+    step: Optional[int]  # ms
+    title: str
+    csv: bool
+    diff: bool
+    why: list[int]
+    audit: bool
+    json: Optional[str]
+    capture: Optional[str]
+    index: Optional[str]
+    end: int  # ms
+    ladder: Optional[range]
+
+    @property
+    def outputs(self) -> list[str]:
+        """The files that are written."""
+        return [*self.o, *([self.json] if self.json else [])]
+
+    def files(self, *formats: Format) -> list[str]:
+        """Those of -o in some formats."""
+        return [name for name in self.o if format_of(name) in formats]

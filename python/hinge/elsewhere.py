@@ -23,53 +23,26 @@ class Answer(NamedTuple):
         return f"write {self.write}" + f" (hinge docs {self.page})" * bool(self.page)
 
 
-WORDS: dict[str, Answer] = {
+ANSWERS = {
     # tc, mahimahi, toxiproxy, comcast, pumba without what a line of them says
-    **dict.fromkeys(
-        (
-            "tc",
-            "netem",
-            "qdisc",
-            "tbf",
-            "htb",
-            "comcast",
-            "delay",
-            "loss",
-            "link",
-            "latency",
-            "limit",
-            "bandwidth",
-            "mm-delay",
-            "mm-loss",
-        ),
-        Answer(LINK, "LINKS"),
+    "tc netem qdisc tbf htb comcast delay loss link latency limit bandwidth mm-delay mm-loss": Answer(LINK, "LINKS"),
+    "mm-link mm-onoff trace mahimahi": Answer(
+        "hinge run --link 20ms --up-trace up.trace --down-trace down.trace -- COMMAND", "LINKS"
     ),
-    **dict.fromkeys(
-        ("mm-link", "mm-onoff", "trace", "mahimahi"),
-        Answer("hinge run --link 20ms --up-trace up.trace --down-trace down.trace -- COMMAND", "LINKS"),
-    ),
-    **dict.fromkeys(
-        ("toxic", "toxiproxy", "toxiproxy-cli", "proxy", "cli"), Answer("hinge run --outside --link 100ms -- COMMAND", "LIVE")
-    ),
+    "toxic toxiproxy toxiproxy-cli proxy cli": Answer("hinge run --outside --link 100ms -- COMMAND", "LIVE"),
     "pumba": Answer("sudo hinge run --netns PID --link 100ms", "LIVE"),
     "udp-proxy": Answer("hinge udp 5000 HOST:PORT 'pipe 1 config delay 20'", "LIVE"),
     # nets
-    **dict.fromkeys(
-        ("mn", "mininet", "containernet", "topo", "topology", "create", "host", "hosts", "pingall", "cluster"), Answer(NET, "NET")
-    ),
-    **dict.fromkeys(("start", "launch", "daemon"), Answer("hinge up FILE", "NET")),
-    **dict.fromkeys(("stop", "kill", "end", "quit", "delete", "remove", "rm"), Answer("hinge down NAME", "NET")),
-    **dict.fromkeys(("list", "ls", "ps", "show", "info"), Answer("hinge status NAME", "NET")),
-    **dict.fromkeys(("cut", "heal", "partition", "isolate", "restart", "set"), Answer("hinge change NAME cut HOST 5s", "NET")),
-    **dict.fromkeys(("sh", "bash", "shell", "enter", "attach", "ssh"), Answer("hinge exec NAME HOST -- COMMAND", "NET")),
-    **dict.fromkeys(
-        ("nemesis", "chaos", "jepsen"), Answer(f"{NET}, with a line `nemesis partition-halves every 10s for 3s`", "NET")
-    ),
+    "mn mininet containernet topo topology create host hosts pingall cluster": Answer(NET, "NET"),
+    "start launch daemon": Answer("hinge up FILE", "NET"),
+    "stop kill end quit delete remove rm": Answer("hinge down NAME", "NET"),
+    "list ls ps show info": Answer("hinge status NAME", "NET"),
+    "cut heal partition isolate restart set": Answer("hinge change NAME cut HOST 5s", "NET"),
+    "sh bash shell enter attach ssh": Answer("hinge exec NAME HOST -- COMMAND", "NET"),
+    "nemesis chaos jepsen": Answer(f"{NET}, with a line `nemesis partition-halves every 10s for 3s`", "NET"),
     # ipfw and its relations
-    **dict.fromkeys(
-        ("pipe", "queue", "dnctl", "pfctl", "sched"), Answer("hinge run --line 'pipe 1 config bw 10Mbit/s' -- COMMAND", "LINKS")
-    ),
-    **dict.fromkeys(("replay", "audit", "live"), Answer("dummynet replay CONFIG PACKETS, or dummynet audit HISTORY", "FILES")),
+    "pipe queue dnctl pfctl sched": Answer("hinge run --line 'pipe 1 config bw 10Mbit/s' -- COMMAND", "LINKS"),
+    "replay audit live": Answer("dummynet replay CONFIG PACKETS, or dummynet audit HISTORY", "FILES"),
     # commands of older versions
     "stats": Answer("hinge look SOURCE, with --csv, or -o FILE.csv", "CAPTURE"),
     "picture": Answer("hinge look SOURCE -o FILE.png", "CAPTURE"),
@@ -78,50 +51,27 @@ WORDS: dict[str, Answer] = {
     "with-clock": Answer("LD_PRELOAD=$(hinge kernel --clock) COMMAND", "TESTING"),
     "shard": Answer("dummynet replay CONFIG PACKETS --most-packets 1099511627776 > REPORT", "FILES"),
     # what people look for
-    **dict.fromkeys(("presets", "profiles", "profile", "preset", "conditions"), Answer("hinge run --list-presets")),
-    **dict.fromkeys(("version", "-v"), Answer("hinge --version")),
-    **dict.fromkeys(("man", "doc", "manual", "pages", "readme", "info-page"), Answer("hinge docs")),
-    **dict.fromkeys(("example", "examples", "tutorial", "demo", "hello", "quickstart"), Answer(RUN, "LIVE")),
-    **dict.fromkeys(("test", "pytest", "fixture"), Answer("hinge docs TESTING")),
-    **dict.fromkeys(
-        ("plot", "graph", "draw", "chart", "png", "report", "analyze", "analyse", "log", "logs", "history", "view", "open"),
-        Answer("hinge look HISTORY -o picture.png", "CAPTURE"),
+    "presets profiles profile preset conditions": Answer("hinge run --list-presets"),
+    "version -v": Answer("hinge --version"),
+    "man doc manual pages readme info-page": Answer("hinge docs"),
+    "example examples tutorial demo hello quickstart": Answer("hinge try"),
+    "test pytest fixture": Answer("hinge docs TESTING"),
+    "plot graph draw chart png report analyze analyse log logs history view open": Answer(
+        "hinge look HISTORY -o picture.png", "CAPTURE"
     ),
-    **dict.fromkeys(
-        ("capture", "pcap", "tcpdump", "wireshark", "import", "convert"), Answer("hinge packets CAPTURE -o packets.csv", "CAPTURE")
+    "capture pcap tcpdump wireshark import convert": Answer("hinge packets CAPTURE -o packets.csv", "CAPTURE"),
+    "simulate sim simulation --simulated deterministic": Answer(
+        "hinge run --simulated --seed 1 --link '10Mbit/s 20ms' -- COMMAND", "SIMULATED"
     ),
-    **dict.fromkeys(
-        ("simulate", "sim", "simulation", "--simulated", "deterministic"),
-        Answer("hinge run --simulated --seed 1 --link '10Mbit/s 20ms' -- COMMAND", "SIMULATED"),
-    ),
-    **dict.fromkeys(
-        (
-            "emulate",
-            "emulator",
-            "exec-link",
-            "throttle",
-            "slow",
-            "shape",
-            "limit-rate",
-            "with",
-            "wrap",
-            "ping",
-            "curl",
-            "wget",
-            "iperf3",
-        ),
-        Answer(RUN, "LIVE"),
-    ),
-    **dict.fromkeys(("monitor", "watch", "top", "stat", "metrics"), Answer("hinge status NAME")),
-    **dict.fromkeys(("validate", "lint", "verify", "explain"), Answer("hinge check FILE")),
-    **dict.fromkeys(("fuzz", "explore", "seeds", "shrink"), Answer("hinge search FILE.net", "SIMULATED")),
-    **dict.fromkeys(("build-kernel", "uml", "linux"), Answer("hinge kernel", "SIMULATED")),
-    **dict.fromkeys(
-        ("web", "gui", "ui", "server", "serve", "dashboard"),
-        Answer("hinge look HISTORY -o page.html; there is no server", "CAPTURE"),
-    ),
-    **dict.fromkeys(("install", "setup", "update", "upgrade"), Answer("./install in a clone", "LIVE")),
+    "emulate emulator exec-link throttle slow shape limit-rate with wrap ping curl wget iperf3": Answer(RUN, "LIVE"),
+    "monitor watch top stat metrics": Answer("hinge status NAME"),
+    "validate lint verify explain": Answer("hinge check FILE"),
+    "fuzz explore seeds shrink": Answer("hinge search FILE.net", "SIMULATED"),
+    "build-kernel uml linux": Answer("hinge kernel", "SIMULATED"),
+    "web gui ui server serve dashboard": Answer("hinge look HISTORY -o page.html; there is no server", "CAPTURE"),
+    "install setup update upgrade": Answer("./install in a clone", "LIVE"),
 }
+WORDS = {word: answer for words, answer in ANSWERS.items() for word in words.split()}
 
 
 def of_link(words: Sequence[str], more: str = "") -> Optional[Answer]:

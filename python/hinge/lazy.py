@@ -1,5 +1,5 @@
-"""numpy, which is loaded when something of it is first asked for, so that a command's help and its faults need no
-numpy; and its arrays."""
+"""numpy, which is loaded when something of it is first asked for, so that a command's help and its faults need no numpy; its few
+functions that tables and paragraphs call, which `hinge.plain` has too; and its arrays."""
 
 from __future__ import annotations
 
@@ -9,15 +9,26 @@ from typing import TYPE_CHECKING, Any
 
 
 class Lazy(ModuleType):
-    """A module that isn't loaded yet."""
+    """A module that isn't loaded yet, and the one that stands for it where it isn't there, if there is one."""
+
+    def __init__(self, name: str, other: str = "") -> None:
+        super().__init__(name)
+        self.other = other
 
     def __getattr__(self, name: str) -> Any:
-        result = getattr(importlib.import_module(self.__name__), name)
+        try:
+            module = importlib.import_module(self.__name__)
+        except ModuleNotFoundError:
+            if not self.other:
+                raise
+            module = importlib.import_module(self.other)
+        result = getattr(module, name)
         setattr(self, name, result)  # which isn't asked for again
         return result
 
 
 if TYPE_CHECKING:
+    import numpy as few
     import numpy as np
     from numpy.typing import NDArray
 
@@ -26,7 +37,7 @@ if TYPE_CHECKING:
     Mask = NDArray[np.bool_]  # whether each place is chosen
     Octets = NDArray[np.uint8]  # of a file
 else:
-    np = Lazy("numpy")
+    np, few = Lazy("numpy"), Lazy("numpy", "hinge.plain")
     Integers = Reals = Mask = Octets = Any
 
-__all__ = ["Integers", "Mask", "Octets", "Reals", "np"]
+__all__ = ["Integers", "Mask", "Octets", "Reals", "few", "np"]

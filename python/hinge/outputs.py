@@ -41,6 +41,7 @@ class Format(Enum):
 
 
 PICTURES = (Format.PNG, Format.SVG, Format.PDF)
+CAPTURES, TABLES = (Format.ARRIVED, Format.COMMENTED), (Format.CSV, Format.TEXT)
 
 
 def format_of(name: str) -> Format:

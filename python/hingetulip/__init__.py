@@ -17,6 +17,8 @@ if it is set, else beside the module, then in the `lib` of the prefix below whic
 
 from __future__ import annotations
 
+from typing import NoReturn
+
 from hingetulip.audits import Audit, audit
 from hingetulip.batches import Deliveries, Fates, Packets
 from hingetulip.errors import (
@@ -65,3 +67,9 @@ __all__ = [
     "audit",
 ]
 __version__ = VERSION
+
+
+def __getattr__(name: str) -> NoReturn:
+    from hingetulip_words.elsewhere import of_python  # which a wrong name alone needs
+
+    raise AttributeError(f"module 'hingetulip' has no attribute {name!r}{of_python(name)}")

@@ -182,3 +182,21 @@ def pumba(words: Sequence[str]) -> list[str]:
         if kind in words and (part := percent(given.get("percent", ""))):
             found.append(f"{kind} {part}")
     return found
+
+
+# What people look for in the module, by what to write for it.
+OF_PYTHON = {
+    "hingetulip.Shaper(), and its configure('pipe 1 config bw 10Mbit/s delay 20')": """link pipe queue dummynet emulator emulate shape
+    shaping bandwidth delay loss latency plr netem tc tbf htb qdisc ipfw dnctl configure config open create""",
+    "hingetulip.aio.network(), and its host() and path()": """net network host hosts node switch router topology topo mininet addhost addlink
+    add_host add_link path simulate simulation simulator sim asyncio""",
+    "`hinge run --preset lte -- COMMAND`, a command of the shell": """run exec command popen ping toxiproxy toxic comcast pumba mahimahi
+    mm_delay mm_link outside preset presets""",
+    "hingetulip.recorded.RecordedShaper(PATH), whose history `dummynet audit` reads": "replay history record transcript recordedshaper",
+}
+
+
+def of_python(name: str) -> str:
+    """What to write for a name that the module doesn't have, as the end of a message."""
+    write = next((write for write, names in OF_PYTHON.items() if name.lower() in names.split()), None)
+    return f"; write {write}" if write else ""

@@ -9,7 +9,6 @@ command's help has an example that calls it.
 from __future__ import annotations
 
 import re
-import shutil
 import subprocess
 import sys
 from pathlib import Path
@@ -17,7 +16,6 @@ from pathlib import Path
 from tally import Tally
 
 TOP = Path(__file__).resolve().parent.parent.parent
-PYTHON = "/usr/bin/python3" if shutil.which("/usr/bin/python3") else sys.executable  # ./hinge's own, which has numpy
 
 
 def printed(*words: object) -> str:
@@ -55,7 +53,7 @@ def of_dummynet(tally: Tally, program: str) -> None:
 
 
 def of_hinge(tally: Tally) -> None:
-    hinge = (PYTHON, TOP / "hinge")
+    hinge = (sys.executable, TOP / "hinge")
     text = page(tally, "hinge.1")
     commands = re.findall(r"^  ([a-z-]+) ", printed(*hinge, "help"), re.M)
     tally.note("the commands of hinge", "" if len(commands) >= 10 else f"got {commands}")
@@ -77,10 +75,7 @@ def of_hinge(tally: Tally) -> None:
 def main(program: str) -> int:
     tally = Tally()
     of_dummynet(tally, program)
-    if subprocess.run([PYTHON, "-c", "import numpy"], capture_output=True).returncode:
-        print("the kit's help: skipped, since Python has no numpy")
-    else:
-        of_hinge(tally)
+    of_hinge(tally)
     return tally.end()
 
 

@@ -5,8 +5,9 @@ from __future__ import annotations
 import io
 import os
 import sys
-import traceback
 from typing import TextIO, cast
+
+BLOCKS, ASCII_BLOCKS = "\u2581\u2582\u2583\u2584\u2585\u2586\u2587\u2588", ".:-=+*%#"
 
 
 def printable(text: str) -> str:
@@ -17,6 +18,15 @@ def printable(text: str) -> str:
 def lines(text: str) -> str:
     """The same of several lines."""
     return text if text.isprintable() else "\n".join(map(printable, text.split("\n")))
+
+
+def blocks() -> str:
+    """Eight letters of growing height, or darkness where standard output has no others than ASCII."""
+    try:
+        BLOCKS.encode(sys.stdout.encoding or "ascii")
+        return BLOCKS
+    except (UnicodeEncodeError, LookupError):
+        return ASCII_BLOCKS
 
 
 def show(text: str = "", end: str = "\n") -> None:
@@ -33,6 +43,8 @@ def tell(text: str, end: str = "\n") -> None:
 def note_defect() -> None:
     """Shows where an exception came from that is told as a line, for who looks for a defect of the kit."""
     if "HINGE_TRACEBACK" in os.environ:
+        import traceback  # which takes longer to load than a help may
+
         tell(traceback.format_exc(), "")
 
 

@@ -23,23 +23,9 @@ csv.field_size_limit(sys.maxsize)  # a field may be as long as its file
 
 HEADER = ["moment", "target", "number", "src", "dst", "proto", "sport", "dport", "len", "word"]
 ADDRESS = "four numbers 0 to 255, as 10.0.0.1"
-RANGES = dict(
-    zip(
-        HEADER,
-        [
-            "0 to 4611686018427387904",
-            "pipe or queue",
-            "1 to 65535",
-            ADDRESS,
-            ADDRESS,
-            "0 to 255",
-            "0 to 65535",
-            "0 to 65535",
-            "1 to 65535",
-            "0 to 4294967295",
-        ],
-    )
-)
+PORT = "0 to 65535"
+LIMITS = ("0 to 4611686018427387904", "pipe or queue", "1 to 65535", ADDRESS, ADDRESS, "0 to 255", PORT, PORT, "1 to 65535")
+RANGES = dict(zip(HEADER, (*LIMITS, "0 to 4294967295")))
 PROTOCOLS = {"icmp": 1, "igmp": 2, "tcp": 6, "udp": 17, "gre": 47, "esp": 50, "icmpv6": 58, "icmp6": 58, "sctp": 132}
 LAST_MOMENT = 2**62
 LOSS_PARTS = 2**31

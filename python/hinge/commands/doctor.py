@@ -115,7 +115,6 @@ TRIALS = (
     Trial("the samples of the pages", first_words),
     Trial("--outside: the rest of the network", outside),
     Trial("--simulated: simulated time", simulated),
-    Trial("look, why: tables", lambda: modules(numpy="python3-numpy")),
     Trial("pictures (.png, .svg)", lambda: modules(numpy="python3-numpy", matplotlib="python3-matplotlib")),
     Trial("pictures (.html)", lambda: modules(numpy="python3-numpy", plotly="python3-plotly")),
     Trial("the plugin of pytest", lambda: modules(pytest="python3-pytest")),

@@ -4,28 +4,11 @@ from __future__ import annotations
 
 import argparse
 import os
-import sys
-from typing import TextIO
 
-from hinge.arguments import bounded, file_of, rows_between
-from hinge.border.terminal import lines, show, standard_output
-from hinge.captures.through import write_through
-from hinge.command import STATUSES, parser, say
-from hinge.outputs import PICTURES, Format, refuse_inputs, write_json, writing
-from hinge.paths.looked import audit, look_at_net
-from hinge.pictures.drawn import LookOptions, draw_sources, provenance_of
-from hinge.pictures.figures import MOST_FLOWS as MOST_ROWS
-from hinge.pictures.figures import Figures, table_of, write_csv
-from hinge.pictures.ladder import arrows_of_replay, draw_ladder, ladder_text
-from hinge.pictures.panels import MOST_FLOWS
-from hinge.pictures.text_table import write_bounds, write_text
-from hinge.replays.asked import SOURCE, add_flows, add_source, read_sources
-from hinge.replays.explain import Explainer
-from hinge.replays.parting import parting
-from hinge.replays.record_lines import is_history_file
-from hinge.replays.remarks import KINDS
-from hinge.replays.source import Source
-from hinge.run.summary import FORMAT
+from hinge.arguments import PICTURE_FLOWS, SOURCE, TABLE_FLOWS, LookOptions, add_flows, add_source, bounded, file_of, rows_between
+from hinge.border.terminal import lines
+from hinge.command import STATUSES, parser
+from hinge.outputs import CAPTURES, PICTURES, TABLES, Format
 
 WHAT = """\
 Reads a history, the transcript of a live session, or a packet file with up to
@@ -53,10 +36,7 @@ hinge look session.history -o session.png --why 17
   hinge look packets.csv report.csv --config dsl.config -o dsl.html -o dsl.csv
   hinge look packets.csv report.csv --capture all.pcap --index i.csv -o far.pcap
   hinge look session -o net.png                          (the folder of a net)"""
-DIFFERENT = 1
 MOST_REPORTS = 4
-CAPTURES = (Format.ARRIVED, Format.COMMENTED)
-TABLES = (Format.CSV, Format.TEXT)
 
 
 def command_line() -> LookOptions:
@@ -89,7 +69,7 @@ def command_line() -> LookOptions:
     )
     line.add_argument("--audit", action="store_true", help="ask dummynet first whether the history is lawful")
     line.add_argument("--diff", action="store_true", help="tell the first call at which two histories part, in place of the table")
-    add_flows(line, 10**6, None, f"{MOST_ROWS}, and {MOST_FLOWS} in a picture")
+    add_flows(line, 10**6, None, f"{TABLE_FLOWS}, and {PICTURE_FLOWS} in a picture")
     line.add_argument(
         "--step", metavar="MS", type=bounded(1, 10**9), help="ms of a step of throughput and drops (default: by the length)"
     )
@@ -130,93 +110,25 @@ def refuse_mixed(line: argparse.ArgumentParser, options: LookOptions) -> None:
 
 def is_net(options: LookOptions) -> bool:
     """Whether the source is a net: its folder, or its history and its summary."""
+    from hinge.replays.record_lines import is_history_file  # as below
+
     first, *more = options.source
     return os.path.isdir(first) or (len(more) == 1 and not options.diff and more[0].endswith(".json") and is_history_file(first))
 
 
-def write_table_json(source: Source, table: list[Figures], path: str) -> None:
-    """The table for a program; docs/CAPTURE.md has its keys."""
-    most = {kind: source.most_late(kind) for kind in KINDS} if source.lateness else None
-    flows: list[dict[str, object]] = [{"flow": row.name, **row.value} for row in table]
-    pipes = None if source.bounds is None else [one.figures() for one in source.bounds]
-    record = {
-        "format": FORMAT,
-        "history": source.replay.path,
-        "seed": source.seed,
-        "lateness_ms": most,
-        "pipes": pipes,
-        "flows": flows,
-    }
-    write_json(path, record)
-
-
-def tell_difference(one: str, other: str, path: str | None) -> None:
-    """Where two histories part; it ends with the status of two that differ."""
-    part = parting(one, other)
-    if path:
-        record: dict[str, object] = {"format": FORMAT, "histories": [one, other], "equal": part is None}
-        write_json(path, {**record, **(part.known() if part else {})})
-    if part is None:
-        show(f"{one} and {other} have the same calls and replies")
-    else:
-        show(f"{one} and {other} part in call {part.number}{part.at()}: {part.reason()}")
-        show(part.text())
-        sys.exit(DIFFERENT)
-
-
 def main() -> None:
     options = command_line()
+    # What looks is loaded behind the command line, since a help has to come at once.
     if options.diff:
-        refuse_inputs((options.json,), options.source)
+        from hinge.replays.looked import tell_difference
+
         one, other = options.source
         tell_difference(one, other, options.json)
     elif is_net(options):
+        from hinge.paths.looked import look_at_net
+
         look_at_net(options, *options.source)
     else:
-        look(options)
+        from hinge.replays.looked import look
 
-
-def write_table(source: Source, table: list[Figures], is_csv: bool, out: TextIO) -> None:
-    (write_csv if is_csv else write_text)(table, out)
-    write_bounds([] if is_csv else source.bounds or [], out)
-
-
-def tell_of(source: Source, options: LookOptions, head: str) -> None:
-    """The table of a source, or what happened to packets, and the files of one source."""
-    if options.why:
-        explainer = Explainer(source.explained())
-        show("\n\n".join(explainer.paragraph(row) for row in options.why))
-    needs_table = options.json or options.files(*TABLES) or not options.why
-    table = table_of(source.replay, source.parts, options.by, options.top or MOST_ROWS) if needs_table else []
-    if not options.why:
-        show(head, end="")
-        write_table(source, table, options.csv, standard_output())
-    if options.json:
-        write_table_json(source, table, options.json)
-    for name in options.files(*TABLES):
-        with writing(name) as out:
-            write_table(source, table, name in options.files(Format.CSV), out)
-    for name in options.files(*CAPTURES):
-        say(write_through(source, options.capture or "", options.index or "", name))
-
-
-def look(options: LookOptions) -> None:
-    """The tables and the files of a history or of reports."""
-    if options.audit:
-        refuse_inputs(options.outputs, options.source)
-        audit(options.source)
-    inputs = [options.capture, options.index] if options.capture else []
-    sources = read_sources(options.source, options.config, options.outputs, MOST_REPORTS, inputs)
-    if options.ladder:
-        arrows = arrows_of_replay(sources[0].replay, options.ladder)
-        show("\n".join(ladder_text(arrows)))
-        draw_ladder(arrows, options, provenance_of(sources))
-        return
-    for number, source in enumerate(sources):
-        head = f"{'' if number == 0 else chr(10)}{source.replay.path}\n" if len(sources) > 1 else ""
-        tell_of(source, options, head)
-    if options.o or not options.why:
-        for remark in sources[0].remarks():
-            say(remark)
-    for name in options.files(*PICTURES, Format.PAGE):
-        draw_sources(sources, name, options)
+        look(options, MOST_REPORTS)

@@ -65,19 +65,8 @@ def main() -> None:
         folder.mkdir(parents=True, exist_ok=True)
         log = folder / "net.log"
         logs = [] if "--logs" in arguments.more else ["--logs", str(folder / "logs")]
-        words = [
-            sys.executable,
-            str(START),
-            "net",
-            arguments.file,
-            "--transcripts",
-            str(folder),
-            *logs,
-            "--stay",
-            "--control",
-            socket,
-            *arguments.more,
-        ]
+        words = [sys.executable, str(START), "net", arguments.file, "--transcripts", str(folder), *logs]
+        words += ["--stay", "--control", socket, *arguments.more]
         with open(log, "wb") as log_file:
             process = subprocess.Popen(words, stdin=subprocess.DEVNULL, stdout=log_file, stderr=log_file, start_new_session=True)
         silent = wait_until_ready(process, socket, log)

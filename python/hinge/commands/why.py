@@ -5,11 +5,9 @@ from __future__ import annotations
 import argparse
 from itertools import takewhile
 
-from hinge.arguments import bounded
+from hinge.arguments import SOURCE, add_source, bounded
 from hinge.border.terminal import show
 from hinge.command import parser
-from hinge.replays.asked import SOURCE, add_source, read_sources
-from hinge.replays.explain import Explainer
 
 WHAT = """\
 Tells what happened to a row of a packet file, or to a packet of a history, in a paragraph: for whom it waited and how
@@ -38,6 +36,9 @@ def main() -> None:
         rows = list(map(bounded(1, 2**62), numbers))
     except argparse.ArgumentTypeError as wrong:
         line.error(str(wrong))
+    from hinge.replays.explain import Explainer  # as the next, behind the command line, since a help has to come at once
+    from hinge.replays.history import read_sources
+
     [source] = read_sources(files, config)
     explainer = Explainer(source.explained())
     show("\n\n".join(explainer.paragraph(row) for row in rows))

@@ -178,21 +178,8 @@ class Net(Described):
         }
         more = [word for name, value in inputs.items() if value is not None for word in (f"--{name}", str(value))]
         read_end, self.leash = os.pipe()
-        words = [
-            sys.executable,
-            str(START),
-            "net",
-            str(file),
-            "--transcripts",
-            str(self.folder),
-            "--logs",
-            str(self.folder / "logs"),
-            *more,
-            "--control",
-            str(self.socket),
-            "--while-open",
-            str(read_end),
-        ]
+        words = [sys.executable, str(START), "net", str(file), "--transcripts", str(self.folder)]
+        words += ["--logs", str(self.folder / "logs"), *more, "--control", str(self.socket), "--while-open", str(read_end)]
         with open(self.folder / "net.log", "wb") as log_file:
             self.is_running = True
             self.process = subprocess.Popen(

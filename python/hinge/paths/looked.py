@@ -8,6 +8,7 @@ import subprocess
 import sys
 from typing import Any, Iterator
 
+from hinge.arguments import LookOptions
 from hinge.border.files import read_front, untrusted
 from hinge.border.terminal import show
 from hinge.command import ROWS, Fault, say
@@ -20,7 +21,6 @@ from hinge.paths.passages import read_transcript
 from hinge.paths.report import hosts_of, of_faults, of_paths, of_ways, paths, summary, ways
 from hinge.paths.timeline import Looked, Timeline, chart, name_of_way, timeline, told_changes
 from hinge.pictures.chart import save
-from hinge.pictures.drawn import LookOptions
 from hinge.pictures.ladder import arrows_of_net, draw_ladder, ladder_text
 from hinge.pictures.provenance import provenance
 from hinge.program import dummynet

@@ -217,7 +217,7 @@ class Reader:
         try:
             calls = entries.records.of(places)
             rows, replies = entries.submits_of(calls), entries.replies(places)
-            event, _, packet, _, due = with_fates(entries, replies.copy())
+            event, _, packet, _, due = with_fates(entries, replies)
             hand_over = places_of_deliveries(entries.records, packet)
             self.changes += [(moment, text) for _, moment, text in entries.changes()]
         except Bad:
@@ -232,7 +232,7 @@ class Reader:
         )
         self.records += len(entries.records)
 
-    def add(self, path: str, calls: Records, rows: Integers, items: list[Integers]) -> None:
+    def add(self, path: str, calls: Records, rows: list[Integers], items: list[Integers]) -> None:
         """Takes the submits of a file, without those of packets that nobody sent."""
         kind, number, *flow, length, _ = rows
         content = content_before(calls)

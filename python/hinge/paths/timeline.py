@@ -5,10 +5,10 @@ from __future__ import annotations
 
 import re
 import shutil
-import sys
 from dataclasses import dataclass
 from typing import Iterator, NamedTuple
 
+from hinge.border.terminal import blocks
 from hinge.lazy import Reals, np
 from hinge.paths.matching import Matched
 from hinge.paths.report import WayFigures
@@ -18,7 +18,6 @@ from hinge.replays.replay import OUT
 
 SECOND = 1e9  # ns
 AT_ONCE = 10**7  # ns within which changes of one kind are told together
-BLOCKS, ASCII_BLOCKS = "\u2581\u2582\u2583\u2584\u2585\u2586\u2587\u2588", ".:-=+*%#"
 NOTHING, CUT = " ", "x"
 FEWEST_STEPS, MOST_STEPS = 20, 100
 CONFIGURES = re.compile(r"(?:ipfw )?pipe (\d+) config ?(.*)")
@@ -125,14 +124,6 @@ def words_of_change(change: WayChange) -> str:
     return "cut" if change.is_cut else change.words
 
 
-def letters() -> str:
-    try:
-        BLOCKS.encode(sys.stdout.encoding or "ascii")
-        return BLOCKS
-    except (UnicodeEncodeError, LookupError):
-        return ASCII_BLOCKS
-
-
 def carried_by_way(matching: Matched, pipe: int, step: int, count: int) -> Reals:
     """Mbit/s of a way in each step of so many ns."""
     passages = matching.passages
@@ -163,4 +154,4 @@ def chart(matching: Matched, line: Timeline, busiest: list[WayFigures]) -> Itera
     yield f"{'way'.ljust(width)}  0 s{end.rjust(count - 3)}  most, Mbit/s"
     for way in busiest:
         rates = carried_by_way(matching, way.pipe, step, count)
-        yield (f"{way.name.ljust(width)}  {row_of(rates, line.cuts.get(way.pipe, []), step, letters())}  {rates.max():.3f}")
+        yield (f"{way.name.ljust(width)}  {row_of(rates, line.cuts.get(way.pipe, []), step, blocks())}  {rates.max():.3f}")

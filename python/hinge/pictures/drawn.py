@@ -2,9 +2,9 @@
 
 from __future__ import annotations
 
-from dataclasses import dataclass
 from typing import Optional
 
+from hinge.arguments import LookOptions
 from hinge.outputs import Format, format_of, written
 from hinge.pictures.chart import save
 from hinge.pictures.html_page import save_page
@@ -14,37 +14,6 @@ from hinge.pictures.series import NS_PER_MS, Series, fitting_step, series, span_
 from hinge.replays.explain import Explainer
 from hinge.replays.groups import group
 from hinge.replays.source import Source
-
-
-@dataclass(frozen=True)
-class LookOptions:
-    """What `hinge look` is told, each field by the name of its option."""
-
-    source: list[str]
-    config: Optional[str]
-    o: list[str]
-    by: str
-    top: Optional[int]
-    step: Optional[int]  # ms
-    title: str
-    csv: bool
-    diff: bool
-    why: list[int]
-    audit: bool
-    json: Optional[str]
-    capture: Optional[str]
-    index: Optional[str]
-    end: int  # ms
-    ladder: Optional[range]
-
-    @property
-    def outputs(self) -> list[str]:
-        """The files that are written."""
-        return [*self.o, *([self.json] if self.json else [])]
-
-    def files(self, *formats: Format) -> list[str]:
-        """Those of -o in some formats."""
-        return [name for name in self.o if format_of(name) in formats]
 
 
 def series_of(sources: list[Source], by: str, top: Optional[int], step_ms: Optional[int]) -> list[Series]:

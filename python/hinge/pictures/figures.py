@@ -7,13 +7,13 @@ import csv
 from dataclasses import dataclass
 from typing import IO, Optional
 
-from hinge.lazy import Integers, np
+from hinge.arguments import TABLE_FLOWS
+from hinge.lazy import Integers, few as np
 from hinge.replays.groups import group
 from hinge.replays.links import Parts
 from hinge.replays.replay import EVENT_NAMES, FULL, HELD, LOST, NONE, OUT, Replay
 
 PERCENTILES = (50, 95, 99)
-MOST_FLOWS = 40  # of a table
 LOW = (1 << 32) - 1
 
 
@@ -88,7 +88,7 @@ def figures_of_all(replay: Replay, parts: Optional[Parts]) -> Figures:
     return Figures(places.name, {**places.value, "jitter_ns": None})
 
 
-def table_of(replay: Replay, parts: Optional[Parts], by: str = "tuple", top: int = MOST_FLOWS) -> list[Figures]:
+def table_of(replay: Replay, parts: Optional[Parts], by: str = "tuple", top: int = TABLE_FLOWS) -> list[Figures]:
     """The figures of the largest flows, of the rest as one, and of all rows."""
     flows = group(replay, by).largest(replay.packets.length, top)
     return [*(figures(name, replay, parts, places) for name, places in flows.places()), figures_of_all(replay, parts)]

@@ -5,12 +5,12 @@ from __future__ import annotations
 from dataclasses import dataclass
 from typing import Iterator, Optional
 
+from hinge.arguments import LookOptions
 from hinge.lazy import np
 from hinge.outputs import PICTURES, format_of, written
 from hinge.paths.matching import Matched
 from hinge.pictures.chart import save
 from hinge.pictures.drawing import Drawing, Item, Key, Line, Panel, Points
-from hinge.pictures.drawn import LookOptions
 from hinge.pictures.panels import CAUSE_COLORS, COLORS
 from hinge.pictures.series import NS_PER_MS, NS_PER_S
 from hinge.replays.replay import EVENT_NAMES, OUT, PROTOCOLS, Replay

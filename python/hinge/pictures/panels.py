@@ -6,6 +6,7 @@ from __future__ import annotations
 from pathlib import Path
 from typing import Callable, Iterator, Optional
 
+from hinge.arguments import PICTURE_FLOWS
 from hinge.lazy import Integers, Reals, np
 from hinge.pictures.drawing import DASHED, DENSE, DOTTED, MIXED, SOLID, Band, Bars, Drawing, Item, Key, Line, Panel, Points
 from hinge.pictures.series import CAUSES, NS_PER_MS, NS_PER_S, Flow, Series, Steps, spread
@@ -15,7 +16,7 @@ COLORS = ("#0072b2", "#d55e00", "#009e73", "#cc79a7", "#56b4e9", "#e69f00", "#88
 RESTS = ("#c4c4c4", "#8f8f8f", "#dcdcdc", "#a9a9a9")  # what stands for several flows, by its pipe
 PIPES = (("#000000", SOLID), ("#808080", MIXED), ("#404040", DASHED), ("#a0a0a0", DENSE))
 CAUSE_COLORS = {"lost": "#b8b8b8", "full": "#3f3f3f", "none": "#7a7a7a"}
-MOST_FLOWS = len(COLORS)  # with a color of their own
+MOST_FLOWS = PICTURE_FLOWS  # each with a color of its own
 MOST_ABOVE = 2  # a line of more than so many times the greatest value is told, not drawn
 MOST_DOTS = 2_000  # of a flow's delays; more are drawn as a band
 MOST_DOTS_IN_ALL, FEWEST_OF_BAND = 4_000, 400  # of all flows; above that each flow with so many is a band

@@ -6,7 +6,7 @@ from dataclasses import dataclass
 from typing import Iterator, Optional
 
 from hinge.checks.waits import Bound, bound_of, with_bound
-from hinge.lazy import Integers, np
+from hinge.lazy import Integers, few as np
 from hinge.replays.links import Configuration
 from hinge.replays.replay import HELD, Replay
 

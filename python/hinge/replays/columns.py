@@ -3,12 +3,11 @@
 from __future__ import annotations
 
 from dataclasses import dataclass
-from typing import Protocol
 
-from hinge.lazy import Integers, Octets, np
+from hinge.lazy import Integers, Octets, few as np
 
 
-MOST_DIGITS = 19  # of a number of 63 bits
+MOST_DIGITS, GREATEST = 19, 2**63 - 1  # of a number of 63 bits
 
 
 class Bad(ValueError):
@@ -29,26 +28,46 @@ class Fields:
         data = np.frombuffer(text.encode() or b"\0", np.uint8)
         return Fields(data, np.zeros(1, np.int64), np.array([len(text.encode())]))
 
+    def texts(self) -> list[bytes]:
+        data = self.data.tobytes()
+        return [data[begin : begin + length] for begin, length in zip(self.begin.tolist(), self.length.tolist())]
+
     def byte(self, place: int) -> Octets:
         """The byte at a place of each field, any byte behind its end."""
         octets: Octets = self.data[np.minimum(self.begin + place, len(self.data) - 1)]
         return octets
 
 
-class Column(Protocol):
+class Column:
     """A kind of column."""
 
     def read(self, fields: Fields) -> Integers:
         """Its numbers; Bad is raised where a field isn't of the kind."""
+        return self.at_once(fields) if hasattr(np, "ndarray") else np.array(list(map(self.one, fields.texts())))
+
+    def at_once(self, fields: Fields) -> Integers:
+        """All of them by numpy."""
+        raise NotImplementedError
+
+    def one(self, text: bytes) -> int:
+        """One of them."""
+        raise NotImplementedError
 
 
 @dataclass(frozen=True)
-class Number:
+class Number(Column):
     """Whole numbers, and -1 for an empty field where one may be empty."""
 
     may_be_empty: bool = False
 
-    def read(self, fields: Fields) -> Integers:
+    def one(self, text: bytes) -> int:
+        if self.may_be_empty and not text:
+            return -1
+        if not text.isdigit() or len(text) > MOST_DIGITS or int(text) > GREATEST:
+            raise Bad
+        return int(text)
+
+    def at_once(self, fields: Fields) -> Integers:
         length = fields.length
         if (length > MOST_DIGITS).any() or (not self.may_be_empty and (length == 0).any()):
             raise Bad
@@ -64,12 +83,18 @@ class Number:
 
 
 @dataclass(frozen=True)
-class OneOf:
+class OneOf(Column):
     """One of some words, as its number among them."""
 
     words: tuple[str, ...]
 
-    def read(self, fields: Fields) -> Integers:
+    def one(self, text: bytes) -> int:
+        word = text.decode("latin-1")
+        if word not in self.words:
+            raise Bad
+        return self.words.index(word)
+
+    def at_once(self, fields: Fields) -> Integers:
         places = np.full(len(fields.length), -1, np.int64)
         for number, word in enumerate(self.words):
             is_word = fields.length == len(word)
@@ -82,10 +107,19 @@ class OneOf:
 
 
 @dataclass(frozen=True)
-class Address:
+class Address(Column):
     """IPv4 addresses, as numbers of 32 bits."""
 
-    def read(self, fields: Fields) -> Integers:
+    def one(self, text: bytes) -> int:
+        parts = text.split(b".")
+        if len(parts) != 4 or not len("0.0.0.0") <= len(text) <= len("255.255.255.255") or not b"".join(parts).isdigit():
+            raise Bad
+        octets = [int(part or b"0") for part in parts]
+        if max(octets) > 255:
+            raise Bad
+        return int.from_bytes(octets, "big")
+
+    def at_once(self, fields: Fields) -> Integers:
         length = fields.length
         if (length < len("0.0.0.0")).any() or (length > len("255.255.255.255")).any():
             raise Bad
@@ -105,14 +139,10 @@ class Address:
 
 def numbered(*keys: Integers) -> tuple[Integers, Integers]:
     """The number of each row's combination of keys, in order of first sight, and the first row of each."""
-    order = np.lexsort(keys)
-    is_new = np.zeros(len(order), bool)
-    for key in keys:
-        is_new[1:] |= np.diff(key[order]) != 0
-    is_new[:1] = True
-    firsts = order[is_new]
-    rank = np.empty(len(firsts), np.int64)
-    rank[np.argsort(firsts, kind="stable")] = np.arange(len(firsts))
-    numbers = np.empty(len(order), np.int64)
-    numbers[order] = rank[np.cumsum(is_new) - 1] if len(order) else 0
-    return numbers, np.sort(firsts)
+    numbers, firsts, table = list[int](), list[int](), dict[tuple[int, ...], int]()
+    for row, key in enumerate(zip(*(key.tolist() for key in keys))):
+        number = table.setdefault(key, len(firsts))
+        if number == len(firsts):
+            firsts.append(row)
+        numbers.append(number)
+    return np.array(numbers, np.int64), np.array(firsts, np.int64)

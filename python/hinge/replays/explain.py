@@ -3,10 +3,11 @@
 from __future__ import annotations
 
 from dataclasses import dataclass
+from itertools import accumulate
 
 from hinge.command import ROWS, Fault
 from hinge.configurations.configured import Pipe, Queue
-from hinge.lazy import Integers, np
+from hinge.lazy import Integers, few as np
 from hinge.loss import LOST as LOST_WORD
 from hinge.replays.link_order import LinkOrder, WaitedFor
 from hinge.replays.links import BITS_NS, Parts
@@ -29,7 +30,7 @@ class Explainer:
         self.replay = self.parts.replay
         self.packets = self.replay.packets
         self.order = LinkOrder(self.parts)
-        if (self.replay.at != np.maximum.accumulate(self.packets.moment)).any():
+        if (self.replay.at != np.array(list(accumulate(self.packets.moment.tolist(), max)))).any():
             raise Fault(
                 f"{self.replay.path}: its rows didn't come in their order, as those of several callers: no " f"queue can be told",
                 ROWS,

@@ -5,10 +5,8 @@ from __future__ import annotations
 from dataclasses import dataclass
 from typing import Iterator, Optional
 
-from hinge.lazy import Integers, np
+from hinge.lazy import Integers, few as np
 from hinge.replays.replay import Replay
-
-WAYS = ("tuple", "flow", "target")
 
 
 @dataclass(frozen=True)

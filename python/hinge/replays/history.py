@@ -3,17 +3,20 @@
 from __future__ import annotations
 
 from dataclasses import dataclass
+from typing import Optional, Sequence
 
-from hinge.captures.addresses import read_addresses
+from hinge.border.files import untrusted
+from hinge.captures.addresses import addresses_file, read_addresses
 from hinge.checks.lines import judged_lines
-from hinge.command import ROWS, Fault, working
-from hinge.lazy import Integers, np
+from hinge.command import ROWS, USAGE, Fault, say, working
+from hinge.lazy import Integers, few as np
+from hinge.outputs import refuse_inputs
 from hinge.replays.columns import Address, Bad, Fields, Number, OneOf, numbered
 from hinge.replays.links import Configuration
-from hinge.replays.record_lines import Records, is_history, read_records
+from hinge.replays.record_lines import Records, is_history, is_history_file, read_records
 from hinge.replays.remarks import lateness_in, seed_in
 from hinge.replays.replay import FULL, HELD, KINDS, LOST, NONE, OUT, Packets, Replay, named_tuples
-from hinge.replays.source import Source
+from hinge.replays.source import Source, of_reports
 
 FATES = {b"r,queued,": HELD, b"r,lost,": LOST, b"r,full,": FULL, b"r,no-target,": NONE}
 MOVING = (*FATES, b"r,advanced,", b"r,delivered,")  # the replies whose second number is the clock
@@ -67,13 +70,11 @@ class Entries:
             raise Bad
 
     @staticmethod
-    def submits_of(records: Records) -> Integers:
+    def submits_of(records: Records) -> list[Integers]:
         """A row for each submit: the number of its kind of target, that of the target, the five-tuple, length and
         word."""
         _, _, _, kind, number, src, dst, *rest, _ = records.fields(13)
-        return np.stack(
-            [OneOf(KINDS).read(kind), one_number(number), Address().read(src), Address().read(dst), *map(one_number, rest)]
-        )
+        return [OneOf(KINDS).read(kind), one_number(number), Address().read(src), Address().read(dst), *map(one_number, rest)]
 
     @staticmethod
     def deliveries_of(records: Records) -> list[Integers]:
@@ -85,18 +86,19 @@ class Entries:
         """The places of the submits."""
         return np.flatnonzero(self.records.starts(b"c,") & self.records.starts(b"submit,", 2))
 
-    def replies(self, places: Integers) -> Integers:
+    def replies(self, places: Integers) -> list[Integers]:
         """Event, moment, flow and packet of the replies to these submits, -1 for what a reply doesn't have."""
         replies = self.records.of(places + 1)
-        column = np.full((4, len(places)), -1, np.int64)
+        event, *columns = [np.full(len(places), -1, np.int64) for _ in range(4)]
         for begin, fate in FATES.items():
             choice = np.flatnonzero(replies.starts(begin))
             numbers = [one_number(field) for field in replies.of(choice).fields(REPLY_FIELDS[fate])[2:]]
-            column[0, choice] = fate
-            column[1 : 1 + len(numbers), choice] = numbers
-        if (column[0] < 0).any():
+            event[choice] = fate
+            for column, number in zip(columns, numbers):
+                column[choice] = number
+        if (event < 0).any():
             raise Bad
-        return column
+        return [event, *columns]
 
     def clock_before(self, places: Integers) -> list[int]:
         """The clock's moment before each of these places, in ns."""
@@ -122,16 +124,17 @@ class Entries:
         return list(zip(orders.tolist(), self.clock_before(orders), texts))
 
 
-def with_fates(entries: Entries, replies: Integers) -> Integers:
+def with_fates(entries: Entries, replies: list[Integers]) -> list[Integers]:
     """Event, flow, packet, start and due of each submit, by the replies and the deliveries."""
     event, _, flow, packet = replies
+    event = event.copy()
     start, due = np.full(len(event), -1, np.int64), np.full(len(event), -1, np.int64)
     deliveries = entries.records.of(entries.records.starts(b"d,"))
     packets_out, began, ends = entries.deliveries_of(deliveries)
     order = np.argsort(packet, kind="stable")
     places = np.searchsorted(packet[order], packets_out)
     rows = order[np.minimum(places, max(len(order) - 1, 0))] if len(order) else places
-    unknown = (packet[rows] != packets_out) if len(order) else np.ones(len(packets_out), bool)
+    unknown = (packet[rows] != packets_out) if len(order) else np.full(len(packets_out), True)
     if unknown.any():
         raise Fault(
             f"{entries.path} line {deliveries.line[int(np.argmax(unknown))]}: no packet "
@@ -139,10 +142,10 @@ def with_fates(entries: Entries, replies: Integers) -> Integers:
             ROWS,
         )
     event[rows], start[rows], due[rows] = OUT, began, ends
-    return np.stack([event, flow, packet, start, due])
+    return [event, flow, packet, start, due]
 
 
-def packets_of(path: str, rows: Integers, moments: Integers, addresses: dict[str, str]) -> Packets:
+def packets_of(path: str, rows: list[Integers], moments: Integers, addresses: dict[str, str]) -> Packets:
     """The submits as a packet file has them, with these IPv6 addresses and those of a file beside it."""
     kind, number, *five, length, word = rows
     target, first_of_target = numbered(kind, number)
@@ -178,7 +181,7 @@ def read_history(path: str) -> Source:
         places = entries.submits()
         try:
             rows, replies = entries.submits_of(entries.records.of(places)), entries.replies(places)
-            fates = with_fates(entries, replies.copy())
+            fates = with_fates(entries, replies)
             changes = entries.changes()
         except Bad:
             every = entries.records
@@ -193,3 +196,37 @@ def read_history(path: str) -> Source:
     data = file.records.data.tobytes()
     report = [(moment, text) for _, moment, text in changes]
     return Source(replay, (path,), report, configuration, True, cut, seed_in(data), lateness_in(data))
+
+
+def read_sources(
+    files: list[str],
+    config: Optional[str],
+    outputs: Sequence[Optional[str]] = (),
+    most: int = 1,
+    inputs: Sequence[Optional[str]] = (),
+) -> list[Source]:
+    """What the command line names: a history, or a packet file and at most so many reports. None of the outputs is one
+    of them, or of some more inputs."""
+    refuse_inputs(outputs, (*files, addresses_file(files[0]), config, *inputs))
+    first, *reports = files
+    if len(reports) > most:
+        raise Fault(
+            f"a packet file has {'one report' if most == 1 else f'{most} reports'} here, and these are " f"{len(reports)}", USAGE
+        )
+    if reports and is_history_file(first):
+        raise Fault(f"{first} is a history, and comes alone; two are compared by hinge look --diff", USAGE)
+    if reports:
+        with untrusted(first):
+            return of_reports(first, reports, config)
+    if config:
+        raise Fault(
+            f"--config is of a packet file with its report, and {first} is alone: a history has its " f"configuration", USAGE
+        )
+    with untrusted(first):
+        source = read_history(first)
+    if source.cut is not None:
+        say(
+            f"{first} has no end behind line {source.cut}: the session was killed, or still goes on; it is looked at "
+            f"up to there"
+        )
+    return [source]

@@ -4,7 +4,8 @@ from __future__ import annotations
 
 from dataclasses import dataclass, field
 
-from hinge.lazy import Integers, np
+from hinge.lazy import Integers, few as np
+from hinge.replays.columns import GREATEST
 from hinge.replays.links import Parts
 from hinge.replays.replay import HELD
 
@@ -64,7 +65,7 @@ class LinkOrder:
         if flow not in self.flows:
             replay = self.parts.replay
             places = np.flatnonzero((replay.is_out | (replay.event == HELD)) & (replay.flow == flow))
-            starts = np.where(replay.event[places] == HELD, np.iinfo(np.int64).max, replay.start[places])
+            starts = np.where(replay.event[places] == HELD, GREATEST, replay.start[places])
             self.flows[flow] = Sequence(places, starts)
         return self.flows[flow]
 

@@ -13,7 +13,7 @@ from typing import Callable, Optional
 from hinge.border.files import read_bytes, untrusted
 from hinge.command import CONFIGURATION, ROWS, Fault
 from hinge.configurations.configured import InForce, LineFault, Pipe, Queue, spelled_lines
-from hinge.lazy import Integers, Mask, np
+from hinge.lazy import Integers, Mask, few as np
 from hinge.replays.replay import NONE, Packets, Replay
 
 NS_PER_MS, BITS_NS = 10**6, 8 * 10**9

@@ -6,7 +6,7 @@ from dataclasses import dataclass
 from typing import NamedTuple, Union
 
 from hinge.border.files import read_front, untrusted
-from hinge.lazy import Integers, Mask, Octets, np
+from hinge.lazy import Integers, Mask, Octets, few as np
 from hinge.replays.columns import Bad, Fields
 from hinge.replays.remarks import addresses_in
 from hinge.replays.tables import COMMA, LINE_FEED, plain
@@ -77,7 +77,7 @@ def read_records(path: str) -> HistoryFile:
         data = plain(path, keeps_lines=True)
     array = np.frombuffer(data, np.uint8)
     end = np.flatnonzero(array == LINE_FEED)
-    begin = np.concatenate((np.zeros(1, np.int64), end[:-1] + 1)) if len(end) else end
+    begin = np.append(0, end[:-1] + 1) if len(end) else end
     first = array[np.minimum(begin, max(len(array) - 1, 0))] if len(array) else begin
     is_record = (begin < end) & (first != REMARK)
     line = np.arange(1, len(end) + 1)

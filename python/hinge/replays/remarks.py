@@ -8,7 +8,7 @@ from typing import Iterator, Optional
 
 from hinge.arguments import is_number
 from hinge.captures.addresses import address_of_six
-from hinge.lazy import Reals, np
+from hinge.lazy import Reals, few as np
 
 NS_PER_S, NS_PER_MS = 10**9, 10**6
 KINDS = ("late", "unread")
@@ -47,7 +47,7 @@ def lateness_in(data: bytes) -> Lateness:
     rows = [row for row in rows if len(row) == len(rows[0]) and len(row) % 2]
     if not rows:
         return {}
-    moments, *columns = np.array(rows, np.int64).T
+    moments, *columns = (np.array(column, np.int64) for column in zip(*rows))
     return {
         way_name(number, len(columns) // 2): {
             kind: (moments / NS_PER_S, columns[2 * number + place] / NS_PER_MS) for place, kind in enumerate(KINDS)

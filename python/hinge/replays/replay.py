@@ -11,14 +11,22 @@ from typing import Iterable
 
 from hinge.captures.addresses import read_addresses
 from hinge.command import ROWS, Fault
-from hinge.lazy import Integers, Mask, np
-from hinge.replays.columns import Address, Number, OneOf, numbered
+from hinge.lazy import Integers, Mask, few as np
+from hinge.replays.columns import Address, Column, Number, OneOf, numbered
 from hinge.replays.tables import read_table
 from hinge.replays.units import socket_address
 
 EVENTS = NONE, FULL, LOST, HELD, OUT = range(5)
 KINDS = ("pipe", "queue")
 EVENT_NAMES = ("none", "full", "lost", "held", "out")
+PACKET_COLUMNS: dict[str, Column] = {
+    **{"moment": Number(), "target": OneOf(KINDS), "number": Number(), "src": Address(), "dst": Address()},
+    **{name: Number() for name in ("proto", "sport", "dport", "len", "word")},
+}
+REPORT_COLUMNS: dict[str, Column] = {
+    **{"event": OneOf(EVENT_NAMES), "row": Number(), "flow": Number(True), "packet": Number(True), "at": Number()},
+    **{"start": Number(True), "due": Number(True)},
+}
 PROTOCOLS = {1: "icmp", 6: "tcp", 17: "udp", 58: "icmpv6", 132: "sctp"}
 
 
@@ -88,21 +96,7 @@ def named_tuples(rows: Iterable[tuple[int, ...]], addresses: dict[str, str]) -> 
 
 
 def read_packets(path: str) -> Packets:
-    table = read_table(
-        path,
-        {
-            "moment": Number(),
-            "target": OneOf(KINDS),
-            "number": Number(),
-            "src": Address(),
-            "dst": Address(),
-            "proto": Number(),
-            "sport": Number(),
-            "dport": Number(),
-            "len": Number(),
-            "word": Number(),
-        },
-    )
+    table = read_table(path, PACKET_COLUMNS)
     target, first_of_target = numbered(table["target"], table["number"])
     five = [table[name] for name in ("src", "dst", "proto", "sport", "dport")]
     five_tuple, first_of_tuple = numbered(*five)
@@ -114,23 +108,12 @@ def read_packets(path: str) -> Packets:
 
 def read_report(path: str, packets: Packets) -> Replay:
     """The report of a replay of these packets: each row has one line."""
-    columns = read_table(
-        path,
-        {
-            "event": OneOf(EVENT_NAMES),
-            "row": Number(),
-            "flow": Number(True),
-            "packet": Number(True),
-            "at": Number(),
-            "start": Number(True),
-            "due": Number(True),
-        },
-    )
+    columns = read_table(path, REPORT_COLUMNS)
     place = columns.pop("row") - 1
     count = np.bincount(place, minlength=len(packets)) if len(place) and place.min() >= 0 else np.zeros(len(packets), int)
     if len(place) != len(packets) or len(count) != len(packets) or (count != 1).any():
         raise Fault(f"{path}: its {len(place)} lines aren't those of the {len(packets)} rows of {packets.path}", ROWS)
-    union = {name: np.empty_like(column) for name, column in columns.items()}
+    union = {name: np.empty(len(column), np.int64) for name, column in columns.items()}
     for name, column in columns.items():
         union[name][place] = column
     if (union["at"] < packets.moment).any():

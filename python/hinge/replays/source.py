@@ -8,7 +8,7 @@ from functools import cached_property
 from typing import Iterator, Optional
 
 from hinge.command import ROWS, USAGE, Fault
-from hinge.lazy import np
+from hinge.lazy import few as np
 from hinge.replays.bounds import Bounded, bounds
 from hinge.replays.links import Configuration, Parts, read_configuration
 from hinge.replays.remarks import Lateness, late_remark

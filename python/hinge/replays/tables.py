@@ -9,7 +9,7 @@ from pathlib import Path
 
 from hinge.border.files import read_bytes, untrusted
 from hinge.command import ROWS, Fault, working
-from hinge.lazy import Integers, Octets, np
+from hinge.lazy import Integers, Octets, few as np
 from hinge.replays.columns import Bad, Column, Fields
 
 csv.field_size_limit(sys.maxsize)  # a field may be as long as its file
@@ -39,11 +39,10 @@ def fields_of(data: Octets, count: int) -> list[Fields]:
     ends = np.flatnonzero((data == COMMA) | (data == LINE_FEED))
     if len(ends) % count:
         raise Bad
-    begins = np.append(0, ends[:-1] + 1) if len(ends) else ends
-    ends, begins = ends.reshape(-1, count), begins.reshape(-1, count)
-    if (data[ends[:, -1]] != LINE_FEED).any() or (data[ends[:, :-1]] != COMMA).any():
+    begins, marks = np.append(0, ends[:-1] + 1) if len(ends) else ends, data[ends]
+    if any((marks[place::count] != (COMMA if place < count - 1 else LINE_FEED)).any() for place in range(count)):
         raise Bad
-    return [Fields(data, begins[:, place], ends[:, place] - begins[:, place]) for place in range(count)]
+    return [Fields(data, begins[place::count], (ends - begins)[place::count]) for place in range(count)]
 
 
 def fault_of(record: list[str], columns: dict[str, Column]) -> str | None:

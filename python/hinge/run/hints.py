@@ -11,23 +11,7 @@ from typing import Iterator, Optional, Sequence
 from hinge.run.settings import RunOptions
 from hingetulip_words.link import corrected
 
-CLIENTS = {
-    "curl",
-    "dig",
-    "host",
-    "iperf",
-    "iperf3",
-    "mtr",
-    "nc",
-    "ncat",
-    "nslookup",
-    "ping",
-    "socat",
-    "ssh",
-    "telnet",
-    "traceroute",
-    "wget",
-}
+CLIENTS = set("curl dig host iperf iperf3 mtr nc ncat nslookup ping socat ssh telnet traceroute wget".split())
 URL = re.compile(r"[a-z][a-z0-9+.-]*://(?:[^@/]*@)?(\[[^]]*\]|[^/:]*).*", re.IGNORECASE)
 HOST = re.compile(r"(?=.*[.:])[\w.:-]+\.?", re.ASCII)
 OWN = re.compile(r"(server|client|localhost|127\..*|::1|10\.8\..*|fd08:.*)", re.IGNORECASE)

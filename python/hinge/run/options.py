@@ -61,10 +61,8 @@ ELSEWHERE = {
     **dict.fromkeys(("--rate", "--bandwidth", "--bw", "--delay", "--latency", "--both", "--speed"), "{}"),
     "--jitter": "jitter {}",
     "--plr": "plr {}",
-    "--packet-loss": "loss {}",
-    "--drop": "loss {}",
-    "--limit": "queue {}",
-    "--queue": "queue {}",
+    **dict.fromkeys(("--packet-loss", "--drop"), "loss {}"),
+    **dict.fromkeys(("--limit", "--queue"), "queue {}"),
     "--target-bw": "{}Kbit/s",
     "--duplicate": "duplicate {}",
 }
@@ -74,26 +72,19 @@ UNITS = {
 }
 # Options that people try, with what to write, and whether a value comes with them.
 OTHERS = {
-    "--uplink": ("--up '{}'", True),
-    "--upload": ("--up '{}'", True),
-    "--downlink": ("--down '{}'", True),
-    "--download": ("--down '{}'", True),
+    **dict.fromkeys(("--uplink", "--upload"), ("--up '{}'", True)),
+    **dict.fromkeys(("--downlink", "--download"), ("--down '{}'", True)),
     "--rtt": ("--link with half of {} each way", True),
-    "--profile": ("--preset '{}'", True),
-    "--conditions": ("--preset '{}'", True),
+    **dict.fromkeys(("--profile", "--conditions"), ("--preset '{}'", True)),
     "--uplink-queue": ("--up '10Mbit/s queue 100'", True),
     "--downlink-queue": ("--down '10Mbit/s queue 100'", True),
     "--pcap": ("--transcript FILE, which `hinge look` draws", True),
-    "--log": ("--transcript FILE", True),
-    "--output": ("--transcript FILE", True),
+    **dict.fromkeys(("--log", "--output"), ("--transcript FILE", True)),
     "--report": ("--json FILE", True),
     "--timeout": ("timeout {} before COMMAND, or --real-limit {} of simulated time", True),
-    "--meter-all": ("--watch", False),
-    "--verbose": ("--watch", False),
-    "-v": ("--watch", False),
+    **dict.fromkeys(("--meter-all", "--verbose", "-v"), ("--watch", False)),
     "--simulate": ("--simulated", False),
-    "--internet": ("--outside", False),
-    "--network": ("--outside", False),
+    **dict.fromkeys(("--internet", "--network"), ("--outside", False)),
 }
 
 

@@ -10,22 +10,8 @@ import struct
 BINS = 480  # of times in us: 16 for each power of two; page.h has the same
 HEAD = ("state", "moment", "wakes", "turns", "underway", "realtime", "parts")
 COUNTS = (
-    "came",
-    "came_bytes",
-    "sent",
-    "sent_bytes",
-    "lost",
-    "full",
-    "no_target",
-    "refused",
-    "not_ip",
-    "turned_away",
-    "dropped",
-    "held",
-    "discarded",
-    "stayed",
-    "late_most",
-    "unread_most",
+    *("came", "came_bytes", "sent", "sent_bytes", "lost", "full", "no_target", "refused"),
+    *("not_ip", "turned_away", "dropped", "held", "discarded", "stayed", "late_most", "unread_most"),
 )
 KINDS = 4  # of bins: packets late and unread, and the time in which some were
 WAY = len(COUNTS) + KINDS * BINS

@@ -18,23 +18,10 @@ OWN = ("/dev", "/proc", "/run", "/sys")  # folders that the machine has of its o
 # What differs by how a shell starts a command.
 OF_SHELLS = {"_", "OLDPWD", "SHLVL"}
 # What names sockets and terminals of the system, which aren't in the machine, or differs from login to login.
-OF_SESSIONS = {
-    "DBUS_SESSION_BUS_ADDRESS",
-    "DISPLAY",
-    "GPG_TTY",
-    "SSH_AGENT_PID",
-    "SSH_AUTH_SOCK",
-    "SSH_CLIENT",
-    "SSH_CONNECTION",
-    "SSH_TTY",
-    "STY",
-    "TMUX",
-    "TMUX_PANE",
-    "WAYLAND_DISPLAY",
-    "WINDOWID",
-    "XDG_RUNTIME_DIR",
-    "XDG_SESSION_ID",
-}
+OF_SESSIONS = set(
+    """DBUS_SESSION_BUS_ADDRESS DISPLAY GPG_TTY SSH_AGENT_PID SSH_AUTH_SOCK SSH_CLIENT SSH_CONNECTION SSH_TTY STY TMUX TMUX_PANE
+    WAYLAND_DISPLAY WINDOWID XDG_RUNTIME_DIR XDG_SESSION_ID""".split()
+)
 CLEAN = {"HOME", "LANG", "LOGNAME", "USER"}  # of the user's own, where few are wanted
 PATH = "/usr/local/sbin:/usr/local/bin:/usr/sbin:/usr/bin:/sbin:/bin"  # and this one
 BEGIN = "import sys; sys.path.insert(0, sys.argv.pop(1)); from hinge.simulated.in_machine import main; main()"

@@ -51,24 +51,12 @@ def kernel_words(kernel: Kernel, settings: Settings) -> list[str]:
     return [
         str(kernel.linux),
         f"mem={settings.memory >> 20}M",
-        "uml_dir=.",
-        "umid=machine",
-        "root=/dev/root",
-        "rootfstype=hostfs",
-        "rootflags=/",
-        "rw",
-        "init=/proc/self/cwd/init",
+        *"uml_dir=. umid=machine root=/dev/root rootfstype=hostfs rootflags=/ rw init=/proc/self/cwd/init".split(),
         "time-travel=inf-cpu",
         f"time-travel-start={(settings.at - BOOTED) * 10**9}",
         f"hinge_seed={settings.seed}",
         f"hinge_cpu={settings.cpu}",
-        "norandmaps",
-        "null_blk.nr_devices=0",
-        "con=null",
-        "ssl=null",
-        "stderr=1",
-        "noreboot",
-        "panic=-1",
+        *"norandmaps null_blk.nr_devices=0 con=null ssl=null stderr=1 noreboot panic=-1".split(),
     ]
 
 

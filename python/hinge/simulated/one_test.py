@@ -64,14 +64,7 @@ def ran(item: pytest.Item, words: list[str], seed: int, folder: Path) -> Ran:
     config = ["-c", str(item.config.inipath)] if item.config.inipath else []
     plugins = [word for name in item.config.option.plugins for word in ("-p", name)]
     inner = [
-        sys.executable,
-        "-m",
-        "pytest",
-        "-q",
-        "-p",
-        "no:cacheprovider",
-        *plugins,
-        *config,
+        *(sys.executable, "-m", "pytest", "-q", "-p", "no:cacheprovider", *plugins, *config),
         f"--basetemp={KEPT}/tmp",
         f"--rootdir={item.config.rootpath}",
         f"--link-seed={seed}",

@@ -6,6 +6,7 @@ import csv
 import json
 import random
 import subprocess
+import sys
 import unittest
 
 from hinge.pictures.drawn import series_of
@@ -46,6 +47,16 @@ class Look(unittest.TestCase):
         self.assertEqual((folder() / "table.csv").read_text(), run("look", packets, report, "--config", config, "--csv").stdout)
         one = run("look", packets, report).stdout
         self.assertEqual(run("look", packets, report, report).stdout, f"{report}\n{one}\n{report}\n{one}")
+
+    def test_files_are_written_before_a_reader_goes_away(self) -> None:
+        config, packets, report = mixed("dsl")
+        words = [sys.executable, "-m", "hinge", "look", packets, report, "--config", config, "-o", "gone.svg", "-o", "gone.csv"]
+        process = subprocess.Popen(words, cwd=folder(), stdout=subprocess.PIPE)
+        assert process.stdout
+        process.stdout.close()
+        self.assertEqual(process.wait(), 0)
+        self.assertIn("</svg>", (folder() / "gone.svg").read_text())
+        self.assertEqual((folder() / "gone.csv").read_text(), run("look", packets, report, "--config", config, "--csv").stdout)
 
     def test_a_history_and_a_report_with_its_configuration_have_one_picture(self) -> None:
         config, packets, report = mixed("dsl")

@@ -1,0 +1,179 @@
+"""A first look, by Python alone: a download over an emulated link in simulated time, as a picture of text, and why a packet was late."""
+
+from __future__ import annotations
+
+import math
+import shutil
+import time
+from collections import deque
+from pathlib import Path
+from typing import Iterator, Optional, Sequence
+
+from hinge.border.scratch import scratch
+from hinge.border.terminal import blocks, show
+from hinge.command import filled, parser
+from hinge.outputs import written
+from hinge.replays.explain import Explainer
+from hinge.replays.history import read_history
+from hinge.replays.replay import FULL, LOST, OUT, Replay
+from hingetulip_words.link import in_full, read_link
+from hingetulip_words.presets import preset
+
+WHAT = """\
+Downloads 3 MB over the link of a preset, by a simple TCP of ours, in simulated time: no root, no other package and no other
+program. Draws what arrived, how many packets waited, and where some were dropped, and tells of one packet why it took so long."""
+UP, DOWN = 1, 2  # pipes
+SEGMENTS, SEGMENT, ACK = 2000, 1500, 52  # how many, and bytes
+DUPLICATES = 3  # packets that came later, from which a packet counts as lost
+TIMEOUT, SECOND = 10**9, 10**9  # ns
+STEPS, HEIGHT = 64, 4
+ENDS = (0x0A080001, 40000), (0x0A080002, 80)  # the client's and the server's address and port
+
+
+class Sender:
+    """The server's TCP: a window that doubles in each round trip up to a threshold, grows by one from there on, and is halved by a
+    loss, once for all packets under way."""
+
+    def __init__(self) -> None:
+        self.window, self.threshold, self.sent, self.halved_till = 10.0, float("inf"), 0, 0
+        self.waiting = deque(range(SEGMENTS))
+        self.under_way: dict[int, int] = {}  # segments, and their places in the order of sending
+        self.newest = -1
+
+    def next(self) -> Optional[int]:
+        """The segment to send now, if the window has room."""
+        if not self.waiting or len(self.under_way) >= self.window:
+            return None
+        segment = self.waiting.popleft()
+        self.under_way[segment], self.sent = self.sent, self.sent + 1
+        return segment
+
+    def acknowledged(self, segments: Sequence[int]) -> None:
+        """All segments that have come until then."""
+        for place in (self.under_way.pop(segment) for segment in segments if segment in self.under_way):
+            self.window += 1 if self.window < self.threshold else 1 / self.window
+            self.newest = max(self.newest, place)
+        self.lose([segment for segment, place in self.under_way.items() if place < self.newest - DUPLICATES])
+
+    def lose(self, segments: Sequence[int]) -> None:
+        """These are sent again, first of all."""
+        if segments and max(map(self.under_way.__getitem__, segments)) >= self.halved_till:
+            self.threshold = self.window = max(self.window / 2, 2.0)
+            self.halved_till = self.sent
+        for segment in reversed(segments):
+            del self.under_way[segment]
+            self.waiting.appendleft(segment)
+
+
+class Download:
+    """All segments go down, and an acknowledgement comes up for each, with how many had come until then."""
+
+    def __init__(self, path: Path, links: tuple[str, str]) -> None:
+        from hingetulip.recorded import RecordedShaper  # the library, without which there is still a help
+
+        self.sender, self.came, self.moment = Sender(), list[int](), 0
+        self.carried: dict[int, tuple[int, int]] = {}  # the pipe and the content, by the number of the packet
+        self.shaper = RecordedShaper(path, seed=1)
+        for number, words in zip((UP, DOWN), links):
+            self.shaper.configure(f"pipe {number} config {in_full(read_link(words))}")
+
+    def submit(self, pipe: int, length: int, content: int) -> None:
+        (src, sport), (dst, dport) = ENDS if pipe == UP else ENDS[::-1]
+        fate = self.shaper.submit(self.moment, length, pipe=pipe, proto=6, src=src, dst=dst, sport=sport, dport=dport)
+        if fate.packet is not None:
+            self.carried[fate.packet] = pipe, content
+
+    def came_out(self, pipe: int, content: int) -> None:
+        if pipe == DOWN:
+            self.came.append(content)
+            self.submit(UP, ACK, len(self.came))
+        else:
+            self.sender.acknowledged(self.came[:content])
+
+    def run(self) -> None:
+        """Goes from each moment at which something happens on a link to the next. Where nothing happens any more, a timeout passes."""
+        while self.sender.waiting or self.sender.under_way:
+            while (segment := self.sender.next()) is not None:
+                self.submit(DOWN, SEGMENT, segment)
+            wake = self.shaper.wake()
+            if wake is None:
+                self.sender.lose(list(self.sender.under_way))
+                self.moment += TIMEOUT
+                continue
+            self.moment = wake
+            for delivery in self.shaper.collect(wake):
+                self.came_out(*self.carried.pop(delivery.packet))
+        self.shaper.close()
+
+
+def drawn(name: str, values: list[float]) -> Iterator[str]:
+    """A panel of text: its name, and a column for each step."""
+    letters, most = f" {blocks()}", max(values)
+    yield f"{name}, at most {most:,.4g}:"
+    for low in range(HEIGHT - 1, -1, -1):
+        parts = (min(max(value / most * HEIGHT - low, 0), 1) for value in values)
+        yield f"  |{''.join(letters[math.ceil(part * (len(letters) - 1))] for part in parts)}".rstrip()
+
+
+def picture(replay: Replay, span: int) -> Iterator[str]:
+    """What came down, what waited for it, and the drops."""
+    step = span // STEPS + 1
+    rates, queues, drops, waiting = [0.0] * STEPS, [0.0] * STEPS, [" "] * STEPS, 0
+    columns = (replay.event, replay.packets.length, replay.at, replay.start, replay.due)
+    rows = [row for row in zip(*(column.tolist() for column in columns)) if row[1] == SEGMENT]
+    for event, length, at, _, due in rows:
+        if event == OUT:
+            rates[due // step] += length * 8000 / step
+        else:
+            drops[at // step] = "x"
+    changes = [(at, 1) for event, _, at, _, _ in rows if event == OUT] + [
+        (start, -1) for event, _, _, start, _ in rows if event == OUT
+    ]
+    for moment, change in sorted(changes):
+        waiting += change
+        queues[moment // step] = max(queues[moment // step], waiting)
+    yield from drawn("Mbit/s that arrive", rates)
+    yield from drawn("packets that wait for the link", queues)
+    yield f"drops: {replay.count(FULL):,} by a full queue, {replay.count(LOST):,} by the loss rate"
+    yield f"  |{''.join(drops)}".rstrip()
+    yield f"  0 s{f'{span / SECOND:.2f} s':>{STEPS - 2}}"
+
+
+def longest(replay: Replay) -> int:
+    """The row of the segment that waited longest."""
+    waits = [start - at if event == OUT else -1 for event, start, at in zip(replay.event, replay.start, replay.at)]
+    return waits.index(max(waits)) + 1
+
+
+def told(path: Path, name: str, links: tuple[str, str], kept: Optional[str]) -> Iterator[str]:
+    began = time.monotonic()
+    transfer = Download(path, links)
+    transfer.run()
+    replay = (source := read_history(str(path))).replay
+    row = longest(replay)
+    yield f"3 MB come down over the preset {name}: {links[1]}.\nAcknowledgements go up over {links[0]}.\n"
+    yield from picture(replay, transfer.moment)
+    yield "\n" + filled(f"Why did packet {row} take so long? {Explainer(source.explained()).paragraph(row)}")
+    yield f"\nThe answer took {time.monotonic() - began:.1f} s. What next:"
+    more = f"hinge look {kept} -o try.png" if kept else "hinge try --transcript try.history"
+    yield f"  {more:<44}  {'draws it' if kept else 'keeps what hinge look and hinge why read'}"
+    yield f"  {f'hinge run --preset {name} -- ping -c 3 server':<44}  puts any program behind that link"
+    yield f"  {'hinge doctor':<44}  says what works on this machine"
+
+
+def main() -> None:
+    line = parser(WHAT, "hinge try\n  hinge try --preset 3g --transcript try.history")
+    line.add_argument("--preset", metavar="NAME", default="lte", help="the link (lte); hinge run --list-presets has all")
+    line.add_argument("--transcript", metavar="FILE", help="keep the history, for hinge look and hinge why")
+    arguments = line.parse_args()
+    try:
+        link = preset(arguments.preset)
+    except ValueError as wrong:
+        line.error(str(wrong))
+    with scratch() as place:
+        path = place / "history"
+        for text in told(path, arguments.preset, (link.up, link.down), arguments.transcript):
+            show(text)
+        if arguments.transcript:
+            with written(arguments.transcript) as target:
+                shutil.copyfile(path, target)

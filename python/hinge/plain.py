@@ -1,0 +1,179 @@
+"""The few functions of numpy that tables and paragraphs call, over lists of Python, for a machine that lacks numpy."""
+
+from __future__ import annotations
+
+import operator
+from bisect import bisect_left, bisect_right
+from itertools import accumulate, chain, compress, repeat
+from typing import Any, Callable, Iterable, Iterator, Optional, Sequence
+
+int64, uint8 = int, int
+
+
+class Array:
+    """A row of numbers, or of truth values, which choose among the places of another one."""
+
+    def __init__(self, items: Iterable[Any]) -> None:
+        self.items = list(items)
+
+    def __len__(self) -> int:
+        return len(self.items)
+
+    def __iter__(self) -> Iterator[Any]:
+        return iter(self.items)
+
+    def __getitem__(self, key: Any) -> Any:
+        if isinstance(key, slice):
+            return Array(self.items[key])
+        if not isinstance(key, Array):
+            return self.items[key]
+        return Array(compress(self.items, key)) if is_mask(key) else Array(map(self.items.__getitem__, key))
+
+    def __setitem__(self, key: Any, value: Any) -> None:
+        if not isinstance(key, Array):
+            self.items[key] = value
+            return
+        for place, one in zip(flatnonzero(key) if is_mask(key) else key, each(value)):
+            self.items[place] = one
+
+    def __neg__(self) -> Array:
+        return Array(map(operator.neg, self))
+
+    def __invert__(self) -> Array:
+        return Array(map(operator.not_, self))
+
+    def any(self) -> bool:
+        return any(self.items)
+
+    def all(self) -> bool:
+        return all(self.items)
+
+    def sum(self) -> Any:
+        return sum(self.items)
+
+    def max(self, initial: Any = None) -> Any:
+        return max(self.items) if initial is None else max(self.items, default=initial)
+
+    def min(self) -> Any:
+        return min(self.items)
+
+    def tolist(self) -> list[Any]:
+        return list(self.items)
+
+    def copy(self) -> Array:
+        return Array(self.items)
+
+    def tobytes(self) -> bytes:
+        return bytes(self.items)
+
+
+def is_mask(row: Array) -> bool:
+    return len(row) > 0 and isinstance(row.items[0], bool)
+
+
+def each(value: Any) -> Iterable[Any]:
+    """The items of a row; those of a number are that number for ever."""
+    return value if isinstance(value, (Array, list)) else repeat(value)
+
+
+def by_places(function: Callable[[Any, Any], Any], swaps: bool = False) -> Callable[[Array, Any], Array]:
+    def method(self: Array, other: Any) -> Array:
+        return Array(map(function, each(other), self) if swaps else map(function, self, each(other)))
+
+    return method
+
+
+for name in ("add", "sub", "mul", "floordiv", "truediv", "and", "or", "rshift", "lshift", "eq", "ne", "lt", "le", "gt", "ge"):
+    function = getattr(operator, f"__{name}__")
+    setattr(Array, f"__{name}__", by_places(function))
+    if name in ("add", "sub", "mul"):
+        setattr(Array, f"__r{name}__", by_places(function, swaps=True))
+
+
+def array(items: Iterable[Any], dtype: object = None) -> Array:
+    return Array(items)
+
+
+def frombuffer(data: bytes, dtype: object = None) -> Array:
+    return Array(data)
+
+
+def full(count: int, value: Any, dtype: object = None) -> Array:
+    return Array([value] * count)
+
+
+def zeros(count: int, dtype: object = None) -> Array:
+    return full(count, False if dtype is bool else 0)
+
+
+empty = zeros
+
+
+def arange(*bounds: int) -> Array:
+    return Array(range(*bounds))
+
+
+def append(*rows: Any) -> Array:
+    return Array(chain.from_iterable(row if isinstance(row, Array) else [row] for row in rows))
+
+
+def where(choice: Array, one: Any, other: Any) -> Array:
+    return Array(this if is_so else that for is_so, this, that in zip(choice, each(one), each(other)))
+
+
+def minimum(one: Array, other: Any) -> Array:
+    return Array(map(min, one, each(other)))
+
+
+def maximum(one: Array, other: Any) -> Array:
+    return Array(map(max, one, each(other)))
+
+
+def flatnonzero(row: Array) -> Array:
+    return Array(compress(range(len(row)), row))
+
+
+def count_nonzero(row: Array) -> int:
+    return sum(map(bool, row))
+
+
+def argmax(row: Array) -> int:
+    return row.items.index(max(row))
+
+
+def cumsum(row: Array) -> Array:
+    return Array(accumulate(row))
+
+
+def bincount(row: Array, weights: Optional[Array] = None, minlength: int = 0) -> Array:
+    counts = [0] * max(minlength, max(row, default=-1) + 1)
+    for place, weight in zip(row, each(1 if weights is None else weights)):
+        counts[place] += weight
+    return Array(counts)
+
+
+def sort(row: Array) -> Array:
+    return Array(sorted(row))
+
+
+def argsort(row: Array, kind: str = "stable") -> Array:
+    return Array(sorted(range(len(row)), key=row.items.__getitem__))
+
+
+def lexsort(keys: Sequence[Array]) -> Array:
+    return Array(sorted(range(len(keys[0])), key=lambda place: [key[place] for key in reversed(keys)]))
+
+
+def union1d(one: Array, other: Array) -> Array:
+    return Array(sorted({*one, *other}))
+
+
+def unique(row: Array, return_inverse: bool = False) -> Any:
+    values = sorted(set(row))
+    places = {value: place for place, value in enumerate(values)}
+    return (Array(values), Array(map(places.__getitem__, row))) if return_inverse else Array(values)
+
+
+def searchsorted(row: Array, value: Any, side: str = "left") -> Any:
+    look = bisect_left if side == "left" else bisect_right
+    return Array(look(row.items, one) for one in value) if isinstance(value, Array) else look(row.items, value)
