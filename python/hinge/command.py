@@ -15,7 +15,7 @@ from contextlib import contextmanager
 from types import ModuleType
 from typing import Callable, Iterator, NoReturn, Optional
 
-from hinge.border.terminal import printable, tell, tell_over
+from hinge.border.terminal import printable, silence, tell, tell_over
 
 USAGE, CONFIGURATION, ROWS, FILES, MISSING = 2, 3, 4, 6, 7
 STATUSES = "0 done, 2 command line, 3 configuration, 4 packet file, report or capture, 6 files, 7 a package is missing"
@@ -67,8 +67,7 @@ def open_closed_streams() -> None:
         try:
             os.fstat(number)
         except OSError:
-            os.open(os.devnull, os.O_RDWR)  # the lowest number that is free: this one
-            os.set_inheritable(number, True)
+            silence(number)
         if getattr(sys, name) is None:
             setattr(sys, name, open(number, "w" if number else "r", closefd=False))
 
@@ -87,7 +86,7 @@ def run(main: Callable[[], object]) -> NoReturn:
         say(str(fault))
         sys.exit(fault.status)
     except BrokenPipeError:
-        os.dup2(os.open(os.devnull, os.O_WRONLY), sys.stdout.fileno())
+        silence(sys.stdout.fileno())
     except OSError as error:
         what = error.filename or ("standard output" if error.errno in WRITING else "the system")
         say(f"{what}: {error.strerror}")

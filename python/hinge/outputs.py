@@ -11,6 +11,7 @@ from enum import Enum
 from pathlib import Path
 from typing import Iterable, Iterator, Mapping, Optional, TextIO, Union
 
+from hinge.border.scratch import held
 from hinge.border.terminal import standard_output
 from hinge.command import WRITING, Fault
 
@@ -139,7 +140,7 @@ def give_name(place: Path, path: Path, beside: Path) -> None:
 
 def link(place: Path, name: Path) -> None:
     """Python has the system follow the name behind /proc only where a folder is given as a descriptor."""
-    folder = os.open(name.parent, os.O_RDONLY | os.O_DIRECTORY | os.O_CLOEXEC)
+    folder = held(name.parent)
     try:
         os.link(place, name.name, dst_dir_fd=folder, follow_symlinks=True)
     finally:

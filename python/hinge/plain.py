@@ -13,6 +13,8 @@ int64, uint8 = int, int
 class Array:
     """A row of numbers, or of truth values, which choose among the places of another one."""
 
+    dtype = int
+
     def __init__(self, items: Iterable[Any]) -> None:
         self.items = list(items)
 
@@ -114,7 +116,19 @@ def arange(*bounds: int) -> Array:
 
 
 def append(*rows: Any) -> Array:
-    return Array(chain.from_iterable(row if isinstance(row, Array) else [row] for row in rows))
+    return Array(chain.from_iterable(list(row) if isinstance(row, Array) else [row] for row in rows))
+
+
+def concatenate(rows: Iterable[Array]) -> Array:
+    return Array(chain.from_iterable(rows))
+
+
+def isin(row: Array, others: Sequence[Any]) -> Array:
+    return Array(item in others for item in row)
+
+
+def ones(count: int, dtype: object = None) -> Array:
+    return full(count, True if dtype is bool else 1)
 
 
 def where(choice: Array, one: Any, other: Any) -> Array:

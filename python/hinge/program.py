@@ -4,13 +4,17 @@ from __future__ import annotations
 
 import os
 import shutil
+import subprocess
+import sys
 from pathlib import Path
-from typing import Iterator, Optional
+from typing import Iterator, Optional, Sequence
 
+from hinge.border.files import opened_log
 from hinge.command import MISSING, Fault
 
 PACKAGE = Path(__file__).resolve().parent
 REPOSITORY = PACKAGE.parents[1]
+HINGE = (sys.executable, str(PACKAGE / "__main__.py"))
 
 
 def places(name: str, *in_repository: str) -> Iterator[Optional[str]]:
@@ -46,3 +50,14 @@ def dummynet() -> str:
 def clock() -> str:
     """The library that gives C code the simulated clock; tools/release/hosts builds it."""
     return program_named("HINGE_CLOCK", "hinge-clock.so", "built/hinge-clock.so", "release/hinge-clock.so")
+
+
+def in_background(words: Sequence[str], log: Path, *pipes: int) -> "subprocess.Popen[bytes]":
+    """A command of the kit that prints into a log, and takes these descriptors along."""
+    out = opened_log(log)
+    try:
+        return subprocess.Popen(
+            [*HINGE, *words], stdin=subprocess.DEVNULL, stdout=out, stderr=out, pass_fds=pipes, start_new_session=True
+        )
+    finally:
+        os.close(out)

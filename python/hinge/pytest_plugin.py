@@ -35,6 +35,7 @@ from typing import TYPE_CHECKING, Callable, Coroutine, Generator, Optional, Prot
 
 import pytest
 
+from hinge.border.terminal import lines
 from hinge.testing import async_fixtures, table
 from hinge.testing.marks import fault_of, link_of, unused, vary_of
 from hingetulip_words.presets import either_way
@@ -237,7 +238,7 @@ def pytest_runtest_makereport(item: pytest.Item, call: pytest.CallInfo[None]) ->
                 from hinge.testing.emulated import no_report
 
                 text = no_report(fault)
-            report.sections.append(("emulated link", text))
+            report.sections.append(("emulated link", lines(text)))
 
 
 def seed_of(item: pytest.Item) -> int:

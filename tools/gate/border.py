@@ -2,8 +2,9 @@
 
     python3 tools/gate/border.py
 
-A module of the kit that itself opens a file by a name, reads JSON or a socket, or writes to a standard stream is refused, unless ALLOWED
-has its reason. So is one that takes argparse's Namespace, but for commands and the modules that give it options.
+A module of the kit that itself opens a file by a name, reads JSON or a socket, or names a standard stream is refused, by whatever name it
+imports that, unless ALLOWED has its reason. So is one that takes argparse's Namespace, but for commands and the modules that give it options.
+PLANTED has a line of each kind, which must be refused, and HARMLESS lines that must not.
 """
 
 from __future__ import annotations
@@ -18,18 +19,48 @@ from tally import Tally
 KIT = Path(__file__).resolve().parents[2] / "python" / "hinge"
 BORDER = ("border/", "outputs.py")
 OPTIONS = "options.py"
-NAMES = ("print", "open", "input")
-CALLS = (
-    "json.load",
-    "json.loads",
-    "sys.stdout.write",
-    "sys.stderr.write",
-    "sys.stdout.writelines",
-    "sys.stderr.writelines",
-    "os.fdopen",
+NAMES = (
+    *("print", "open", "eval", "exec", "compile", "__import__", "io.open", "io.open_code", "io.FileIO", "codecs.open", "gzip.open"),
+    *("os.open", "os.fdopen", "os.popen", "json.load", "json.loads", "json.JSONDecoder", "fileinput.input", "linecache.getlines"),
+    *("sys.stdin", "sys.stdout", "sys.stderr", "sys.__stdin__", "sys.__stdout__", "sys.__stderr__", "np.load", "np.fromfile"),
+    *("np.loadtxt", "np.genfromtxt"),
 )
-METHODS = ("read_text", "read_bytes", "write_text", "write_bytes", "recv", "recv_into", "recvmsg", "recvfrom", "accept", "makefile")
-STREAMS = ("sys.stdin",)
+ABOUT_STREAMS = ("flush", "isatty", "encoding", "fileno")  # which write nothing
+METHODS = (
+    *("open", "read_text", "read_bytes", "write_text", "write_bytes", "recv", "recv_into", "recvmsg", "recvmsg_into", "recvfrom"),
+    *("recvfrom_into", "recv_fds", "accept", "makefile"),
+)
+CALLED = ("input",)  # which is a name of parameters, too
+PLANTED = {
+    "import io\nio.open('x')": "io.open",
+    "from io import open as other\nother('x')": "io.open",
+    "import builtins\nbuiltins.print('x')": "print",
+    "print('x')": "print",
+    "show = print": "print",
+    "open('x')": "open",
+    "input()": "input",
+    "import os\nos.open('x', os.O_RDONLY)": "os.open",
+    "from os import fdopen": "os.fdopen",
+    "from pathlib import Path\nPath('x').open()": "open",
+    "from pathlib import Path\nlist(map(Path.read_text, []))": "read_text",
+    "from pathlib import Path\nPath('x').read_bytes()": "read_bytes",
+    "from pathlib import Path\nPath('x').write_text('')": "write_text",
+    "from pathlib import Path\nPath('x').write_bytes(b'')": "write_bytes",
+    "import json\njson.loads('1')": "json.loads",
+    "import json as other\nother.load(file)": "json.load",
+    "from json import *": "json.*",
+    "line.recv(1)": "recv",
+    "line.recv_into(data)": "recv_into",
+    "line.recvmsg(1)": "recvmsg",
+    "line.recvfrom(1)": "recvfrom",
+    "import socket\nsocket.recv_fds(line, 1, 1)": "recv_fds",
+    "import sys\nout = sys.stdout": "sys.stdout",
+    "import sys\nsys.stderr.write('x')": "sys.stderr.write",
+    "from sys import stdin\nstdin.read()": "sys.stdin.read",
+}
+HARMLESS = (
+    "import json, os, sys\nsys.stdout.flush()\njson.dumps(1)\nos.path.exists('x')\nlines.opened('x')\ndef run(input): return input"
+)
 OWN, OUTPUT, SYSTEM, HOST = "a file of its own", "within `written`", "the system's own", "the host's own line"
 ALLOWED = {
     "command.py": {"open": "a standard stream that was closed"},
@@ -39,15 +70,15 @@ ALLOWED = {
     "commands/docs.py": {"read_text": "the kit's own pages"},
     "commands/search.py": {"write_text": OUTPUT},
     "captures/through.py": {"open": OUTPUT},
-    "commands/up.py": {"open": "the log of a net, to write"},
     "net/described.py": {"write_text": OWN},
-    "net/running.py": {"open": "the log of a net, to write", "write_text": OWN},
+    "net/running.py": {"write_text": OWN},
     "pictures/html_page.py": {"write_text": OUTPUT},
+    "run/interfaces.py": {"os.open": "the system's /dev/net/tun"},
     "run/host.py": {"os.fdopen": OWN},
     "run/host_lines.py": {"recv": HOST},
     "run/rtnetlink.py": {"recv": "the kernel's answer"},
     "run/system.py": {"open": SYSTEM},
-    "simulated/build.py": {"sys.stderr.writelines": "what make told", "read_text": OWN, "write_text": OWN, "open": OWN},
+    "simulated/build.py": {"read_text": OWN, "write_text": OWN, "open": OWN},
     "simulated/in_machine.py": {"json.loads": "the launcher's own words"},
     "simulated/job.py": {"read_bytes": OWN},
     "simulated/kernel.py": {"read_text": OWN, "read_bytes": OWN},
@@ -57,14 +88,14 @@ ALLOWED = {
     "simulated/pauses.py": {"read_text": OWN},
     "simulated/start.py": {"read_text": OWN},
     "simulated/stood.py": {"read_bytes": OWN, "write_bytes": OWN},
-    "simulated/streams.py": {"open": OWN, "sys.stdin": "what the command reads"},
+    "simulated/streams.py": {"open": OWN, "os.open": OWN},
     "simulated/twice.py": {"open": OWN},
     "sweeps/study.py": {"open": OWN, "write_text": OWN},
     "testing/emulated.py": {"open": "the history of a test", "write_text": OWN},
 }
 
 
-def dotted(node: ast.expr) -> str:
+def dotted(node: ast.AST) -> str:
     """As `json.loads`; what isn't made of names is `?`."""
     if isinstance(node, ast.Name):
         return node.id
@@ -81,23 +112,50 @@ def namespaces(name: str, tree: ast.AST) -> Iterator[str]:
         )
 
 
+def imports(tree: ast.AST) -> Iterator[tuple[int, str, str]]:
+    """The line, the name and the origin of what a module imports."""
+    for node in ast.walk(tree):
+        if isinstance(node, ast.Import):
+            yield from ((node.lineno, one.asname, one.name) for one in node.names if one.asname)
+        elif isinstance(node, ast.ImportFrom) and not node.level:
+            yield from ((node.lineno, one.asname or one.name, f"{node.module}.{one.name}") for one in node.names)
+
+
+def is_refused(name: str) -> bool:
+    """Whether a name of Python's own is one by which a module crosses the border."""
+    for one in NAMES:
+        if name == one or name.startswith(f"{one}."):
+            return not (one.startswith("sys.") and name.removeprefix(f"{one}.") in ABOUT_STREAMS)
+    return name in [f"{one.partition('.')[0]}.*" for one in NAMES]
+
+
 def crossings(tree: ast.AST) -> Iterator[tuple[int, str]]:
     """Where a module crosses the border itself, and by what."""
+    origins = {name: origin for _, name, origin in imports(tree)}
+    yield from ((line, origin) for line, _, origin in imports(tree) if is_refused(origin))
+    inner = {id(node.value) for node in ast.walk(tree) if isinstance(node, ast.Attribute)}
     for node in ast.walk(tree):
-        if isinstance(node, ast.Call):
-            name = dotted(node.func)
-            if name in NAMES or name in CALLS:
+        if isinstance(node, ast.Call) and dotted(node.func) in CALLED:
+            yield node.lineno, dotted(node.func)
+        elif isinstance(node, (ast.Name, ast.Attribute)) and id(node) not in inner:
+            first, dot, rest = dotted(node).partition(".")
+            name = (origins.get(first, first) + dot + rest).removeprefix("builtins.")
+            if is_refused(name):
                 yield node.lineno, name
-            elif isinstance(node.func, ast.Attribute) and node.func.attr in METHODS:
-                yield node.lineno, node.func.attr
-        elif isinstance(node, ast.Attribute) and dotted(node) in STREAMS:
-            yield node.lineno, dotted(node)
-        elif isinstance(node, ast.ImportFrom) and node.module in ("json", "socket", "sys", "os"):
-            yield from ((node.lineno, f"from {node.module} import {one.name}") for one in node.names)
+            elif isinstance(node, ast.Attribute) and node.attr in METHODS:
+                yield node.lineno, node.attr
+
+
+def note_planted(tally: Tally) -> None:
+    for text, what in PLANTED.items():
+        found = {one for _, one in crossings(ast.parse(text))}
+        tally.note(f"planted: {text}", *[f"{what} isn't refused, but {found or 'nothing'}"] * (what not in found))
+    tally.note("harmless lines", *(f"line {line}: {what}" for line, what in crossings(ast.parse(HARMLESS))))
 
 
 def main() -> int:
     tally, used = Tally(), set()
+    note_planted(tally)
     for path in sorted(KIT.rglob("*.py")):
         name = str(path.relative_to(KIT))
         if name.startswith(BORDER):

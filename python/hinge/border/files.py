@@ -2,6 +2,7 @@
 
 from __future__ import annotations
 
+import errno
 import gzip
 import json
 import os
@@ -84,6 +85,24 @@ def read_object(name: Name, what: str) -> dict[str, Any]:
         if not isinstance(record, dict):
             raise TypeError
         return record
+
+
+def opened_log(path: Name, is_new: bool = True) -> int:
+    """A descriptor of a file for what programs print: no link and no FIFO, and its owner is this user or the folder's."""
+    log = os.open(path, os.O_WRONLY | os.O_CREAT | os.O_APPEND | os.O_NOFOLLOW | os.O_NONBLOCK | os.O_CLOEXEC, 0o666)
+    result = os.fstat(log)
+    if not stat.S_ISREG(result.st_mode) or result.st_uid not in (os.geteuid(), os.stat(Path(path).parent).st_uid):
+        os.close(log)
+        raise PermissionError(errno.EPERM, "it is no file of this user's", str(path))
+    if is_new:
+        os.ftruncate(log, 0)
+    os.set_blocking(log, True)
+    return log
+
+
+def read_log(path: Name) -> str:
+    """What programs printed, none where there is no such file."""
+    return read_text(path, "replace") if os.path.isfile(path) else ""
 
 
 def read_system(path: str) -> str:

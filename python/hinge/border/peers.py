@@ -8,6 +8,8 @@ import struct
 from contextlib import contextmanager
 from typing import Iterator
 
+from hinge.border.scratch import held
+
 CREDENTIALS = struct.Struct("3i")
 
 
@@ -24,7 +26,7 @@ def is_own(line: socket.socket) -> bool:
 @contextmanager
 def within(path: str) -> Iterator[str]:
     """A name of a socket that is short, however long its folder's is: the system takes 107 bytes."""
-    folder = os.open(os.path.dirname(path) or ".", os.O_RDONLY | os.O_DIRECTORY | os.O_CLOEXEC)
+    folder = held(os.path.dirname(path) or ".")
     try:
         yield f"/proc/self/fd/{folder}/{os.path.basename(path)}"
     finally:

@@ -19,6 +19,11 @@ PREFIX = ".hinge-"
 YOUNG = 60.0  # s: the process of a folder may not have locked it yet
 
 
+def held(path: Union[str, Path]) -> int:
+    """A descriptor of a folder or a namespace, which stays for that."""
+    return os.open(path, os.O_RDONLY | os.O_NONBLOCK | os.O_CLOEXEC)
+
+
 class Ended(BaseException):
     """SIGTERM came."""
 
@@ -37,7 +42,7 @@ class Folder:
         place = str(within or tempfile.gettempdir())
         remove_left(place, prefix)
         self.path = Path(tempfile.mkdtemp(prefix=prefix, dir=place))
-        self.lock = os.open(self.path, os.O_RDONLY | os.O_DIRECTORY | os.O_CLOEXEC)
+        self.lock = held(self.path)
         fcntl.flock(self.lock, fcntl.LOCK_EX)
 
     def remove(self) -> None:

@@ -40,6 +40,15 @@ def tell(text: str, end: str = "\n") -> None:
     sys.stderr.flush()
 
 
+def silence(stream: int) -> None:
+    """Gives a standard stream /dev/null."""
+    nothing = os.open(os.devnull, os.O_RDWR)
+    if nothing != stream:
+        os.dup2(nothing, stream)
+        os.close(nothing)
+    os.set_inheritable(stream, True)
+
+
 def note_defect() -> None:
     """Shows where an exception came from that is told as a line, for who looks for a defect of the kit."""
     if "HINGE_TRACEBACK" in os.environ:

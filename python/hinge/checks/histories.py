@@ -2,8 +2,11 @@
 
 from __future__ import annotations
 
+import io
 import re
 import subprocess
+from itertools import islice
+from typing import Iterator
 
 from hinge.checks.findings import Findings
 from hinge.command import ROWS
@@ -18,42 +21,49 @@ class HistoryRecords:
     transcript."""
 
     def __init__(self, data: bytes) -> None:
-        lines = data.decode("utf-8", "replace").splitlines()
-        is_live = data.startswith(b"dummynet-live,")
-        self.list = [(number, line) for number, line in enumerate(lines, 1) if line and not (is_live and line.startswith("#"))]
+        self.data, self.is_live = data, data.startswith(b"dummynet-live,")
         self.is_whole = data.endswith((b"\n", b"\r"))
 
-    def calls(self) -> list[int]:
-        """The places of the calls."""
-        return [place for place, (_, line) in enumerate(self.list) if line.startswith("c,")]
+    def __iter__(self) -> Iterator[tuple[int, str]]:
+        """They are read anew each time, so that they take no memory."""
+        for number, line in enumerate(io.TextIOWrapper(io.BytesIO(self.data), "utf-8", "replace"), 1):
+            if line != "\n" and not (self.is_live and line.startswith("#")):
+                yield number, line.removesuffix("\n")
 
-    def right_reply(self, calls: list[int]) -> str:
-        """What the emulator replies to the last of these calls after the others, empty where it can't be asked: a live
-        session is by the rule of version 3."""
-        if not re.match(r"dummynet-history,3|dummynet-live,", self.list[0][1]):
+    def calls(self) -> Iterator[str]:
+        return (line for _, line in self if line.startswith("c,"))
+
+    def right_reply(self, count: int) -> str:
+        """What the emulator replies to the last of so many calls, empty where it can't be asked: a live session is by
+        the rule of version 3."""
+        if not re.match(rb"dummynet-history,3|dummynet-live,", self.data):
             return ""
-        items = "".join(f"{self.list[place][1]}\n" for place in calls)
+        items = "".join(f"{call}\n" for call in islice(self.calls(), count))
         process = subprocess.run([dummynet(), "live"], input=items, capture_output=True, text=True).stdout.splitlines()
         return next((line for line in reversed(process) if line.startswith("r,")), "")
 
 
 def bad_record(name: str, records: HistoryRecords, number: int) -> tuple[str, str]:
     """Where a record stands that the audit doesn't take, and what is wrong with it."""
-    lines = records.list
-    if number > len(lines):
-        where = f"{name}:{lines[-1][0] if lines else 1}"
+    before, line, text, last = "", 0, "", 1
+    for place, (last, other) in enumerate(records, 1):
+        if place < number:
+            before = other
+        elif place == number:
+            line, text = last, other
+    if not line:
+        where = f"{name}:{last}"
         return (where, "the history was cut: behind this record it has no `end`; the session was killed, or still goes on")
-    line, text = lines[number - 1]
     line_of_text = f"record {number} {text[:SHOWN]!r}"
-    if number > 1 and lines[number - 2][1].startswith("end,"):
+    if before.startswith("end,"):
         return f"{name}:{line}", f"{line_of_text} stands behind the end; keep one session a file"
     if text.startswith("end,"):
         return (
             f"{name}:{line}",
-            f"{line_of_text}: there are {len(records.calls())} entries, or the last has no reply; records were taken away "
+            f"{line_of_text}: there are {sum(1 for _ in records.calls())} entries, or the last has no reply; records were taken away "
             f"or added",
         )
-    if number == len(lines) and not records.is_whole:
+    if line == last and not records.is_whole:
         return (
             f"{name}:{line}",
             f"{line_of_text}: the history was cut within this record; the session was killed, or still goes on",
@@ -69,9 +79,9 @@ def bad_record(name: str, records: HistoryRecords, number: int) -> tuple[str, st
 
 def other_reply(name: str, records: HistoryRecords, entry: int) -> tuple[str, str]:
     """Where the reply stands that isn't the emulator's, and which one is."""
-    calls = records.calls()[: entry + 1]
-    (_, call), (line, reply) = records.list[calls[-1]], records.list[calls[-1] + 1]
-    right = records.right_reply(calls)
+    pairs = ((call, reply) for call, reply in zip(records, islice(records, 1, None)) if call[1].startswith("c,"))
+    (_, call), (line, reply) = next(islice(pairs, entry, None))
+    right = records.right_reply(entry + 1)
     text = f"{reply[:SHOWN]!r} isn't the emulator's reply to {call[:SHOWN]!r} (entry {entry})"
     if right == reply:
         return f"{name}:{line}", f"{text}: an item below it differs"

@@ -7,13 +7,12 @@ import os
 import shutil
 import subprocess
 import sys
-from pathlib import Path
 from typing import Callable, Iterator, NamedTuple, Optional
 
 from hinge.border.files import read_system
 from hinge.border.terminal import show
 from hinge.command import Told, parser
-from hinge.program import dummynet
+from hinge.program import HINGE, dummynet
 from hinge.simulated.build import lacking, source
 from hinge.simulated.kernel import found as kernel
 
@@ -22,7 +21,6 @@ Tries what the commands of hinge need here: links in real time, the way to the r
 and pictures, and a priority for the links. Each line says whether something works and, if it doesn't, why. The last line
 installs what is missing from Debian's packages. The exit status is 0 if links in real time work, and else 7."""
 LIMIT = 20  # s that a trial may take
-START = Path(__file__).resolve().parents[1] / "__main__.py"
 
 
 class Finding(NamedTuple):
@@ -43,7 +41,7 @@ def last_line(text: str) -> str:
 
 def of_run(*options: str) -> Finding:
     """Runs `true` behind a link with these options."""
-    words = [sys.executable, str(START), "run", "--quiet", *options, "--", "true"]
+    words = [*HINGE, "run", "--quiet", *options, "--", "true"]
     try:
         process = subprocess.run(words, stdin=subprocess.DEVNULL, capture_output=True, text=True, timeout=LIMIT)
     except subprocess.TimeoutExpired:

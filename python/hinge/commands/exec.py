@@ -11,6 +11,7 @@ from typing import NoReturn
 
 from hinge.border.asking import asked_at, is_answered
 from hinge.border.messages import Order
+from hinge.border.scratch import held
 from hinge.command import NAME, parser, say
 from hinge.run.doors import DOORS, started_behind
 from hinge.run.first import BLOCKED, status_of
@@ -68,7 +69,7 @@ def main() -> NoReturn:
     socket = os.path.abspath(socket_of(arguments.socket))
     mask = signal.pthread_sigmask(signal.SIG_BLOCK, BLOCKED)
     sys.stdout.flush()
-    before = os.open("/", os.O_RDONLY | os.O_DIRECTORY | os.O_CLOEXEC)
+    before = held("/")
     status = status_of(started_behind(doors, arguments.host, arguments.command, mask))
     if status == SIGNALLED + signal.SIGKILL:
         os.fchdir(before)

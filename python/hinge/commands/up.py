@@ -5,14 +5,14 @@ from __future__ import annotations
 import argparse
 import os
 import subprocess
-import sys
 import time
 from pathlib import Path
 
 from hinge.border.asking import ask, is_answered
-from hinge.border.files import read_text
+from hinge.border.files import read_log
 from hinge.border.terminal import show
-from hinge.command import NAME, Fault, parser
+from hinge.command import NAME, Fault, parser, say
+from hinge.program import in_background
 from hinge.run.names import new_socket
 from hinge.run.refusals import refusals
 from hinge.run.words import Wrong
@@ -27,7 +27,6 @@ hinge up examples/net/etcd.net --name cluster
   hinge exec cluster n2 -- etcdctl endpoint status
   hinge down cluster"""
 STATUSES = "0 it runs, 2 a wrong word, or such a net runs already, and else those of hinge net"
-START = Path(__file__).resolve().parents[1] / "__main__.py"
 POLL = 0.02  # s
 PATIENCE = 600.0  # s
 
@@ -51,8 +50,10 @@ def wait_until_ready(process: "subprocess.Popen[bytes]", socket: str, log: Path)
     try:
         status = ask(socket, PATIENCE, status=True).status or {}
     except Wrong:
-        text = read_text(log, "replace").strip().replace("hinge net: ", "")
-        raise Fault(text or "the net has ended", process.wait() or 1) from None
+        *before, last = read_log(log).strip().replace("hinge net: ", "").split("\n")
+        for line in before:
+            say(line)
+        raise Fault(last or "the net has ended", process.wait() or 1) from None
     return list(status["silent"])
 
 
@@ -65,10 +66,8 @@ def main() -> None:
         folder.mkdir(parents=True, exist_ok=True)
         log = folder / "net.log"
         logs = [] if "--logs" in arguments.more else ["--logs", str(folder / "logs")]
-        words = [sys.executable, str(START), "net", arguments.file, "--transcripts", str(folder), *logs]
-        words += ["--stay", "--control", socket, *arguments.more]
-        with open(log, "wb") as log_file:
-            process = subprocess.Popen(words, stdin=subprocess.DEVNULL, stdout=log_file, stderr=log_file, start_new_session=True)
+        words = ["net", arguments.file, "--transcripts", str(folder), *logs, "--stay", "--control", socket, *arguments.more]
+        process = in_background(words, log)
         silent = wait_until_ready(process, socket, log)
     show(
         "".join(f"{line}\n" for line in silent)

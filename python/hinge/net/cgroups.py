@@ -12,6 +12,7 @@ from pathlib import Path
 from typing import Iterable, Optional
 
 from hinge.border.files import read_text
+from hinge.border.scratch import held
 from hinge.run.system import write
 
 MOUNT = re.compile(r"^\d+ \d+ \S+ (\S+) (\S+) .* - cgroup2 ", re.MULTILINE)  # what is mounted, and where
@@ -25,7 +26,7 @@ class Cgroup:
     def __init__(self, folder: Path) -> None:
         self.folder = folder
         folder.mkdir()
-        self.lock = os.open(folder, os.O_RDONLY | os.O_DIRECTORY | os.O_CLOEXEC)
+        self.lock = held(folder)
         fcntl.flock(self.lock, fcntl.LOCK_EX)
 
     def write(self, name: str, text: str) -> bool:
@@ -69,7 +70,7 @@ def sweep(folder: Path) -> None:
     """Removes what processes that were killed have left."""
     for rest in folder.glob(f"{NAME}*"):
         with contextlib.suppress(OSError):
-            lock = os.open(rest, os.O_RDONLY | os.O_DIRECTORY | os.O_CLOEXEC)
+            lock = held(rest)
             try:
                 fcntl.flock(lock, fcntl.LOCK_EX | fcntl.LOCK_NB)
                 rest.rmdir()

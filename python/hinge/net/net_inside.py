@@ -9,6 +9,8 @@ import time
 from functools import partial
 from typing import NamedTuple, Optional, Sequence
 
+from hinge.border.files import opened_log
+from hinge.border.terminal import silence
 from hinge.command import say
 from hinge.net.acts import Acts, GroupProcesses, HostProcesses, sees_own_processes
 from hinge.net.cgroups import Cgroups
@@ -169,15 +171,11 @@ class NetInside:
             self.disks.enter(name)
             if not is_main:
                 os.setpgid(0, 0)
-                os.dup2(os.open(os.devnull, os.O_RDONLY), 0)
+                silence(0)
                 if self.own_users:
                     make_terminals()
             if self.order.logs:
-                log = os.open(
-                    os.path.join(self.order.logs, f"{name}.log"),
-                    os.O_WRONLY | os.O_CREAT | (os.O_TRUNC if is_first else os.O_APPEND),
-                    0o666,
-                )
+                log = opened_log(os.path.join(self.order.logs, f"{name}.log"), is_first)
                 os.dup2(log, 1), os.dup2(log, 2)
             self.enter(name)
 

@@ -14,7 +14,6 @@ from __future__ import annotations
 import os
 import shlex
 import subprocess
-import sys
 import tempfile
 import time
 from pathlib import Path
@@ -22,16 +21,16 @@ from types import TracebackType
 from typing import IO, Any, Mapping, NamedTuple, Optional, Sequence, Union
 
 from hinge.border.asking import ask, is_answered
-from hinge.border.files import read_object, read_text
+from hinge.border.files import read_log, read_object
 from hinge.border.messages import Reply
+from hinge.border.terminal import lines
 from hinge.net.described import Command, Described, NetError, Time, spelled_time
 from hinge.net.description import Description, read_description
 from hinge.net.net_rooms import NetEnds
-from hinge.program import dummynet
+from hinge.program import HINGE, dummynet, in_background
 from hinge.run.words import Wrong
 from hingetulip_words.explained import explained
 
-START = Path(__file__).resolve().parents[1] / "__main__.py"
 __tracebackhide__ = True  # of a test that fails, pytest shows its own line
 POLL = 0.01  # s between looks whether it has begun
 PATIENCE = 600.0  # s until it has begun; the waits for ports are shorter
@@ -44,7 +43,7 @@ class CommandFailed(subprocess.CalledProcessError):
 
     def __str__(self) -> str:
         output = "\n".join(text.rstrip() for text in (self.stdout, self.stderr) if isinstance(text, str) and text.strip())
-        return f"{self.cmd}: status {self.returncode}" + f"\n{output}" * bool(output)
+        return lines(f"{self.cmd}: status {self.returncode}" + f"\n{output}" * bool(output))
 
 
 class Obeyed(NamedTuple):
@@ -178,13 +177,10 @@ class Net(Described):
         }
         more = [word for name, value in inputs.items() if value is not None for word in (f"--{name}", str(value))]
         read_end, self.leash = os.pipe()
-        words = [sys.executable, str(START), "net", str(file), "--transcripts", str(self.folder)]
-        words += ["--logs", str(self.folder / "logs"), *more, "--control", str(self.socket), "--while-open", str(read_end)]
-        with open(self.folder / "net.log", "wb") as log_file:
-            self.is_running = True
-            self.process = subprocess.Popen(
-                words, stdin=subprocess.DEVNULL, stdout=log_file, stderr=log_file, pass_fds=[read_end], start_new_session=True
-            )
+        words = ["net", str(file), "--transcripts", str(self.folder), "--logs", str(self.folder / "logs"), *more]
+        words += ["--control", str(self.socket), "--while-open", str(read_end)]
+        self.is_running = True
+        self.process = in_background(words, self.folder / "net.log", read_end)
         os.close(read_end)
         self.wait_until_ready()
         return self
@@ -212,7 +208,7 @@ class Net(Described):
         """A command on a host, which begins now. It ends with the net. What else is given is that of
         subprocess.Popen."""
         self.start()
-        return subprocess.Popen([sys.executable, str(START), "exec", str(self.socket), host, "--", *shell_words(command)], **how)
+        return subprocess.Popen([*HINGE, "exec", str(self.socket), host, "--", *shell_words(command)], **how)
 
     def run(
         self,
@@ -254,11 +250,10 @@ class Net(Described):
 
     def output(self, host: str) -> str:
         """What a host's command has printed."""
-        log = self.folder / "logs" / f"{host}.log"
-        return read_text(log, "replace") if log.exists() else ""
+        return read_log(self.folder / "logs" / f"{host}.log")
 
     def last_lines(self, host: str) -> str:
-        return "\n".join(f"  {line}" for line in self.output(host).splitlines()[-LAST_LINES:])
+        return lines("\n".join(f"  {line}" for line in self.output(host).splitlines()[-LAST_LINES:]))
 
     def status(self) -> dict[str, Any]:
         """The counts up to now, or of the whole run where it has ended."""
@@ -286,9 +281,8 @@ class Net(Described):
 
     def told(self) -> str:
         """What `hinge net` told, as the summary of each way."""
-        log = self.folder / "net.log"
-        text = read_text(log, "replace") if log.exists() else ""
-        return "\n".join(line.replace("hinge net: ", "", 1) for line in text.splitlines())
+        text = read_log(self.folder / "net.log")
+        return lines("\n".join(line.replace("hinge net: ", "", 1) for line in text.splitlines()))
 
     def audit(self) -> str:
         """Ends it; what dummynet says of its links: `lawful N`, or the first entry that isn't."""
@@ -296,7 +290,7 @@ class Net(Described):
 
     def paths(self) -> str:
         """Ends it; what `hinge look` says of what is between the links: `lawful between links`, or that it isn't."""
-        return self.judged([sys.executable, str(START), "look", str(self.folder)]).rpartition("\n")[2]
+        return self.judged([*HINGE, "look", str(self.folder)]).rpartition("\n")[2]
 
     def judged(self, words: list[str]) -> str:
         self.end()

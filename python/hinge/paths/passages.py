@@ -12,7 +12,7 @@ from hinge.captures.addresses import address_of_six
 from hinge.command import ROWS, Fault
 from hinge.lazy import Integers, np
 from hinge.paths.scopes import scopes_of
-from hinge.replays.columns import Bad
+from hinge.replays.columns import Bad, numbered
 from hinge.replays.history import Entries, with_fates
 from hinge.replays.record_lines import HistoryFile, Records, is_history, read_records
 from hinge.replays.remarks import Lateness, lateness_in
@@ -22,7 +22,7 @@ CONTENT, DIGITS = b"#,content,", 16  # a remark, and how many hexadecimal digits
 LAST = b"#,last\n"  # before that: no host may hand the packet on
 FLOODED = b"#,flooded\n"  # or this: a switch sends it by each other link
 OUTAGE_PROTOCOL = 255  # of a packet that nobody sent
-QUEUE_OF_PIPE = re.compile(r"c,0,configure,queue (\d+) config .*?\bpipe (\d+)")
+QUEUE_OF_PIPE = re.compile(rb"^c,0,configure,queue (\d{1,18}) config .*?\bpipe (\d{1,18})", re.MULTILINE)
 NO_HOST = -1
 LABEL = re.compile(r"[A-Za-z0-9][A-Za-z0-9._~-]{0,199}", re.ASCII)  # of a host, and of where the jitter of a way begins
 BETWEEN = "~"  # in the name of where the jitter of a way begins
@@ -33,10 +33,12 @@ class Topology:
     """The hosts of a net by their numbers, and the ways of its links by their pipes."""
 
     hosts: list[str] = field(default_factory=list)
+    numbers: dict[str, int] = field(default_factory=dict)  # by their names
     host_of: dict[int, int] = field(default_factory=dict)  # by addresses of IPv4 and stand-ins, as numbers
     six: dict[str, int] = field(default_factory=dict)  # by addresses of IPv6
     pipes: dict[int, tuple[int, int]] = field(default_factory=dict)
     same: dict[int, int] = field(default_factory=dict)  # the pipe by which each is told
+    first: dict[tuple[int, int], int] = field(default_factory=dict)  # between where a jitter begins and an end
     copied: set[int] = field(default_factory=set)  # pipes that a packet may enter twice
     models: dict[int, str] = field(default_factory=dict)  # of losses, by pipes
     switches: set[int] = field(default_factory=set)
@@ -44,11 +46,12 @@ class Topology:
     stand_ins: dict[int, str] = field(default_factory=dict)  # the addresses of IPv6 that they stand for
 
     def number(self, name: str) -> int:
-        if name not in self.hosts:
+        if name not in self.numbers:
             if not LABEL.fullmatch(name):
                 raise ValueError(f"{name!r} is no name of a host")
+            self.numbers[name] = len(self.hosts)
             self.hosts.append(name)
-        return self.hosts.index(name)
+        return self.numbers[name]
 
     def read(self, text: str) -> None:
         """Takes a remark `#,host,NAME,ADDRESS,..`, `#,pipe,N,FROM,TO`, `#,copies,N`, `#,model,N,MODEL`,
@@ -87,15 +90,14 @@ class Topology:
 
     def to_switches(self) -> list[int]:
         """Switches, and where the jitter begins of the ways that end at one."""
-        middles = self.middles()
+        middles = set(self.middles())
         return [*self.switches, *(start for start, end in self.pipes.values() if end in self.switches and start in middles)]
 
     def add_pipe(self, pipe: int, ends: tuple[int, int]) -> None:
         """The pipes of a second pass, from where the jitter of a way begins, are told together: as the first of
         them."""
-        same = [number for number, others in self.pipes.items() if others == ends] if BETWEEN in self.hosts[ends[0]] else []
-        self.same[pipe] = min(same, default=pipe)
-        if not same:
+        self.same[pipe] = self.first.setdefault(ends, pipe) if BETWEEN in self.hosts[ends[0]] else pipe
+        if self.same[pipe] == pipe:
             self.pipes[pipe] = ends
 
     def read_stand_ins(self, addresses: dict[str, str]) -> None:
@@ -198,20 +200,19 @@ class Reader:
         self.columns: list[list[Integers]] = []
         self.records, self.late = 0, b""
 
-    def note_remarks(self, file: HistoryFile, data: bytes) -> None:
-        for text in remarks(data, [b"host", b"switch", b"outside", b"pipe", b"copies", b"model"]):
+    def note_remarks(self, file: HistoryFile) -> None:
+        for text in remarks(file.data, [b"host", b"switch", b"outside", b"pipe", b"copies", b"model"]):
             self.topology.read(text)
         self.topology.read_stand_ins(file.addresses)
-        self.late += b"".join(f"\n{text}".encode() for text in remarks(data, [b"late"]))
-        for queue, pipe in QUEUE_OF_PIPE.findall(data.decode("utf-8", "replace")):
+        self.late += b"".join(f"\n{text}".encode() for text in remarks(file.data, [b"late"]))
+        for queue, pipe in QUEUE_OF_PIPE.findall(file.data):
             self.pipe_of_queue[int(queue)] = int(pipe)
 
     def read(self, path: str) -> None:
         file = read_records(path)
         if not is_history(file.records):
             raise Fault(f"{path} line 1: no history of dummynet, and no live session", ROWS)
-        data = file.records.data.tobytes()
-        self.note_remarks(file, data)
+        self.note_remarks(file)
         entries = Entries.of(path, file.records)
         places = entries.submits()
         try:
@@ -221,9 +222,8 @@ class Reader:
             hand_over = places_of_deliveries(entries.records, packet)
             self.changes += [(moment, text) for _, moment, text in entries.changes()]
         except Bad:
-            every = entries.records
-            raise entries.bad(every.of(np.union1d(np.union1d(places, places + 1), np.flatnonzero(every.starts(b"d,"))))) from None
-        hand_over = np.where((event == OUT) & ~np.isin(packet, refused_in(data)), hand_over, -1)
+            raise entries.bad(places) from None
+        hand_over = np.where((event == OUT) & ~np.isin(packet, refused_in(file.data)), hand_over, -1)
         self.add(
             path,
             calls,
@@ -237,14 +237,12 @@ class Reader:
         kind, number, *flow, length, _ = rows
         content = content_before(calls)
         is_own = (flow[2] == OUTAGE_PROTOCOL) & (content == 0)
-        unknown = set(number[kind == 1].tolist()) - set(self.pipe_of_queue)
-        pipes = np.array([self.pipe_of_queue.get(queue, 0) for queue in range(int(number.max(initial=0)) + 1)], np.int64)
-        pipe = np.where(kind == 1, pipes[number], number)
-        used, place = np.unique(pipe, return_inverse=True)
-        unknown |= set(used.tolist()) - set(self.topology.same)
-        if unknown:
+        place, firsts = numbered(kind, number)
+        targets = [(is_queue, int(number[row])) for row, is_queue in zip(firsts, kind[firsts] == 1)]
+        pipes = [self.pipe_of_queue.get(one, one) if is_queue else one for is_queue, one in targets]
+        if unknown := set(pipes) - set(self.topology.same):
             raise Fault(f"{path}: no remark says between which hosts pipe {min(unknown)} is: hinge net writes them", ROWS)
-        pipe = np.array([self.topology.same[number] for number in used.tolist()], np.int64)[place.ravel()]
+        pipe = np.array([self.topology.same[one] for one in pipes], np.int64)[place]
         file = np.full(len(pipe), len(self.columns))
         remarked = (has_before(calls, remark) for remark in (LAST, FLOODED))
         columns = (*flow, length, content, *remarked, pipe, *items, calls.line, file)
@@ -254,8 +252,9 @@ class Reader:
         *flow, length, content, last, flooded, pipe, event, came, due, submits_so_far, hand_over, line, file = (
             np.concatenate(column) for column in zip(*self.columns)
         )
-        most = max(self.topology.pipes, default=0) + 1
-        ends = np.array([self.topology.pipes.get(number, (NO_HOST, NO_HOST)) for number in range(most)], np.int64)
+        pipes = sorted(self.topology.pipes)
+        ends = np.array([self.topology.pipes[number] for number in pipes], np.int64).reshape(-1, 2)
+        place = np.searchsorted(np.array(pipes, np.int64), pipe)
         return Passages(
             self.topology,
             np.stack(flow),
@@ -264,8 +263,8 @@ class Reader:
             last,
             flooded,
             pipe,
-            ends[pipe, 0],
-            ends[pipe, 1],
+            ends[place, 0],
+            ends[place, 1],
             event,
             came,
             due,
@@ -291,4 +290,5 @@ def read_transcript(paths: list[str]) -> Transcript:
     for path in paths:
         with untrusted(path):
             reader.read(path)
-    return Transcript(reader.passages(), reader.changes, lateness_in(reader.late))
+    with untrusted(paths[0]):
+        return Transcript(reader.passages(), reader.changes, lateness_in(reader.late))

@@ -3,7 +3,8 @@
 from __future__ import annotations
 
 from dataclasses import dataclass
-from typing import Optional, Sequence
+from functools import partial
+from typing import Callable, Optional, Sequence
 
 from hinge.border.files import untrusted
 from hinge.captures.addresses import addresses_file, read_addresses
@@ -17,6 +18,7 @@ from hinge.replays.record_lines import Records, is_history, is_history_file, rea
 from hinge.replays.remarks import lateness_in, seed_in
 from hinge.replays.replay import FULL, HELD, KINDS, LOST, NONE, OUT, Packets, Replay, named_tuples
 from hinge.replays.source import Source, of_reports
+from hinge.replays.tables import first_bad
 
 FATES = {b"r,queued,": HELD, b"r,lost,": LOST, b"r,full,": FULL, b"r,no-target,": NONE}
 MOVING = (*FATES, b"r,advanced,", b"r,delivered,")  # the replies whose second number is the clock
@@ -40,34 +42,34 @@ class Entries:
         """Refuses a call without a reply, but for a last one, which is left out."""
         is_call, is_reply = records.starts(b"c,"), records.starts(b"r,")
         if len(records) and is_call[-1]:
-            records, is_call, is_reply = records.of(np.arange(len(records) - 1)), is_call[:-1], is_reply[:-1]
+            records, is_call, is_reply = records.of(slice(len(records) - 1)), is_call[:-1], is_reply[:-1]
         wrong = is_reply[1:] != is_call[:-1]
         if wrong.any():
             raise Fault(f"{path} line {records.line[int(np.argmax(wrong)) + 1]}: not as a history has it", ROWS)
         return Entries(path, records)
 
-    def bad(self, records: Records) -> Fault:
-        """The fault of the first of these records that can't be read."""
-        for place in range(len(records)):
-            one = records.of(np.array([place]))
-            try:
-                self.columns(one)
-            except Bad:
-                return Fault(f"{self.path} line {one.line[0]}: not as a history has it", ROWS)
-        return Fault(f"{self.path}: not as a history has it", ROWS)
+    def bad(self, places: Integers) -> Fault:
+        """The fault of the first record that can't be read; the places are those of the submits."""
+        kinds: list[tuple[Records, Callable[[Records], object]]] = [
+            (self.records.of(self.records.starts(b"d,")), self.deliveries_of),
+            (self.records.of(places), self.submits_of),
+        ]
+        replies = self.records.of(places + 1)
+        is_other = np.ones(len(replies), bool)
+        for begin, fate in FATES.items():
+            is_fate = replies.starts(begin)
+            is_other &= ~is_fate
+            kinds.append((replies.of(is_fate), partial(self.numbers_of, fate)))
+        lines = replies.line[is_other][:1].tolist()
+        for records, read in kinds:
+            place = first_bad(len(records), lambda low, high: read(records.of(slice(low, high))))
+            lines += records.line[place : place + 1].tolist()
+        return Fault(f"{self.path} line {min(lines)}: not as a history has it", ROWS)
 
-    def columns(self, records: Records) -> None:
-        """Reads records of one kind, for their faults."""
-        if len(records) and records.starts(b"d,")[0]:
-            self.deliveries_of(records)
-        elif len(records) and records.starts(b"c,")[0]:
-            self.submits_of(records)
-        else:
-            for begin, fate in FATES.items():
-                if records.starts(begin).all():
-                    [one_number(field) for field in records.fields(REPLY_FIELDS[fate])[2:]]
-                    return
-            raise Bad
+    @staticmethod
+    def numbers_of(fate: int, replies: Records) -> list[Integers]:
+        """The numbers of replies to submits."""
+        return [one_number(field) for field in replies.fields(REPLY_FIELDS[fate])[2:]]
 
     @staticmethod
     def submits_of(records: Records) -> list[Integers]:
@@ -92,9 +94,8 @@ class Entries:
         event, *columns = [np.full(len(places), -1, np.int64) for _ in range(4)]
         for begin, fate in FATES.items():
             choice = np.flatnonzero(replies.starts(begin))
-            numbers = [one_number(field) for field in replies.of(choice).fields(REPLY_FIELDS[fate])[2:]]
             event[choice] = fate
-            for column, number in zip(columns, numbers):
+            for column, number in zip(columns, self.numbers_of(fate, replies.of(choice))):
                 column[choice] = number
         if (event < 0).any():
             raise Bad
@@ -102,7 +103,7 @@ class Entries:
 
     def clock_before(self, places: Integers) -> list[int]:
         """The clock's moment before each of these places, in ns."""
-        front = self.records.of(np.arange(int(places.max(initial=0))))
+        front = self.records.of(slice(int(places.max(initial=0))))
         tells = np.zeros(len(front), bool)
         for reply in MOVING:
             tells |= front.starts(reply)
@@ -176,7 +177,7 @@ def read_history(path: str) -> Source:
             raise Fault(f"{path} is a packet file: behind it comes the report that dummynet wrote of it", ROWS)
         if not is_history(records):
             raise Fault(f"{path} line 1: no history of dummynet, and no live session", ROWS)
-        has_end = bool(records.of(np.array([len(records) - 1])).starts(b"end,")[0]) and file.is_whole
+        has_end = bool(records.of(slice(len(records) - 1, None)).starts(b"end,")[0]) and file.is_whole
         entries = Entries.of(path, records)
         places = entries.submits()
         try:
@@ -184,8 +185,7 @@ def read_history(path: str) -> Source:
             fates = with_fates(entries, replies)
             changes = entries.changes()
         except Bad:
-            every = entries.records
-            raise entries.bad(every.of(np.union1d(np.union1d(places, places + 1), np.flatnonzero(every.starts(b"d,"))))) from None
+            raise entries.bad(places) from None
         event, flow, packet, start, due = fates
         replay = Replay(path, packets_of(path, rows, replies[1], file.addresses), event, flow, packet, replies[1], start, due)
     changes = spelled_by_program(path, changes)
@@ -193,9 +193,8 @@ def read_history(path: str) -> Source:
     is_steady = all(place < first for place, _, _ in changes)
     configuration = Configuration.of(path, [text for _, _, text in changes]) if is_steady else None
     cut = None if has_end else int(records.line[-1])
-    data = file.records.data.tobytes()
     report = [(moment, text) for _, moment, text in changes]
-    return Source(replay, (path,), report, configuration, True, cut, seed_in(data), lateness_in(data))
+    return Source(replay, (path,), report, configuration, True, cut, seed_in(file.data), lateness_in(file.data))
 
 
 def read_sources(

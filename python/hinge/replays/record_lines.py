@@ -3,13 +3,13 @@
 from __future__ import annotations
 
 from dataclasses import dataclass
-from typing import NamedTuple, Union
+from typing import Iterator, NamedTuple, Union
 
-from hinge.border.files import read_front, untrusted
+from hinge.border.files import read_bytes, read_front, untrusted
 from hinge.lazy import Integers, Mask, Octets, few as np
 from hinge.replays.columns import Bad, Fields
 from hinge.replays.remarks import addresses_in
-from hinge.replays.tables import COMMA, LINE_FEED, plain
+from hinge.replays.tables import COMMA, LINE_FEED, PIECE, places_of, plain
 
 REMARK = ord("#")
 BEGINNINGS = (b"dummynet-history,", b"dummynet-live,")
@@ -17,26 +17,37 @@ BEGINNINGS = (b"dummynet-history,", b"dummynet-live,")
 
 @dataclass(frozen=True)
 class Records:
-    """Some records of a file: where each begins and ends, its line, and all commas of the file."""
+    """Some records of a file: where each begins and ends, and all commas and line feeds of the file."""
 
     data: Octets
     begin: Integers
     end: Integers
-    line: Integers
     commas: Integers
+    line_feeds: Integers
 
     def __len__(self) -> int:
         return len(self.begin)
 
-    def of(self, choice: Union[Integers, Mask]) -> Records:
+    def of(self, choice: Union[Integers, Mask, slice]) -> Records:
         """Those that a mask or places choose."""
-        return Records(self.data, self.begin[choice], self.end[choice], self.line[choice], self.commas)
+        return Records(self.data, self.begin[choice], self.end[choice], self.commas, self.line_feeds)
+
+    @property
+    def line(self) -> Integers:
+        """The line of each."""
+        lines: Integers = np.searchsorted(self.line_feeds, self.begin) + 1
+        return lines
 
     def text(self, place: int) -> str:
         return self.data[self.begin[place] : self.end[place]].tobytes().decode("utf-8", "replace")
 
     def starts(self, word: bytes, field: int = 0) -> Mask:
         """Whether each has a field, from 0, that begins with this word; the word may go on over commas."""
+        parts = [self.of(slice(at, at + PIECE)).start(word, field) for at in range(0, len(self), PIECE)]
+        return np.concatenate(parts) if parts else np.zeros(0, bool)
+
+    def start(self, word: bytes, field: int) -> Mask:
+        """The same of a few records."""
         begin = self.field_begin(field)
         rest = np.flatnonzero(begin + len(word) <= self.end)
         for place, letter in enumerate(word):
@@ -64,9 +75,10 @@ class Records:
 
 
 class HistoryFile(NamedTuple):
-    """A file's records, without remarks and empty lines, whether its last line is whole, and the IPv6 addresses that
-    its remarks name."""
+    """A file and its records, without remarks and empty lines, whether its last line is whole, and the IPv6 addresses
+    that its remarks name."""
 
+    data: bytes
     records: Records
     is_whole: bool
     addresses: dict[str, str]
@@ -74,15 +86,20 @@ class HistoryFile(NamedTuple):
 
 def read_records(path: str) -> HistoryFile:
     with untrusted(path):
-        data = plain(path, keeps_lines=True)
+        data = plain(read_bytes(path), keeps_lines=True)
     array = np.frombuffer(data, np.uint8)
-    end = np.flatnonzero(array == LINE_FEED)
-    begin = np.append(0, end[:-1] + 1) if len(end) else end
-    first = array[np.minimum(begin, max(len(array) - 1, 0))] if len(array) else begin
-    is_record = (begin < end) & (first != REMARK)
-    line = np.arange(1, len(end) + 1)
-    records = Records(array, begin[is_record], end[is_record], line[is_record], np.flatnonzero(array == COMMA))
-    return HistoryFile(records, data.endswith(b"\n"), addresses_in(data))
+    ends = places_of(array, LINE_FEED)
+    begin, end = (np.concatenate(column) for column in zip(*lines_of_records(array, ends)))
+    return HistoryFile(data, Records(array, begin, end, places_of(array, COMMA), ends), data.endswith(b"\n"), addresses_in(data))
+
+
+def lines_of_records(data: Octets, ends: Integers) -> Iterator[list[Integers]]:
+    """Where records begin and end, of some lines at a time."""
+    for at in range(0, len(ends) + 1, PIECE):
+        end = ends[at : at + PIECE]
+        begin = np.append(ends[at - 1 : at] + 1 if at else np.zeros(1, ends.dtype), end[:-1] + 1)[: len(end)]
+        is_record = (begin < end) & (data[begin] != REMARK)
+        yield [begin[is_record], end[is_record]]
 
 
 def is_history_file(path: str) -> bool:

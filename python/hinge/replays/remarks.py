@@ -4,6 +4,7 @@ lateness."""
 from __future__ import annotations
 
 import contextlib
+from array import array
 from typing import Iterator, Optional
 
 from hinge.arguments import is_number
@@ -43,11 +44,14 @@ def seed_in(data: bytes) -> Optional[str]:
 def lateness_in(data: bytes) -> Lateness:
     """By how much the host was late, by the remarks `#,late,MOMENT` with LATE and UNREAD of each way behind them, in
     ns."""
-    rows = [list(map(int, fields)) for fields in remarks_of(data, b"late") if all(map(is_number, fields))]
-    rows = [row for row in rows if len(row) == len(rows[0]) and len(row) % 2]
-    if not rows:
+    numbers, width = array("q"), 1
+    for fields in remarks_of(data, b"late"):
+        if all(map(is_number, fields)) and len(fields) == (width if numbers else len(fields) | 1):
+            width = len(fields)
+            numbers.extend(map(int, fields))
+    if not numbers:
         return {}
-    moments, *columns = (np.array(column, np.int64) for column in zip(*rows))
+    moments, *columns = (np.array(numbers[place::width], np.int64) for place in range(width))
     return {
         way_name(number, len(columns) // 2): {
             kind: (moments / NS_PER_S, columns[2 * number + place] / NS_PER_MS) for place, kind in enumerate(KINDS)

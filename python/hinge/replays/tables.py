@@ -5,7 +5,9 @@ from __future__ import annotations
 import csv
 import io
 import sys
+from itertools import chain, islice
 from pathlib import Path
+from typing import Callable, Iterator
 
 from hinge.border.files import read_bytes, untrusted
 from hinge.command import ROWS, Fault, working
@@ -16,33 +18,61 @@ csv.field_size_limit(sys.maxsize)  # a field may be as long as its file
 
 BYTE_ORDER_MARK = b"\xef\xbb\xbf"
 COMMA, LINE_FEED = 44, 10
+PIECE = 1 << 20  # places of a file that are looked at together
 
 
-def plain(path: str, keeps_lines: bool = False) -> bytes:
-    """The bytes of a file, or of standard input if its name is `-`, whose lines end in line feeds, without quotes,
-    empty lines and a byte order mark. `keeps_lines` leaves the empty lines, so that lines keep their numbers, and a
-    last line that has no end."""
-    return plain_bytes(read_bytes(path), keeps_lines)
+def plain(data: bytes, keeps_lines: bool = False, errors: str = "strict") -> bytes:
+    """A file whose lines end in line feeds, without quotes, empty lines and a byte order mark. `keeps_lines` leaves the
+    empty lines, so that lines keep their numbers, and a last line that has no end."""
+    if b'"' in data:
+        data = without_quotes(data, errors)
+    else:
+        data = data.removeprefix(BYTE_ORDER_MARK).replace(b"\r\n", b"\n").replace(b"\r", b"\n")
+    if keeps_lines:
+        return data
+    while b"\n\n" in data:
+        data = data.replace(b"\n\n", b"\n")
+    data = data.lstrip(b"\n")
+    return data if data.endswith(b"\n") or not data else data + b"\n"
 
 
-def plain_bytes(data: bytes, keeps_lines: bool = False) -> bytes:
-    is_odd = data.startswith(BYTE_ORDER_MARK) or b'"' in data or b"\r" in data
-    if is_odd or (b"\n\n" in data and not keeps_lines):
-        endings = data.endswith((b"\n", b"\r"))
-        records = csv.reader(io.StringIO(data.decode("utf-8-sig"), newline=""))
-        data = "\n".join(",".join(record) for record in records if record or keeps_lines).encode() + b"\n" * endings
-    return data if data.endswith(b"\n") or not data or keeps_lines else data + b"\n"
+def text_of(data: bytes, errors: str) -> io.TextIOWrapper:
+    """A file for the standard library, which reads a few lines at a time."""
+    return io.TextIOWrapper(io.BytesIO(data), "utf-8-sig", errors, newline="")
 
 
-def fields_of(data: Octets, count: int) -> list[Fields]:
+def without_quotes(data: bytes, errors: str) -> bytes:
+    out = bytearray()
+    for row in csv.reader(text_of(data, errors)):
+        out += ",".join(row).encode() + b"\n"
+    return bytes(out if data.endswith((b"\n", b"\r")) else out[:-1])
+
+
+def places_of(data: Octets, *letters: int) -> Integers:
+    """Where these letters are, as numbers of four bytes if the file has less than 2 GiB."""
+    size = sum(int(np.count_nonzero(data == letter)) for letter in letters)
+    places: Integers = np.empty(size, "i8" if len(data) >> 31 else "i4")
+    count = 0
+    for at in range(0, len(data), PIECE):
+        more = np.flatnonzero(np.isin(data[at : at + PIECE], letters)) + at
+        places[count : count + len(more)] = more
+        count += len(more)
+    return places
+
+
+def fields_of(data: bytes, count: int) -> Iterator[Fields]:
     """The fields of each column."""
-    ends = np.flatnonzero((data == COMMA) | (data == LINE_FEED))
-    if len(ends) % count:
+    rows = data.count(b"\n")
+    if data.count(b",") != rows * (count - 1):
         raise Bad
-    begins, marks = np.append(0, ends[:-1] + 1) if len(ends) else ends, data[ends]
-    if any((marks[place::count] != (COMMA if place < count - 1 else LINE_FEED)).any() for place in range(count)):
+    octets = np.frombuffer(data, np.uint8)
+    marks = places_of(octets, COMMA, LINE_FEED)
+    ends = [marks[place::count] for place in range(count)]
+    if (octets[ends[-1]] != LINE_FEED).any():
         raise Bad
-    return [Fields(data, begins[place::count], (ends - begins)[place::count]) for place in range(count)]
+    first = np.append(np.zeros(1, marks.dtype), ends[-1][:-1] + 1)[:rows]
+    for begin, end in zip(chain([first], (end + 1 for end in ends[:-1])), ends):
+        yield Fields(octets, begin, end - begin)
 
 
 def fault_of(record: list[str], columns: dict[str, Column]) -> str | None:
@@ -57,31 +87,48 @@ def fault_of(record: list[str], columns: dict[str, Column]) -> str | None:
     return None
 
 
-def locate(path: str, data: bytes, columns: dict[str, Column]) -> Fault:
-    """The first record that can't be read, told by its line."""
-    reader = csv.reader(io.StringIO(data.decode("utf-8-sig", "replace"), newline=""))
-    next(reader, None)
-    for record in filter(None, reader):
-        if (fault := fault_of(record, columns)) is not None:
-            return Fault(f"{path} line {reader.line_num}: {fault}", ROWS)
-    return Fault(f"{path}: can't be read", ROWS)
+def read_columns(rows: bytes, columns: dict[str, Column]) -> dict[str, Integers]:
+    """The columns of rows; Bad is raised where some field isn't of its kind."""
+    fields = fields_of(rows, len(columns))
+    return {name: column.read(result) for (name, column), result in zip(columns.items(), fields)}
+
+
+def first_bad(count: int, read: Callable[[int, int], object]) -> int:
+    """The place of the first of so many items for which Bad is raised, found by reading twice as many as there are."""
+    low, high = 0, count
+    while low < high:
+        middle = (low + high + 1) // 2
+        try:
+            read(low, middle)
+            low = middle
+        except Bad:
+            high = middle - (middle == low + 1)
+    return low
 
 
 def located(path: str, data: bytes, columns: dict[str, Column]) -> Fault:
-    """The fault of a file, also where it is no CSV at all."""
+    """The fault of a file: the first row that can't be read, told by its line."""
     try:
-        return locate(path, data, columns)
+        rows = plain(data, errors="replace").partition(b"\n")[2]
+        ends = places_of(np.frombuffer(rows, np.uint8), LINE_FEED)
+
+        def read(low: int, high: int) -> None:
+            read_columns(rows[ends[low - 1] + 1 if low else 0 : ends[high - 1] + 1], columns)
+
+        reader = csv.reader(text_of(data, "replace"))
+        row = next(islice(filter(None, reader), first_bad(len(ends), read) + 1, None), None)
+        fault = row and fault_of(row, columns)
     except csv.Error as error:
         return Fault(f"{path}: {error}", ROWS)
+    return Fault(f"{path} line {reader.line_num}: {fault}" if fault else f"{path}: can't be read", ROWS)
 
 
 def columns_of(path: str, data: bytes, columns: dict[str, Column]) -> dict[str, Integers]:
     """The columns of a file; Bad is raised where some field isn't of its kind."""
-    header, _, rows = plain_bytes(data).partition(b"\n")
+    header, _, rows = plain(data).partition(b"\n")
     if header and header.decode() != ",".join(columns):
         raise Fault(f"{path} line 1: the header isn't {','.join(columns)}", ROWS)
-    fields = fields_of(np.frombuffer(rows, np.uint8), len(columns))
-    return {name: column.read(result) for (name, column), result in zip(columns.items(), fields)}
+    return read_columns(rows, columns)
 
 
 def read_table(path: str, columns: dict[str, Column]) -> dict[str, Integers]:

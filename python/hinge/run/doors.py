@@ -7,6 +7,7 @@ import os
 import socket
 from typing import Optional, Sequence
 
+from hinge.border.scratch import held
 from hinge.run.processes import Mask
 from hinge.run.rooms import start
 from hinge.run.system import NEWNET, NEWNS, NEWPID, NEWUSER, NEWUTS, die_with_parent, join, unshare
@@ -19,10 +20,7 @@ class Doors:
     """Made in the first process."""
 
     def __init__(self) -> None:
-        self.shared = [
-            os.open("/", os.O_RDONLY | os.O_DIRECTORY | os.O_CLOEXEC),
-            *(os.open(f"/proc/thread-self/ns/{kind}", os.O_RDONLY | os.O_CLOEXEC) for kind, _ in KINDS),
-        ]
+        self.shared = [held("/"), *(held(f"/proc/thread-self/ns/{kind}") for kind, _ in KINDS)]
 
     def to(self, network: int, mounts: Optional[list[int]] = None) -> list[int]:
         """Those of the room with this network, and with a root and a mount namespace of its own, if it has such."""

@@ -14,6 +14,7 @@ import struct
 from typing import NamedTuple
 
 from hinge.border.files import read_system
+from hinge.border.scratch import held
 from hinge.run.interfaces import add_interface_route, add_tun, dropped, hand_on
 from hinge.run.rooms import Rooms, see_own_processes
 from hinge.run.rtnetlink import ask_kernel
@@ -38,7 +39,7 @@ OF_INTERFACES, OF_ALL = {"rp_filter": "0", "accept_local": "1"}, {"ip_early_demu
 def network_of(text: str) -> int:
     """The network of a process, or the one at a path."""
     try:
-        network = os.open(f"/proc/{text}/ns/net" if text.isdecimal() else text, os.O_RDONLY | os.O_CLOEXEC)
+        network = held(f"/proc/{text}/ns/net" if text.isdecimal() else text)
         if os.path.samestat(os.fstat(network), os.stat("/proc/self/ns/net")):
             raise Wrong(f"--netns {text}: it is this system's own network")
         return network

@@ -72,9 +72,8 @@ def ways_and_rest(text: str) -> tuple[list[int], str]:
     return ([WAYS[word]], rest) if word in WAYS else ([0, 1], text)
 
 
-def lines_meant(text: str, link: int, option: str) -> list[str]:
+def lines_meant(ways: list[int], rest: str, link: int, option: str) -> list[str]:
     """The lines of `[up|down] LINK`; the option tells where it was said."""
-    ways, rest = ways_and_rest(text)
     if not rest:
         raise Wrong(NO_WORDS)
     words = link_of(rest, option)
@@ -175,34 +174,34 @@ class Plan:
 
     def event(self, words: list[str], link: int = 0, changes: Optional[Changes] = None) -> None:
         """`MOMENT LINE`, `MOMENT [up|down] LINK` or `MOMENT [up|down] outage LENGTH [lossy]`, MOMENT as 5s."""
-        words = bare(" ".join(words)).split()
-        self.happens(words[0], " ".join(words[1:]), link, changes or self.changes, {})
-
-    def happens(self, word: str, text: str, link: int, changes: Changes, meant: dict[str, list[str]]) -> None:
-        """An event, whose lines are meant already where the same was said of the link before."""
-        moment = duration(word)
+        word, _, text = bare(" ".join(words)).partition(" ")
+        changes = changes or self.changes
         if is_line(text):
-            changes.lines.append(Change(moment, of_link(text, link)))
-            return
-        if text not in meant:
-            ways, rest = ways_and_rest(text)
-            if rest == "outage" or rest.startswith("outage "):
-                self.outage(moment, [2 * link + way for way in ways], rest.split()[1:], changes)
-                return
-            meant[text] = lines_meant(text, link, word)
-        changes.lines += [Change(moment, line) for line in meant[text]]
+            changes.lines.append(Change(duration(word), of_link(text, link)))
+        else:
+            self.happens(word, text, link, changes)
+
+    def happens(self, word: str, text: str, link: int, changes: Changes) -> None:
+        """An event of the words of a link."""
+        moment = duration(word)
+        ways, rest = ways_and_rest(text)
+        if rest == "outage" or rest.startswith("outage "):
+            self.outage(moment, [2 * link + way for way in ways], rest.split()[1:], changes)
+        else:
+            changes.lines += [Change(moment, line) for line in lines_meant(ways, rest, link, word)]
 
     @uncollected()
     def timeline(self, path: str) -> None:
-        meant: dict[str, list[str]] = {}  # long files say the same again and again
         with untrusted(path):
             lines = [bare(line).partition(" ") for line in read_lines(path)]
-            plain = {text for text in {text for _, _, text in lines} if is_line(text)}
-            refuse_wrong([Placed(f"{path}:{number}", text) for number, (_, _, text) in enumerate(lines, 1) if text in plain])
+            plain = {number: text for number, (_, _, text) in enumerate(lines, 1) if is_line(text)}
+            refuse_wrong([Placed(f"{path}:{number}", text) for number, text in plain.items()])
             for number, (word, _, text) in enumerate(lines, 1):
                 try:
-                    if word:
-                        self.happens(word, text, 0, self.changes, meant)
+                    if number in plain:
+                        self.changes.lines.append(Change(duration(word), text))
+                    elif word:
+                        self.happens(word, text, 0, self.changes)
                 except Wrong as wrong:
                     raise Wrong(f"{path} line {number}: {wrong}") from None
 

@@ -17,7 +17,9 @@ from contextlib import suppress
 from tempfile import gettempdir
 from typing import Callable, Optional, Sequence
 
-from hinge.border.files import read_system
+from hinge.border.files import read_front, read_system
+from hinge.border.scratch import held
+from hinge.border.terminal import silence
 from hinge.command import say
 from hinge.run.interfaces import add_route, add_tun, dropped, set_up
 from hinge.run.processes import Mask
@@ -107,7 +109,7 @@ def leave_the_system() -> bool:
 
 
 def this_network() -> int:
-    return os.open("/proc/thread-self/ns/net", os.O_RDONLY | os.O_CLOEXEC)
+    return held("/proc/thread-self/ns/net")
 
 
 def see_own_processes() -> None:
@@ -172,7 +174,7 @@ def why_not(name: str, error: OSError) -> str:
     path = shutil.which(name)
     if error.errno == errno.ENOEXEC and path and os.path.exists(PAUSES):
         with suppress(OSError):
-            if os.read(os.open(path, os.O_RDONLY), len(ELF32)) == ELF32:
+            if read_front(path, len(ELF32)) == ELF32:
                 return "it is a 32-bit program, and the simulated machine runs 64-bit programs only"
     return str(error.strerror)
 
@@ -193,7 +195,7 @@ def start(words: Sequence[str], mask: Mask, enter_room: Callable[[], None], own_
         try_to_write(PAUSES, "1")
         os.execvp(words[0], list(words))
     except OSError as error:
-        say(f"{words[0]}: {why_not(words[0], error)}")
+        say(f"{error.filename or words[0]}: {why_not(words[0], error)}")
         sys.stderr.flush()
         os._exit(NOT_FOUND if error.errno == errno.ENOENT else CANNOT_EXECUTE)
     finally:
@@ -238,7 +240,7 @@ class Rooms:
         def enter_room() -> None:
             os.setpgid(0, 0)
             if os.isatty(0):
-                os.dup2(os.open(os.devnull, os.O_RDONLY), 0)
+                silence(0)
             if self.own_users:
                 make_terminals()
             enter(self.server)

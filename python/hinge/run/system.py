@@ -11,11 +11,13 @@ import struct
 from typing import Optional
 
 from hinge.border.files import read_system
+from hinge.border.scratch import held
 from hinge.command import Told
 
 NEWNS, NEWUTS, NEWUSER, NEWPID, NEWNET = 0x00020000, 0x04000000, 0x10000000, 0x20000000, 0x40000000  # of unshare(2)
 BIND, REC, PRIVATE = 0x1000, 0x4000, 0x40000  # of mount(2)
 DETACH = 2  # of umount2(2)
+FROM_HERE, EXCHANGE = -100, 2  # of renameat2(2)
 SET_PDEATHSIG, AMBIENT, AMBIENT_RAISE = 1, 47, 2  # of prctl(2)
 KILL = 9
 BIND_SERVICE, NET_ADMIN, NET_RAW = 10, 12, 13  # of capabilities(7)
@@ -37,6 +39,11 @@ def must(result: int) -> None:
     if result < 0:
         number = ctypes.get_errno()
         raise OSError(number, os.strerror(number))
+
+
+def exchange(one: str, other: str) -> None:
+    """Two files or folders get each other's name at once."""
+    must(libc.renameat2(FROM_HERE, os.fsencode(one), FROM_HERE, os.fsencode(other), EXCHANGE))
 
 
 def unshare(flags: int) -> None:
@@ -71,7 +78,7 @@ def keep_mounts_to_itself() -> None:
     except OSError as error:
         if error.errno != errno.EINVAL:
             raise
-        root, place, own = (os.open(name, os.O_RDONLY | os.O_CLOEXEC) for name in ("/", ".", "/proc/thread-self/ns/mnt"))
+        root, place, own = (held(name) for name in ("/", ".", "/proc/thread-self/ns/mnt"))
         must(libc.setns(own, NEWNS))
         mount("none", "/", "none", REC | PRIVATE)
         os.fchdir(root)

@@ -10,6 +10,7 @@ import shutil
 from typing import NamedTuple, Optional
 
 from hinge.border.files import read_system
+from hinge.border.terminal import silence
 from hinge.run.system import BIND, NEWNS, mount, unshare, write
 
 FILES = {"uid": "/etc/subuid", "gid": "/etc/subgid"}
@@ -60,7 +61,7 @@ class Users:
         self.child = os.fork()
         if self.child == 0:
             os.close(self.write_end)
-            os.dup2(os.open(os.devnull, os.O_WRONLY), 2)  # where it refuses, the user is alone there
+            silence(2)  # where it refuses, the user is alone there
             os._exit(
                 0
                 if os.read(read_end, 1) and all(os.spawnvp(os.P_WAIT, message[0], message) == 0 for message in words.values())

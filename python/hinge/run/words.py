@@ -4,12 +4,12 @@ from __future__ import annotations
 
 import re
 from functools import lru_cache
-from typing import NamedTuple
+from typing import NamedTuple, Optional
 
 from hinge.arguments import is_number
 from hinge.border.files import read_text
 from hinge.command import Fault, Told
-from hingetulip_words.link import Link, Place, WordError, corrected, read_words
+from hingetulip_words.link import Extra, Link, Place, WordError, corrected, read_words
 
 WAYS = {"up": 0, "down": 1}
 LINES = ("pipe", "queue", "ipfw")  # what a configuration line begins with
@@ -21,6 +21,9 @@ TIME = re.compile(r"(\d+(?:\.\d+)?)(ns|us|ms|s|min|h)?", re.ASCII)
 SCALE = {"ns": 1, "us": 10**3, "ms": 10**6, "s": SECOND, "min": 60 * SECOND, "h": 3600 * SECOND}
 
 
+NO_EXTRA = Extra()
+
+
 class Wrong(Told):
     """A word of the command line or of a file that can't be obeyed."""
 
@@ -30,8 +33,8 @@ def duration(text: str) -> int:
     match = TIME.fullmatch(text)
     if not match:
         raise Wrong(f"{text}: no time, as 5s or 600ms")
-    number, unit = match.groups()
-    ns = float(number) * SCALE[unit or "s"]
+    number, unit = match.groups("s")
+    ns = float(number) * SCALE[unit]
     if ns > LAST_MOMENT:
         raise Wrong(f"{text}: above 2^62 ns")
     return round(ns)
@@ -45,7 +48,7 @@ def bytes_of_mtu(text: str) -> int:
 
 def bare(line: str) -> str:
     """A line without its comment and with single blanks."""
-    return " ".join(line.split("#")[0].split())
+    return " ".join(line.partition("#")[0].split())
 
 
 def first_word(text: str) -> tuple[str, str]:
@@ -67,11 +70,32 @@ def read_lines(path: str) -> list[str]:
 read_once = lru_cache(KEPT)(read_words)
 
 
+@lru_cache(KEPT)
+def read_alone(word: str) -> dict[str, str]:
+    """The options of a word that is a link by itself at every place, as 10Mbit/s or 20ms; none of another one."""
+    try:
+        return read_words(word, Place.CHANGE).options
+    except WordError:
+        return {}
+
+
+def of_such_words(text: str) -> Optional[Link]:
+    """The link of words of which each is one by itself, and no two ask for the same. Long files say nothing else, and hardly
+    say it twice in the same words."""
+    options: dict[str, str] = {}
+    for word in text.split(" "):
+        more = read_alone(word)
+        if not more or more.keys() & options:
+            return None
+        options.update(more)
+    return Link(options, NO_EXTRA)
+
+
 def link_of(text: str, option: str, place: Place = Place.CHANGE) -> Link:
     """What `10Mbit/s 20ms queue 100 loss 1%` asks for. Wrong: it is no link; the option of the command line is named, and all
     that was typed of it corrected."""
     try:
-        return read_once(text, place)
+        return of_such_words(text) or read_once(text, place)
     except WordError as wrong:
         whole = corrected(text, place)
         raise Wrong(f"{option}: {wrong}" + f"; in full: '{whole}'" * (whole not in (None, wrong.right()))) from None

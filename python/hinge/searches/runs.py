@@ -5,7 +5,6 @@ from __future__ import annotations
 import json
 import os
 import subprocess
-import sys
 import tempfile
 from concurrent.futures import ThreadPoolExecutor, as_completed
 from contextlib import contextmanager
@@ -14,9 +13,9 @@ from typing import Any, Iterator, NamedTuple, Optional, Sequence
 
 from hinge.border.files import read_object
 from hinge.command import ROWS, Bar, Fault
+from hinge.program import HINGE
 from hinge.searches.case import Case
 
-START = Path(__file__).resolve().parents[1] / "__main__.py"
 NO_RUN = "no run of a search"
 OUTPUT = 10_000  # the last letters of what a run printed that are kept
 # A command line, a configuration line, a system that lacks something, a run that is void or was ended: no failures of
@@ -70,7 +69,7 @@ class Runner:
         with tempfile.TemporaryDirectory(prefix="hinge-") as place:
             summary = Path(place) / "summary"
             name, *options = words_of(self.asked, what, seed, pauses)
-            words = [sys.executable, str(START), name, "--json", str(summary), "--quiet", *options]
+            words = [*HINGE, name, "--json", str(summary), "--quiet", *options]
             status, output = self.ended(words)
             record = read_object(summary, NO_RUN) if summary.exists() else {}
         return Ran(status, output[-OUTPUT:], record)

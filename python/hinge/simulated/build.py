@@ -7,14 +7,15 @@ import os
 import re
 import shutil
 import subprocess
-import sys
+from contextlib import ExitStack
 from functools import partial
 from pathlib import Path
 from typing import Iterator, Optional
 
 from hinge.border.scratch import scratch
+from hinge.border.terminal import tell
 from hinge.command import MISSING, Bar, Fault, say
-from hinge.run.system import Missing
+from hinge.run.system import Missing, die_with_parent, exchange
 from hinge.simulated.kernel import CONFIG, INIT, PATCH, VERSION, Kernel, cache, folder_of
 
 PACKAGES = Path("/usr/src")
@@ -75,7 +76,7 @@ class Build:
 
     def step(self, what: str, *words: "str | Path", where: Path) -> None:
         """Runs a command, and tells its last lines where it fails."""
-        names = {"PATH": os.environ["PATH"], "HOME": str(where), "LC_ALL": "C", "ARCH": "um", **VERSION}
+        names = {"PATH": os.environ["PATH"], "HOME": str(where), "TMPDIR": str(where), "LC_ALL": "C", "ARCH": "um", **VERSION}
         bar, last = Bar(f"steps of the build ({what})", ABOUT), list[str]()
         with subprocess.Popen(
             [*map(str, words)],
@@ -86,14 +87,17 @@ class Build:
             stdout=subprocess.PIPE,
             stderr=subprocess.STDOUT,
             errors="replace",
-        ) as process:
+            preexec_fn=die_with_parent,
+        ) as process, ExitStack() as behind:
+            behind.callback(process.kill)  # which nobody waits for where a signal came
             for line in process.stdout or ():
                 last = [*last[-WORDS:], line]
                 if MADE.match(line) and bar.done < ABOUT - 1:
                     bar.step()
+            behind.pop_all()
         bar.clear()
         if process.returncode:
-            sys.stderr.writelines(last)
+            tell("".join(last), "")
             raise Fault(f"{what}: {words[0]} ended with {process.returncode}", FAILED)
 
     def unpacked(self, folder: Path) -> Path:
@@ -154,7 +158,8 @@ def sha256_of(path: Path) -> str:
 def add_init(kernel: Kernel) -> None:
     """Compiles the first process of a kernel's machines."""
     words = ["cc", "-std=c17", "-O2", "-static", "-s", "-o", str(kernel.init), *map(str, INIT)]
-    process = subprocess.run(words, capture_output=True, text=True, errors="replace")
+    with scratch() as place:  # for what a compiler leaves that is killed
+        process = subprocess.run(words, capture_output=True, text=True, errors="replace", env={**os.environ, "TMPDIR": str(place)})
     if process.returncode:
         raise Fault(f"{INIT[0]} isn't compiled: {process.stderr.strip()}", FAILED)
 
@@ -166,8 +171,13 @@ def version_of(tree: Path) -> str:
 
 
 def kept_as(new: Path, folder: Path) -> Kernel:
-    """Puts a kernel where it is looked for, in the place of one that is there."""
-    shutil.rmtree(folder, ignore_errors=True)
+    """Gives a kernel the name by which it is looked for, at once: one that is there gets its name, and goes with that."""
     new.chmod(0o755)
-    shutil.copytree(new, folder)
+    if folder.exists():
+        try:
+            exchange(str(new), str(folder))
+            return Kernel(folder)
+        except OSError:  # a file system that can't
+            shutil.rmtree(folder, ignore_errors=True)
+    new.rename(folder)
     return Kernel(folder)

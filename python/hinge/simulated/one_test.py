@@ -17,13 +17,14 @@ from typing import Any, Iterator, NamedTuple
 
 import pytest
 
+from hinge.border.terminal import lines
+from hinge.program import HINGE
 from hinge.pytest_plugin import INSIDE
 from hinge.run.transcripts import KEPT
 from hinge.testing.emulated import audited, closing, dropped_in_history
 
 HISTORY, REPORTS = "link.history", "reports"
 OF_THE_LINK = re.compile(r"hinge run: (up|down): .*")
-START = Path(__file__).resolve().parents[1] / "__main__.py"
 
 
 class Ran(NamedTuple):
@@ -70,7 +71,7 @@ def ran(item: pytest.Item, words: list[str], seed: int, folder: Path) -> Ran:
         f"--link-seed={seed}",
         item.nodeid,
     ]
-    outer = [sys.executable, str(START), "run", "--simulated", "--seed", str(seed), "--kept", str(part), *words]
+    outer = [*HINGE, "run", "--simulated", "--seed", str(seed), "--kept", str(part), *words]
     history = [] if has_net(item) else ["--transcript", str(folder / HISTORY)]
     whole = [*outer, *history, "--", *inner]
     process = subprocess.run(
@@ -114,7 +115,7 @@ def reports(item: pytest.Item, mark: pytest.Mark, links: list[str], seed: int) -
         result.append(failed(item, f"the simulated machine ended with {run.status} before the test had"))
     wrong = [report for report in result if report.failed]
     for report in wrong:
-        report.sections.append(("simulated run", of_the_link(run.told, seed, folder / HISTORY)))
+        report.sections.append(("simulated run", lines(of_the_link(run.told, seed, folder / HISTORY))))
     if not wrong:
         shutil.rmtree(folder, ignore_errors=True)
     return result

@@ -5,11 +5,11 @@ from __future__ import annotations
 import ctypes
 import os
 import shutil
-import sys
 import threading
 import time
 from pathlib import Path
 
+from hinge.border.files import opened
 from hinge.command import say
 from hinge.run.system import libc
 
@@ -81,12 +81,13 @@ def has_terminal() -> bool:
 def read_input(into: Path) -> None:
     """Keeps the whole standard input, since simulated time can't wait for more. A terminal's is none."""
     with open(into, "wb") as file:
-        if has_terminal() or sys.stdin is None:
+        if has_terminal():
             return
         waiting = threading.Timer(PATIENCE, say, ["--simulated begins when standard input has ended"])
         waiting.daemon = True
         waiting.start()
         try:
-            shutil.copyfileobj(sys.stdin.buffer, file)
+            with opened("-") as source:
+                shutil.copyfileobj(source, file)
         finally:
             waiting.cancel()

@@ -6,13 +6,12 @@ import re
 import select
 import signal
 import subprocess
-import sys
 from collections import Counter
 from pathlib import Path
 from typing import TYPE_CHECKING, Iterator, Optional, Protocol
 
 from hinge.faults import IS_LOST, Fault, Faults, FaultyNetwork
-from hinge.program import dummynet
+from hinge.program import HINGE, dummynet
 from hingetulip.aio import Network
 from hingetulip.aio.options import Options
 from hingetulip.aio.report import MOST_DROPPED
@@ -21,7 +20,6 @@ from hingetulip.records import Outcome
 if TYPE_CHECKING:
     from hinge.net.running import Net
 
-START = Path(__file__).resolve().parents[1] / "__main__.py"
 ADDRESS = re.compile(r"\b10\.\d+\.\d+\.\d+\b")
 PATIENCE = 30  # s until a path is ready, and until it has ended
 
@@ -91,9 +89,7 @@ class UdpPath:
         self.faults: list[str] = []
         links = [f"pipe {number} config {Options(text)}".strip() for number, text in enumerate((there, back), 1)]
         words = ["udp", "0", server, *links, "--seed", str(seed), "--transcript", str(history)]
-        self.process = subprocess.Popen(
-            [sys.executable, str(START), *words], stdout=subprocess.PIPE, stderr=subprocess.PIPE, text=True
-        )
+        self.process = subprocess.Popen([*HINGE, *words], stdout=subprocess.PIPE, stderr=subprocess.PIPE, text=True)
         self.address = self._ready()
 
     @property

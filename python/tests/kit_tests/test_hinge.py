@@ -54,7 +54,7 @@ class Help(unittest.TestCase):
         self.assertEqual(told.stdout, run("--help").stdout)
 
     def test_each_help_fits_a_terminal_and_ends_with_an_example_and_the_statuses(self) -> None:
-        self.assertEqual(len(COMMANDS), 18)
+        self.assertEqual(len(COMMANDS), 19)
         for name in COMMANDS:
             out, words = io.StringIO(), {"argv": ["hinge", "--help"]}
             with mock.patch.multiple(sys, **words), mock.patch.dict(os.environ, COLUMNS="80"), contextlib.redirect_stdout(out):

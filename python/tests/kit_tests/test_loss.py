@@ -11,7 +11,7 @@ from kit import MIXED, folder, needs_tshark, replay, rows_of, run, write
 from hinge.captures.packet_rows import HEADER
 from hinge.loss import KEPT, LOST, Bernoulli, BurstsByTime, Chosen, GilbertElliott, Listed, Words, read_model
 from hinge.pictures.drawn import provenance_of
-from hinge.replays.asked import read_sources
+from hinge.replays.history import read_sources
 from hingetulip.aio import Network
 from hingetulip.records import Outcome
 

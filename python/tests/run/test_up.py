@@ -103,6 +103,36 @@ class OfNets(Named):
             (done.returncode, done.stderr), (2, "hinge up: --name ../x: a name has letters, digits, dots and hyphens\n")
         )
 
+    def test_a_log_is_no_link_and_no_pipe(self) -> None:
+        folder, kept = self.folder / "x.session", self.folder / "kept"
+        (folder / "logs").mkdir(parents=True)
+        kept.write_text("kept")
+        for log in (folder / "net.log", folder / "logs" / "a.log"):
+            log.symlink_to(kept)
+            done = self.up("host a echo begun\nhost b\nlink a b\n")
+            told = done.stderr if log.name == "net.log" else (folder / "net.log").read_text()
+            self.assertIn(f"{log.relative_to(self.folder)}: Too many levels of symbolic links", told)
+            self.hinge("down", "x")
+            log.unlink()
+        (folder / "net.log").unlink()
+        os.mkfifo(folder / "net.log")
+        done = self.up(NET)
+        self.assertEqual((done.returncode, done.stderr), (6, "hinge up: x.session/net.log: No such device or address\n"))
+        self.assertEqual(kept.read_text(), "kept")
+
+    @unittest.skipUnless(os.geteuid() == 0, "only root can give a file away")
+    def test_a_log_of_another_user(self) -> None:
+        (self.folder / "x.session").mkdir()
+        log = self.folder / "x.session" / "net.log"
+        log.write_text("")
+        os.chown(log, 65534, 65534)
+        done = self.up(NET)
+        self.assertEqual((done.returncode, done.stderr), (6, "hinge up: x.session/net.log: it is no file of this user's\n"))
+
+    def test_what_a_fault_quotes_is_not_obeyed_by_a_terminal(self) -> None:
+        done = self.up("host a\nhost b\nlink a b\n\x1b[31m\n")
+        self.assertEqual((done.returncode, "\x1b" in done.stderr, "\\x1b[31m" in done.stderr), (2, False, True), done.stderr)
+
     def test_a_folder_of_another_user(self) -> None:
         if os.geteuid() != 0:
             self.skipTest("only root can give a folder away")
