@@ -87,9 +87,8 @@ class OfFiles(unittest.TestCase):
     def test_packet_files(self) -> None:
         for name, data in PACKETS.items():
             self.file.write_bytes(HEADER + data)
-            for words in (["why", 1, self.config, self.file, self.file], ["check", self.file]):
-                with self.subTest(name, command=words[0]):
-                    self.check(words, data, {0, 4})
+            with self.subTest(name):
+                self.check(["why", 1, self.config, self.file, self.file], data, {0, 4})
 
 
 if __name__ == "__main__":
