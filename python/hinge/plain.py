@@ -114,7 +114,7 @@ def arange(*bounds: int) -> Array:
 
 
 def append(*rows: Any) -> Array:
-    return Array(chain.from_iterable(row if isinstance(row, Array) else [row] for row in rows))
+    return Array(chain.from_iterable(row.items if isinstance(row, Array) else [row] for row in rows))
 
 
 def where(choice: Array, one: Any, other: Any) -> Array:
