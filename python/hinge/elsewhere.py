@@ -26,22 +26,22 @@ class Answer(NamedTuple):
 ANSWERS = {
     # tc, mahimahi, toxiproxy, comcast, pumba without what a line of them says
     "tc netem qdisc tbf htb comcast delay loss link latency limit bandwidth mm-delay mm-loss": Answer(LINK, "LINKS"),
-    "mm-link mm-onoff trace mahimahi": Answer(
+    "mm-link mm-onoff mm-webreplay trace mahimahi": Answer(
         "hinge run --link 20ms --up-trace up.trace --down-trace down.trace -- COMMAND", "LINKS"
     ),
-    "toxic toxiproxy toxiproxy-cli proxy cli": Answer("hinge run --outside --link 100ms -- COMMAND", "LIVE"),
+    "toxic toxiproxy toxiproxy-cli toxiproxy-server proxy cli": Answer("hinge run --outside --link 100ms -- COMMAND", "LIVE"),
     "pumba": Answer("sudo hinge run --netns PID --link 100ms", "LIVE"),
     "udp-proxy": Answer("hinge udp 5000 HOST:PORT 'pipe 1 config delay 20'", "LIVE"),
     # nets
-    "mn mininet containernet topo topology create host hosts pingall cluster": Answer(NET, "NET"),
+    "mn mininet containernet topo topology create host hosts pingall cluster nodes": Answer(NET, "NET"),
     "start launch daemon": Answer("hinge up FILE", "NET"),
     "stop kill end quit delete remove rm": Answer("hinge down NAME", "NET"),
     "list ls ps show info": Answer("hinge status NAME", "NET"),
     "cut heal partition isolate restart set": Answer("hinge change NAME cut HOST 5s", "NET"),
-    "sh bash shell enter attach ssh": Answer("hinge exec NAME HOST -- COMMAND", "NET"),
+    "sh bash shell enter attach ssh xterm h1 h2": Answer("hinge exec NAME HOST -- COMMAND", "NET"),
     "nemesis chaos jepsen": Answer(f"{NET}, with a line `nemesis partition-halves every 10s for 3s`", "NET"),
     # ipfw and its relations
-    "pipe queue dnctl pfctl sched": Answer("hinge run --line 'pipe 1 config bw 10Mbit/s' -- COMMAND", "LINKS"),
+    "pipe queue dnctl pfctl sched add": Answer("hinge run --line 'pipe 1 config bw 10Mbit/s' -- COMMAND", "LINKS"),
     "replay audit live": Answer("dummynet replay CONFIG PACKETS, or dummynet audit HISTORY", "FILES"),
     # commands of older versions
     "stats": Answer("hinge look SOURCE, with --csv, or -o FILE.csv", "CAPTURE"),
@@ -56,15 +56,15 @@ ANSWERS = {
     "man doc manual pages readme info-page": Answer("hinge docs"),
     "example examples tutorial demo hello quickstart": Answer("hinge try"),
     "test pytest fixture": Answer("hinge docs TESTING"),
-    "plot graph draw chart png report analyze analyse log logs history view open": Answer(
+    "plot graph mm-throughput-graph draw chart png report analyze analyse log logs history view open": Answer(
         "hinge look HISTORY -o picture.png", "CAPTURE"
     ),
-    "capture pcap tcpdump wireshark import convert": Answer("hinge packets CAPTURE -o packets.csv", "CAPTURE"),
+    "capture pcap tcpdump wireshark import convert mm-webrecord": Answer("hinge packets CAPTURE -o packets.csv", "CAPTURE"),
     "simulate sim simulation --simulated deterministic": Answer(
         "hinge run --simulated --seed 1 --link '10Mbit/s 20ms' -- COMMAND", "SIMULATED"
     ),
-    "emulate emulator exec-link throttle slow shape limit-rate with wrap ping curl wget iperf3": Answer(RUN, "LIVE"),
-    "monitor watch top stat metrics": Answer("hinge status NAME"),
+    "emulate emulator exec-link throttle slow shape limit-rate with wrap ping curl wget iperf iperf3": Answer(RUN, "LIVE"),
+    "monitor watch top stat metrics mm-meter": Answer("hinge status NAME"),
     "validate lint verify explain": Answer("hinge check FILE"),
     "fuzz explore seeds shrink": Answer("hinge search FILE.net", "SIMULATED"),
     "build-kernel uml linux": Answer("hinge kernel", "SIMULATED"),
@@ -99,7 +99,7 @@ def of_mahimahi(words: Sequence[str]) -> Optional[Answer]:
     while rest and rest[0].startswith("mm-"):
         word = rest.pop(0)
         if word == "mm-delay" and rest and (delay := whole_ms(f"{rest[0]}ms")):
-            link.append(delay)
+            link[:1] = [f"{int(delay[:-2]) + int(link[0][:-2])}ms"] if link and link[0].endswith("ms") else [delay, *link[:1]]
             rest.pop(0)
         elif word == "mm-loss" and len(rest) > 1 and rest[1].replace(".", "", 1).isdigit():
             link.append(f"loss {float(rest[1]) * 100:g}%")
@@ -132,6 +132,8 @@ READERS: dict[str, Callable[[Sequence[str]], Optional[Answer]]] = {
 
 def answer_of(words: Sequence[str]) -> Optional[Answer]:
     """What to type for these words behind `hinge`, if they are known."""
+    words = list(words)[words[0] == "sudo" and len(words) > 1 :]
+    words[0] = words[0].rpartition("/")[2] or words[0]
     first = words[0].lower()
     if first.startswith("--") and (link := of_link(comcast(words))):
         return link

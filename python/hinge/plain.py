@@ -116,7 +116,7 @@ def arange(*bounds: int) -> Array:
 
 
 def append(*rows: Any) -> Array:
-    return Array(chain.from_iterable(list(row) if isinstance(row, Array) else [row] for row in rows))
+    return Array(chain.from_iterable(row.items if isinstance(row, Array) else [row] for row in rows))
 
 
 def concatenate(rows: Iterable[Array]) -> Array:

@@ -7,7 +7,7 @@ import os
 from hinge.border.files import read_text, told_name
 from hinge.command import CONFIGURATION, Fault, parser, say
 from hinge.configurations.ipfw_lines import Conversion
-from hinge.elsewhere import of_ipfw
+from hinge.elsewhere import WORDS, of_ipfw
 from hinge.outputs import refuse_inputs, writing
 
 WHAT = """\
@@ -26,7 +26,7 @@ def main() -> None:
     )
     line.add_argument("-o", metavar="FILE", help="the configuration (default: standard output)")
     arguments = line.parse_args()
-    answer = None if os.path.exists(arguments.files[0]) else of_ipfw(arguments.files)
+    answer = None if os.path.exists(arguments.files[0]) else of_ipfw(arguments.files) or WORDS.get(arguments.files[0])
     if answer is not None:
         line.error(f"it reads files, and a line of ipfw is written so: {answer.write}")
     refuse_inputs((arguments.o,), arguments.files)

@@ -137,17 +137,7 @@ class HtmlPage:
     def _(self, item: Points) -> None:
         if item.is_cross:
             marker = {"size": 7, "symbol": "x-thin-open", "color": item.color}
-            self.add(
-                self.graphs.Scattergl(
-                    x=item.x,
-                    y=item.y,
-                    text=self.texts(item.places),
-                    hoverinfo="text",
-                    mode="markers",
-                    marker=marker,
-                    **self.naming(item.name, item.flow),
-                )
-            )
+            self.dots(item.x, item.y, item.places, marker, self.naming(item.name, item.flow))
         else:
             self.points(item.name, item.places, item.color, item.flow)
 
@@ -167,17 +157,13 @@ class HtmlPage:
         """Some of a flow's packets, the fastest and the slowest of each stretch of time among them."""
         draw_lines = sum(len(one.out_places) for one in self.found.flows) or 1
         places = thinned(places, self.found.replay, max(MOST_TOLD * len(places) // draw_lines, 100))
-        self.add(
-            self.graphs.Scattergl(
-                x=self.found.sent_at(places),
-                y=self.found.took_ms(places),
-                text=self.texts(places),
-                hoverinfo="text",
-                mode="markers",
-                marker={"size": 4, "color": color},
-                **self.naming(name, flow),
-            )
-        )
+        marker = {"size": 4, "color": color}
+        self.dots(self.found.sent_at(places), self.found.took_ms(places), places, marker, self.naming(name, flow))
+
+    def dots(self, x: Reals, y: Reals, places: Integers, marker: dict[str, object], naming: dict[str, object]) -> None:
+        """Packets, of each of which something is read."""
+        words = {"text": self.texts(places), "hoverinfo": "text", "mode": "markers"}
+        self.add(self.graphs.Scattergl(x=x, y=y, marker=marker, **words, **naming))
 
     def texts(self, places: Integers) -> list[str]:
         self.told += len(places)
@@ -215,19 +201,9 @@ class HtmlPage:
                 "title": {"text": "Flows, the largest first, and what isn't a flow's; click to hide one"},
             },
         )
-        self.figure.add_annotation(
-            text="<br>".join(below),
-            x=0,
-            y=0,
-            xref="paper",
-            yref="paper",
-            yshift=-45,
-            yanchor="top",
-            xanchor="left",
-            align="left",
-            showarrow=False,
-            font={"size": 10, "color": "#444444"},
-        )
+        place = {"x": 0, "y": 0, "xref": "paper", "yref": "paper", "yshift": -45, "yanchor": "top", "xanchor": "left"}
+        font = {"size": 10, "color": "#444444"}
+        self.figure.add_annotation(text="<br>".join(below), align="left", showarrow=False, font=font, **place)
 
     def notes(self) -> list[str]:
         """What the panels say beside their names, and what the page leaves out, so that nobody counts points."""

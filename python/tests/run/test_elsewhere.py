@@ -6,6 +6,7 @@ import contextlib
 import io
 import shlex
 import unittest
+from pathlib import Path
 
 from hinge.__main__ import COMMANDS
 from hinge.commands.docs import folder_of_pages
@@ -17,6 +18,7 @@ from hinge.run.settings import RunOptions
 from hinge.run.words import Wrong, link_of
 from hingetulip_words.link import Place, corrected
 
+DATA = Path(__file__).resolve().parents[1] / "kit_data"
 LINES = {
     "tc qdisc add dev eth0 root netem delay 100ms": "--link 100ms",
     "tc qdisc add dev eth0 root netem rate 10mbit delay 20ms 5ms loss 1%": "--link '10Mbit/s 20ms jitter 5ms loss 1%'",
@@ -86,6 +88,17 @@ class Lines(unittest.TestCase):
                 words = shlex.split(answer.write.replace("sudo ", "").replace(" --netns PID", ""))
                 if "--up-trace" not in words:
                     plan_of(run_options(words[2:]), 1500)
+
+    def test_a_hundred_lines_of_other_manuals(self) -> None:
+        lines, answers = (DATA / "foreign.txt").read_text().splitlines(), 0
+        for words in map(shlex.split, lines):
+            answer = answer_of(words[words[0] == "ipfw" :])
+            write = answer.write.partition(";")[0].replace("sudo ", "").replace(" --netns PID", "") if answer else ""
+            answers += answer is not None or words[0] in COMMANDS
+            if write.startswith("hinge run ") and "--up-trace" not in write:
+                plan_of(run_options(shlex.split(write)[2:]), 1500)
+        self.assertEqual(len(lines), 100)
+        self.assertGreaterEqual(answers, 95)
 
     def test_what_a_link_does_not_do_is_named(self) -> None:
         answer = answer_of("tc qdisc add dev eth0 root netem delay 10ms reorder 25% 50% corrupt 0.1%".split())
