@@ -71,6 +71,7 @@ ALLOWED = {
     "commands/search.py": {"write_text": OUTPUT},
     "captures/through.py": {"open": OUTPUT},
     "net/described.py": {"write_text": OWN},
+    "net/disks.py": {"os.open": "the root and the mounts of this process"},
     "net/running.py": {"write_text": OWN},
     "pictures/html_page.py": {"write_text": OUTPUT},
     "run/interfaces.py": {"os.open": "the system's /dev/net/tun"},
