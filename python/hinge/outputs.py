@@ -53,12 +53,12 @@ def format_of(name: str) -> Format:
 def refuse_inputs(outputs: Iterable[Name], inputs: Iterable[Name]) -> None:
     """Fault: an output is one of the inputs, or another output, under whatever name. It comes before anything is
     read."""
-    width = {place(name): str(name) for name in inputs if is_file(name)}
+    names = {place(name): str(name) for name in inputs if is_file(name)}
     for name in outputs:
         if is_file(name):
-            if place(name) in width:
-                raise Fault(f"{name} would be written over {width[place(name)]}: give the output a name of its own", COMMAND_LINE)
-            width[place(name)] = str(name)
+            if place(name) in names:
+                raise Fault(f"{name} would be written over {names[place(name)]}: give the output a name of its own", COMMAND_LINE)
+            names[place(name)] = str(name)
 
 
 def is_file(name: Name) -> bool:

@@ -1,4 +1,4 @@
-"""The tables of CONTRIBUTING.md: each file that they name is there, and each name is in the files that its cell names.
+"""The tables and paragraphs of CONTRIBUTING.md about changes: each file that they name is there, and each name of a table is in a source file.
 
     python3 tools/gate/contributing.py
 """
@@ -17,6 +17,7 @@ PAGE = TOP / "CONTRIBUTING.md"
 QUOTED = re.compile(r"`([^`]+)`")
 ROW = re.compile(r"\| (?P<part>[^|]+?) \| (?P<cell>.+?) \|$")
 FILE = re.compile(r"[\w./-]+\.(?:rt|antt|py|rs|h|c|bash|md)|[\w.-]+(?:/[\w.-]+)+")
+SOURCE = re.compile(r"[\w./-]+\.(?:rt|antt|py|rs|h|c|bash)")
 PLACEHOLDER = re.compile(r"[A-Z]{4,}")  # as FUNCTION in a path
 
 
@@ -28,6 +29,12 @@ def rows(text: str) -> list[tuple[str, str]]:
         if is_files and (row := ROW.match(line)) and row["part"] not in ("Part", "---"):
             found.append((row["part"], row["cell"]))
     return found
+
+
+def paragraphs(text: str) -> list[str]:
+    """The lines between the tables that say what a change touches."""
+    section = text.partition("## What a change touches\n")[2].partition("\n## ")[0]
+    return [line for line in section.splitlines() if not line.startswith("|")]
 
 
 def is_there(name: str, tracked: list[str]) -> bool:
@@ -44,7 +51,11 @@ def is_known(name: str) -> bool:
 def main() -> int:
     tally = Tally()
     tracked = subprocess.run(["git", "ls-files"], cwd=TOP, capture_output=True, text=True, check=True).stdout.split()
-    for part, cell in rows(PAGE.read_text(encoding="utf-8")):
+    text = PAGE.read_text(encoding="utf-8")
+    for name in QUOTED.findall("\n".join(paragraphs(text))):
+        if SOURCE.fullmatch(name):
+            tally.note(f"a paragraph: {name}", "" if is_there(name, tracked) else "no such file")
+    for part, cell in rows(text):
         for name in QUOTED.findall(cell):
             if FILE.fullmatch(name) and not PLACEHOLDER.search(name):
                 tally.note(f"{part}: {name}", "" if is_there(name, tracked) else "no such file")

@@ -91,9 +91,9 @@ def refuse_beside_netns(run: RunOptions) -> None:
         "--net": run.net,
         "--simulated": run.simulated,
     }
-    inputs = [option for option, value in options.items() if value]
-    if run.netns is not None and inputs:
-        raise Wrong(f"{inputs[0]}: there is no such thing beside --netns, whose hosts are there already")
+    names = [option for option, value in options.items() if value]
+    if run.netns is not None and names:
+        raise Wrong(f"{names[0]}: there is no such thing beside --netns, whose hosts are there already")
 
 
 def main() -> None:

@@ -52,8 +52,8 @@ class Draw:
 
     def some(self, names: list[str], count: int) -> list[str]:
         """So many of the names, in their order."""
-        width = set(self.shuffled(names)[:count])
-        return [name for name in names if name in width]
+        choice = set(self.shuffled(names)[:count])
+        return [name for name in names if name in choice]
 
     def shuffled(self, names: list[str]) -> list[str]:
         rest = list(names)

@@ -37,19 +37,19 @@ def all_ways(counts: Counts) -> tuple[Times, Times]:
     return one, two
 
 
-def moment_of(message: Said, main: Optional[int]) -> Optional[int]:
+def moment_of(act: Said, main: Optional[int]) -> Optional[int]:
     """When a line `at` is obeyed, by the links' clock in ns; nothing where the main command didn't begin."""
-    if not message.moment.of_main:
-        return message.moment.ns
-    return None if main is None else main + message.moment.ns
+    if not act.moment.of_main:
+        return act.moment.ns
+    return None if main is None else main + act.moment.ns
 
 
-def act_records(message: Sequence[Said], result: Sequence[Done], main: Optional[int], end: int) -> list[dict[str, object]]:
+def act_records(acts: Sequence[Said], result: Sequence[Done], main: Optional[int], end: int) -> list[dict[str, object]]:
     """What happened by lines `at` and by `hinge change`, for JSON, each with its moment."""
     hosts = [{"moment": one.moment, "at": str(one.act.moment), "words": f"{one.act.word} {one.act.host}"} for one in result]
     links = [
         {"moment": moment, "at": str(one.moment), "words": one.words}
-        for one in message
+        for one in acts
         if one.words.split()[0] not in ACTS
         for moment in [moment_of(one, main)]
         if moment is not None and moment <= end
@@ -57,23 +57,23 @@ def act_records(message: Sequence[Said], result: Sequence[Done], main: Optional[
     return sorted([*links, *hosts], key=lambda one: one["moment"])  # type: ignore[arg-type, return-value]
 
 
-def some(message: Sequence[Said]) -> str:
-    view = [f"`at {one.moment} {one.words}`" for one in message[:MOST_SHOWN]]
-    return ", ".join(view) + f" and {len(message) - MOST_SHOWN} more" * (len(message) > MOST_SHOWN)
+def some(acts: Sequence[Said]) -> str:
+    lines = [f"`at {one.moment} {one.words}`" for one in acts[:MOST_SHOWN]]
+    return ", ".join(lines) + f" and {len(acts) - MOST_SHOWN} more" * (len(acts) > MOST_SHOWN)
 
 
-def of_plan(message: Sequence[Said], main: Optional[int], end: int) -> Iterator[str]:
+def of_plan(acts: Sequence[Said], main: Optional[int], end: int) -> Iterator[str]:
     """What a seed has drawn, and the changes that the main command hasn't seen as they came."""
-    draw_lines = [one for one in message if one.is_drawn and (moment_of(one, main) or 0) <= end]
+    draw_lines = [one for one in acts if one.is_drawn and (moment_of(one, main) or 0) <= end]
     yield from (f"drawn: at {one.moment} {one.words}" for one in draw_lines[:MOST_DRAWN])
     if len(draw_lines) > MOST_DRAWN:
         yield f"and {len(draw_lines) - MOST_DRAWN} more, which --json has"
     if main is None:
         return
-    early = [one for one in message if not one.moment.of_main and one.moment.ns < main]
+    early = [one for one in acts if not one.moment.of_main and one.moment.ns < main]
     if early:
         yield f"before the main command, which began at {main / 1e9:.3f} s: {some(early)}"
-    late = [one for one in message if not one.is_drawn and (moment_of(one, main) or 0) > end]
+    late = [one for one in acts if not one.is_drawn and (moment_of(one, main) or 0) > end]
     if late:
         yield f"CAUTION, not yet when the run ended: {some(late)}"
 

@@ -38,10 +38,10 @@ class NetPicture:
     def throughput(self) -> Panel:
         load = [carried_by_way(self.found, way.pipe, self.step, self.count) for way, _ in self.ways]
         most = max((float(rates.max(initial=0)) for rates in load), default=0)
-        vocabulary = capacities(self.looked.obeyed, self.timeline.span)
+        rates_of_pipes = capacities(self.looked.obeyed, self.timeline.span)
         items, above = list[Item](), 0
         for number, (way, color) in enumerate(self.ways):
-            moments, rates = vocabulary.get(f"pipe {way.pipe}", (self.edges[:0], self.edges[:0]))
+            moments, rates = rates_of_pipes.get(f"pipe {way.pipe}", (self.edges[:0], self.edges[:0]))
             if not len(rates) or np.nanmax(rates) > MOST_ABOVE * most:
                 above += bool(len(rates))
                 continue

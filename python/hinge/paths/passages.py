@@ -112,12 +112,12 @@ class Topology:
 
     def hosts_of(self, addresses: Integers) -> Integers:
         """The host of each address; for those of none the one that leads outside, or NO_HOST."""
-        vocabulary = np.array(sorted(self.host_of), np.int64)
-        hosts = np.array([self.host_of[address] for address in vocabulary.tolist()], np.int64)
-        at = np.minimum(np.searchsorted(vocabulary, addresses), max(len(vocabulary) - 1, 0))
+        addresses_of_hosts = np.array(sorted(self.host_of), np.int64)
+        hosts = np.array([self.host_of[address] for address in addresses_of_hosts.tolist()], np.int64)
+        at = np.minimum(np.searchsorted(addresses_of_hosts, addresses), max(len(addresses_of_hosts) - 1, 0))
         return (
-            np.where(vocabulary[at] == addresses, hosts[at], self.outside)
-            if len(vocabulary)
+            np.where(addresses_of_hosts[at] == addresses, hosts[at], self.outside)
+            if len(addresses_of_hosts)
             else np.full(len(addresses), self.outside)
         )
 

@@ -84,8 +84,8 @@ def figures(name: str, replay: Replay, parts: Optional[Parts], places: Integers)
 
 def figures_of_all(replay: Replay, parts: Optional[Parts]) -> Figures:
     """The figures of all rows; jitter is one flow's, so they have none."""
-    places = figures("all", replay, parts, np.arange(len(replay.packets)))
-    return Figures(places.name, {**places.value, "jitter_ns": None})
+    total = figures("all", replay, parts, np.arange(len(replay.packets)))
+    return Figures(total.name, {**total.value, "jitter_ns": None})
 
 
 def table_of(replay: Replay, parts: Optional[Parts], by: str = "tuple", top: int = TABLE_FLOWS) -> list[Figures]:

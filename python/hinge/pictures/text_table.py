@@ -31,26 +31,26 @@ def head(name: str) -> tuple[str, str]:
 def blocks(columns: list[list[str]], width: int) -> Iterator[list[list[str]]]:
     """The columns in blocks that are no wider than this, if they can be; the first column begins each."""
     first, *rest = columns
-    block, occupants = [first], len(first[0])
+    block, letters = [first], len(first[0])
     for column in rest:
-        if len(block) > 1 and occupants + len(GAP) + len(column[0]) > width:
+        if len(block) > 1 and letters + len(GAP) + len(column[0]) > width:
             yield block
-            block, occupants = [first], len(first[0])
+            block, letters = [first], len(first[0])
         block.append(column)
-        occupants += len(GAP) + len(column[0])
+        letters += len(GAP) + len(column[0])
     yield block
 
 
 def write_columns(columns: list[list[str]], texts: int, out: TextIO) -> None:
     """The columns in blocks as wide as the terminal, or as 80 columns. The first so many are of text."""
-    view = [
+    cells = [
         [text.ljust(max(map(len, column))) if place < texts else text.rjust(max(map(len, column))) for text in column]
         for place, column in enumerate(columns)
     ]
     width = shutil.get_terminal_size((WIDTH, 0)).columns if out.isatty() else WIDTH
     parts = (
         "\n".join(GAP.join(row).rstrip() for row in zip(*block) if any(text.strip() for text in row))
-        for block in blocks(view, width)
+        for block in blocks(cells, width)
     )
     out.write("\n\n".join(parts) + "\n")
 

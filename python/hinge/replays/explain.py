@@ -100,8 +100,8 @@ class Explainer:
         if bandwidth == 0:
             return "Its transmission took no time, since the bandwidth is unlimited."
         length, took = int(self.packets.length[place]), int(self.parts.transmission[place])
-        round_value = "" if length * BITS_NS % bandwidth == 0 else ", rounded up to whole ns"
-        return f"Its transmission took {ms(took)} ({length:,} bytes at {bandwidth:,} bit/s{round_value})."
+        rounding = "" if length * BITS_NS % bandwidth == 0 else ", rounded up to whole ns"
+        return f"Its transmission took {ms(took)} ({length:,} bytes at {bandwidth:,} bit/s{rounding})."
 
     def waiting(self, place: int, delay: int) -> str:
         if delay == 0:

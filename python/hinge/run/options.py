@@ -254,8 +254,9 @@ def plan_of(options: LiveOptions, longest: int) -> Plan:
     return plan
 
 
-def drawn_seed(inputs: Optional[int]) -> int:
-    return random.SystemRandom().getrandbits(32) if inputs is None else inputs
+def drawn_seed(seed_of_user: Optional[int]) -> int:
+    """The seed that the user wrote, or else a drawn one."""
+    return random.SystemRandom().getrandbits(32) if seed_of_user is None else seed_of_user
 
 
 def draws(plan: Plan) -> bool:

@@ -111,9 +111,9 @@ class Plan:
         if extra == Extra():
             return
         pipes = range(self.last_free - extra.pipes + 1, self.last_free + 1)
-        width = {target.number for target in self.current if target.kind == "pipe"}
-        if pipes and (pipes[0] <= self.ways or width & set(pipes)):
-            raise Wrong(f"jitter: pipe {max(width & set(pipes), default=pipes[0])} is needed for it, and is another's")
+        others = {target.number for target in self.current if target.kind == "pipe"}
+        if pipes and (pipes[0] <= self.ways or others & set(pipes)):
+            raise Wrong(f"jitter: pipe {max(others & set(pipes), default=pipes[0])} is needed for it, and is another's")
         self.last_free -= len(pipes)
         self.extras[way] = extra, pipes
         for delay, pipe in enumerate(pipes):

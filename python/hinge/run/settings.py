@@ -32,8 +32,8 @@ class LinkOptions:
 
     def has_link(self) -> bool:
         """Whether anything is said of what packets meet."""
-        message = (self.up, self.down, self.preset, *self.files(), *self.line, *self.map, *self.loss)
-        return any(one is not None for one in message)
+        words = (self.up, self.down, self.preset, *self.files(), *self.line, *self.map, *self.loss)
+        return any(one is not None for one in words)
 
 
 @dataclass(frozen=True)

@@ -72,9 +72,9 @@ def add_simulated(parser: argparse.ArgumentParser) -> None:
 
 def refuse_alone(options: SimulatedOptions) -> None:
     """In real time none of the other options means anything."""
-    inputs = asdict(options)
+    values = asdict(options)
     for name in OF_SIMULATED_TIME:
-        if inputs[name]:
+        if values[name]:
             raise Wrong(f"--{name.replace('_', '-')}: it is of simulated time; add --simulated")
 
 
