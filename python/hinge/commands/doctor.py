@@ -74,7 +74,7 @@ def simulated() -> Finding:
         kernel()
     except Told as missing:
         return Finding(str(missing), tuple(lacking(source()).values()))
-    return Finding()
+    return of_run("--simulated")
 
 
 def modules(**packages: str) -> Finding:
