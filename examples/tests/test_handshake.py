@@ -54,8 +54,6 @@ def test_200_seeds(tmp_path):
     took = {seed: aio.run(handshake(), seed=seed, history=tmp_path / f"seed{seed}.history") for seed in range(1, 201)}
     fast = [seed for seed in took if took[seed] < 0.2]
     slowest = max(took, key=took.get)
-    print(
-        f"{len(fast)} of 200 took one round trip; seed {slowest} took {took[slowest]:.3f} s: hinge look {tmp_path}/seed{slowest}.history"
-    )
+    print(f"{len(fast)} of 200 took one round trip; seed {slowest} took {took[slowest]:.3f} s: hinge look {tmp_path}")
     assert 60 <= len(fast) <= 104  # 0.8^4 of 200 are 82, and 22 three deviations
     assert took[slowest] == aio.run(handshake(), seed=slowest)

@@ -64,7 +64,7 @@ fn line_at_front(text: &[u8]) -> Option<(&[u8], &[u8])>
     Some((&text[..feed], rest))
 }
 
-/// Reads the front of the record of the line that a text begins with into `fields`, at most so many, and returns what follows the line.
+/// Reads the front of the first line's record into `fields`, at most so many fields, and returns what follows the line.
 ///
 /// None if the line is empty, has a quote or a carriage return within it, or doesn't end.
 pub(crate) fn record_at_front<'a>(
