@@ -255,6 +255,7 @@ def lines_in_python(tally: Tally, program: str, folder: Path) -> None:
 
 
 def main(program: str) -> int:
+    signal.signal(signal.SIGINT, signal.default_int_handler)  # which a shell ignores for what it starts in the background
     tally = Tally()
     with TemporaryDirectory() as folder:
         for part in (page, cut, example, in_c, lines_in_c, lines_in_python, tests, nets):
