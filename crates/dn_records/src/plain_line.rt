@@ -56,6 +56,11 @@ pub fn read_plain_line(line: &[u8], fields: &mut ByteRecord) -> Result<bool, All
 fn line_at_front(text: &[u8]) -> Option<(&[u8], &[u8])>
     ensures { IfSome result (λ p. BeginsBare text.now p.0.now p.1.now) }
 {
+    // A carriage return alone ends a record too, so that the search for a line feed stays within the record.
+    let end = memchr2(b'\n', b'\r', text)?;
+    if text[end] == b'\r' && !text[end + 1..].starts_with(b"\n") {
+        return None;
+    }
     let feed = memchr(b'\n', text)?;
     let rest = &text[feed + 1..];
     if let Some(line) = text[..feed].strip_suffix(b"\r") {
