@@ -105,15 +105,16 @@ def lines(end: bytes) -> Cost:
 
 
 @cache
-def entries(end: bytes) -> Cost:
-    """An audit of the shortest entries, whose lines have this end."""
+def entries(end: bytes, quote: bytes = b"") -> Cost:
+    """An audit of the shortest entries, whose lines have this end, and whose fields stand between these quotes."""
 
     @cache
     def cost(program: str, count: int) -> int:
         with TemporaryDirectory() as folder:
             inputs.write("entries", KIB * count // 40, Path(folder))
             history = Path(folder, "history")
-            history.write_bytes(history.read_bytes().replace(b"\n", end))
+            records = history.read_bytes().splitlines()
+            history.write_bytes(b"".join(quote + record.replace(b",", quote + b"," + quote) + quote + end for record in records))
             return counted([program, "audit", str(history)])
 
     return cost
@@ -142,6 +143,9 @@ CASES: dict[str, Cost] = {
     "rows behind one in quotes": replay("quoted-first"),
     "rows in quotes": replay("quoted"),
     "entries that end in CR LF": entries(b"\r\n"),
+    "entries that end in CR alone": entries(b"\r"),
+    "entries in quotes": entries(b"\n", b'"'),
+    "entries in quotes that end in CR alone": entries(b"\r", b'"'),
     "live lines that end in CR LF": lines(b"\r\n"),
 }
 # A form of rows, entries or lines, the plainest one, and at most how many times its instructions.
