@@ -34,7 +34,7 @@ class OfServers(InAFolder):
         for words in ("", "exec "):
             script = f'{words}sh -c \'trap "echo ended >> {told}; exit" TERM; echo on >> {told}; while :; do sleep 0.05;' " done'"
             status, said, server = self.server(
-                script, "--server-wait", "50ms", "--", "sh", "-c", f"until grep -q on {told}; do sleep 0.05; done"
+                script, "--server-wait", "50ms", "--", "sh", "-c", f"until grep -qs on {told}; do sleep 0.05; done"
             )
             self.assertEqual((status, "killed" in said, server["by"], told.read_text()), (0, False, "SIGTERM", "on\nended\n"))
             told.unlink()

@@ -79,7 +79,7 @@ class OfCommands(InAFolder):
     def test_what_hosts_print_and_where_they_are(self) -> None:
         done = self.net(
             (
-                f"host a echo $HINGE_NET; echo error >&2\nmain b while ! grep -q error {self.folder}/logs/a.log; do"
+                f"host a echo $HINGE_NET; echo error >&2\nmain b while ! grep -qs error {self.folder}/logs/a.log; do"
                 " sleep 0.1; done; echo main\nlink a b\n"
             ),
             "--logs",

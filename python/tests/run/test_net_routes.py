@@ -94,7 +94,7 @@ class OfRoutes(InAFolder):
         self.folder.joinpath("asker.py").write_text(ASKER)
         log = self.folder / "logs" / "a.log"
         done = self.net(
-            f"host a exec {sys.executable} member.py\nrouter r\nmain c until grep -q on {log}; do sleep 0.01; done;"
+            f"host a exec {sys.executable} member.py\nrouter r\nmain c until grep -qs on {log}; do sleep 0.01; done;"
             f" exec {sys.executable} asker.py\nlink c a 1ms\nlink r c 1ms\n".replace(
                 "member.py", str(self.folder / "member.py")
             ).replace("asker.py", str(self.folder / "asker.py")),

@@ -174,7 +174,7 @@ class OfSwitches(InAFolder):
         receiver, log = self.script("receiver.py", RECEIVER), self.folder / "logs" / "a.log"
         sender = self.script("sender.py", SENDER.replace("bytes(place)", "b'question'").replace(", 9))", ", 5353))"))
         done = self.net(
-            f"host a exec {receiver}\nmain c until grep -q on {log}; do sleep 0.01; done; {sender}; until grep -q question"
+            f"host a exec {receiver}\nmain c until grep -qs on {log}; do sleep 0.01; done; {sender}; until grep -qs question"
             f" {log}; do sleep 0.01; done\nswitch s a c 1ms\n",
             "--logs",
             str(self.folder / "logs"),
@@ -184,7 +184,7 @@ class OfSwitches(InAFolder):
     def test_a_tag_arrives_and_no_frame_ends_the_net(self) -> None:
         receiver, log = self.script("untagged.py", UNTAGGED), self.folder / "logs" / "a.log"
         done = self.net(
-            f"host a exec {receiver}\nmain c until grep -q on {log}; do sleep 0.01; done; {self.script('tagged.py', TAGGED)} && until"
+            f"host a exec {receiver}\nmain c until grep -qs on {log}; do sleep 0.01; done; {self.script('tagged.py', TAGGED)} && until"
             f" grep -q 0x8100 {log}; do sleep 0.01; done; {PING} a\nswitch s a c 1ms\n",
             "--logs",
             str(self.folder / "logs"),
