@@ -15,7 +15,7 @@ import unittest
 from typing import NamedTuple
 
 from behind import Behind
-from linked import audited_as_lawful, needs, needs_rooms, run
+from linked import audited_as_lawful, needs, needs_rooms, run, run_in_time
 
 PAYLOAD = 1448 / 1500  # of a TCP packet's bytes, with time stamps
 TOLERANCE = 0.05
@@ -66,7 +66,8 @@ class OfTcp(Behind):
     def rate(self, control: str) -> float:
         """Through 10 Mbit/s and 2 x 20 ms: 34 packets are under way, and 100 may wait, so that the link is never
         idle."""
-        done = run(
+        done = run_in_time(
+            self,
             "--up",
             "10Mbit/s 20ms queue 100",
             "--down",
