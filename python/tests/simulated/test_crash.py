@@ -2,9 +2,12 @@
 
 from __future__ import annotations
 
+import shutil
 import subprocess
 import sys
+import unittest
 
+from hinge.net.disks import MAKER, MAKERS
 from machines import HINGE, LIMIT, Simulated
 
 NET = f"""
@@ -65,6 +68,7 @@ print(*sys.argv[1:], *(number for number, in base.execute("select number from ro
 LEFT = ["delete extra 1 2", "delete full 1", "files new:new old:old records:1", "wal full 1 2", "wal off 1"]
 
 
+@unittest.skipIf(shutil.which(MAKER, path=MAKERS) is None, f"there is no {MAKER}")
 class OfCrashes(Simulated):
     def net(self, text: str, *words: str) -> "subprocess.CompletedProcess[str]":
         for name, part in (("crash.net", text), ("files.py", FILES), ("rows.py", ROWS)):
