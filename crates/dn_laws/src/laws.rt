@@ -25,10 +25,9 @@ ghost use Rattle.dn_laws.specs.Laws.{StartsInOrder, StartsOnce, TransmissionIsLe
 ghost use Rattle.dn_laws.specs.OtherPipes.{OtherPipesChangeNothing};
 ghost use Rattle.dn_laws.specs.PacketLaws.{ArrivalsAreTold, CommandsSpare, DiscardsAreDeletes};
 ghost use Rattle.dn_laws.specs.PacketLaws.{PacketsAddUp, QueuedPacketsArrive, QueuesShareTheRate};
-ghost use Rattle.dn_laws.specs.PartLaws.{AdvancesAreNoMore, AgreeingCallsAgree};
-ghost use Rattle.dn_laws.specs.PartLaws.{CommandsActByForce, OtherLinksChangeNoReply};
-ghost use Rattle.dn_laws.specs.PartLaws.{OtherLinksChangeNothing, PartsAreWhole};
-ghost use Rattle.dn_laws.specs.PartLaws.{PartsRestOnTheirPipe, ReplaysFallApart};
+ghost use Rattle.dn_laws.specs.PartLaws.{AdvancesAreNoMore, AgreeingCallsAgree, CommandsActByForce};
+ghost use Rattle.dn_laws.specs.PartLaws.{OtherLinksChangeNoReply, OtherLinksChangeNothing};
+ghost use Rattle.dn_laws.specs.PartLaws.{PartsAreWhole, PartsRestOnTheirPipe, ReplaysFallApart};
 ghost use Rattle.dn_laws.specs.RateLaws.{KeepsTheConfiguredRate};
 ghost use Rattle.dn_laws.specs.ReadingLaws.{CommandsAreAnswered, LinksAreToldApart};
 ghost use Rattle.dn_laws.specs.ReadingLaws.{MomentsAreNamed, PacketsAreCounted, QueuesAreRead};
@@ -135,8 +134,7 @@ pub fn laws_of_drops()
 
 /// A packet starts as soon as its link is free, with the bandwidth and the delay in force.
 ///
-/// Nothing but a start moves the moment at which a link is free, its last due moment or, in a busy period, its virtual
-/// time.
+/// Only a start moves the moment at which a link is free, its last due moment and, in a busy period, its virtual time.
 pub fn laws_of_links()
     ensures at_once { StartsAtOnce }
     ensures never_idle { IsNeverIdle }
