@@ -34,7 +34,7 @@ INSIDE = (
 HOSTS = "127.0.0.1 localhost\n"  # as each installer and each container has it, and a root that was only unpacked hasn't
 MOST, LONGEST = 120, 1500  # s of a processor, and by a clock
 NOBODY = "/usr/bin/setpriv --reuid=65534 --regid=65534 --clear-groups"
-BY_NOBODY = f"cd /work && HOME=/work/home PATH=/usr/bin:/bin exec {NOBODY} sh -c '{{}}'"
+BY_NOBODY = f"cd /srv && HOME=/srv/home PATH=/usr/bin:/bin exec {NOBODY} sh -c '{{}}'"
 COMMIT = 'git init -q && git add -A && git -c user.name=a -c user.email=a@example.com commit -q -m "A clone"'
 
 
@@ -70,7 +70,7 @@ def made(root: Path) -> str:
 def made_ready(root: Path, program: str) -> None:
     """Puts a clone of the present files into the root, which belongs to a user without rights."""
     (root / "etc" / "hosts").write_text(HOSTS)
-    work = root / "work"
+    work = root / "srv"
     copied(work, program).rename(work / "clone")
     (work / "home").mkdir()
     subprocess.run(["chown", "-R", "65534:65534", work], check=True)
