@@ -40,7 +40,8 @@ BASE = f"{NAME}-{VERSION}"
 PACKAGES = ("hingetulip", "hingetulip_words", "hinge")
 TAG = "py3-none-manylinux_2_34_x86_64"
 LIBRARY = "libhingetulip.so.1"
-HOSTS = {"hinge-link": "hinge/run/hinge-link", "hinge-clock.so": "hinge/hinge-clock.so"}  # built from C, where the release has them
+# Built from C, where the release has them.
+HOSTS = {"hinge-link": "hinge/run/hinge-link", "hinge-packets": "hinge/hinge-packets", "hinge-clock.so": "hinge/hinge-clock.so"}
 FIRST_DATE = 315532800  # 1980-01-01, the first that a zip file can have
 METADATA = f"""\
 Metadata-Version: 2.1
@@ -57,7 +58,6 @@ Description-Content-Type: text/markdown
 Provides-Extra: capture
 Requires-Dist: numpy>=1.21 ; extra == "capture"
 Requires-Dist: matplotlib>=3.3 ; extra == "capture"
-Requires-Dist: plotly>=5 ; extra == "capture"
 """
 ENTRY_POINTS = """\
 [console_scripts]

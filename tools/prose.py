@@ -3,7 +3,8 @@
 
     prose.py [FOLDER]            each page, the worst first, and then each habit over all pages
     prose.py FOLDER PAGE         the sentences of a page that have habits, the worst first
-    prose.py --base FOLDER       the figures of manual pages as text, FOLDER/GROUP.PAGE, to write into BASE
+    prose.py --docstrings FOLDER the sentences of docstrings and of exceptions' messages that have habits, the worst first
+    prose.py --base FOLDER       the figures of manual pages as text, FOLDER/GROUP.PAGE, to write into FIGURES
     prose.py --names FOLDER ..   the share of Python names that are participles, for each folder
 
 A page's excess adds up, over all habits, by how much its rate is above the second greatest of five groups of manual pages (git, curl, ssh, rsync,
@@ -53,128 +54,35 @@ HABITS = [  # the name, the pattern, and what to write
 NEEDED = ("has", "of", "it, its")  # a page that avoids such a word reads as oddly: what is missing to the least rate counts too
 
 # Of Debian 12: git 2.39 with 17 pages, curl 7.88, ssh 9.2 with 7 pages, rsync 3.5 with 2, tc 6.1 with 15.
-BASE: dict[str, dict[str, float]] = {
-    "curl": {
-        "has": 7.79,
-        "of": 7.68,
-        "of .. of": 0.11,
-        "it, its": 11.92,
-        "bare that, those": 0.87,
-        "by": 2.99,
-        "tell": 1.09,
-        "own": 0.16,
-        "what ..": 0.44,
-        "none, nothing": 0.38,
-        "alone": 0.0,
-        "as for such as": 1.09,
-        "fronted": 1.52,
-        "take, give, come, go": 2.94,
-        "judge, obey, ask, meet": 0.49,
-        "one, two as noun": 0.98,
-        "but for, beside": 0.22,
-        "you": 9.47,
-        "words a sentence": 13.85,
-        "in paragraphs": 13.85,
-        "spread": 0.57,
-        "words": 18365,
-    },
-    "git": {
-        "has": 2.62,
-        "of": 20.18,
-        "of .. of": 0.99,
-        "it, its": 7.02,
-        "bare that, those": 2.67,
-        "by": 3.8,
-        "tell": 0.4,
-        "own": 0.26,
-        "what ..": 1.38,
-        "none, nothing": 0.57,
-        "alone": 0.03,
-        "as for such as": 1.46,
-        "fronted": 1.81,
-        "take, give, come, go": 4.03,
-        "judge, obey, ask, meet": 0.26,
-        "one, two as noun": 1.62,
-        "but for, beside": 0.31,
-        "you": 9.82,
-        "words a sentence": 17.51,
-        "in paragraphs": 17.51,
-        "spread": 0.58,
-        "words": 61800,
-    },
-    "rsync": {
-        "has": 3.32,
-        "of": 18.05,
-        "of .. of": 0.58,
-        "it, its": 10.7,
-        "bare that, those": 1.6,
-        "by": 3.37,
-        "tell": 1.62,
-        "own": 0.63,
-        "what ..": 1.33,
-        "none, nothing": 0.37,
-        "alone": 0.18,
-        "as for such as": 1.52,
-        "fronted": 1.54,
-        "take, give, come, go": 1.88,
-        "judge, obey, ask, meet": 0.5,
-        "one, two as noun": 1.41,
-        "but for, beside": 0.24,
-        "you": 13.97,
-        "words a sentence": 21.7,
-        "in paragraphs": 21.7,
-        "spread": 0.52,
-        "words": 38236,
-    },
-    "ssh": {
-        "has": 1.53,
-        "of": 15.91,
-        "of .. of": 0.69,
-        "it, its": 5.04,
-        "bare that, those": 1.23,
-        "by": 6.82,
-        "tell": 0.05,
-        "own": 0.15,
-        "what ..": 0.15,
-        "none, nothing": 0.79,
-        "alone": 0.05,
-        "as for such as": 1.09,
-        "fronted": 1.53,
-        "take, give, come, go": 1.53,
-        "judge, obey, ask, meet": 0.74,
-        "one, two as noun": 1.53,
-        "but for, beside": 0.05,
-        "you": 0.3,
-        "words a sentence": 16.76,
-        "in paragraphs": 16.76,
-        "spread": 0.53,
-        "words": 20244,
-    },
-    "tc": {
-        "has": 3.1,
-        "of": 22.65,
-        "of .. of": 0.76,
-        "it, its": 6.8,
-        "bare that, those": 1.85,
-        "by": 6.46,
-        "tell": 0.0,
-        "own": 0.42,
-        "what ..": 0.25,
-        "none, nothing": 0.0,
-        "alone": 0.0,
-        "as for such as": 2.52,
-        "fronted": 2.6,
-        "take, give, come, go": 2.1,
-        "judge, obey, ask, meet": 0.25,
-        "one, two as noun": 1.26,
-        "but for, beside": 0.08,
-        "you": 2.27,
-        "words a sentence": 15.26,
-        "in paragraphs": 15.26,
-        "spread": 0.55,
-        "words": 11918,
-    },
-}
+GROUPS, FIGURES = (
+    "curl git rsync ssh tc",
+    """
+has|7.79 2.62 3.32 1.53 3.1
+of|7.68 20.18 18.05 15.91 22.65
+of .. of|0.11 0.99 0.58 0.69 0.76
+it, its|11.92 7.02 10.7 5.04 6.8
+bare that, those|0.87 2.67 1.6 1.23 1.85
+by|2.99 3.8 3.37 6.82 6.46
+tell|1.09 0.4 1.62 0.05 0.0
+own|0.16 0.26 0.63 0.15 0.42
+what ..|0.44 1.38 1.33 0.15 0.25
+none, nothing|0.38 0.57 0.37 0.79 0.0
+alone|0.0 0.03 0.18 0.05 0.0
+as for such as|1.09 1.46 1.52 1.09 2.52
+fronted|1.52 1.81 1.54 1.53 2.6
+take, give, come, go|2.94 4.03 1.88 1.53 2.1
+judge, obey, ask, meet|0.49 0.26 0.5 0.74 0.25
+one, two as noun|0.98 1.62 1.41 1.53 1.26
+but for, beside|0.22 0.31 0.24 0.05 0.08
+you|9.47 9.82 13.97 0.3 2.27
+words a sentence|13.85 17.51 21.7 16.76 15.26
+in paragraphs|13.85 17.51 21.7 16.76 15.26
+spread|0.57 0.58 0.52 0.53 0.55
+words|18365 61800 38236 20244 11918
+""",
+)
+ROWS = {name: list(map(float, figures.split())) for name, _, figures in (row.partition("|") for row in FIGURES.split("\n")) if name}
+BASE = {group: {name: row[at] for name, row in ROWS.items()} for at, group in enumerate(GROUPS.split())}
 
 
 class Sentence(NamedTuple):
@@ -254,8 +162,9 @@ def base(folder: pathlib.Path) -> None:
     groups: dict[str, list[Sentence]] = {}
     for file in sorted(folder.iterdir()):
         groups.setdefault(file.name.split(".")[0], []).extend(of_manual(file.read_text(errors="replace")))
-    for group, these in groups.items():
-        print(f"BASE[{group!r}] = {({name: round(rate, 2) for name, rate in rates(these).items()})}")
+    figures = [rates(these) for these in groups.values()]
+    print(*groups)
+    print("\n".join(f"{name}|{' '.join(str(round(of[name], 2)) for of in figures)}" for name in figures[0]))
 
 
 def row(name: str, these: dict[str, float]) -> str:
@@ -292,18 +201,33 @@ def mark(name: str, rate: float) -> str:
     return "  above" if is_habit and rate > most(name) else "  below" if name in NEEDED and rate < least(name) else ""
 
 
-def one_page(file: pathlib.Path) -> None:
-    these = list(of_page(file.read_text(encoding="utf-8")))
-    worst = []
-    for it in these:
-        found = [(name, advice, len(re.findall(pattern, it.text, re.M))) for name, pattern, advice in HABITS]
-        found = [one for one in found if one[2]]
-        if found:
-            worst.append((sum(count for _, _, count in found) / it.words, it, found))
-    for _, it, found in sorted(worst, key=lambda one: (-one[0], one[1].line))[:60]:
-        print(f"{file.name}:{it.line}: {it.text[:240]}\n    {'; '.join(f'{name} ({advice})' for name, advice, _ in found)}")
-    table(rates(these))
-    print(row(file.name, rates(these)))
+def worst(pages: dict[str, list[Sentence]]) -> None:
+    """Prints the sentences with the most habits a word, and the figures of all."""
+    rows = []
+    for name, these in pages.items():
+        for it in these:
+            habits = [(habit, advice, len(re.findall(pattern, it.text, re.M))) for habit, pattern, advice in HABITS]
+            habits = [habit for habit in habits if habit[2]]
+            if habits:
+                rows.append((sum(count for *_, count in habits) / it.words, name, it, habits))
+    for _, name, it, habits in sorted(rows, key=lambda row: (-row[0], row[1], row[2].line))[:60]:
+        print(f"{name}:{it.line}: {it.text[:240]}\n    {'; '.join(f'{habit} ({advice})' for habit, advice, _ in habits)}")
+    every = rates([it for these in pages.values() for it in these])
+    table(every)
+    print(row("prose: all" if len(pages) > 1 else next(iter(pages)), every))
+
+
+def of_python(source: str) -> Iterator[Sentence]:
+    """The docstrings of a file, and the messages of the exceptions that it raises."""
+    for node in ast.walk(ast.parse(source)):
+        if isinstance(node, (ast.Module, ast.ClassDef, ast.FunctionDef, ast.AsyncFunctionDef)):
+            for paragraph in (ast.get_docstring(node) or "").split("\n\n"):
+                yield from cut(node.body[0].lineno, " ".join(paragraph.split()))
+        for text in ast.walk(node) if isinstance(node, ast.Raise) else ():
+            if isinstance(text, ast.JoinedStr):
+                yield from cut(
+                    text.lineno, "".join(str(part.value) if isinstance(part, ast.Constant) else "CODE" for part in text.values)
+                )
 
 
 # Participles as the last word of a variable's or parameter's name, where a noun would say what it is. `fd`, `red`, `seed` and the like are nouns.
@@ -357,7 +281,10 @@ if __name__ == "__main__":
         base(pathlib.Path(words[1]))
     elif words[0] == "--names":
         names(words[1:])
+    elif words[0] == "--docstrings":
+        top = pathlib.Path(words[1])
+        worst({str(path.relative_to(top)): list(of_python(path.read_text(encoding="utf-8"))) for path in sorted(top.rglob("*.py"))})
     elif len(words) > 1:
-        one_page(pathlib.Path(words[0]) / words[1])
+        worst({words[1]: list(of_page((pathlib.Path(words[0]) / words[1]).read_text(encoding="utf-8")))})
     else:
         pages(pathlib.Path(words[0]))

@@ -1,6 +1,7 @@
 #define _GNU_SOURCE
 #include "basics.h"
 
+#include <ctype.h>
 #include <errno.h>
 #include <limits.h>
 #include <stdio.h>
@@ -12,12 +13,30 @@ _Noreturn void fail(const char *what, const char *why) {
     exit(REFUSED);
 }
 
-int number_of(const char *word) {
+bool take_number(const char **text, uint64_t *number) {
     char *end;
     errno = 0;
-    long number = strtol(word, &end, 10);
-    if (errno || end == word || *end || number < INT_MIN || number > INT_MAX) fail(word, "no number");
-    return (int)number;
+    *number = strtoull(*text, &end, 10);
+    if (errno || !isdigit((unsigned char)**text) || (*end && *end != ' ')) return false;
+    *text = end + (*end == ' ');
+    return true;
+}
+
+bool take_int(const char **text, int least, int most, int *number) {
+    int sign = **text == '-' ? -1 : 1;
+    const char *digits = *text + (sign < 0);
+    uint64_t size;
+    bool is_int = take_number(&digits, &size) && size <= INT_MAX;
+    *number = is_int ? sign * (int)size : 0;
+    if (is_int) *text = digits;
+    return is_int && *number >= least && *number <= most;
+}
+
+int number_of(const char *word) {
+    int number;
+    const char *rest = word;
+    if (!take_int(&rest, INT_MIN, INT_MAX, &number) || *rest) fail(word, "no number");
+    return number;
 }
 
 void *grown(void *old, size_t bytes) {
@@ -32,29 +51,17 @@ void *zeroed(size_t bytes) {
     return made;
 }
 
-static uint64_t begun, last;
-
-void begin_at(uint64_t time) { begun = time; }
-
-uint64_t now(void) {
+uint64_t now(struct clock *clock) {
     struct timespec at;
     clock_gettime(CLOCK_MONOTONIC, &at);
     uint64_t ns = (uint64_t)at.tv_sec * SECOND + (uint64_t)at.tv_nsec;
-    begun = begun ? begun : ns;
-    return last = ns > begun ? ns - begun : 0;
+    clock->epoch = clock->epoch ? clock->epoch : ns;
+    return clock->last = ns > clock->epoch ? ns - clock->epoch : 0;
 }
 
-uint64_t last_moment(void) { return last; }
+uint64_t present(struct clock *clock) { return clock->stands ? clock->last : now(clock); }
 
-static bool stands;
-
-void let_time_stand(void) { stands = true; }
-
-bool time_stands(void) { return stands; }
-
-uint64_t present(void) { return stands ? last : now(); }
-
-struct timespec time_of(uint64_t moment) {
-    uint64_t ns = begun + moment;
+struct timespec time_of(const struct clock *clock, uint64_t moment) {
+    uint64_t ns = clock->epoch + moment;
     return (struct timespec){(time_t)(ns / SECOND), (long)(ns % SECOND)};
 }

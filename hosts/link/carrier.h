@@ -1,12 +1,14 @@
 /* What carries packets to the links and away from them: interfaces (tun, or tap at the links of a switch), or UDP sockets. Each link has
    two ends and two ways: what comes at end W goes on way W and leaves at the other end. Of the first link way 0 is from the client to the server, and way 1 comes back; the
    second has ways 2 and 3, and so on. */
-#ifndef CARRIER_H
-#define CARRIER_H
+#pragma once
 #include <stdbool.h>
 #include <stddef.h>
 #include <stdint.h>
 #include <sys/types.h>
+
+#include "basics.h"
+#include "page.h"
 
 enum { LONGEST = 65535 }; /* bytes of a packet */
 
@@ -21,7 +23,7 @@ struct carrier {
     const int *polled; /* a descriptor for each way, which can be read where a packet has come; -1 for a way that begins at a switch */
     size_t prefix;     /* bytes before each packet that are the carrier's own */
 
-    void *state;       /* of the carrier alone, which its functions get */
+    void *state; /* of the carrier alone, which its functions get */
 
     /* Takes an IP packet of a way, or a frame, which is behind its prefix and good until the next call, and returns its length: 0 for one
        that was turned away, -1 where none has come. */
@@ -52,5 +54,4 @@ struct carrier tun_carrier(int count, const int *descriptors);
 
 /* The datagrams of a bound socket and those of a server, with headers before them as they have on the way from the client to the
    server. The server's address is of the socket's family. */
-struct carrier udp_carrier(int front, const char *server, const char *port);
-#endif
+struct carrier udp_carrier(int front, const char *server, const char *port, struct page *page, const struct clock *clock);

@@ -1,17 +1,19 @@
 /* What happens to the links while packets pass: lines of the timeline, and the beginnings of outages. */
-#ifndef CHANGES_H
-#define CHANGES_H
+#pragma once
 #include <stdint.h>
 
+struct host;
+
+struct changes *new_changes(void);
+
 /* A line that is followed at a moment, after the other changes of that moment. */
-void insert_line(uint64_t moment, const char *line);
+void insert_line(struct changes *changes, uint64_t moment, const char *line);
 
 /* An outage of the pipe of a way that begins at a moment, with the length of the longest packet; a line before it has lowered the rate. */
-void insert_outage(uint64_t moment, int pipe, uint16_t length);
+void insert_outage(struct changes *changes, uint64_t moment, int pipe, uint16_t length);
 
 /* The moment of the next change, or DN_NEVER. */
-uint64_t next_change(void);
+uint64_t next_change(const struct changes *changes);
 
 /* Makes the changes that are due at a moment. */
-void make_changes(uint64_t moment);
-#endif
+void make_changes(struct host *host, uint64_t moment);

@@ -12,7 +12,6 @@
 #include <unistd.h>
 
 #include "basics.h"
-#include "page.h"
 
 #define QUIET (60 * SECOND)
 
@@ -25,6 +24,7 @@ enum {
 };
 
 struct clients {
+    struct way *back; /* the counts of the way from the server */
     union end server;
     int waiting; /* the epoll(7) of all clients' sockets */
     struct client *buckets[BUCKETS], *oldest, *newest;
@@ -35,7 +35,7 @@ struct clients {
     bool has_said; /* why a client is turned away */
 };
 
-struct clients *new_clients(const union end *server) {
+struct clients *new_clients(const union end *server, struct way *back) {
     struct clients *made = zeroed(sizeof *made);
     struct rlimit limit;
     if (getrlimit(RLIMIT_NOFILE, &limit) < 0) fail("getrlimit", strerror(errno));
@@ -43,6 +43,7 @@ struct clients *new_clients(const union end *server) {
     setrlimit(RLIMIT_NOFILE, &limit);
     made->most = limit.rlim_cur <= OTHERS ? 1 : limit.rlim_cur - OTHERS < MOST ? (size_t)limit.rlim_cur - OTHERS : MOST;
     made->server = *server;
+    made->back = back;
     if (getrandom(made->keys, sizeof made->keys, 0) != sizeof made->keys) fail("getrandom", strerror(errno));
     if ((made->waiting = epoll_create1(EPOLL_CLOEXEC)) < 0) fail("epoll", strerror(errno));
     return made;
@@ -96,7 +97,7 @@ static void let_go(struct clients *clients, struct client *client) {
     while (*at != client) at = &(*at)->in_bucket;
     *at = client->in_bucket;
     take_out(clients, client);
-    page->ways[1].dropped += dropped_at(client->socket);
+    clients->back->dropped += dropped_at(client->socket);
     close(client->socket);
     free(client);
     clients->count--;
@@ -104,11 +105,14 @@ static void let_go(struct clients *clients, struct client *client) {
 }
 
 void let_go_of_quiet_clients(struct clients *clients, uint64_t moment) {
-    while (clients->oldest && moment > clients->oldest->active + QUIET) let_go(clients, clients->oldest);
+    for (struct client *client = clients->oldest, *newer; client && moment > client->active + QUIET; client = newer) {
+        newer = client->newer;
+        let_go(clients, client);
+    }
 }
 
 void count_dropped_of_clients(const struct clients *clients) {
-    for (const struct client *client = clients->oldest; client; client = client->newer) page->ways[1].dropped += dropped_at(client->socket);
+    for (const struct client *client = clients->oldest; client; client = client->newer) clients->back->dropped += dropped_at(client->socket);
 }
 
 void give_room(int socket) {
@@ -141,7 +145,7 @@ static int opened(struct clients *clients, struct client *client) {
     return -1;
 }
 
-struct client *client_of(struct clients *clients, const union end *end) {
+struct client *client_of(struct clients *clients, const union end *end, uint64_t moment) {
     struct client *client = known_client(clients, end), **bucket = &clients->buckets[bucket_of(clients, end)];
     if (client) return client;
     if (clients->count >= clients->most) {
@@ -149,7 +153,7 @@ struct client *client_of(struct clients *clients, const union end *end) {
         return NULL;
     }
     client = grown(NULL, sizeof *client);
-    *client = (struct client){.end = *end, .active = last_moment(), .in_bucket = *bucket};
+    *client = (struct client){.end = *end, .active = moment, .in_bucket = *bucket};
     if ((client->socket = opened(clients, client)) < 0) {
         free(client);
         return NULL;

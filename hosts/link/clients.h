@@ -1,9 +1,9 @@
 /* The clients of a UDP path, each with a socket of its own towards the server. One that was quiet for a minute is let go. */
-#ifndef CLIENTS_H
-#define CLIENTS_H
+#pragma once
 #include <stdint.h>
 
 #include "datagram.h"
+#include "page.h"
 
 struct client {
     union end end;
@@ -12,10 +12,9 @@ struct client {
     struct client *in_bucket, *older, *newer;
 };
 
-struct clients;
-
-/* Those of a server, of whom there are none yet: as many as the system lets this program have sockets. */
-struct clients *new_clients(const union end *server);
+/* Those of a server, of whom there are none yet: as many as the system lets this program have sockets. What the system drops is counted
+   on the way back from the server. */
+struct clients *new_clients(const union end *server, struct way *back);
 
 /* The descriptor on which the server's datagrams can be waited for. */
 int clients_descriptor(const struct clients *clients);
@@ -24,7 +23,7 @@ int clients_descriptor(const struct clients *clients);
 struct client *known_client(const struct clients *clients, const union end *end);
 
 /* The client of an end, which is made where it is new; NULL where there can be no more. */
-struct client *client_of(struct clients *clients, const union end *end);
+struct client *client_of(struct clients *clients, const union end *end, uint64_t moment);
 
 /* A client for which the server's datagrams have come, another one at each call, or NULL. */
 struct client *ready_client(struct clients *clients);
@@ -40,4 +39,3 @@ void count_dropped_of_clients(const struct clients *clients);
 
 /* Gives a socket the room that unread.h reckons with, as far as the system lets it. */
 void give_room(int socket);
-#endif

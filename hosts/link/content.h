@@ -1,6 +1,5 @@
 /* By what a packet is known again on its next link: what no host changes that hands it on. */
-#ifndef CONTENT_H
-#define CONTENT_H
+#pragma once
 #include <stddef.h>
 #include <stdbool.h>
 #include <stdint.h>
@@ -14,4 +13,3 @@ uint64_t content_of(const unsigned char *bytes, size_t len);
 
 /* The same of any bytes, each of which counts. */
 uint64_t content_of_bytes(const unsigned char *bytes, size_t len);
-#endif

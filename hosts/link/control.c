@@ -6,79 +6,74 @@
 #include <string.h>
 #include <sys/socket.h>
 
-#include "basics.h"
-#include "changes.h"
-#include "cuts.h"
-#include "links.h"
-#include "pacing.h"
-#include "plan.h"
+#include "host.h"
 
 #define LONGEST 4096 /* bytes of a line */
 
-static int control = -1;
-
-void open_control(int descriptor) { control = descriptor; }
-
-int control_descriptor(void) { return control; }
+/* A text that is told of a line, which has room for two lines. */
+struct answer {
+    const char *line;
+    char both[2 * LONGEST];
+};
 
 /* A fault in a word is told before the links get the line, since a transcript has lines that can be read. Whether a pipe is there, which is
    one word, the links say, as all lines of the plan were tried before. */
-static const char *obey_now(const char *line, uint64_t moment) {
-    const char *wrong = wrong_with_line(line);
+static const char *obey_now(struct host *host, const char *line, uint64_t moment) {
+    const char *wrong = wrong_with_line(host->cuts, line);
     if (wrong && strchr(wrong, ' ')) return wrong;
-    catch_up(moment);
-    advance(moment);
-    return follow(line);
+    catch_up(host->pacing, moment);
+    advance(host->links, moment);
+    return follow(host->cuts, line);
 }
 
-static const char *obey_later(const char *rest, uint64_t moment, const char **told) {
+static const char *obey_later(struct host *host, const char *rest, uint64_t moment, struct answer *answer) {
     uint64_t later;
-    int at;
-    if (sscanf(rest, "%" SCNu64 " %n", &later, &at) != 1) return "no line";
-    const char *wrong = wrong_with_line(rest + at);
+    if (!take_number(&rest, &later)) return "no line";
+    const char *wrong = wrong_with_line(host->cuts, rest);
     if (wrong) return wrong;
-    insert_line(moment + later, rest + at);
-    *told = behind_cut(rest + at);
+    insert_line(host->changes, moment + later, rest);
+    answer->line = behind_cut(host->cuts, rest);
     return NULL;
 }
 
 /* A cut, and so many ns later its end: none of the two without the other. Told are the lines that the pipe has then and behind the end. */
-static const char *obey_outage(const char *rest, uint64_t moment, const char **told) {
-    static char end[LONGEST], both[2 * LONGEST];
+static const char *obey_outage(struct host *host, const char *rest, uint64_t moment, struct answer *answer) {
+    char end[LONGEST];
     uint64_t length;
-    int at;
-    if (sscanf(rest, "%" SCNu64 " %n", &length, &at) != 1) return "no line";
-    const char *cut = rest + at, *wrong = strncmp(cut, "cut ", strlen("cut ")) == 0 ? wrong_with_line(cut) : "no line";
-    if (!wrong) wrong = obey_now(cut, moment);
+    if (!take_number(&rest, &length)) return "no line";
+    const char *wrong = strncmp(rest, "cut ", strlen("cut ")) == 0 ? wrong_with_line(host->cuts, rest) : "no line";
+    if (!wrong) wrong = obey_now(host, rest, moment);
     if (wrong) return wrong;
-    snprintf(end, sizeof end, "open %s", cut + strlen("cut "));
-    insert_line(moment + length, end);
-    const char *begun = followed(), *behind = behind_cut(end);
-    snprintf(both, sizeof both, "%s\n%s", begun ? begun : "", behind ? behind : "");
-    *told = both;
+    snprintf(end, sizeof end, "open %s", rest + strlen("cut "));
+    insert_line(host->changes, moment + length, end);
+    const char *begun = followed(host->cuts), *behind = behind_cut(host->cuts, end);
+    snprintf(answer->both, sizeof answer->both, "%s\n%s", begun ? begun : "", behind ? behind : "");
+    answer->line = answer->both;
     return NULL;
 }
 
-/* What is wrong, or NULL; `told` gets the line that a pipe has then, where it is about one. */
-static const char *taken_line(const char *text, uint64_t moment, const char **told) {
+/* What is wrong, or NULL; the answer gets the line that a pipe has then, where it is about one. */
+static const char *taken_line(struct host *host, const char *text, uint64_t moment, struct answer *answer) {
     if (strncmp(text, "line ", strlen("line ")) == 0) {
-        const char *wrong = obey_now(text + strlen("line "), moment);
-        *told = wrong ? NULL : followed();
+        const char *wrong = obey_now(host, text + strlen("line "), moment);
+        answer->line = wrong ? NULL : followed(host->cuts);
         return wrong;
     }
-    if (strncmp(text, "at ", strlen("at ")) == 0) return obey_later(text + strlen("at "), moment, told);
-    if (strncmp(text, "outage ", strlen("outage ")) == 0) return obey_outage(text + strlen("outage "), moment, told);
-    if (strcmp(text, "main") == 0) begin_main(moment);
+    if (strncmp(text, "at ", strlen("at ")) == 0) return obey_later(host, text + strlen("at "), moment, answer);
+    if (strncmp(text, "outage ", strlen("outage ")) == 0) return obey_outage(host, text + strlen("outage "), moment, answer);
+    if (strcmp(text, "main") == 0) begin_main(host, moment);
     return strcmp(text, "main") == 0 || strcmp(text, "moment") == 0 ? NULL : "no line";
 }
 
-void take_control(void) {
-    char text[LONGEST], answer[2 * LONGEST + 160];
-    for (ssize_t len; (len = recv(control, text, sizeof text - 1, MSG_DONTWAIT)) > 0;) {
+void take_control(struct host *host) {
+    char text[LONGEST], whole[2 * LONGEST + 160];
+    struct answer answer;
+    for (ssize_t len; (len = recv(host->control, text, sizeof text - 1, MSG_DONTWAIT)) > 0;) {
         text[len] = 0;
-        uint64_t moment = now();
-        const char *line = NULL, *wrong = taken_line(text, moment, &line);
-        int told = snprintf(answer, sizeof answer, "%" PRIu64 "%s%s\n%s", moment, wrong ? " " : "", wrong ? wrong : "", line ? line : "");
-        send(control, answer, (size_t)told, MSG_DONTWAIT | MSG_NOSIGNAL);
+        uint64_t moment = now(&host->clock);
+        answer.line = NULL;
+        const char *wrong = taken_line(host, text, moment, &answer);
+        int size = snprintf(whole, sizeof whole, "%" PRIu64 "%s%s\n%s", moment, wrong ? " " : "", wrong ? wrong : "", answer.line ? answer.line : "");
+        send(host->control, whole, (size_t)size, MSG_DONTWAIT | MSG_NOSIGNAL);
     }
 }

@@ -7,15 +7,9 @@
                     a cut is followed at once, and so many ns later its end; a third line has what the pipe has behind it
      main           the main command begins now, and with it what the plan says behind `main`
      moment         nothing but the moment */
-#ifndef CONTROL_H
-#define CONTROL_H
+#pragma once
 
-/* Takes lines from a descriptor from now on. */
-void open_control(int descriptor);
-
-/* The descriptor, -1 without one. */
-int control_descriptor(void);
+struct host;
 
 /* Obeys what has come. */
-void take_control(void);
-#endif
+void take_control(struct host *host);

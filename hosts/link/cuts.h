@@ -1,11 +1,14 @@
 /* Ways that lose all packets, for as long as any of the cuts of their pipe goes on: each cut has a number of its own, by which it begins and
    ends. A line of a pipe that is cut is obeyed with the loss of all packets, and as it is once the last cut has ended. */
-#ifndef CUTS_H
-#define CUTS_H
+#pragma once
 #include <stdbool.h>
 
-/* Room for the pipes of so many ways, which can be cut. To be called before all others. */
-void prepare_cuts(int ways);
+#include "links.h"
+#include "pacing.h"
+#include "transcript.h"
+
+/* None yet of the pipes up to the number `most`. */
+struct cuts *new_cuts(struct links *links, struct pacing *pacing, struct transcript *transcript, int most);
 
 /* Whether a line is one of these, in which case it needs no links to be tried:
 
@@ -16,14 +19,13 @@ void prepare_cuts(int ways);
 bool is_own_line(const char *line);
 
 /* What is wrong with a line of the plan, of the links or of these, or NULL. Nothing changes. */
-const char *wrong_with_line(const char *line);
+const char *wrong_with_line(struct cuts *cuts, const char *line);
 
 /* Follows a line at the moment of the last call, and returns NULL or why it is refused. */
-const char *follow(const char *line);
+const char *follow(struct cuts *cuts, const char *line);
 
 /* The line that the links followed last, where it was about a pipe that can be cut; else NULL. */
-const char *followed(void);
+const char *followed(const struct cuts *cuts);
 
 /* The line that a pipe has after the end of a cut, `open PIPE N`, where no other one goes on; NULL of other lines. */
-const char *behind_cut(const char *line);
-#endif
+const char *behind_cut(struct cuts *cuts, const char *line);

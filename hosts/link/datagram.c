@@ -2,16 +2,13 @@
 
 #include <string.h>
 
+#include "octets.h"
+
 enum { UDP_HEADER = 8, IPV4_HEADER = 20, IPV6_HEADER = 40, HOPS = 64 };
 
 size_t headers_length(sa_family_t family) { return UDP_HEADER + (family == AF_INET ? IPV4_HEADER : IPV6_HEADER); }
 
 socklen_t end_length(sa_family_t family) { return family == AF_INET ? sizeof(struct sockaddr_in) : sizeof(struct sockaddr_in6); }
-
-static void put_two(unsigned char *at, size_t number) {
-    at[0] = (unsigned char)(number >> 8);
-    at[1] = (unsigned char)number;
-}
 
 static void write_ipv4(unsigned char *bytes, size_t data, const struct sockaddr_in *from, const struct sockaddr_in *to) {
     memset(bytes, 0, IPV4_HEADER);
@@ -50,11 +47,11 @@ union end client_end(int way, const unsigned char *bytes) {
     if (bytes[0] >> 4 == 4) {
         found.four.sin_family = AF_INET;
         memcpy(&found.four.sin_addr, bytes + (way ? 16 : 12), 4);
-        memcpy(&found.four.sin_port, bytes + IPV4_HEADER + 2 * way, 2);
+        memcpy(&found.four.sin_port, bytes + IPV4_HEADER + (way ? 2 : 0), 2);
     } else {
         found.six.sin6_family = AF_INET6;
         memcpy(&found.six.sin6_addr, bytes + (way ? 24 : 8), 16);
-        memcpy(&found.six.sin6_port, bytes + IPV6_HEADER + 2 * way, 2);
+        memcpy(&found.six.sin6_port, bytes + IPV6_HEADER + (way ? 2 : 0), 2);
     }
     return found;
 }

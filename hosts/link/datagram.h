@@ -1,6 +1,5 @@
 /* Headers of IP and UDP before the data of a datagram, as it would have them on a link. Checksums are 0. */
-#ifndef DATAGRAM_H
-#define DATAGRAM_H
+#pragma once
 #include <netinet/in.h>
 #include <stdbool.h>
 #include <stddef.h>
@@ -21,4 +20,3 @@ void write_headers(unsigned char *bytes, size_t data, const union end *from, con
 
 /* The client's end in the headers of a packet: from which it comes on way 0, to which it goes on way 1. */
 union end client_end(int way, const unsigned char *bytes);
-#endif

@@ -1,14 +1,11 @@
 #include "dissect.h"
 
 #include <netinet/in.h>
-#include <string.h>
 
-#include "strangers.h"
+#include "octets.h"
 
 enum { IPV4_HEADER = 20, IPV6_HEADER = 40, FRAGMENT = 44, FRAGMENT_HEADER = 8, SHORTEST_EXTENSION = 8 };
 
-static unsigned two(const unsigned char *at) { return (unsigned)at[0] << 8 | at[1]; }
-static uint32_t four(const unsigned char *at) { return (uint32_t)two(at) << 16 | two(at + 2); }
 static uint64_t eight(const unsigned char *at) { return (uint64_t)four(at) << 32 | four(at + 4); }
 
 static struct address mapped(uint32_t address) { return (struct address){0, UINT64_C(0xffff) << 32 | address}; }
@@ -25,22 +22,20 @@ static void dissect_ipv4(const unsigned char *bytes, size_t len, struct dn_packe
     packet->proto = bytes[9];
     *headers = (struct headers){mapped(packet->src), mapped(packet->dst), bytes[1] >> 2};
     bool first = (two(bytes + 6) & 0x1fff) == 0;
-    if (first) read_ports(bytes, len, (bytes[0] & 15) * 4u, packet);
+    if (first) read_ports(bytes, len, (size_t)(bytes[0] & 15) * 4, packet);
 }
 
-static bool is_extension(uint8_t kind) {
-    return kind == IPPROTO_HOPOPTS || kind == IPPROTO_ROUTING || kind == FRAGMENT || kind == IPPROTO_DSTOPTS;
-}
+static bool is_extension(uint8_t kind) { return kind == IPPROTO_HOPOPTS || kind == IPPROTO_ROUTING || kind == FRAGMENT || kind == IPPROTO_DSTOPTS; }
 
-static void dissect_ipv6(const unsigned char *bytes, size_t len, struct dn_packet *packet, struct headers *headers) {
+static void dissect_ipv6(struct strangers *strangers, const unsigned char *bytes, size_t len, struct dn_packet *packet, struct headers *headers) {
     uint8_t kind = bytes[6];
     size_t header = IPV6_HEADER;
     bool first = true;
-    packet->src = stand_in(bytes + 8);
-    packet->dst = stand_in(bytes + 24);
+    packet->src = stand_in(strangers, bytes + 8);
+    packet->dst = stand_in(strangers, bytes + 24);
     headers->src = (struct address){eight(bytes + 8), eight(bytes + 16)};
     headers->dst = (struct address){eight(bytes + 24), eight(bytes + 32)};
-    headers->dscp = two(bytes) >> 6 & 63;
+    headers->dscp = (int)(two(bytes) >> 6 & 63);
     while (len >= header + SHORTEST_EXTENSION && is_extension(kind)) {
         const unsigned char *extension = bytes + header;
         if (kind == FRAGMENT && (two(extension + 2) & 0xfff8)) first = false;
@@ -51,9 +46,9 @@ static void dissect_ipv6(const unsigned char *bytes, size_t len, struct dn_packe
     if (first) read_ports(bytes, len, header, packet);
 }
 
-bool dissect(const unsigned char *bytes, size_t len, struct dn_packet *packet, struct headers *headers) {
+bool dissect(struct strangers *strangers, const unsigned char *bytes, size_t len, struct dn_packet *packet, struct headers *headers) {
     if (len >= IPV4_HEADER && bytes[0] >> 4 == 4) dissect_ipv4(bytes, len, packet, headers);
-    else if (len >= IPV6_HEADER && bytes[0] >> 4 == 6) dissect_ipv6(bytes, len, packet, headers);
+    else if (len >= IPV6_HEADER && bytes[0] >> 4 == 6) dissect_ipv6(strangers, bytes, len, packet, headers);
     else return false;
     return true;
 }

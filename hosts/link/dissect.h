@@ -1,11 +1,14 @@
 /* What the link and the rules look at in a packet's bytes. */
-#ifndef DISSECT_H
-#define DISSECT_H
+#pragma once
 #include <hingetulip.h>
 #include <stdbool.h>
 
+#include "strangers.h"
+
 /* An address of IPv6, or one of IPv4 as ::ffff:a.b.c.d, so that one comparison does for both. */
-struct address { uint64_t high, low; };
+struct address {
+    uint64_t high, low;
+};
 
 struct headers {
     struct address src, dst;
@@ -13,5 +16,4 @@ struct headers {
 };
 
 /* Reads addresses, protocol and ports into both; false where it is no IP packet. A later fragment has no ports. */
-bool dissect(const unsigned char *bytes, size_t len, struct dn_packet *packet, struct headers *headers);
-#endif
+bool dissect(struct strangers *strangers, const unsigned char *bytes, size_t len, struct dn_packet *packet, struct headers *headers);

@@ -1,17 +1,13 @@
 #include "frames.h"
 
-#include <string.h>
-
-#include "strangers.h"
+#include "octets.h"
 
 enum { TYPE = 2, TAG = 4 }; /* bytes */
 enum { OF_IPV4 = 0x0800, OF_IPV6 = 0x86dd, OF_TAG = 0x8100, OF_OUTER_TAG = 0x88a8 };
 
-static unsigned two(const unsigned char *at) { return (unsigned)at[0] << 8 | at[1]; }
-
 /* Where the type is, behind the tags that there are. */
 static size_t place_of_type(const unsigned char *frame, size_t len) {
-    size_t at = 2 * MAC;
+    size_t at = SHORTEST_FRAME - TYPE;
     while (at + TAG + TYPE <= len && (two(frame + at) == OF_TAG || two(frame + at) == OF_OUTER_TAG)) at += TAG;
     return at;
 }
@@ -25,13 +21,13 @@ static uint64_t eui64(const unsigned char mac[MAC]) {
 
 static struct address address_of(const unsigned char mac[MAC]) { return (struct address){UINT64_C(0xfe80) << 48, eui64(mac)}; }
 
-static uint32_t stand_in_of(struct address address) {
+static uint32_t stand_in_of(struct strangers *strangers, struct address address) {
     unsigned char bytes[16];
     for (int i = 0; i < 8; i++) {
         bytes[i] = (unsigned char)(address.high >> (56 - 8 * i));
         bytes[8 + i] = (unsigned char)(address.low >> (56 - 8 * i));
     }
-    return stand_in(bytes);
+    return stand_in(strangers, bytes);
 }
 
 static bool is_ip(const struct payload *payload, unsigned type) {
@@ -39,16 +35,17 @@ static bool is_ip(const struct payload *payload, unsigned type) {
     return (type == OF_IPV4 && version == 4) || (type == OF_IPV6 && version == 6);
 }
 
-bool dissect_frame(const unsigned char *frame, size_t len, struct payload *payload, struct dn_packet *packet, struct headers *headers) {
+bool dissect_frame(struct strangers *strangers, const unsigned char *frame, size_t len, struct payload *payload, struct dn_packet *packet,
+                   struct headers *headers) {
     if (len < SHORTEST_FRAME) return false;
     size_t at = place_of_type(frame, len);
     unsigned type = two(frame + at);
     *payload = (struct payload){.bytes = frame + at + TYPE, .len = len - at - TYPE};
-    payload->is_ip = is_ip(payload, type) && dissect(payload->bytes, payload->len, packet, headers);
+    payload->is_ip = is_ip(payload, type) && dissect(strangers, payload->bytes, payload->len, packet, headers);
     if (payload->is_ip) return true;
     *headers = (struct headers){.src = address_of(frame + MAC), .dst = address_of(frame)};
-    packet->src = stand_in_of(headers->src);
-    packet->dst = stand_in_of(headers->dst);
+    packet->src = stand_in_of(strangers, headers->src);
+    packet->dst = stand_in_of(strangers, headers->dst);
     packet->dport = (uint16_t)type;
     return true;
 }

@@ -1,7 +1,6 @@
 /* Ethernet frames, which the links of a switch carry whole. What counts on a link is what a frame carries: what is behind its addresses,
    its tags and its type. */
-#ifndef FRAMES_H
-#define FRAMES_H
+#pragma once
 #include <stdbool.h>
 #include <stddef.h>
 
@@ -21,5 +20,5 @@ static inline bool is_group(const unsigned char mac[MAC]) { return mac[0] & 1; }
 
 /* Reads what a frame carries, and what the link and the rules look at; false where it is shorter than a frame. One that is none of IP has
    protocol 0, its type as the port of its destination, and the addresses of IPv6 that belong to its own (fe80::/64 with an EUI-64). */
-bool dissect_frame(const unsigned char *frame, size_t len, struct payload *payload, struct dn_packet *packet, struct headers *headers);
-#endif
+bool dissect_frame(struct strangers *strangers, const unsigned char *frame, size_t len, struct payload *payload, struct dn_packet *packet,
+                   struct headers *headers);

@@ -3,15 +3,14 @@
 #include <netinet/in.h>
 #include <string.h>
 
+#include "octets.h"
 #include "segments.h"
 
 enum { IPV4_HEADER = 20, IPV4_NUMBER = 4, IPV4_FRAGMENT = 6, IPV4_LIFE = 8, IPV4_PROTOCOL = 9, IPV4_ADDRESSES = 12 };
 enum { IPV6_HEADER = 40, IPV6_PROTOCOL = 6 };
-enum { TCP_SEQUENCE = 4, TCP_ACKNOWLEDGED = 8, TCP_OFFSET = 12, TCP_FLAGS = 13, TCP_WINDOW = 14, TCP_CHECKSUM = 16, TCP_URGENT = 18, TCP_SHORTEST = 20 };
+enum { TCP_SEQUENCE = 4, TCP_ACKNOWLEDGED = 8, TCP_OFFSET = 12, TCP_FLAGS = 13, TCP_WINDOW = 14 };
+enum { TCP_CHECKSUM = 16, TCP_URGENT = 18, TCP_SHORTEST = 20 };
 enum { PUSH = 8, ACKNOWLEDGES = 16 };
-
-static unsigned two(const unsigned char *at) { return (unsigned)at[0] << 8 | at[1]; }
-static uint32_t four(const unsigned char *at) { return (uint32_t)two(at) << 16 | two(at + 2); }
 
 static bool is_ipv4(const unsigned char *ip) { return ip[0] >> 4 == 4; }
 
@@ -26,25 +25,29 @@ static size_t headers_of(const struct bytes *packet) {
     struct virtio_net_hdr note;
     memcpy(&note, packet->at - NOTE, NOTE);
     size_t start = ip_header(packet->at);
-    if (!start || !(note.flags & VIRTIO_NET_HDR_F_NEEDS_CSUM) || note.csum_start != start || note.csum_offset != TCP_CHECKSUM || packet->len < start + TCP_SHORTEST) return 0;
+    if (!start || !(note.flags & VIRTIO_NET_HDR_F_NEEDS_CSUM) || note.csum_start != start || note.csum_offset != TCP_CHECKSUM ||
+        packet->len < start + TCP_SHORTEST)
+        return 0;
     const unsigned char *tcp = packet->at + start;
-    size_t headers = start + (tcp[TCP_OFFSET] >> 4) * 4u;
+    size_t headers = start + (size_t)(tcp[TCP_OFFSET] >> 4) * 4;
     return headers < packet->len && (tcp[TCP_FLAGS] & ~PUSH) == ACKNOWLEDGES ? headers : 0;
 }
 
-static bool same(const unsigned char *one, const unsigned char *other, size_t from, size_t to) { return memcmp(one + from, other + from, to - from) == 0; }
+static bool same(const unsigned char *one, const unsigned char *other, size_t from, size_t to) {
+    return memcmp(one + from, other + from, to - from) == 0;
+}
 
 /* Whether the IP headers differ in the lengths alone, and by so much in the number. */
 static bool same_ip(const unsigned char *one, const unsigned char *other, unsigned number) {
     if (!is_ipv4(one)) return same(one, other, 0, 4) && same(one, other, IPV6_PROTOCOL, IPV6_HEADER);
-    return same(one, other, 0, 2) && (uint16_t)(two(one + IPV4_NUMBER) + number) == two(other + IPV4_NUMBER) && same(one, other, IPV4_FRAGMENT, IPV4_PROTOCOL + 1) &&
-           same(one, other, IPV4_ADDRESSES, IPV4_HEADER);
+    return same(one, other, 0, 2) && (uint16_t)(two(one + IPV4_NUMBER) + number) == two(other + IPV4_NUMBER) &&
+           same(one, other, IPV4_FRAGMENT, IPV4_PROTOCOL + 1) && same(one, other, IPV4_ADDRESSES, IPV4_HEADER);
 }
 
 /* Whether the headers of TCP, of so many bytes, differ in the place in the stream, by so many, the flags and the checksum alone. */
 static bool same_tcp(const unsigned char *one, const unsigned char *other, size_t headers, uint32_t behind) {
-    return same(one, other, 0, TCP_SEQUENCE) && four(one + TCP_SEQUENCE) + behind == four(other + TCP_SEQUENCE) && same(one, other, TCP_ACKNOWLEDGED, TCP_FLAGS) &&
-           same(one, other, TCP_WINDOW, TCP_CHECKSUM) && same(one, other, TCP_URGENT, headers);
+    return same(one, other, 0, TCP_SEQUENCE) && four(one + TCP_SEQUENCE) + behind == four(other + TCP_SEQUENCE) &&
+           same(one, other, TCP_ACKNOWLEDGED, TCP_FLAGS) && same(one, other, TCP_WINDOW, TCP_CHECKSUM) && same(one, other, TCP_URGENT, headers);
 }
 
 bool joins(const struct bytes *packets, int count, const struct bytes *next) {

@@ -1,7 +1,6 @@
 /* Packets of TCP that follow one another and leave at once, which go to the system as one packet with a note of how a card had received
    them: what segments.h cuts, put together again. */
-#ifndef JOINS_H
-#define JOINS_H
+#pragma once
 #include "carrier.h"
 
 enum { MOST_JOINED = 64 };
@@ -12,4 +11,3 @@ bool joins(const struct bytes *packets, int count, const struct bytes *next);
 /* Has the note and the headers of the first of so many packets be those of all, and returns how many bytes the headers have, which the
    others aren't sent with. One alone stays as it is. */
 size_t join(const struct bytes *packets, int count);
-#endif

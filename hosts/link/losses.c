@@ -1,20 +1,18 @@
 #include "losses.h"
 
-#include <stdbool.h>
 #include <string.h>
 
 #include "basics.h"
+#include "passes.h"
 
 enum { TO_BAD, TO_GOOD, LOST_IN_GOOD, LOST_IN_BAD };
 
-static struct model {
-    enum { WORDS, GILBERT, LIST } kind;
+struct losses {
+    enum { WORDS, GILBERT, CHOSEN } kind;
     uint64_t seed, drawn; /* of the random words; how many were drawn */
-    uint64_t count;       /* the packets so far */
     uint32_t chances[4];
     bool bad;
-    uint64_t *list, length, passed; /* of the list: its numbers, how many there are, and how many lie behind */
-} *models; /* by ways */
+};
 
 /* splitmix64 of the seed, the stream and the number of the word, as hinge/captures/random_words.py has it. */
 uint32_t drawn_word(uint64_t seed, uint64_t stream, uint64_t number) {
@@ -24,40 +22,31 @@ uint32_t drawn_word(uint64_t seed, uint64_t stream, uint64_t number) {
     return (uint32_t)((z ^ z >> 31) & WORD_OF_NONE);
 }
 
-static uint32_t draw(struct model *model) { return drawn_word(model->seed, (uint64_t)(model - models), ++model->drawn); }
-
-void prepare_losses(int ways) { models = zeroed((size_t)ways * sizeof *models); }
-
-void set_seed(int way, uint64_t seed) { models[way].seed = seed; }
-
-void set_gilbert(int way, const uint32_t chances[4]) {
-    models[way].kind = GILBERT;
-    memcpy(models[way].chances, chances, sizeof models[way].chances);
+struct losses *new_losses(int ways) {
+    return zeroed((size_t)ways * sizeof(struct losses));
 }
 
-void add_to_list(int way, uint64_t number) {
-    struct model *model = &models[way];
-    model->kind = LIST;
-    if ((model->length & (model->length - 1)) == 0) /* a power of two: it is full */
-        model->list = grown(model->list, (model->length ? 2 * model->length : 1) * sizeof *model->list);
-    model->list[model->length++] = number;
+static uint32_t draw(struct losses *model, int way) { return drawn_word(model->seed, (uint64_t)way, ++model->drawn); }
+
+void set_seed(struct losses *losses, int way, uint64_t seed) { losses[way].seed = seed; }
+
+void set_gilbert(struct losses *losses, int way, const uint32_t chances[4]) {
+    losses[way].kind = GILBERT;
+    memcpy(losses[way].chances, chances, sizeof losses[way].chances);
 }
 
-static bool listed(struct model *model) {
-    while (model->passed < model->length && model->list[model->passed] < model->count) model->passed++;
-    return model->passed < model->length && model->list[model->passed] == model->count;
-}
+void set_chosen(struct losses *losses, int way) { losses[way].kind = CHOSEN; }
 
 /* Whether a packet is lost in the state in which it finds the link, which then may change. */
-static bool lost_by_state(struct model *model) {
-    bool lost = draw(model) < model->chances[model->bad ? LOST_IN_BAD : LOST_IN_GOOD];
-    model->bad ^= draw(model) < model->chances[model->bad ? TO_GOOD : TO_BAD];
+static bool lost_by_state(struct losses *model, int way) {
+    bool lost = draw(model, way) < model->chances[model->bad ? LOST_IN_BAD : LOST_IN_GOOD];
+    model->bad ^= draw(model, way) < model->chances[model->bad ? TO_GOOD : TO_BAD];
     return lost;
 }
 
-uint32_t next_word(int way) {
-    struct model *model = &models[way];
-    model->count++;
-    if (model->kind == WORDS) return draw(model);
-    return (model->kind == LIST ? listed(model) : lost_by_state(model)) ? WORD_OF_A_LOSS : WORD_OF_NONE;
+uint32_t next_word(struct losses *losses, struct passes *passes, int way) {
+    struct losses *model = &losses[way];
+    count_packet(passes, way);
+    if (model->kind == WORDS) return draw(model, way);
+    return (model->kind == CHOSEN ? fault_of(passes, way, IS_LOST) : lost_by_state(model, way)) ? WORD_OF_A_LOSS : WORD_OF_NONE;
 }

@@ -13,29 +13,12 @@
 #include <errno.h>
 #include <hingetulip.h>
 #include <signal.h>
-#include <stdio.h>
-#include <stdlib.h>
 #include <string.h>
 #include <sys/prctl.h>
 #include <sys/signalfd.h>
-#include <unistd.h>
 
-#include "basics.h"
-#include "carrier.h"
-#include "changes.h"
 #include "control.h"
-#include "cuts.h"
-#include "late_remarks.h"
-#include "links.h"
-#include "losses.h"
-#include "pacing.h"
-#include "page.h"
-#include "passes.h"
-#include "plan.h"
-#include "switches.h"
-#include "transcript.h"
-#include "unread.h"
-#include "waits.h"
+#include "host.h"
 #include "ways.h"
 
 #define USAGE "hinge-link tun END END [END END ..] PAGE < PLAN, or hinge-link udp FRONT ADDRESS PORT PAGE < PLAN"
@@ -56,34 +39,37 @@ static int signal_descriptor(void) {
 }
 
 /* One turn at the links, behind a wait that has ended. What is due at a moment leaves between the ways. */
-static void turn(const struct wait *wait, uint64_t due) {
-    uint64_t moment = now();
-    page->turns++;
-    page->wakes += wait->slept;
-    note_wait(moment, wait);
-    if (carrier.look_after) carrier.look_after(carrier.state, moment);
-    make_changes(moment);
+static void turn(struct host *host, const struct wait *wait, uint64_t due) {
+    uint64_t moment = now(&host->clock);
+    host->page->turns++;
+    host->page->wakes += wait->slept;
+    note_wait(host->unread, moment, wait);
+    if (host->carrier.look_after) host->carrier.look_after(host->carrier.state, moment);
+    make_changes(host, moment);
     for (int i = 0; i < wait->count; i++) {
-        come(wait->ready[i]);
-        if (i + 1 == wait->count || due > last_moment()) continue;
-        leave();
-        due = wake();
+        come(host, wait->ready[i]);
+        if (i + 1 == wait->count || due > host->clock.last) continue;
+        leave(host);
+        due = wake(host->links);
     }
-    if (due <= last_moment()) leave();
-    remark_lateness(moment);
-    page->moment = moment;
+    if (due <= host->clock.last) leave(host);
+    remark_lateness(host, moment, false);
+    host->page->moment = moment;
 }
 
 /* Goes from moment to moment until the signal comes; false where an interface went away. */
-static bool run(struct waits *waits) {
+static bool run(struct host *host, struct waits *waits) {
     while (true) {
-        uint64_t due = wake(), changes = next_change();
-        if (due == DN_NEVER && transcript_is_long()) begin_next_part();
+        uint64_t due = wake(host->links), changes = next_change(host->changes);
+        if (due == DN_NEVER && transcript_is_long(host->transcript)) {
+            let_go_of_discarded(host->held);
+            begin_next_part(host->links);
+        }
         struct wait wait = wait_until(waits, changes < due ? changes : due);
         if (wait.end != PACKETS_OR_MOMENT) return wait.end == SIGNAL;
-        turn(&wait, due);
-        if (wait.control) take_control();
-        hand_on_transcript();
+        turn(host, &wait, due);
+        if (wait.control) take_control(host);
+        hand_on_transcript(host->transcript);
     }
 }
 
@@ -93,41 +79,36 @@ static int *descriptors(int count, char **words) {
     return made;
 }
 
-/* The carrier that the command line names. */
-static struct carrier named_carrier(int count, char **words) {
-    bool tun = strcmp(words[1], "tun") == 0;
-    if (count == 6 && strcmp(words[1], "udp") == 0) return udp_carrier(number_of(words[2]), words[3], words[4]);
-    int ends = count - 2 - tun;
+/* Opens the page and the carrier that the command line names. */
+static void open_carrier(struct host *host, int count, char **words) {
+    bool tun = strcmp(words[1], "tun") == 0, udp = count == 6 && strcmp(words[1], "udp") == 0;
+    int ends = udp ? 2 : count - 2 - tun;
     if (ends < 2 || ends % 2) fail("usage", USAGE);
-    return (tun ? tun_carrier : plain_carrier)(ends, descriptors(ends, words + 1 + tun));
+    host->page = open_page(number_of(words[count - 1]), ends);
+    if (udp) host->carrier = udp_carrier(number_of(words[2]), words[3], words[4], host->page, &host->clock);
+    else host->carrier = (tun ? tun_carrier : plain_carrier)(ends, descriptors(ends, words + 1 + tun));
 }
 
 int main(int count, char **words) {
     if (count < 4) fail("usage", USAGE);
-    carrier = named_carrier(count, words);
-    open_page(number_of(words[count - 1]), carrier.ways);
+    struct host host = {0};
+    open_carrier(&host, count, words);
     int ended = signal_descriptor();
     prctl(PR_SET_PDEATHSIG, SIGTERM);
     prctl(PR_SET_TIMERSLACK, 1); /* else the system wakes it up to 50 us after the moment */
-    open_links();
-    prepare_losses(carrier.ways);
-    prepare_passes(carrier.ways);
-    prepare_late_remarks(carrier.ways);
-    prepare_pacing(carrier.ways);
-    prepare_cuts(carrier.ways);
-    prepare_switches(carrier.ways);
-    read_plan();
-    begin_ways();
-    begin_unread(carrier.ways);
-    struct waits *waits = begun_waits(carrier.polled, carrier.ways, ended, control_descriptor());
-    page->state = RUNNING;
-    bool whole = run(waits);
-    remark_last_lateness(now());
-    count_the_rest();
-    if (carrier.end) carrier.end(carrier.state);
-    bool kept = close_transcript();
-    if (!whole) fail("an interface", "is gone");
-    if (!kept) return REFUSED;
-    page->state = ENDED_WELL;
+    make_parts(&host, host.carrier.ways);
+    read_plan(&host);
+    begin_ways(&host);
+    host.unread = begin_unread(host.carrier.ways, &host.clock);
+    struct waits *waits = begun_waits(&host.clock, host.carrier.polled, host.carrier.ways, ended, host.control);
+    host.page->state = RUNNING;
+    bool is_whole = run(&host, waits);
+    remark_lateness(&host, now(&host.clock), true);
+    count_the_rest(&host);
+    if (host.carrier.end) host.carrier.end(host.carrier.state);
+    bool is_kept = close_transcript(host.transcript);
+    if (!is_whole) fail("an interface", "is gone");
+    if (!is_kept) return REFUSED;
+    host.page->state = ENDED_WELL;
     return 0;
 }

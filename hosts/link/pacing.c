@@ -16,7 +16,7 @@ struct hold {
     uint64_t from, to;
 };
 
-static struct pipe {
+struct pipe {
     struct slots slots;
     struct hold *holds; /* those before `held` are over */
     size_t hold_count, held;
@@ -27,41 +27,54 @@ static struct pipe {
     uint64_t first_rate;  /* of the first packet that waits */
     uint32_t *waiting;    /* bytes of the packets that wait, in a ring */
     size_t first, count, room;
-} *pipes; /* those that are paced */
-static int pipe_count, most;
-static int *place_of; /* by numbers: from 1, or 0 */
+};
 
-void prepare_pacing(int count) {
-    place_of = zeroed((size_t)(count + 1) * sizeof *place_of);
-    most = count;
+struct pacing {
+    struct links *links;
+    struct pipe *pipes; /* those that are paced */
+    int count, most;
+    int place_of[]; /* by numbers: from 1, or 0 */
+};
+
+struct pacing *new_pacing(struct links *links, int most) {
+    struct pacing *pacing = zeroed(sizeof *pacing + (size_t)(most + 1) * sizeof *pacing->place_of);
+    pacing->links = links;
+    pacing->most = most;
+    return pacing;
 }
 
-static struct pipe *paced(int number) { return number >= 1 && number <= most && place_of[number] ? &pipes[place_of[number] - 1] : NULL; }
+static struct pipe *paced(const struct pacing *pacing, int number) {
+    int place = number >= 1 && number <= pacing->most ? pacing->place_of[number] : 0;
+    return place ? &pacing->pipes[place - 1] : NULL;
+}
 
-static struct pipe *made(int number) {
-    if (!place_of[number]) {
-        pipes = grown(pipes, (size_t)(pipe_count + 1) * sizeof *pipes);
-        pipes[pipe_count] = (struct pipe){0};
-        place_of[number] = ++pipe_count;
+static struct pipe *made(struct pacing *pacing, int number) {
+    if (!pacing->place_of[number]) {
+        pacing->pipes = grown(pacing->pipes, (size_t)(pacing->count + 1) * sizeof *pacing->pipes);
+        pacing->pipes[pacing->count] = (struct pipe){0};
+        pacing->place_of[number] = ++pacing->count;
     }
-    return paced(number);
+    return paced(pacing, number);
 }
 
-void add_slots(int pipe, const uint32_t *moments, size_t count) { made(pipe)->slots = (struct slots){.moments = moments, .count = count}; }
+void add_slots(struct pacing *pacing, int pipe, const uint32_t *moments, size_t count) {
+    made(pacing, pipe)->slots = (struct slots){.moments = moments, .count = count};
+}
 
-void add_hold(int number, uint64_t from, uint64_t to) {
-    struct pipe *pipe = made(number);
+void add_hold(struct pacing *pacing, int number, uint64_t from, uint64_t to) {
+    struct pipe *pipe = made(pacing, number);
     pipe->holds = grown(pipe->holds, (pipe->hold_count + 1) * sizeof *pipe->holds);
     size_t at = pipe->hold_count++;
     for (; at > pipe->held && pipe->holds[at - 1].from > from; at--) pipe->holds[at] = pipe->holds[at - 1];
     pipe->holds[at] = (struct hold){from, to};
 }
 
-void pace(int number) { made(number); }
+void pace(struct pacing *pacing, int number) { made(pacing, number); }
 
-bool is_paced(int number) { return paced(number); }
-
-bool is_drained(int number) { return !paced(number)->count; }
+bool has_backlog(const struct pacing *pacing, int number) {
+    const struct pipe *pipe = paced(pacing, number);
+    return pipe ? pipe->count : has_waiting(pacing->links, number);
+}
 
 static void let_wait(struct pipe *pipe, uint32_t bytes) {
     if (pipe->count == pipe->room) {
@@ -101,12 +114,13 @@ static uint64_t rate_of(struct pipe *pipe, uint64_t begin, uint32_t bytes, bool 
     return rate_for(bits, end > begin ? end - begin : 0);
 }
 
-static void set_rate(struct pipe *pipe, uint64_t rate) {
+static void set_rate(struct links *links, struct pipe *pipe, uint64_t rate) {
     char *line = NULL;
     if (rate == pipe->in_force || !pipe->front) return;
-    int len = rate ? asprintf(&line, "%s bw %" PRIu64 "bit/s%s", pipe->front, rate, pipe->behind) : asprintf(&line, "%s%s", pipe->front, pipe->behind);
+    int len =
+        rate ? asprintf(&line, "%s bw %" PRIu64 "bit/s%s", pipe->front, rate, pipe->behind) : asprintf(&line, "%s%s", pipe->front, pipe->behind);
     if (len < 0) fail("the links", "out of memory");
-    const char *wrong = obey(line);
+    const char *wrong = obey(links, line);
     if (wrong) fail(line, wrong);
     free(line);
     pipe->in_force = rate;
@@ -116,36 +130,38 @@ static void set_rate(struct pipe *pipe, uint64_t rate) {
 static uint64_t transmission(uint32_t bytes, uint64_t rate) { return rate ? ((uint64_t)bytes * 8 * SECOND + rate - 1) / rate : 0; }
 
 /* The first that waits gets its rate, before it begins. */
-static void prepare_first(struct pipe *pipe) {
+static void prepare_first(struct links *links, struct pipe *pipe) {
     if (!pipe->count) return;
     pipe->first_rate = rate_of(pipe, pipe->free_at, pipe->waiting[pipe->first], true);
-    set_rate(pipe, pipe->first_rate);
+    set_rate(links, pipe, pipe->first_rate);
 }
 
-static struct pipe *next_to_begin(uint64_t moment) {
-    struct pipe *found = NULL;
-    for (int i = 0; i < pipe_count; i++)
-        if (pipes[i].count && pipes[i].free_at <= moment && (!found || pipes[i].free_at < found->free_at)) found = &pipes[i];
-    return found;
+static struct pipe *next_to_begin(const struct pacing *pacing, uint64_t moment) {
+    struct pipe *first = NULL;
+    for (int i = 0; i < pacing->count; i++) {
+        struct pipe *pipe = &pacing->pipes[i];
+        if (pipe->count && pipe->free_at <= moment && (!first || pipe->free_at < first->free_at)) first = pipe;
+    }
+    return first;
 }
 
-void catch_up(uint64_t moment) {
-    for (struct pipe *pipe; (pipe = next_to_begin(moment));) {
+void catch_up(struct pacing *pacing, uint64_t moment) {
+    for (struct pipe *pipe; (pipe = next_to_begin(pacing, moment));) {
         uint32_t bytes = pipe->waiting[pipe->first];
         pipe->first = (pipe->first + 1) % pipe->room;
         pipe->count--;
-        advance(pipe->free_at);
+        advance(pacing->links, pipe->free_at);
         pipe->free_at += transmission(bytes, pipe->in_force);
-        prepare_first(pipe);
+        prepare_first(pacing->links, pipe);
     }
 }
 
-void submit_paced(const struct dn_packet *packet, struct dn_fate *fate) {
-    struct pipe *pipe = packet->kind == DN_PIPE ? paced(packet->number) : NULL;
+void submit_paced(struct pacing *pacing, const struct dn_packet *packet, struct dn_fate *fate) {
+    struct pipe *pipe = packet->kind == DN_PIPE ? paced(pacing, packet->number) : NULL;
     bool begins = pipe && !pipe->count && pipe->free_at <= packet->moment;
     struct slots before = pipe ? pipe->slots : (struct slots){0};
-    if (begins) set_rate(pipe, rate_of(pipe, packet->moment, packet->length, false));
-    submit(packet, fate);
+    if (begins) set_rate(pacing->links, pipe, rate_of(pipe, packet->moment, packet->length, false));
+    submit(pacing->links, packet, fate);
     if (!pipe || fate->outcome != DN_QUEUED) {
         if (pipe) pipe->slots = before;
         return;
@@ -153,7 +169,7 @@ void submit_paced(const struct dn_packet *packet, struct dn_fate *fate) {
     if (begins) pipe->free_at = packet->moment + transmission(packet->length, pipe->in_force);
     else {
         let_wait(pipe, packet->length);
-        if (pipe->count == 1) prepare_first(pipe);
+        if (pipe->count == 1) prepare_first(pacing->links, pipe);
     }
 }
 
@@ -168,16 +184,19 @@ static void keep_line(struct pipe *pipe, const char *line) {
     if (!pipe->front || !pipe->behind) fail("the links", "out of memory");
 }
 
-void note_configured(const char *line) {
+void note_configured(struct pacing *pacing, const char *line) {
     int number;
-    struct pipe *pipe;
-    if (sscanf(line, "pipe %d", &number) == 1 && (pipe = paced(number))) {
-        keep_line(pipe, line);
-        if (pipe->slots.moments && pipe->count) set_rate(pipe, pipe->first_rate);
-        else prepare_first(pipe);
-    } else if (sscanf(line, "pipe delete %d", &number) == 1 && (pipe = paced(number))) {
+    bool deletes = strncmp(line, "pipe delete ", strlen("pipe delete ")) == 0;
+    const char *rest = line + strlen(deletes ? "pipe delete " : "pipe ");
+    bool is_of_pipe = strncmp(line, "pipe ", strlen("pipe ")) == 0 && take_int(&rest, 1, pacing->most, &number);
+    struct pipe *pipe = is_of_pipe ? paced(pacing, number) : NULL;
+    if (pipe && deletes) {
         free(pipe->front);
         pipe->front = NULL;
         pipe->count = 0;
+    } else if (pipe) {
+        keep_line(pipe, line);
+        if (pipe->slots.moments && pipe->count) set_rate(pacing->links, pipe, pipe->first_rate);
+        else prepare_first(pacing->links, pipe);
     }
 }

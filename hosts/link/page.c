@@ -6,11 +6,10 @@
 
 #include "basics.h"
 
-struct page *page;
-
-void open_page(int descriptor, int ways) {
-    page = mmap(NULL, sizeof *page + (size_t)ways * sizeof *page->ways, PROT_READ | PROT_WRITE, MAP_SHARED, descriptor, 0);
+struct page *open_page(int descriptor, int ways) {
+    struct page *page = mmap(NULL, sizeof *page + (size_t)ways * sizeof *page->ways, PROT_READ | PROT_WRITE, MAP_SHARED, descriptor, 0);
     if (page == MAP_FAILED) fail("the page of counts", strerror(errno));
+    return page;
 }
 
 void count_time(uint64_t bins[BINS], uint64_t ns, uint64_t count) {

@@ -1,6 +1,5 @@
 /* The page of counts: memory that `hinge run` shares, and reads while the link runs and after it. hinge/run/page.py has the same order. */
-#ifndef PAGE_H
-#define PAGE_H
+#pragma once
 #include <stdint.h>
 
 enum {
@@ -20,8 +19,8 @@ struct way {
     uint64_t held, discarded;       /* packets in the link; those that a delete took out of it */
     uint64_t stayed;                /* ns: the sum of the times that the packets that were sent were in the link */
     uint64_t late_most, unread_most;
-    uint64_t late[BINS], unread[BINS];               /* packets */
-    uint64_t late_time[BINS], unread_time[BINS];     /* ns in which a packet was due, or unread, which was so late then */
+    uint64_t late[BINS], unread[BINS];           /* packets */
+    uint64_t late_time[BINS], unread_time[BINS]; /* ns in which a packet was due, or unread, which was so late then */
 };
 
 struct page {
@@ -29,11 +28,8 @@ struct page {
     struct way ways[]; /* as carrier.h numbers them: of a link up, from the client to the server, and then down */
 };
 
-extern struct page *page;
-
 /* Opens the page for so many ways. */
-void open_page(int descriptor, int ways);
+struct page *open_page(int descriptor, int ways);
 
 /* Adds to the bin of a time. */
 void count_time(uint64_t bins[BINS], uint64_t ns, uint64_t count);
-#endif

@@ -1,10 +1,13 @@
 /* Rules that send packets to pipes and queues: the first that fits decides. */
-#ifndef RULES_H
-#define RULES_H
+#pragma once
 #include "dissect.h"
 
-struct net { struct address address, mask; };
-struct span { unsigned low, high; };
+struct net {
+    struct address address, mask;
+};
+struct span {
+    int low, high;
+};
 
 struct rule {
     int way, kind, number;
@@ -13,8 +16,12 @@ struct rule {
     struct span sport, dport;
 };
 
-void add_rule(const struct rule *rule);
+struct rules {
+    struct rule *list;
+    size_t count;
+};
+
+void add_rule(struct rules *rules, const struct rule *rule);
 
 /* Sends a packet to what the first rule that fits names, else to the pipe of its way, whose number is by 1 above the way's. */
-void classify(int way, const struct headers *headers, struct dn_packet *packet);
-#endif
+void classify(const struct rules *rules, int way, const struct headers *headers, struct dn_packet *packet);

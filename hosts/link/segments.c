@@ -3,16 +3,11 @@
 #include <stdint.h>
 #include <string.h>
 
+#include "octets.h"
+
 enum { IPV4_LENGTH = 2, IPV4_NUMBER = 4, IPV4_CHECKSUM = 10, IPV6_HEADER = 40, IPV6_LENGTH = 4 };
 enum { TCP_SEQUENCE = 4, TCP_OFFSET = 12, TCP_FLAGS = 13, TCP_CHECKSUM = 16, TCP_SHORTEST = 20 };
 enum { FIN = 1, PUSH = 8, WINDOW_REDUCED = 128 };
-
-static unsigned two(const unsigned char *at) { return (unsigned)at[0] << 8 | at[1]; }
-
-static void put_two(unsigned char *at, unsigned number) {
-    at[0] = (unsigned char)(number >> 8);
-    at[1] = (unsigned char)number;
-}
 
 /* A sum of the checksum's kind, of 16 bits. */
 static unsigned folded(unsigned long sum) {
@@ -29,7 +24,7 @@ static bool is_to_be_cut(const struct virtio_net_hdr *note) {
 static size_t headers_of(const struct whole *whole) {
     size_t start = whole->note.csum_start;
     if (!is_to_be_cut(&whole->note) || start + TCP_SHORTEST > whole->len) return whole->len;
-    size_t before = start + (whole->bytes[NOTE + start + TCP_OFFSET] >> 4) * 4u;
+    size_t before = start + (size_t)(whole->bytes[NOTE + start + TCP_OFFSET] >> 4) * 4;
     return before < whole->len && before <= LONGEST_HEADERS ? before : whole->len;
 }
 
@@ -51,7 +46,7 @@ void fit_ip(unsigned char *ip, size_t len, size_t number) {
     put_two(ip + IPV4_LENGTH, (unsigned)len);
     put_two(ip + IPV4_NUMBER, two(ip + IPV4_NUMBER) + (unsigned)number);
     put_two(ip + IPV4_CHECKSUM, 0);
-    for (size_t at = 0; at < (ip[0] & 15) * 4u; at += 2) sum += two(ip + at);
+    for (size_t at = 0; at < (size_t)(ip[0] & 15) * 4; at += 2) sum += two(ip + at);
     put_two(ip + IPV4_CHECKSUM, ~folded(sum));
 }
 
@@ -61,8 +56,7 @@ void fit_tcp_length(unsigned char *tcp, size_t was, size_t is) {
 
 /* The place in the stream, the flags, and what the checksum goes on from. */
 static void fit_tcp(unsigned char *tcp, size_t before, bool is_last, size_t whole_length, size_t length) {
-    unsigned long sequence = (unsigned long)two(tcp + TCP_SEQUENCE) << 16 | two(tcp + TCP_SEQUENCE + 2);
-    sequence += before;
+    unsigned long sequence = four(tcp + TCP_SEQUENCE) + before;
     put_two(tcp + TCP_SEQUENCE, (unsigned)(sequence >> 16));
     put_two(tcp + TCP_SEQUENCE + 2, (unsigned)sequence);
     if (!is_last) tcp[TCP_FLAGS] &= (unsigned char)~(FIN | PUSH);

@@ -1,7 +1,6 @@
 /* TCP that the system hands over as one packet, with a note of how a card would cut it. It is cut here: each of its packets has a fate
    of its own on the link. */
-#ifndef SEGMENTS_H
-#define SEGMENTS_H
+#pragma once
 #include <linux/virtio_net.h>
 #include <stdbool.h>
 #include <stddef.h>
@@ -31,4 +30,3 @@ void fit_ip(unsigned char *ip, size_t len, size_t number);
 
 /* Has the sum in the place of TCP's checksum, from which a card goes on, be for another length of TCP than it was. */
 void fit_tcp_length(unsigned char *tcp, size_t was, size_t is);
-#endif

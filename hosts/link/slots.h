@@ -1,6 +1,5 @@
 /* The moments of a recorded link at which so many bytes may leave. */
-#ifndef SLOTS_H
-#define SLOTS_H
+#pragma once
 #include <stddef.h>
 #include <stdint.h>
 
@@ -17,4 +16,3 @@ void seek(struct slots *slots, uint64_t moment, uint64_t bytes);
 
 /* The moment, in ns, at which the last of so many bytes leaves: what is left of the present moment comes first. Each has `bytes`. */
 uint64_t take_slots(struct slots *slots, uint64_t wanted, uint64_t bytes);
-#endif

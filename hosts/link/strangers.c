@@ -4,7 +4,7 @@
 #include <string.h>
 
 #include "basics.h"
-#include "transcript.h"
+#include "octets.h"
 
 enum { MOST = 65536, PLACES = 2 * MOST };
 #define FIRST_STAND_IN UINT32_C(0xf0000000) /* 240.0.0.0 */
@@ -15,23 +15,39 @@ struct stranger {
     uint32_t number; /* from 1; 0 in a free place */
 };
 
+struct strangers {
+    struct transcript *transcript;
+    uint32_t count;
+    struct stranger places[PLACES];
+};
+
 static size_t first_place(const unsigned char address[16]) {
     uint64_t half[2];
     memcpy(half, address, sizeof half);
     return (size_t)((half[0] * 0x9e3779b97f4a7c15 ^ half[1]) * 0x9e3779b97f4a7c15 >> 47) % PLACES;
 }
 
-uint32_t stand_in(const unsigned char address[16]) {
-    static struct stranger *seen;
-    static uint32_t count;
-    if (!seen) seen = memset(grown(NULL, PLACES * sizeof *seen), 0, PLACES * sizeof *seen);
+struct strangers *new_strangers(struct transcript *transcript) {
+    struct strangers *strangers = zeroed(sizeof *strangers);
+    strangers->transcript = transcript;
+    return strangers;
+}
+
+static void remark_address(struct transcript *transcript, uint32_t stand_in, const unsigned char *address) {
+    remark(transcript, "#,address,%u.%u.%u.%u", stand_in >> 24, stand_in >> 16 & 255, stand_in >> 8 & 255, stand_in & 255);
+    for (int i = 0; i < 16; i += 2) remark(transcript, "%c%04x", i ? ':' : ',', two(address + i));
+    remark(transcript, "\n");
+}
+
+uint32_t stand_in(struct strangers *strangers, const unsigned char address[16]) {
+    struct stranger *seen = strangers->places;
     size_t at = first_place(address);
     while (seen[at].number && memcmp(seen[at].address, address, 16) != 0) at = (at + 1) % PLACES;
     if (!seen[at].number) {
-        if (count == MOST) return SHARED;
-        seen[at].number = ++count;
+        if (strangers->count == MOST) return SHARED;
+        seen[at].number = ++strangers->count;
         memcpy(seen[at].address, address, 16);
-        remark_address(FIRST_STAND_IN + count, address);
+        remark_address(strangers->transcript, FIRST_STAND_IN + strangers->count, address);
     }
     return FIRST_STAND_IN + seen[at].number;
 }

@@ -16,34 +16,39 @@ struct sender {
     uint64_t heard; /* the moment and 1, 0 in a free place */
 };
 
-static struct frame_switch {
+struct frame_switch {
     int *ways, count;
     struct sender *senders;
-} *switches;
-static int switch_count;
-static int *place_of; /* by ways: that of the switch at which each ends, from 1, or 0 */
+};
 
-void prepare_switches(int ways) { place_of = zeroed((size_t)ways * sizeof *place_of); }
+struct switches {
+    struct frame_switch *list;
+    int count, place_of[]; /* by ways: that of the switch at which each ends, from 1, or 0 */
+};
 
-bool add_switch(const int *ways, int count) {
-    int place = switch_count + 1;
+struct switches *new_switches(int ways) {
+    return zeroed(sizeof(struct switches) + (size_t)ways * sizeof(int));
+}
+
+bool add_switch(struct switches *switches, const int *ways, int count) {
+    int place = switches->count + 1, *place_of = switches->place_of;
     for (int i = 0; i < count; i++) {
         if (place_of[ways[i]] || place_of[back(ways[i])] == place) return false;
         place_of[ways[i]] = place;
     }
-    switches = grown(switches, (size_t)place * sizeof *switches);
-    struct frame_switch *made = &switches[switch_count++];
+    switches->list = grown(switches->list, (size_t)place * sizeof *switches->list);
+    struct frame_switch *made = &switches->list[switches->count++];
     *made = (struct frame_switch){.ways = grown(NULL, (size_t)count * sizeof *made->ways), .count = count};
-    made->senders = zeroed(SETS * PLACES * sizeof *made->senders);
+    made->senders = zeroed(sizeof *made->senders * SETS * PLACES);
     memcpy(made->ways, ways, (size_t)count * sizeof *ways);
     return true;
 }
 
-bool ends_at_switch(int way) { return place_of[way]; }
+bool ends_at_switch(const struct switches *switches, int way) { return switches->place_of[way]; }
 
-bool carries_frames(int way) { return place_of[way] || place_of[back(way)]; }
+bool carries_frames(const struct switches *switches, int way) { return switches->place_of[way] || switches->place_of[back(way)]; }
 
-static const struct frame_switch *switch_of(int way) { return &switches[place_of[way] - 1]; }
+static const struct frame_switch *switch_of(const struct switches *switches, int way) { return &switches->list[switches->place_of[way] - 1]; }
 
 static struct sender *set_of(const struct frame_switch *its, const unsigned char mac[MAC]) {
     uint64_t number = 0;
@@ -72,8 +77,8 @@ static void hear(struct sender *set, const unsigned char mac[MAC], int way, uint
 /* Whether a frame is for the switch itself, which hands none of these on: 01:80:c2:00:00:00 to 0f. */
 static bool is_of_link(const unsigned char mac[MAC]) { return memcmp(mac, "\x01\x80\xc2\x00\x00", MAC - 1) == 0 && mac[MAC - 1] < 16; }
 
-int next_way(int way, const unsigned char *frame, uint64_t moment) {
-    const struct frame_switch *its = switch_of(way);
+int next_way(const struct switches *switches, int way, const unsigned char *frame, uint64_t moment) {
+    const struct frame_switch *its = switch_of(switches, way);
     const unsigned char *to = frame, *from = frame + MAC;
     if (!is_group(from)) hear(set_of(its, from), from, way, moment);
     if (is_group(to)) return is_of_link(to) ? TO_NONE : TO_ALL;
@@ -82,8 +87,8 @@ int next_way(int way, const unsigned char *frame, uint64_t moment) {
     return there->way == way ? TO_NONE : back(there->way);
 }
 
-int other_way(int way, int before) {
-    const struct frame_switch *its = switch_of(way);
+int other_way(const struct switches *switches, int way, int before) {
+    const struct frame_switch *its = switch_of(switches, way);
     bool is_behind = before == NO_WAY;
     for (int at = 0; at < its->count; at++) {
         int other = back(its->ways[at]);

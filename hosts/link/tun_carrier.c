@@ -40,6 +40,8 @@ struct carrier tun_carrier(int count, const int *descriptors) {
     struct tuns *tuns = zeroed(sizeof *tuns);
     tuns->interfaces = descriptors;
     for (int way = 0; way < count; way++) fcntl(descriptors[way], F_SETFL, O_NONBLOCK);
-    return (struct carrier){
-        .ways = count, .polled = descriptors, .prefix = NOTE, .state = tuns, .receive = receive, .transmit = transmit, .goes_on = goes_on, .joins = joins};
+    struct carrier carrier = {.ways = count, .polled = descriptors, .prefix = NOTE, .state = tuns, .receive = receive, .transmit = transmit};
+    carrier.goes_on = goes_on;
+    carrier.joins = joins;
+    return carrier;
 }

@@ -1,17 +1,16 @@
 #define _GNU_SOURCE
 #include <arpa/inet.h>
 #include <errno.h>
-#include <stdlib.h>
-#include <string.h>
 #include <sys/socket.h>
 
 #include "basics.h"
 #include "carrier.h"
 #include "clients.h"
 #include "datagram.h"
-#include "page.h"
 
 struct udp {
+    const struct clock *clock;
+    struct way *ways; /* the counts of both */
     int front, polled[2];
     union end server;
     struct clients *clients;
@@ -19,8 +18,8 @@ struct udp {
 };
 
 /* Turns a datagram away. It is dropped whole, and counted. */
-static ssize_t turn_away(int way) {
-    page->ways[way].turned_away++;
+static ssize_t turn_away(struct udp *udp, int way) {
+    udp->ways[way].turned_away++;
     return 0;
 }
 
@@ -32,31 +31,31 @@ static ssize_t receive_from_client(struct udp *udp) {
     socklen_t length = sizeof from;
     ssize_t data = recvfrom(udp->front, udp->bytes + headers, LONGEST - headers, MSG_DONTWAIT | MSG_TRUNC, &from.any, &length);
     if (data < 0) return -1;
-    struct client *client = (size_t)data > LONGEST - headers ? NULL : client_of(udp->clients, &from);
-    if (!client) return turn_away(0);
-    note_active(udp->clients, client, last_moment());
+    struct client *client = (size_t)data > LONGEST - headers ? NULL : client_of(udp->clients, &from, udp->clock->last);
+    if (!client) return turn_away(udp, 0);
+    note_active(udp->clients, client, udp->clock->last);
     write_headers(udp->bytes, (size_t)data, &from, &udp->server);
     return (ssize_t)headers + data;
 }
 
 /* A datagram that was sent found no server. */
-static void note_refused(void) {
-    if (page->ways[0].sent == 0) return;
-    page->ways[0].sent--;
-    page->ways[0].refused++;
+static void note_refused(struct way *way) {
+    if (way->sent == 0) return;
+    way->sent--;
+    way->refused++;
 }
 
 static ssize_t receive_from_server(struct udp *udp) {
     size_t headers = headers_length(udp->server.any.sa_family);
     for (struct client *client; (client = ready_client(udp->clients));) {
         ssize_t data = recv(client->socket, udp->bytes + headers, LONGEST - headers, MSG_DONTWAIT | MSG_TRUNC);
-        if (data >= 0 && (size_t)data > LONGEST - headers) return turn_away(1);
+        if (data >= 0 && (size_t)data > LONGEST - headers) return turn_away(udp, 1);
         if (data >= 0) {
-            note_active(udp->clients, client, last_moment());
+            note_active(udp->clients, client, udp->clock->last);
             write_headers(udp->bytes, (size_t)data, &udp->server, &client->end);
             return (ssize_t)headers + data;
         }
-        if (errno == ECONNREFUSED) note_refused();
+        if (errno == ECONNREFUSED) note_refused(&udp->ways[0]);
     }
     return -1;
 }
@@ -68,10 +67,10 @@ static ssize_t receive(void *state, int way, unsigned char **packet) {
 }
 
 /* Sends to the server by a client's socket; once more where the first try was told of an earlier datagram's refusal. */
-static bool to_server(int socket, const unsigned char *data, size_t len) {
+static bool to_server(struct way *way, int socket, const unsigned char *data, size_t len) {
     if (send(socket, data, len, MSG_DONTWAIT) >= 0) return true;
     if (errno != ECONNREFUSED) return false;
-    note_refused();
+    note_refused(way);
     return send(socket, data, len, MSG_DONTWAIT) >= 0;
 }
 
@@ -83,8 +82,8 @@ static bool transmit(void *state, int way, const struct bytes *packets, int coun
     const unsigned char *data = packets->at + headers;
     struct client *client = known_client(udp->clients, &end);
     if (!client || count != 1) return false; /* it was let go */
-    note_active(udp->clients, client, last_moment());
-    if (way == 0) return to_server(client->socket, data, len);
+    note_active(udp->clients, client, udp->clock->last);
+    if (way == 0) return to_server(&udp->ways[0], client->socket, data, len);
     return sendto(udp->front, data, len, MSG_DONTWAIT, &client->end.any, end_length(end.any.sa_family)) >= 0;
 }
 
@@ -95,7 +94,7 @@ static void look_after(void *state, uint64_t moment) {
 
 static void end(void *state) {
     const struct udp *udp = state;
-    page->ways[0].dropped = dropped_at(udp->front);
+    udp->ways[0].dropped = dropped_at(udp->front);
     count_dropped_of_clients(udp->clients);
 }
 
@@ -111,12 +110,14 @@ static union end server_end(const char *address, in_port_t port) {
     return server;
 }
 
-struct carrier udp_carrier(int front, const char *address, const char *port) {
+struct carrier udp_carrier(int front, const char *address, const char *port, struct page *page, const struct clock *clock) {
     struct udp *udp = zeroed(sizeof *udp);
+    udp->clock = clock;
+    udp->ways = page->ways;
     udp->front = front;
     udp->server = server_end(address, htons((uint16_t)number_of(port)));
     give_room(front);
-    udp->clients = new_clients(&udp->server);
+    udp->clients = new_clients(&udp->server, &page->ways[1]);
     udp->polled[0] = front;
     udp->polled[1] = clients_descriptor(udp->clients);
     return (struct carrier){

@@ -8,13 +8,12 @@
 #include <sys/timerfd.h>
 #include <unistd.h>
 
-#include "basics.h"
-
 /* The beat of an idle link: a stop of this program is counted from the last one, and not from the last packet. */
 enum { BEAT = 100000000 }; /* ns */
 
 /* All are told by one call, each with its way, behind which come the signal, the timers and the lines: what isn't told of had nothing. */
 struct waits {
+    struct clock *clock;
     int polling, timer, beats, ways, *ready;
     uint64_t first_beat, set; /* the moment of the timer */
     struct epoll_event *told;
@@ -35,10 +34,10 @@ static int made_timer(void) {
 
 /* In time that passes only while all wait nothing stops this program, and a beat would wake it for nothing. */
 static void begin_beats(struct waits *waits) {
-    if (time_stands()) return;
+    if (waits->clock->stands) return;
     waits->beats = made_timer();
-    waits->first_beat = now() + BEAT;
-    struct itimerspec at = {.it_value = time_of(waits->first_beat), .it_interval.tv_nsec = BEAT};
+    waits->first_beat = now(waits->clock) + BEAT;
+    struct itimerspec at = {.it_value = time_of(waits->clock, waits->first_beat), .it_interval.tv_nsec = BEAT};
     if (timerfd_settime(waits->beats, TFD_TIMER_ABSTIME, &at, NULL) < 0) fail("timerfd", strerror(errno));
     poll_for(waits, waits->beats, waits->ways + THE_BEATS);
 }
@@ -48,9 +47,9 @@ static uint64_t next_beat(const struct waits *waits, uint64_t moment) {
     return moment < first ? first : first + ((moment - first) / BEAT + 1) * BEAT;
 }
 
-struct waits *begun_waits(const int *polled, int ways, int signal, int control) {
+struct waits *begun_waits(struct clock *clock, const int *polled, int ways, int signal, int control) {
     struct waits *made = grown(NULL, sizeof *made);
-    *made = (struct waits){.timer = made_timer(), .ways = ways, .first_beat = DN_NEVER, .set = DN_NEVER};
+    *made = (struct waits){.clock = clock, .timer = made_timer(), .ways = ways, .first_beat = DN_NEVER, .set = DN_NEVER};
     made->ready = grown(NULL, (size_t)ways * sizeof *made->ready);
     made->told = grown(NULL, (size_t)(ways + OTHERS) * sizeof *made->told);
     if ((made->polling = epoll_create1(EPOLL_CLOEXEC)) < 0) fail("epoll", strerror(errno));
@@ -67,7 +66,7 @@ struct waits *begun_waits(const int *polled, int ways, int signal, int control) 
 static void set_timer(struct waits *waits, uint64_t moment) {
     struct itimerspec at = {0};
     if (moment == waits->set) return;
-    if (moment != DN_NEVER) at.it_value = time_of(moment);
+    if (moment != DN_NEVER) at.it_value = time_of(waits->clock, moment);
     if (timerfd_settime(waits->timer, TFD_TIMER_ABSTIME, &at, NULL) < 0) fail("timerfd", strerror(errno));
     waits->set = moment;
 }
@@ -88,7 +87,7 @@ static int polled(const struct waits *waits, int patience) {
 /* Sleeps until something is there. All signals are blocked or ignored, so that only a stop of this program interrupts the sleep: what is
    there then can have come in the stop, and what comes later hasn't. */
 static int slept_poll(const struct waits *waits, struct wait *wait, uint64_t moment) {
-    wait->nothing = last_moment();
+    wait->nothing = waits->clock->last;
     wait->timer = next_beat(waits, wait->nothing);
     if (moment < wait->timer) wait->timer = moment;
     int count = polled(waits, -1);
@@ -98,7 +97,7 @@ static int slept_poll(const struct waits *waits, struct wait *wait, uint64_t mom
 
 struct wait wait_until(struct waits *waits, uint64_t moment) {
     struct wait wait = {.ready = waits->ready};
-    bool may_sleep = moment > last_moment();
+    bool may_sleep = moment > waits->clock->last;
     if (may_sleep) set_timer(waits, moment);
     int count = polled(waits, 0);
     wait.slept = may_sleep && count == 0;

@@ -1,8 +1,9 @@
 /* The wait for packets, for the signal that ends the program, and for a moment. */
-#ifndef WAITS_H
-#define WAITS_H
+#pragma once
 #include <stdbool.h>
 #include <stdint.h>
+
+#include "basics.h"
 
 struct wait {
     enum { PACKETS_OR_MOMENT, SIGNAL, INTERFACE_GONE } end;
@@ -15,11 +16,8 @@ struct wait {
     bool control; /* whether the descriptor for lines has some, or is at its end */
 };
 
-struct waits;
-
 /* Gets a descriptor of each way, or -1, one that can be read once the signal has come, and one for lines, or -1. */
-struct waits *begun_waits(const int *polled, int ways, int signal, int control);
+struct waits *begun_waits(struct clock *clock, const int *polled, int ways, int signal, int control);
 
 /* A moment that has passed since the clock was read last is told at once. */
 struct wait wait_until(struct waits *waits, uint64_t moment);
-#endif

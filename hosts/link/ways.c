@@ -1,38 +1,21 @@
 #include "ways.h"
 
-#include <hingetulip.h>
+#include <inttypes.h>
 #include <stdlib.h>
 
-#include "basics.h"
 #include "content.h"
-#include "dissect.h"
 #include "frames.h"
-#include "held.h"
-#include "late_remarks.h"
+#include "host.h"
 #include "joins.h"
-#include "links.h"
-#include "losses.h"
-#include "pacing.h"
-#include "page.h"
-#include "passes.h"
-#include "rules.h"
-#include "switches.h"
-#include "transcript.h"
-#include "unread.h"
 
 enum { AT_ONCE = 64 }; /* packets that are taken of a way before the other has its turn, and those that came together with the last */
 
-struct carrier carrier;
-static bool contents_are_told;
-
-void tell_contents(void) { contents_are_told = true; }
-
 /* Tells by what a packet is known again on another link, and that each host may have it, or that none may hand it on. */
-static void tell_content(const struct payload *payload, bool is_for_all) {
-    if (!contents_are_told) return;
-    if (is_for_all) remark("flooded");
-    else if (payload->is_ip && is_last_hop(payload->bytes)) remark("last");
-    remark_content((payload->is_ip ? content_of : content_of_bytes)(payload->bytes, payload->len));
+static void tell_content(const struct host *host, const struct payload *payload, bool is_for_all) {
+    if (!host->contents_are_told) return;
+    if (is_for_all) remark(host->transcript, "#,flooded\n");
+    else if (payload->is_ip && is_last_hop(payload->bytes)) remark(host->transcript, "#,last\n");
+    remark_content(host->transcript, (payload->is_ip ? content_of : content_of_bytes)(payload->bytes, payload->len));
 }
 
 /* What comes on a way, behind its prefix: a frame or an IP packet. */
@@ -43,29 +26,34 @@ struct arrival {
 };
 
 /* Reads what the link and the rules look at; false where it is neither a frame nor a packet. */
-static bool look_at(int way, const struct arrival *arrival, struct payload *payload, struct dn_packet *packet, struct headers *headers) {
+static bool look_at(const struct host *host, int way, const struct arrival *arrival, struct payload *payload, struct dn_packet *packet,
+                    struct headers *headers) {
     *payload = (struct payload){arrival->bytes, arrival->size, true};
-    if (!(carries_frames(way) ? dissect_frame(arrival->bytes, arrival->size, payload, packet, headers) : dissect(arrival->bytes, arrival->size, packet, headers)))
-        return false;
+    bool is_whole = carries_frames(host->switches, way) ? dissect_frame(host->strangers, arrival->bytes, arrival->size, payload, packet, headers)
+                                                        : dissect(host->strangers, arrival->bytes, arrival->size, packet, headers);
+    if (!is_whole) return false;
     packet->length = (uint16_t)(payload->len ? payload->len : 1);
     return payload->len <= LONGEST;
 }
 
 /* Submits a packet and keeps it where the link accepts it. */
-static void enter(int way, const struct arrival *arrival, const struct payload *payload, struct dn_packet *packet) {
-    struct way *counts = &page->ways[way];
+static void enter_once(struct host *host, int way, const struct arrival *arrival, const struct payload *payload, struct dn_packet *packet,
+                       uint32_t word) {
+    struct way *counts = &host->page->ways[way];
     struct dn_fate fate;
+    struct packet held;
     counts->came++;
     counts->came_bytes += packet->length;
-    packet->word = next_word(way);
-    catch_up(packet->moment);
-    tell_content(payload, arrival->is_for_all);
-    submit_paced(packet, &fate);
+    packet->word = word;
+    catch_up(host->pacing, packet->moment);
+    tell_content(host, payload, arrival->is_for_all);
+    submit_paced(host->pacing, packet, &fate);
     switch (fate.outcome) {
     case DN_QUEUED:
-        hold(&(struct packet){.number = fate.packet, .way = way, .came = packet->moment, .is_for_all = arrival->is_for_all, .len = packet->length,
-                             .size = arrival->size},
-             arrival->bytes - carrier.prefix, carrier.prefix + arrival->size);
+        held = (struct packet){.number = fate.packet, .way = way, .came = packet->moment, .len = packet->length, .size = arrival->size};
+        held.late = fault_of(host->passes, way, IS_LATE);
+        held.is_for_all = arrival->is_for_all;
+        hold(host->held, &held, arrival->bytes - host->carrier.prefix, host->carrier.prefix + arrival->size);
         break;
     case DN_LOST: counts->lost++; break;
     case DN_FULL: counts->full++; break;
@@ -73,161 +61,167 @@ static void enter(int way, const struct arrival *arrival, const struct payload *
     }
 }
 
+/* Submits a packet, and again where a fault has it come twice: that has no number of its way. */
+static void enter(struct host *host, int way, const struct arrival *arrival, const struct payload *payload, struct dn_packet *packet) {
+    enter_once(host, way, arrival, payload, packet, next_word(host->losses, host->passes, way));
+    if (fault_of(host->passes, way, IS_TWICE)) enter_once(host, way, arrival, payload, packet, WORD_OF_NONE);
+}
+
 /* Gives what came to the link; false where it is neither a frame nor a packet. */
-static bool give(int way, const struct arrival *arrival, uint64_t moment) {
+static bool give(struct host *host, int way, const struct arrival *arrival, uint64_t moment) {
     struct dn_packet packet = {.moment = moment};
     struct payload payload;
     struct headers headers;
-    if (!look_at(way, arrival, &payload, &packet, &headers)) return false;
-    classify(way, &headers, &packet);
-    enter(way, arrival, &payload, &packet);
-    if (is_copied(way)) enter(way, arrival, &payload, &packet);
+    if (!look_at(host, way, arrival, &payload, &packet, &headers)) return false;
+    classify(&host->rules, way, &headers, &packet);
+    enter(host, way, arrival, &payload, &packet);
+    if (is_copied(host->passes, way)) enter(host, way, arrival, &payload, &packet);
     return true;
 }
 
-static void take(int way, const unsigned char *bytes, size_t size, uint64_t moment) {
-    if (give(way, &(struct arrival){.bytes = bytes, .size = size}, moment)) note_unread(way);
-    else if (carries_frames(way)) page->ways[way].turned_away++;
-    else page->ways[way].not_ip++;
+static void take(struct host *host, int way, const unsigned char *bytes, size_t size, uint64_t moment) {
+    if (give(host, way, &(struct arrival){.bytes = bytes, .size = size}, moment))
+        note_lateness(host, way, UNREAD, has_lain(host->unread, way), moment);
+    else if (carries_frames(host->switches, way)) host->page->ways[way].turned_away++;
+    else host->page->ways[way].not_ip++;
 }
 
-void begin_ways(void) {
+void begin_ways(struct host *host) {
+    const struct carrier *carrier = &host->carrier;
     unsigned char *bytes;
-    for (int way = 0; way < carrier.ways; way++)
-        while (carries_frames(way) && carrier.polled[way] >= 0 && carrier.receive(carrier.state, way, &bytes) >= 0);
+    for (int way = 0; way < carrier->ways; way++)
+        while (carries_frames(host->switches, way) && carrier->polled[way] >= 0 && carrier->receive(carrier->state, way, &bytes) >= 0) {}
 }
 
-void come(int way) {
+void come(struct host *host, int way) {
+    const struct carrier *carrier = &host->carrier;
     unsigned char *bytes;
     bool goes_on = false;
-    note_unemptied(way);
+    note_unemptied(host->unread, way);
     for (int i = 0; i < AT_ONCE || goes_on; i++) {
-        ssize_t len = carrier.receive(carrier.state, way, &bytes);
+        ssize_t len = carrier->receive(carrier->state, way, &bytes);
         if (len < 0) {
-            note_empty(way, last_moment());
+            note_empty(host->unread, way, host->clock.last);
             return;
         }
-        if (!goes_on) note_taken(way, present());
-        goes_on = carrier.goes_on && carrier.goes_on(carrier.state);
-        if (len > 0) take(way, bytes, (size_t)len, last_moment());
+        if (!goes_on) note_taken(host->unread, way, present(&host->clock));
+        goes_on = carrier->goes_on && carrier->goes_on(carrier->state);
+        if (len > 0) take(host, way, bytes, (size_t)len, host->clock.last);
     }
 }
 
-/* Packets of one way that leave at once, and that the carrier sends in one write. */
-static struct {
+/* What leaves at a moment: packets of one way that the carrier sends in one write, and those that have left at switches, in their order. */
+struct leaving {
     struct packet *packets[MOST_JOINED];
     struct bytes bytes[MOST_JOINED];
     uint64_t dues[MOST_JOINED];
     int count;
-} leaving;
+    struct packet *first, *last; /* at switches */
+};
 
 /* Gives a packet that has left its pipe to a second one, if its way has some; false where it is through. */
-static bool pass_again(struct packet *packet, uint64_t due) {
-    int pipe = packet->again ? 0 : second_pipe(packet->way);
+static bool pass_again(struct host *host, struct packet *packet, uint64_t due) {
+    int pipe = packet->again ? 0 : second_pipe(host->passes, packet->way);
     if (!pipe) return false;
-    struct dn_packet again = {.moment = last_moment(), .word = WORD_OF_NONE};
+    if (packet->late) pipe = packet->late; /* its draw counts, so that a fault changes nothing for the others */
+    struct dn_packet again = {.moment = host->clock.last, .word = WORD_OF_NONE};
     struct payload payload;
     struct headers headers;
     struct dn_fate fate;
-    look_at(packet->way, &(struct arrival){.bytes = packet->bytes + carrier.prefix, .size = packet->size}, &payload, &again, &headers);
+    look_at(host, packet->way, &(struct arrival){.bytes = packet->bytes + host->carrier.prefix, .size = packet->size}, &payload, &again, &headers);
     again.kind = DN_PIPE;
     again.number = (uint16_t)pipe;
-    tell_content(&payload, packet->is_for_all);
-    submit(&again, &fate);
+    tell_content(host, &payload, packet->is_for_all);
+    submit(host->links, &again, &fate);
     if (fate.outcome == DN_QUEUED) {
         packet->again = true;
-        packet->behind = last_moment() - due;
-        hold_again(packet, fate.packet);
+        packet->behind = host->clock.last - due;
+        hold_again(host->held, packet, fate.packet);
     } else {
-        page->ways[packet->way].no_target++; /* a line has deleted it */
+        host->page->ways[packet->way].no_target++; /* a line has deleted it */
         free(packet);
     }
     return true;
 }
 
 /* A packet is late from its due moment to the end of the write that sent it, and by what its first pass was late. */
-static void note_left(const struct packet *packet, uint64_t due, bool sent, uint64_t moment) {
-    struct way *counts = &page->ways[packet->way];
+static void note_left(struct host *host, const struct packet *packet, uint64_t due, bool sent, uint64_t moment) {
+    struct way *counts = &host->page->ways[packet->way];
     counts->sent += sent;
     counts->refused += !sent;
     if (sent) counts->sent_bytes += packet->len;
-    else remark_refused(packet->number);
+    else remark(host->transcript, "#,refused,%" PRIu64 "\n", packet->number);
     uint64_t late = moment - due + packet->behind;
     counts->stayed += moment - packet->came;
-    note_lateness(packet->way, LATE, late, moment);
+    note_lateness(host, packet->way, LATE, late, moment);
 }
 
-/* What has left at switches since the links were asked last, in its order. */
-static struct {
-    struct packet *first, *last;
-} at_switches;
-
-static void arrive_at_switch(struct packet *packet, uint64_t due) {
-    note_left(packet, due, true, present());
+static void arrive_at_switch(struct host *host, struct leaving *leaving, struct packet *packet, uint64_t due) {
+    note_left(host, packet, due, true, present(&host->clock));
     packet->next = NULL;
-    *(at_switches.first ? &at_switches.last->next : &at_switches.first) = packet;
-    at_switches.last = packet;
+    *(leaving->first ? &leaving->last->next : &leaving->first) = packet;
+    leaving->last = packet;
 }
 
 /* Gives a frame to the way by which a switch sends it on, or to each other one. */
-static void switch_on(const struct packet *packet) {
-    struct arrival arrival = {.bytes = packet->bytes + carrier.prefix, .size = packet->size};
-    int next = next_way(packet->way, arrival.bytes, last_moment()), way = packet->way;
+static void switch_on(struct host *host, const struct packet *packet) {
+    struct arrival arrival = {.bytes = packet->bytes + host->carrier.prefix, .size = packet->size};
+    int next = next_way(host->switches, packet->way, arrival.bytes, host->clock.last), way = packet->way;
     arrival.is_for_all = next == TO_ALL;
-    if (arrival.is_for_all) next = other_way(way, NO_WAY);
-    if (next < 0) remark_refused(packet->number);
-    for (; next >= 0; next = arrival.is_for_all ? other_way(way, next) : NO_WAY) give(next, &arrival, last_moment());
+    if (arrival.is_for_all) next = other_way(host->switches, way, NO_WAY);
+    if (next < 0) remark(host->transcript, "#,refused,%" PRIu64 "\n", packet->number);
+    for (; next >= 0; next = arrival.is_for_all ? other_way(host->switches, way, next) : NO_WAY) give(host, next, &arrival, host->clock.last);
 }
 
-static void switch_all_on(void) {
-    for (struct packet *packet; (packet = at_switches.first);) {
-        at_switches.first = packet->next;
-        switch_on(packet);
-        free(packet);
+static void send_on(struct host *host, struct leaving *leaving) {
+    if (!leaving->count) return;
+    bool sent = host->carrier.transmit(host->carrier.state, leaving->packets[0]->way, leaving->bytes, leaving->count);
+    uint64_t moment = present(&host->clock);
+    for (int i = 0; i < leaving->count; i++) {
+        note_left(host, leaving->packets[i], leaving->dues[i], sent, moment);
+        free(leaving->packets[i]);
     }
+    leaving->count = 0;
 }
 
-static void send_on(void) {
-    if (!leaving.count) return;
-    bool sent = carrier.transmit(carrier.state, leaving.packets[0]->way, leaving.bytes, leaving.count);
-    uint64_t moment = present();
-    for (int i = 0; i < leaving.count; i++) {
-        note_left(leaving.packets[i], leaving.dues[i], sent, moment);
-        free(leaving.packets[i]);
-    }
+static void add_leaving(struct host *host, struct leaving *leaving, struct packet *packet, uint64_t due) {
+    struct bytes bytes = {packet->bytes + host->carrier.prefix, packet->size};
+    const struct carrier *carrier = &host->carrier;
+    if (leaving->count && (packet->way != leaving->packets[0]->way || !carrier->joins || !carrier->joins(leaving->bytes, leaving->count, &bytes)))
+        send_on(host, leaving);
+    leaving->packets[leaving->count] = packet;
+    leaving->bytes[leaving->count] = bytes;
+    leaving->dues[leaving->count++] = due;
+}
+
+void leave(struct host *host) {
+    struct leaving leaving;
+    const struct dn_delivery *list;
     leaving.count = 0;
-}
-
-static void add_leaving(struct packet *packet, uint64_t due) {
-    struct bytes bytes = {packet->bytes + carrier.prefix, packet->size};
-    if (leaving.count && (packet->way != leaving.packets[0]->way || !carrier.joins || !carrier.joins(leaving.bytes, leaving.count, &bytes))) send_on();
-    leaving.packets[leaving.count] = packet;
-    leaving.bytes[leaving.count] = bytes;
-    leaving.dues[leaving.count++] = due;
-}
-
-void leave(void) {
-    const struct dn_delivery *list;
-    catch_up(last_moment());
-    uint64_t count = collect(last_moment(), &list);
+    leaving.first = NULL;
+    catch_up(host->pacing, host->clock.last);
+    uint64_t count = collect(host->links, host->clock.last, &list);
     for (uint64_t i = 0; i < count; i++) {
-        struct packet *packet = taken(list[i].packet);
+        struct packet *packet = taken(host->held, list[i].packet);
         if (!packet->len) free(packet);
-        else if (pass_again(packet, list[i].due)) continue;
-        else if (ends_at_switch(packet->way)) arrive_at_switch(packet, list[i].due);
-        else add_leaving(packet, list[i].due);
+        else if (pass_again(host, packet, list[i].due)) continue;
+        else if (ends_at_switch(host->switches, packet->way)) arrive_at_switch(host, &leaving, packet, list[i].due);
+        else add_leaving(host, &leaving, packet, list[i].due);
     }
-    send_on();
-    switch_all_on();
+    send_on(host, &leaving);
+    for (struct packet *packet; (packet = leaving.first); free(packet)) {
+        leaving.first = packet->next;
+        switch_on(host, packet);
+    }
 }
 
-void count_the_rest(void) {
+void count_the_rest(struct host *host) {
     const struct dn_delivery *list;
-    uint64_t count = collect_rest(&list);
+    uint64_t count = collect_rest(host->links, &list);
     for (uint64_t i = 0; i < count; i++) {
-        struct packet *packet = taken(list[i].packet);
-        page->underway += packet->len > 0;
+        struct packet *packet = taken(host->held, list[i].packet);
+        host->page->underway += packet->len > 0;
         free(packet);
     }
-    let_go_of_discarded();
+    let_go_of_discarded(host->held);
 }

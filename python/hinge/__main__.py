@@ -69,7 +69,7 @@ def refuse(words: list[str], program: str = "hinge") -> NoReturn:
 
 
 def run_module(word: str) -> None:
-    """Runs a command over the words behind it."""
+    """Runs a command over the words behind it. Fault: numpy is missing."""
     try:
         importlib.import_module(f"hinge.commands.{word.replace('-', '_')}").main()
     except ModuleNotFoundError as missing:

@@ -4,7 +4,7 @@ modules stand here."""
 from __future__ import annotations
 
 import argparse
-from dataclasses import dataclass
+from types import SimpleNamespace
 from typing import Callable, Optional
 
 from hinge.outputs import Format, format_of
@@ -47,7 +47,7 @@ def file_of(*formats: Format) -> Callable[[str], str]:
 
 
 def rows_between(text: str) -> range:
-    """The reader of rows, as 17 or 1-40, for argparse."""
+    """The reader of rows, as 17 or 1-40, for argparse. ArgumentTypeError: the text is neither."""
     first, _, last = text.partition("-")
     last = last or first
     if not (is_number(first) and is_number(last) and 1 <= int(first) <= int(last)):
@@ -77,9 +77,8 @@ def add_flows(line: argparse.ArgumentParser, most: int, default: Optional[int], 
     )
 
 
-@dataclass(frozen=True)
-class LookOptions:
-    """What `hinge look` is told, each field by the name of its option."""
+class LookOptions(SimpleNamespace):
+    """What `hinge look` is told, each field by the name of its option. A dataclass takes longer to load than a help may."""
 
     source: list[str]
     config: Optional[str]

@@ -97,7 +97,7 @@ def run(main: Callable[[], object]) -> NoReturn:
 
 
 def path_of_program(name: str, package: str) -> str:
-    """The path of a program that a Debian package brings."""
+    """The path of a program that a Debian package brings. Fault: it isn't installed."""
     path = shutil.which(name)
     if path is None:
         raise Fault(f"needs {name}: apt-get install {package}", MISSING)
@@ -110,7 +110,7 @@ def lacking(name: str, package: str) -> str:
 
 
 def module(name: str, package: str) -> ModuleType:
-    """A Python module that pip or a Debian package brings."""
+    """A Python module that pip or a Debian package brings. Fault: it isn't installed."""
     try:
         return importlib.import_module(name)
     except ImportError:

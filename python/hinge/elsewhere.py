@@ -5,7 +5,7 @@ from __future__ import annotations
 import shlex
 from typing import Callable, NamedTuple, Optional, Sequence
 
-from hingetulip_words.elsewhere import Netem, comcast, pumba, tbf, toxic, whole_ms
+from hingetulip_words.elsewhere import PART, Netem, comcast, options_of, pumba, tbf, toxic, whole_ms
 from hingetulip_words.presets import PRESETS
 
 RUN = "hinge run --preset lte -- COMMAND"
@@ -35,8 +35,8 @@ ANSWERS = {
     # nets
     "mn mininet containernet topo topology create host hosts pingall cluster nodes": Answer(NET, "NET"),
     "start launch daemon": Answer("hinge up FILE", "NET"),
-    "stop kill end quit delete remove rm": Answer("hinge down NAME", "NET"),
-    "list ls ps show info": Answer("hinge status NAME", "NET"),
+    "stop kill end quit delete remove rm flush": Answer("hinge down NAME", "NET"),
+    "list ls ps show info inspect": Answer("hinge status NAME", "NET"),
     "cut heal partition isolate restart set": Answer("hinge change NAME cut HOST 5s", "NET"),
     "sh bash shell enter attach ssh xterm h1 h2": Answer("hinge exec NAME HOST -- COMMAND", "NET"),
     "nemesis chaos jepsen": Answer(f"{NET}, with a line `nemesis partition-halves every 10s for 3s`", "NET"),
@@ -71,51 +71,88 @@ ANSWERS = {
     "web gui ui server serve dashboard": Answer("hinge look HISTORY -o page.html; there is no server", "CAPTURE"),
     "install setup update upgrade": Answer("./install in a clone", "LIVE"),
 }
+VERBS = ("pipe", "queue", "sched", "add", "show", "list", "delete", "flush")  # of ipfw
 WORDS = {word: answer for words, answer in ANSWERS.items() for word in words.split()}
 
 
-def of_link(words: Sequence[str], more: str = "") -> Optional[Answer]:
+def of_link(words: Sequence[str], more: str = "", command: Sequence[str] = ()) -> Optional[Answer]:
     """A run over a link of these words; nothing where there are none."""
     if not words and not more:
         return None
     link = f" --link {shlex.quote(' '.join(words))}" if words else ""
-    return Answer(f"hinge run{link}{more} -- COMMAND", "LINKS")
+    return Answer(f"hinge run{link}{more} -- {shlex.join(command) or 'COMMAND'}", "LINKS")
 
 
 def of_tc(words: Sequence[str]) -> Optional[Answer]:
-    """A line of tc that adds or changes a qdisc."""
+    """A line of tc that adds, changes, shows or deletes a qdisc."""
     if "netem" in words:
         netem = Netem(words[list(words).index("netem") + 1 :]).read()
         answer = of_link(netem.link, f" --loss {netem.model}" if netem.model else "")
         if answer is not None and netem.lacking:
             return answer._replace(write=f"{answer.write}; a link has no {', '.join(netem.lacking)}")
         return answer
-    return of_link(tbf(words[list(words).index("tbf") + 1 :])) if "tbf" in words else None
+    kind = next((word for word in words if word in ("tbf", "htb", "show", "ls", "del")), "")
+    if kind in ("tbf", "htb"):
+        return of_link(tbf(words[list(words).index(kind) + 1 :]))
+    return WORDS.get("remove" if kind == "del" else kind)
 
 
 def of_mahimahi(words: Sequence[str]) -> Optional[Answer]:
-    """mm-delay MS, mm-loss WAY RATE and mm-link UP DOWN, one within the other."""
-    rest, link, more = list(words), list[str](), ""
+    """mm-delay MS, mm-loss WAY RATE and mm-link UP DOWN, one within the other, and the command behind them."""
+    rest, delay, more = list(words), 0, ""
+    losses: dict[str, list[str]] = {"uplink": [], "downlink": []}
     while rest and rest[0].startswith("mm-"):
         word = rest.pop(0)
-        if word == "mm-delay" and rest and (delay := whole_ms(f"{rest[0]}ms")):
-            link[:1] = [f"{int(delay[:-2]) + int(link[0][:-2])}ms"] if link and link[0].endswith("ms") else [delay, *link[:1]]
+        if word == "mm-delay" and rest and (lasting := whole_ms(f"{rest[0]}ms")):
+            delay += int(lasting[:-2])
             rest.pop(0)
-        elif word == "mm-loss" and len(rest) > 1 and rest[1].replace(".", "", 1).isdigit():
-            link.append(f"loss {float(rest[1]) * 100:g}%")
+        elif word == "mm-loss" and rest[:1] and rest[0] in losses and rest[1:] and rest[1].replace(".", "", 1).isdigit():
+            losses[rest[0]].append(f"loss {float(rest[1]) * 100:g}%")
             del rest[:2]
         elif word == "mm-link" and len(rest) > 1:
             more += f" --up-trace {shlex.quote(rest[0])} --down-trace {shlex.quote(rest[1])}"
             del rest[:2]
-    return of_link(link, more)
+    up, down = ([f"{delay}ms"] * (delay > 0) + way for way in losses.values())
+    command = rest[rest[:1] == ["--"] :]
+    if up == down:
+        return of_link(up, more, command)
+    ways = "".join(f" --{name} {shlex.quote(' '.join(way))}" for name, way in (("up", up), ("down", down)) if way)
+    return of_link((), ways + more, command)
 
 
 def of_ipfw(words: Sequence[str]) -> Optional[Answer]:
-    """A line of ipfw or dnctl that configures a pipe or a queue."""
-    own = [word for word in words if word not in ("ipfw", "dnctl", "-q")]
-    if own[:1] not in (["pipe"], ["queue"]) or "config" not in own[1:3]:
-        return None
-    return Answer(f"hinge run --line {shlex.quote(' '.join(own))} -- COMMAND", "LINKS")
+    """A line of ipfw or dnctl, without its options: one that configures a pipe or a queue, loses packets, shows or ends."""
+    own = [word for word in words if word not in ("ipfw", "dnctl") and not word.startswith("-")]
+    if own[:1] in (["pipe"], ["queue"]) and "config" in own[1:3]:
+        number = own.index("config") % 2 + 1  # `pipe 1 config`, or `pipe config 1`
+        if own[0] == "pipe" and own[number] not in ("1", "2"):
+            own[number] = "1"  # one of the two of a run
+        pipe = dict(zip(own, own[1:])).get("pipe", "1")
+        lines = [f"pipe {pipe} config bw 10Mbit/s"] * (own[0] == "queue") + [" ".join(own)]
+        return Answer(f"hinge run{''.join(f' --line {shlex.quote(line)}' for line in lines)} -- COMMAND", "LINKS")
+    if "prob" in own[:-1] and PART.fullmatch(part := own[own.index("prob") + 1]):
+        return of_link([f"loss {float(part) * 100:g}%"])
+    verbs = own[:3] if own[:1] and own[0] in VERBS else []
+    return next((WORDS[word] for word in reversed(verbs) if word in WORDS), None)
+
+
+def of_pumba(words: Sequence[str]) -> Optional[Answer]:
+    """Of netem's kinds a link, and of what befalls a container the same of a host of a net."""
+    given, link = dict(options_of(words)), pumba(words)
+    run = "sudo hinge run --netns PID"
+    if "loss-gemodel" in words:
+        parts = [f"{float(given.get(name, default)) / 100:g}" for name, default in (("pg", "0"), ("pb", "100"))]
+        return Answer(f"{run} --loss gilbert:{','.join(parts)}", "LIVE")
+    if link:
+        return Answer(f"{run} --link {shlex.quote(' '.join(link))}", "LIVE")
+    act = next((act for word, act in (("kill", "kill"), ("stop", "kill"), ("pause", "stop")) if word in words), None)
+    return Answer(f"hinge change NAME {act} HOST {given.get('duration', '')}".rstrip(), "NET") if act else None
+
+
+def of_mininet(words: Sequence[str]) -> Optional[Answer]:
+    """`link A B down` and `link A B up`."""
+    act = {"down": "cut", "up": "heal"}.get(words[-1]) if len(words) == 4 else None
+    return Answer(f"hinge change NAME {act} {words[1]} from {words[2]}", "NET") if act else None
 
 
 READERS: dict[str, Callable[[Sequence[str]], Optional[Answer]]] = {
@@ -124,9 +161,9 @@ READERS: dict[str, Callable[[Sequence[str]], Optional[Answer]]] = {
     **dict.fromkeys(("ipfw", "dnctl", "pipe", "queue"), of_ipfw),
     **dict.fromkeys(("toxic", "toxiproxy-cli"), lambda words: of_link(toxic(words), " --outside")),
     "comcast": lambda words: of_link(comcast(words)),
-    "pumba": lambda words: Answer(f"sudo hinge run --netns PID --link {shlex.quote(' '.join(pumba(words)))}", "LIVE")
-    if pumba(words)
-    else None,
+    "pumba": of_pumba,
+    "link": of_mininet,
+    **dict.fromkeys(("ping", "curl", "wget", "iperf3"), lambda words: of_link((), " --preset lte", words) if words[1:] else None),
 }
 
 

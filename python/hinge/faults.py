@@ -1,10 +1,4 @@
-"""Faults that are chosen: which packets of a link are lost, come twice, or come late.
-
-    client > server packet 3 lost
-    server > client packet 1 twice
-    client > server packet 4 late 80ms
-
-A file has one a line, for `pytest --link-faults FILE`. Hypothesis draws them, and shrinks those of a test that fails:
+"""Faults that are chosen, on the links of hingetulip.aio. Hypothesis draws them, and shrinks those of a test that fails:
 
     @given(some_faults("client > server", "server > client"))
     def test_it(faults):
@@ -13,70 +7,20 @@ A file has one a line, for `pytest --link-faults FILE`. Hypothesis draws them, a
 
 from __future__ import annotations
 
-import re
-from dataclasses import dataclass
-from pathlib import Path
-from typing import TYPE_CHECKING, Any, Callable, Coroutine, Iterable, Optional, Tuple, TypeVar, Union
+from typing import TYPE_CHECKING, Any, Callable, Coroutine, Iterable, Optional, TypeVar
 
-from hinge.border.files import read_text
+from hinge.fault_lines import IS_LATE, IS_LOST, IS_TWICE, Fault, Faults
 from hinge.loss import KEPT, LOST
 from hingetulip.aio import Datagram, Host, Link, Network
-from hingetulip.aio.jitter import DelayOf, whole
+from hingetulip.aio.jitter import DelayOf
 from hingetulip.aio.options import BY_MODEL
 
 if TYPE_CHECKING:
     from hypothesis.strategies import SearchStrategy
 
 T = TypeVar("T")
-IS_LOST, IS_TWICE, IS_LATE = "lost", "twice", "late"
-LINE = re.compile(r"(?P<link>\S.* > .*\S) packet (?P<packet>[1-9]\d{0,17}) (?:(?P<kind>lost|twice)|late (?P<ms>\d{1,7})ms)")
 DELAYS = (5, 20, 50, 100, 300, 1000)  # ms, of packets that hypothesis draws as late
 MOST_TRAINS, MOST_OF_TRAIN, MOST_APART = 3, 8, 12
-
-
-@dataclass(frozen=True, order=True)
-class Fault:
-    """What happens to a packet of a link: it is lost, comes twice, or is late by some ms."""
-
-    link: str  # its hosts, as `client > server`
-    packet: int  # by its place among those that come to the link, from 1
-    kind: str
-    ms: int = 0
-
-    def __str__(self) -> str:
-        return f"{self.link} packet {self.packet} {self.kind}{f' {self.ms}ms' if self.kind == IS_LATE else ''}"
-
-
-def read_fault(line: str) -> Fault:
-    """ValueError: the line is none."""
-    match = LINE.fullmatch(line)
-    if match is None:
-        raise ValueError(f"{line!r}: no fault; write `client > server packet 3 lost`, `twice` or `late 80ms`")
-    ms = whole(int(match["ms"] or 0))
-    return Fault(match["link"], int(match["packet"]), match["kind"] or IS_LATE, ms)
-
-
-class Faults(Tuple[Fault, ...]):
-    """Faults, by their lines."""
-
-    def __new__(cls, *lines: Union[str, Fault]) -> Faults:
-        faults = (read_fault(line) if isinstance(line, str) else line for line in lines)
-        return super().__new__(cls, faults)  # type: ignore[arg-type]
-
-    def __repr__(self) -> str:
-        return f"Faults({', '.join(repr(str(fault)) for fault in self)})"
-
-    def __str__(self) -> str:
-        return "".join(f"{fault}\n" for fault in self)
-
-
-def read_faults(path: Union[str, Path]) -> Faults:
-    """The faults of a file, whose comments begin with `#`. ValueError: a line is none."""
-    lines = [line.partition("#")[0].strip() for line in read_text(path).splitlines()]
-    try:
-        return Faults(*filter(None, lines))
-    except ValueError as error:
-        raise ValueError(f"{path}: {error}") from None
 
 
 class Plan:
@@ -127,10 +71,10 @@ class FaultyNetwork(Network):
             faults = [fault for fault in self.chosen if fault.link == name]
             plan = self.plans[name] = Plan(faults, more.get("copies"), more.get("jitter"))
             more.update(loss=plan, copies=plan.copies, jitter=plan.jitter)
-        made = super().link(near, far, options, **more)
-        if self.chosen is not None and not float(made.options.settings["plr"]):  # under which no word loses a packet
-            made.change(f"{made.options.without('plr')} plr {BY_MODEL}")
-        return made
+        link = super().link(near, far, options, **more)
+        if self.chosen is not None and not float(link.options.settings["plr"]):  # under which no word loses a packet
+            link.change(f"{link.options.without('plr')} plr {BY_MODEL}")
+        return link
 
     def unmet(self) -> Faults:
         """The faults whose packet never came."""
@@ -138,7 +82,7 @@ class FaultyNetwork(Network):
 
 
 def run(main: Coroutine[Any, Any, T], faults: Iterable[Fault], *, seed: int = 1, timeout: Optional[float] = None) -> T:
-    """Runs a coroutine in a new network with these faults, as `hingetulip.aio.run` does in one without."""
+    """Runs a coroutine in a new network with these faults, as `hingetulip.aio.run` does in one without. Returns its value."""
     with FaultyNetwork(faults, seed=seed) as net:
         return net.run(main, timeout=timeout)
 

@@ -135,7 +135,7 @@ class Listed(Chosen):
 
 
 def read_numbers(text: str) -> list[int]:
-    """The numbers of `3,17-20`."""
+    """The numbers of `3,17-20`. ValueError: a part is no number from 1 and no range."""
     numbers: list[int] = []
     for part in text.split(","):
         ends = re.fullmatch(r"(\d{1,9})(?:-(\d{1,9}))?", part)
@@ -147,7 +147,7 @@ def read_numbers(text: str) -> list[int]:
 
 
 def read_rates(text: str) -> list[Fraction]:
-    """The four rates of a Gilbert-Elliott model, of which two need not stand in the text."""
+    """The four rates of a Gilbert-Elliott model; the text may lack two. ValueError: it has another form."""
     texts = text.split(",")
     if not 2 <= len(texts) <= 4 or not all(re.fullmatch(r"\d+(\.\d+)?|\.\d+", rate) for rate in texts):
         raise ValueError(f"{text!r} isn't of the form TO_BAD,TO_GOOD[,IN_BAD[,IN_GOOD]], rates from 0 to 1")

@@ -2,7 +2,6 @@
 
 from __future__ import annotations
 
-import json
 import os
 import signal
 import stat
@@ -159,6 +158,8 @@ def writing(name: Optional[str]) -> Iterator[TextIO]:
 
 def write_json(path: str, record: Mapping[str, object]) -> None:
     """A record for a program, as a file or on standard output."""
+    import json  # which takes longer to load than a help may
+
     with writing(path) as file:
         json.dump(record, file, indent=1)
         file.write("\n")

@@ -29,7 +29,7 @@ def places(name: str, *in_repository: str) -> Iterator[Optional[str]]:
 
 
 def program_named(variable: str, name: str, *in_repository: str) -> str:
-    """The program that a variable names, else the first of these places that has it."""
+    """The program that a variable names, else the first of these places that has it. Fault: there is none."""
     path = os.environ.get(variable)
     for place in [path] if path else places(name, *in_repository):
         if place and os.path.isfile(place) and os.access(place, os.X_OK):
@@ -50,6 +50,11 @@ def dummynet() -> str:
 def clock() -> str:
     """The library that gives C code the simulated clock; tools/release/hosts builds it."""
     return program_named("HINGE_CLOCK", "hinge-clock.so", "built/hinge-clock.so", "release/hinge-clock.so")
+
+
+def packets() -> str:
+    """The program that reads captures and writes the rows of packet files; tools/release/hosts builds it."""
+    return program_named("HINGE_PACKETS", "hinge-packets", "built/hinge-packets", "release/hinge-packets")
 
 
 def in_background(words: Sequence[str], log: Path, *pipes: int) -> "subprocess.Popen[bytes]":

@@ -41,7 +41,7 @@ from hinge.testing.marks import fault_of, link_of, unused, vary_of
 from hingetulip_words.presets import either_way
 
 if TYPE_CHECKING:
-    from hinge.faults import Faults
+    from hinge.fault_lines import Faults
     from hinge.net import Net
     from hinge.testing.emulated import Emulated, UdpPath
     from hingetulip.aio import Network
@@ -104,11 +104,8 @@ def emulated_links(request: pytest.FixtureRequest) -> Generator[list[Emulated], 
     yield links
     for link in links:
         link.finish()
-    wrong = [
-        f"the history {link.history} isn't lawful: {link.verdict}"
-        for link in links
-        if not (link.verdict or "").startswith("lawful")
-    ]
+    unlawful = [link for link in links if not (link.verdict or "").startswith("lawful")]
+    wrong = [f"the history {link.history} isn't lawful: {link.verdict}" for link in unlawful]
     wrong += [f"nobody took an exception: {it}" for link in links for it in link.faults]
     if wrong:
         pytest.fail("\n".join(wrong), pytrace=False)
@@ -119,7 +116,7 @@ LINKS, TRIED = pytest.StashKey["list[Emulated]"](), pytest.StashKey["Faults"]()
 
 def faults_for(item: pytest.Item) -> Optional[Faults]:
     """The faults by which a test runs, if it is given any: those that a shrinking tries, else those of the command line."""
-    from hinge.faults import read_faults
+    from hinge.fault_lines import read_faults
 
     if TRIED in item.stash:
         return item.stash[TRIED]
@@ -129,8 +126,7 @@ def faults_for(item: pytest.Item) -> Optional[Faults]:
 
 @pytest.fixture
 def udp_path(request: pytest.FixtureRequest, emulated_links: list[Emulated], link_seed: int, tmp_path: Path) -> MakeUdpPath:
-    """Makes UDP paths in real time: `udp_path(server, there, back=there)`, of a port or HOST:PORT and the options of
-    two links."""
+    """Makes UDP paths in real time: `udp_path(server, there, back=there)`, of a port or HOST:PORT and the options of two links."""
     from hinge.testing.emulated import UdpPath
 
     def make(

@@ -103,6 +103,7 @@ def loaded(place: str) -> PyDLL:
     """The library at a place, with its functions, whose arguments have to be of the types of ctypes.
 
     Python's lock is kept during a call, which takes less time than to give the lock up and to have it again.
+    ImportError: it has another version.
     """
     library = PyDLL(place)
     for name in FUNCTIONS:
@@ -117,7 +118,7 @@ def loaded(place: str) -> PyDLL:
 
 
 def found() -> tuple[PyDLL, str]:
-    """The library and its place: the one that HINGETULIP_LIBRARY names, else the first of `places` that can be loaded."""
+    """The library and its place: that of HINGETULIP_LIBRARY, else the first of `places`. ImportError: none can be loaded."""
     named = os.environ.get("HINGETULIP_LIBRARY")
     faults = []
     for place in [named] if named else places():

@@ -52,7 +52,7 @@ Functions = TypeVar("Functions", CDLL, PyDLL)
 
 
 def loaded(library: Functions) -> Functions:
-    """The functions of a service in `library`, with the type of what they return."""
+    """The functions of a service in `library`, with the type of what they return. HingetulipError: it is too old for one."""
     try:
         for name in FUNCTIONS:
             getattr(library, name).restype = c_uint32
@@ -132,7 +132,7 @@ class Caller:
         self._calls.dn_caller_close(self._self)
 
     def configure(self, line: Union[str, bytes, bytearray, memoryview]) -> None:
-        """Obeys one line of a configuration, as Shaper.configure does, with the same exceptions."""
+        """Obeys one line of a configuration, as Shaper.configure does. LineError and others: as there."""
         text = encoded(line)
         fault = (c_char * FAULT.size)()
         with self._turn:
@@ -156,7 +156,7 @@ class Caller:
         dport: int = 0,
         word: Optional[int] = None,
     ) -> Fate:
-        """A packet of `length` bytes arrives at a pipe or a queue at `moment` ns, as by Shaper.submit, and this is what becomes of it."""
+        """What becomes of a packet of `length` bytes that arrives at `moment` ns, as by Shaper.submit. TypeError: as there."""
         number, kind = (queue, 1) if pipe is None else (pipe, 0)
         if number is None or kind == 0 and queue is not None:
             raise TypeError(NEITHER_OR_BOTH)
@@ -180,7 +180,7 @@ class Caller:
             return self._number.value
 
     def collect(self, moment: int) -> list[Delivery]:
-        """Moves the clock to `moment` ns, and takes the packets that are due, in the order in which they are due."""
+        """Moves the clock to `moment` ns, and returns the packets that are due, which leave, in the order in which they are due."""
         with self._turn:
             self._set_moment(moment)
             succeed(answered(self._calls.dn_caller_collect, self._self, self._moment, byref(self._number), self._holder))
@@ -247,7 +247,7 @@ class Service:
         )
 
     def history(self, path: Union[str, PathLike[str]]) -> None:
-        """From now on what is taken out goes to this file, which is made anew. It has to be called before anything was taken."""
+        """Writes what is taken out from now on to this file, made anew. ValueError: it has one, or a part was taken before."""
         with self._turn:
             if self._file is not None or self._taken:
                 raise ValueError("the history has a file, or a part of it was taken before")

@@ -194,6 +194,7 @@ class Shaper:
 
         Addresses are numbers: 10.0.0.1 is 0x0a000001. The packet is lost where the low 31 bits of its word are below the loss rate
         (`plr`) times 2^31; a word that isn't given is drawn. RangeError: a number is out of its range.
+        TypeError: no target, or two. InUseError: another call is under way.
         """
         if pipe is None:
             number, kind = queue, 1
@@ -252,8 +253,10 @@ class Shaper:
     ) -> bool:
         """Makes room for a packet to come, and tells whether it is there: it isn't before the first packet of a flow.
 
-        The library then takes no memory for `submit` of such a packet, of any length, if at most `advance`, `collect`, `show` and
-        `wake` are called before it. The call changes nothing else. RangeError: a number is out of its range.
+        The library then takes no memory for `submit` of such a packet, of any length, if at most `advance`, `collect`, `show`,
+        `wake`, `reserve` and, for packets of other flows, `submit` are called before it. The call changes nothing else.
+        RangeError: a number is out of its range.
+        TypeError: no target, or two.
         """
         if (pipe is None) == (queue is None):
             raise TypeError(NEITHER_OR_BOTH)
@@ -269,14 +272,14 @@ class Shaper:
         return status != NEW_FLOW
 
     def advance(self, moment: int) -> int:
-        """Moves the clock to `moment` ns, if it stands earlier, and tells where it stands, in ns. It takes no packet out."""
+        """Moves the clock to `moment` ns, if it stands earlier, and returns where it stands, in ns. No packet leaves."""
         with self._turn:
             self._set_moment(moment)
             self._succeed(CALLS.dn_advance(*self._advanced))
             return self._number.value
 
     def collect(self, moment: int) -> list[Delivery]:
-        """Moves the clock to `moment` ns, and takes the packets that are due, in the order in which they are due."""
+        """Moves the clock to `moment` ns, and returns the packets that are due, which leave, in the order in which they are due."""
         with self._turn:
             self._set_moment(moment)
             records = self._collected.listed()

@@ -105,7 +105,9 @@ class Netem:
             kind = self.rest.pop(0)
             parts = [part for part in iter(lambda: self.take(percent), None)]
             numbers = [f"{float(Fraction(part[:-1]) / 100):g}" for part in parts]
-            if kind == "gemodel" and len(numbers) >= 2:
+            if kind == "gemodel" and len(parts) == 1:
+                self.put("loss", parts[0])
+            elif kind == "gemodel" and len(numbers) >= 2:
                 self.model = f"gilbert:{','.join(numbers[:4])}"
             return
         self.put("loss", self.take(percent))

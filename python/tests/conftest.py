@@ -19,7 +19,7 @@ import pytest
 TESTS = Path(__file__).resolve().parent
 PYTHON, TOP = TESTS.parent, TESTS.parents[1]
 NO_LIBRARY = "the variable HINGETULIP_LIBRARY can name it"  # as the module says where it can't load the library
-PACKAGES = ("aiohttp", "anyio", "matplotlib", "numpy", "plotly")  # whose tests are skipped where they aren't installed
+PACKAGES = ("aiohttp", "anyio", "matplotlib", "numpy")  # whose tests are skipped where they aren't installed
 
 
 def built(name: str, sources: str, *crate: str) -> Optional[Path]:

@@ -54,10 +54,7 @@ class Calls(unittest.TestCase):
             [self.shaper.reserve(pipe=1, src=7), self.shaper.reserve(queue=3, dport=5), self.shaper.reserve(queue=3, dport=6)],
         )
         self.assertEqual(
-            [
-                FlowStatus(0, None, 1, 0, 0, 0, 0, 0, 0, 0, 0, 0, 1, 0),
-                FlowStatus(1, 3, 1, 0, 0, 0, 0, 5, 0, 0, 0, 0, 1, 0),
-            ],
+            [FlowStatus(0, None, 1, 0, 0, 0, 0, 0, 0, 0, 0, 0, 1, 0), FlowStatus(1, 3, 1, 0, 0, 0, 0, 5, 0, 0, 0, 0, 1, 0)],
             self.shaper.show(),
         )
         for given, error in (
@@ -77,10 +74,7 @@ class Calls(unittest.TestCase):
             self.shaper.submit(0, 1000, queue=3, src=0x0A000001, dst=2, proto=17, sport=4, dport=5)
         self.shaper.submit(0, 500, pipe=1)
         self.assertEqual(
-            [
-                FlowStatus(0, 3, 1, 1, 0, 17, 0, 1, 2, 2000, 0, 0, 1, 0),
-                FlowStatus(1, None, 1, 0, 0, 0, 0, 0, 0, 0, 0, 0, 1, 0),
-            ],
+            [FlowStatus(0, 3, 1, 1, 0, 17, 0, 1, 2, 2000, 0, 0, 1, 0), FlowStatus(1, None, 1, 0, 0, 0, 0, 0, 0, 0, 0, 0, 1, 0)],
             self.shaper.show(),
         )
         self.shaper.configure("queue 3 delete")

@@ -13,7 +13,8 @@ from planted import Adder, Asker, Receiver, Sender
 from pytest_runs import Runs, lacking
 from simulated_hosts import Ends
 
-from hinge.faults import Fault, Faults, FaultyNetwork, read_faults, run, some_faults
+from hinge.fault_lines import Fault, Faults, read_faults
+from hinge.faults import FaultyNetwork, run, some_faults
 from hingetulip import aio
 
 MOST_RUNS = 200  # until a bug is found

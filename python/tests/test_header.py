@@ -18,10 +18,6 @@ RUST, RUST_SERVICE, RUST_ERRORS = (
 )
 LEFT_OUT = {
     "dn_open",
-    "dn_configure_text",
-    "dn_submit_text",
-    "dn_advance_text",
-    "dn_collect_text",
     "dn_read_packets",
     "dn_audit_open",
 }

@@ -24,10 +24,7 @@ WRONG = (
     ("20ms jitter 5ms", "'jitter': dummynet has no such option; leave it and its value out"),
     ("latency 20", "'latency': no option; write delay"),
     ("rate 10Mbit/s", "'rate': no option; write bw"),
-    (
-        "100us",
-        "'100us': dummynet has no delay below a millisecond, and no audit could judge one; leave it out, or write 1ms",
-    ),
+    ("100us", "'100us': dummynet has no delay below a millisecond, and no audit could judge one; leave it out, or write 1ms"),
     (
         "delay 0.1",
         ("'delay 0.1': dummynet has no delay below a millisecond, and no audit could judge one; leave it out, or" " write 1ms"),

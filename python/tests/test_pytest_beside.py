@@ -34,10 +34,7 @@ class Beside(Runs):
             async def test_minutes(sim_net, link_seed):
                 assert await session(sim_net) >= 60
             """,
-            "-p",
-            "xdist",
-            "-n",
-            "2",
+            *"-p xdist -n 2".split(),
         )
         self.assertGreater(done.counts.get("failed", 0), 5, done.text)
         self.assertEqual(sum(done.counts.values()), 12)

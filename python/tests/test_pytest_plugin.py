@@ -11,7 +11,7 @@ from pytest_runs import Runs, lacking
 
 
 class Plugin(Runs):
-    def test_marks_seeds_and_coroutines(self) -> None:
+    def test_marks_presets_seeds_and_coroutines(self) -> None:
         done = self.run_pytest(
             """
             @pytest.mark.link("8Mbit/s 20ms plr 0.1", back="5ms")
@@ -30,29 +30,44 @@ class Plugin(Runs):
             def test_minutes(sim_net, link_seed):
                 sim_net.path(sim_net.host("10.0.0.1"), sim_net.host("10.0.0.2"), "40ms plr 0.05")
                 assert sim_net.run(session(sim_net)) >= 45 and sim_net.seed == link_seed
-            """,
-            "--link-seed=7",
-            "--strict-markers",
-        )
-        self.assertEqual((done.counts, done.status), ({"passed": 33}, 0), done.text)
 
-    def test_presets(self) -> None:
-        done = self.run_pytest(
-            """
             @pytest.mark.link(preset="dsl")
-            def test_it(sim_net):
+            def test_a_preset(sim_net):
                 sim_net.path(sim_net.host("10.0.0.1"), sim_net.host("10.0.0.2"))
                 assert [link.line for link in sim_net.links.values()] == [
                     "pipe 1 config bw 384Kbit/s delay 25ms queue 10", "pipe 2 config bw 1500Kbit/s delay 25ms queue 30"]
 
             @pytest.mark.link(preset="Slow 3G")
-            def test_in_capital_letters(sim_net):
+            def test_a_preset_in_capital_letters(sim_net):
                 sim_net.path(sim_net.host("10.0.0.1"), sim_net.host("10.0.0.2"))
                 assert {link.line[14:] for link in sim_net.links.values()} == {"bw 400Kbit/s delay 200ms queue 10"}
+
+            async def two_hosts(sim_net):
+                return sim_net.host("10.0.0.1"), sim_net.host("10.0.0.2")
+
+            class TestOfAHelper:
+                async def hosts(self, sim_net):
+                    return await two_hosts(sim_net)
+
+                async def test_method(self, sim_net):
+                    assert len(await self.hosts(sim_net)) == 2
+
+            async def test_helper(sim_net):
+                assert len(await two_hosts(sim_net)) == 2
+
+            @pytest.mark.parametrize("marked", ["bw='10Mbit/s', delay='20ms'", "'20ms', queue=30", "loss='5%'", "x=1"])
+            def test_what_a_refusal_says_to_write_is_taken(marked):
+                from hinge.testing.marks import WrongMark, ends_of
+                from hingetulip_words.link import read_link
+                with pytest.raises(WrongMark) as refusal:
+                    ends_of(eval(f"pytest.mark.link({marked})").mark)
+                written = str(refusal.value).partition("; write ")[2]
+                assert read_link(ends_of(eval(f"pytest.mark.{written}").mark).there)
             """,
+            "--link-seed=7",
             "--strict-markers",
         )
-        self.assertEqual((done.counts, done.status), ({"passed": 2}, 0), done.text)
+        self.assertEqual((done.counts, done.status), ({"passed": 41}, 0), done.text)
 
     def test_a_mark_that_says_what_it_does_not_take_is_refused(self) -> None:
         rows = {
@@ -78,22 +93,6 @@ class Plugin(Runs):
         for mark, text in rows.items():
             with self.subTest(mark):
                 self.assertIn(text, done.text)
-
-    def test_what_a_refusal_says_to_write_is_taken(self) -> None:
-        done = self.run_pytest(
-            """
-            @pytest.mark.parametrize("marked", ["bw='10Mbit/s', delay='20ms'", "'20ms', queue=30", "loss='5%'", "x=1"])
-            def test_it(marked):
-                from hinge.testing.marks import WrongMark, ends_of
-                from hingetulip_words.link import read_link
-                with pytest.raises(WrongMark) as refusal:
-                    ends_of(eval(f"pytest.mark.link({marked})").mark)
-                written = str(refusal.value).partition("; write ")[2]
-                assert read_link(ends_of(eval(f"pytest.mark.{written}").mark).there)
-            """,
-            "--strict-markers",
-        )
-        self.assertEqual((done.counts, done.status), ({"passed": 4}, 0), done.text)
 
     def test_a_mark_that_nothing_takes_is_told(self) -> None:
         done = self.run_pytest(
@@ -157,25 +156,6 @@ class Plugin(Runs):
         self.assertEqual(done.counts.get("error"), 1, done.text)
         self.assertRegex(done.text, r"the history /.*/link\.history isn't lawful: ")
 
-    def test_a_helper_with_the_network_stays_a_coroutine(self) -> None:
-        done = self.run_pytest(
-            """
-            async def two_hosts(sim_net):
-                return sim_net.host("10.0.0.1"), sim_net.host("10.0.0.2")
-
-            class TestOfAClass:
-                async def hosts(self, sim_net):
-                    return await two_hosts(sim_net)
-
-                async def test_method(self, sim_net):
-                    assert len(await self.hosts(sim_net)) == 2
-
-            async def test_helper(sim_net):
-                assert len(await two_hosts(sim_net)) == 2
-            """
-        )
-        self.assertEqual(done.counts, {"passed": 2}, done.text)
-
     def test_fixtures_that_are_coroutines(self) -> None:
         """They run in the loop of their test: with pytest-asyncio too, whose own fixtures stay its own."""
         body = """
@@ -222,11 +202,7 @@ class Plugin(Runs):
             def test_ends():
                 assert [round(it - ended[0]) for it in ended[:2]] == [0, 1] and len(ended) == 6
             """
-        for words in (
-            (),
-            ("-p", "pytest_asyncio.plugin", "--asyncio-mode=strict"),
-            ("-p", "pytest_asyncio.plugin", "--asyncio-mode=auto"),
-        ):
+        for words in ((), *(("-p", "pytest_asyncio.plugin", f"--asyncio-mode={mode}") for mode in ("strict", "auto"))):
             if words and lacking("pytest_asyncio"):
                 continue
             done = self.run_pytest(body, *words)

@@ -68,10 +68,7 @@ class OneCaller(unittest.TestCase):
             self.caller.submit(0, 1000, queue=3, src=0x0A000001)
         self.caller.submit(0, 500, pipe=1)
         self.assertEqual(
-            [
-                FlowStatus(0, 3, 1, 1, 0, 0, 0, 0, 2, 2000, 0, 0, 1, 0),
-                FlowStatus(1, None, 1, 0, 0, 0, 0, 0, 0, 0, 0, 0, 1, 0),
-            ],
+            [FlowStatus(0, 3, 1, 1, 0, 0, 0, 0, 2, 2000, 0, 0, 1, 0), FlowStatus(1, None, 1, 0, 0, 0, 0, 0, 0, 0, 0, 0, 1, 0)],
             self.caller.show(),
         )
 
@@ -90,10 +87,7 @@ class OneCaller(unittest.TestCase):
         with self.assertRaises(LineError) as raised:
             self.caller.configure("pipe 1 config bw 8Mbps")
         self.assertEqual((5, "bad number"), (raised.exception.word, raised.exception.kind))
-        for call in (
-            lambda: self.caller.configure("queue 1 config pipe 9"),
-            lambda: self.caller.configure("pipe 9 delete"),
-        ):
+        for call in (lambda: self.caller.configure("queue 1 config pipe 9"), lambda: self.caller.configure("pipe 9 delete")):
             self.assertRaises(RefusedError, call)
         for call in (
             lambda: self.caller.submit(2**62 + 1, 1, pipe=1),

@@ -24,7 +24,7 @@ from typing import Any, Iterator, NamedTuple
 
 HERE = Path(__file__).resolve().parent
 TOP = HERE.parents[1]
-HOSTS = {"link": "hinge-link", "clock": "hinge-clock.so"}
+HOSTS = {"link": "hinge-link", "packets": "hinge-packets", "clock": "hinge-clock.so"}
 COUNTED = ["-std=gnu17", "-O0", "-g", "-w", "-fPIC", "-pthread", "--coverage"]
 KEPT_AT_EXIT = """void __gcov_dump(void);
 _Noreturn void __real__exit(int status);

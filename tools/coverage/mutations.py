@@ -34,6 +34,7 @@ SUITES = {"module": "python/tests", "run": "python/tests/run", "kit": "python/te
 TESTS = {  # by the beginning of a path, the first that fits: the tests that are quick and touch it
     "hosts/clock.c": "module clock",
     "hosts/link/": "run link*, run segments, run passes, run pacing, run many_links, run udp*, run control",
+    "hosts/packets/": "kit packets, kit packet_forms",
     "python/hingetulip_words/": "module link_words, run plan, run net_file",
     "python/hingetulip/aio/": "module aio*, module sockets*, module clock",
     "python/hingetulip/service.py": "module service",
@@ -72,7 +73,7 @@ ulimit -v 8388608 && cd "$0/top" && exec "$@" """
 NOTHING: Any = {"stdin": subprocess.DEVNULL, "stdout": subprocess.DEVNULL, "stderr": subprocess.DEVNULL}
 FLAGS = ["-std=gnu17", "-O1", "-w", "-pthread"]
 LONGEST = 600  # s of a test
-HOSTS = {"link": "hinge-link"}
+HOSTS = {"link": "hinge-link", "packets": "hinge-packets"}
 
 
 def tests_of(path: str) -> list[str]:

@@ -39,16 +39,7 @@ RIGHT = [
     Entry("c,1,collect,1000000", ["r,delivered,1000000,1", "d,0,0,0,1000000"]),
     Entry("c,0,advance,5", ["r,advanced,1000000"]),
 ]
-FAULTY = [
-    "f = (a",
-    "f = a)",
-    "f (a = b",
-    "f = record { a = 1 b = 2 }",
-    "f = elim a [ ]",
-    "f = let a in b",
-    "f = λ . a",
-    "f = ",
-]
+FAULTY = ["f = (a", "f = a)", "f (a = b", "f = record { a = 1 b = 2 }", "f = elim a [ ]", "f = let a in b", "f = λ . a", "f = "]
 NO_HISTORIES = [
     "",
     "dummynet-history,9\nend,0\n",

@@ -40,15 +40,13 @@ sys.path[:0] = [str(TOP / "tools" / "gate"), str(TOP / "python"), str(TOP / "pyt
 import random_frames  # noqa: E402
 import seeds  # noqa: E402
 from tally import Tally  # noqa: E402
-from tshark_frames import frames_by_tshark  # noqa: E402
+from tshark_frames import frames_by_kit, frames_by_tshark  # noqa: E402
 
 import hinge.run.plan  # noqa: E402
 from hinge import command  # noqa: E402
-from hinge.border.files import Input  # noqa: E402
 from hinge.border.messages import Reply, line_of, read_message  # noqa: E402
 from hinge.border.serving import Client, answered  # noqa: E402
 from hinge.captures.addresses import read_addresses  # noqa: E402
-from hinge.captures.dissect import frames as dissected  # noqa: E402
 from hinge.net.description import read_description  # noqa: E402
 from hinge.net.net_plan import NetPlan  # noqa: E402
 from hinge.paths.folder import told_drops  # noqa: E402
@@ -128,7 +126,7 @@ def frames(data: bytes, rng: random.Random) -> None:
         kept = made.cut(whole) if rng.random() < 0.4 else whole
         out += [struct.pack("<IIII", second, rng.randrange(10**9), len(kept), len(whole)), kept]
     Path("x.cap").write_bytes(b"".join(out))
-    ours, theirs = list(dissected(Input.as_it_is("x.cap"))), list(frames_by_tshark("x.cap"))
+    ours, theirs = list(frames_by_kit("x.cap")), list(frames_by_tshark("x.cap"))
     assert len(ours) == len(theirs) == FRAMES, f"link {link}: {len(ours)} and {len(theirs)} frames"
     for one, other in zip(ours, theirs):
         assert one == other, f"link {link}: {one}, and by tshark {other}"

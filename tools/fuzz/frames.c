@@ -30,23 +30,22 @@ static int wanted(const struct heard *to, int host, int way, uint64_t moment) {
     return to->way == way ? TO_NONE : back(to->way);
 }
 
-static void see_all_others(int way) {
+static void see_all_others(const struct switches *switches, int way) {
     int seen = 0;
-    for (int other = other_way(way, NO_WAY); other != NO_WAY; other = other_way(way, other)) {
-        if (other == back(way) || !ends_at_switch(back(other)) || seen++ == PORTS) abort();
+    for (int other = other_way(switches, way, NO_WAY); other != NO_WAY; other = other_way(switches, way, other)) {
+        if (other == back(way) || !ends_at_switch(switches, back(other)) || seen++ == PORTS) abort();
     }
     if (seen != PORTS - 1) abort();
 }
 
 int LLVMFuzzerTestOneInput(const uint8_t *given, size_t size) {
     static uint64_t moment;
-    static int is_prepared;
+    static struct switches *switches;
     struct heard heard[HOSTS] = {0};
     const int ways[PORTS] = {0, 2, 4, 6};
-    if (!is_prepared) {
-        prepare_switches(2 * PORTS);
-        if (!add_switch(ways, PORTS) || add_switch(ways, 1)) abort();
-        is_prepared = 1;
+    if (!switches) {
+        switches = new_switches(2 * PORTS);
+        if (!add_switch(switches, ways, PORTS) || add_switch(switches, ways, 1)) abort();
     }
     moment += 2 * AGE; /* what an earlier input has said is forgotten */
     for (; size >= 4; given += 4, size -= 4) {
@@ -55,8 +54,8 @@ int LLVMFuzzerTestOneInput(const uint8_t *given, size_t size) {
         moment += (uint64_t)given[3] * STEP * SECOND;
         put_mac(frame, to), put_mac(frame + MAC, from);
         if (from) heard[from] = (struct heard){way, moment, 1};
-        if (next_way(way, frame, moment) != wanted(&heard[to], to, way, moment)) abort();
-        see_all_others(way);
+        if (next_way(switches, way, frame, moment) != wanted(&heard[to], to, way, moment)) abort();
+        see_all_others(switches, way);
     }
     return 0;
 }

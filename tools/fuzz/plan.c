@@ -5,48 +5,38 @@
 #include <stdlib.h>
 #include <string.h>
 
-#include "../../hosts/link/basics.h"
-#include "../../hosts/link/carrier.h"
-#include "../../hosts/link/changes.h"
-#include "../../hosts/link/late_remarks.h"
-#include "../../hosts/link/links.h"
-#include "../../hosts/link/losses.h"
-#include "../../hosts/link/pacing.h"
-#include "../../hosts/link/page.h"
-#include "../../hosts/link/passes.h"
-#include "../../hosts/link/plan.h"
-#include "../../hosts/link/switches.h"
-#include "../../hosts/link/ways.h"
+#include "../../hosts/link/host.h"
 
 enum { WAYS = 4, LOOKED_AT = 1000 };
 
+/* Where a refusal goes back to. It is a variable of the file, since what the host calls in the place of exit gets a status alone. */
 static jmp_buf refused;
 
-/* What the host calls in the place of exit. */
 _Noreturn void leave_the_host(int status) {
     if (status != BAD_LINE && status != REFUSED) abort();
     longjmp(refused, 1);
 }
 
-static void prepare(void) {
-    carrier.ways = WAYS;
-    page = zeroed(sizeof *page + WAYS * sizeof *page->ways);
-    open_links();
-    prepare_losses(WAYS), prepare_late_remarks(WAYS), prepare_pacing(WAYS), prepare_passes(WAYS), prepare_switches(WAYS);
+static struct host *new_host(void) {
+    struct host *host = zeroed(sizeof *host);
+    host->carrier.ways = WAYS;
+    host->page = zeroed(sizeof *host->page + WAYS * sizeof *host->page->ways);
+    make_parts(host, WAYS);
+    return host;
 }
 
 /* Lines that reach the system itself: a file, the scheduler, a descriptor. */
 static int asks_the_system(const char *text) { return strstr(text, "transcript ") || strstr(text, "realtime") || strstr(text, "control "); }
 
 int LLVMFuzzerTestOneInput(const uint8_t *given, size_t size) {
-    static int is_prepared;
-    if (!is_prepared) prepare(), is_prepared = 1;
+    static struct host *host;
+    if (!host) host = new_host();
     char *text = strndup((const char *)given, size);
     if (*text && !asks_the_system(text)) {
         stdin = fmemopen(text, strlen(text), "r");
         if (setjmp(refused) == 0) {
-            read_plan();
-            for (int i = 0; i < LOOKED_AT && next_change() != UINT64_MAX; i++) make_changes(next_change());
+            read_plan(host);
+            for (int i = 0; i < LOOKED_AT && next_change(host->changes) != UINT64_MAX; i++) make_changes(host, next_change(host->changes));
         }
         fclose(stdin);
     }

@@ -3,7 +3,7 @@
 
     python3 tools/fuzz/run.py [--keep] [--seed N] COUNT [NAME ..]
 
-A NAME is one of frames, packets and plan; all by default, each with so many inputs. The seed follows from the sources of the hosts, or is N, or
+A NAME is one of capture_rows, frames, packets and plan; all by default, each with so many inputs. The seed follows from the sources of the hosts, or is N, or
 a new one by `--seed fresh`. Each begins with its kept inputs in corpus/NAME, with the
 sanitizers for addresses and undefined behaviour. An input that crashes, hangs for ten seconds or takes 2 GB is printed, and left in
 built/fuzz. With --keep the kept inputs are those that reach the most with the least bytes. It takes clang and libFuzzer.
@@ -27,9 +27,9 @@ from tally import Tally  # noqa: E402
 
 FLAGS = ["-g", "-O1", "-w", "-D_GNU_SOURCE", "-fno-sanitize-recover=undefined", "-fsanitize=fuzzer,address,undefined"]
 LIMITS = ["-timeout=10", "-rss_limit_mb=2048", "-max_len=1024", "-verbosity=0", "-close_fd_mask=2", "-print_final_stats=1"]
-LINK = sorted(path for path in (TOP / "hosts" / "link").glob("*.c") if path.name != "main.c")
-TARGETS = ("frames", "packets", "plan")
-OF_EXIT = {"plan": ["-Dexit=leave_the_host"]}  # a refusal goes back to the target
+TARGETS = ("capture_rows", "frames", "packets", "plan")
+HOST = {"capture_rows": "packets"}  # of the others it is link
+OF_EXIT = dict.fromkeys(("capture_rows", "plan"), ["-Dexit=leave_the_host"])  # a refusal goes back to the target
 MORE = {"plan": [f"-dict={HERE}/plan.words"]}
 MOST = {"plan": 200_000}  # inputs, since what a plan asks for is kept to the end of the program
 WITHOUT_LEAKS = {**os.environ, "ASAN_OPTIONS": "detect_leaks=0"}  # of a line whose reader was left by its refusal
@@ -45,7 +45,9 @@ def library() -> Path:
 
 def built(name: str, folder: Path) -> Path:
     include, made = f"-I{TOP / 'crates/hingetulip_c/include'}", []
-    for path in LINK:
+    for path in sorted((TOP / "hosts" / HOST.get(name, "link")).glob("*.c")):
+        if path.name == "main.c":
+            continue
         made.append(folder / f"{name}-{path.stem}.o")
         subprocess.run(["clang", *FLAGS, *OF_EXIT.get(name, []), include, "-c", path, "-o", made[-1]], check=True)
     target = folder / name

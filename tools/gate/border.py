@@ -73,7 +73,7 @@ ALLOWED = {
     "net/described.py": {"write_text": OWN},
     "net/disks.py": {"os.open": "the root and the mounts of this process"},
     "net/running.py": {"write_text": OWN},
-    "pictures/html_page.py": {"write_text": OUTPUT},
+    "pictures/html_page.py": {"read_text": OWN, "write_text": OUTPUT},
     "run/interfaces.py": {"os.open": "the system's /dev/net/tun"},
     "run/host.py": {"os.fdopen": OWN},
     "run/host_lines.py": {"recv": HOST},

@@ -1,8 +1,10 @@
-"""The crate for cargo: its tests, its documentation and clippy without a warning, and a program over the crate as it is packed.
+"""The crates for cargo: their tests, their documentation and clippy without a warning, and a program in simulated time over the crate as it
+is packed, whose history and report are those of the same program in Python.
 
     python3 tools/gate/crate.py
 
-All is done offline, with the C library of the present sources, as tools/release/library finds it.
+All is done offline, with the C library of the present sources, as tools/release/library finds it. The crate over tokio and quinn is tried with
+Debian's crates, where they are installed.
 """
 
 from __future__ import annotations
@@ -19,21 +21,61 @@ from tempfile import TemporaryDirectory
 from tally import Tally
 
 TOP = Path(__file__).resolve().parent.parent.parent
-CRATE = TOP / "rust" / "hingetulip"
+RUST, DEBIAN = TOP / "rust", Path("/usr/share/cargo/registry")
+SOURCE = f'[source.crates-io]\nreplace-with = "debian"\n[source.debian]\ndirectory = "{DEBIAN}"\n'
 VERSION = (TOP / "VERSION").read_text().strip()
 MANIFEST = '[package]\nname = "user"\nversion = "0.1.0"\nedition = "2021"\n\n[dependencies]\nhingetulip = {{ path = "{}" }}\n'
-MAIN = """\
-use hingetulip::{Packet, Shaper, Target};
+LINK = "800Kbit/s 20ms queue 2 loss 20%"
+MAIN = f"""\
+use hingetulip::simulated::{{sleep, Net}};
+use std::time::Duration;
 
-fn main() -> hingetulip::Result<()> {
-    let mut shaper = Shaper::new()?;
-    shaper.configure("pipe 1 config bw 8Mbit/s delay 20")?;
-    println!("{:?}", shaper.submit(&Packet::new(0, Target::Pipe(1), 1000))?.outcome);
-    for delivery in shaper.deliveries(hingetulip::LAST_MOMENT) {
-        println!("{}", delivery?.due);
-    }
+fn main() -> Result<(), Box<dyn std::error::Error>> {{
+    let net = Net::new(7)?;
+    let (near, far) = (net.host("10.0.0.1"), net.host("10.0.0.2"));
+    net.path(&near, &far, "{LINK}")?;
+    let (socket, there) = (near.bind(0)?, far.bind(7)?);
+    net.run(async {{
+        far.spawn(async move {{
+            let mut data = [0; 1500];
+            loop {{
+                let (count, source) = there.recv_from(&mut data).await.unwrap();
+                there.send_to(&data[..count], source).await.unwrap();
+            }}
+        }});
+        for number in 0..200 {{
+            socket.send_to(&vec![0; 7 * number], "10.0.0.2:7").await.unwrap();
+            sleep(Duration::from_micros(7123)).await;
+        }}
+    }});
+    std::fs::write("rust.history", net.history())?;
+    println!("{{}}", net.report());
     Ok(())
-}
+}}
+"""
+IN_PYTHON = f"""\
+import asyncio
+from hingetulip import aio
+
+class Echo(asyncio.DatagramProtocol):
+    def connection_made(self, transport):
+        self.transport = transport
+
+    def datagram_received(self, data, source):
+        self.transport.sendto(data, source)
+
+async def main():
+    net = aio.network()
+    near, far = net.host("10.0.0.1"), net.host("10.0.0.2")
+    net.path(near, far, "{LINK}")
+    await far.endpoint(Echo, 7)
+    transport, _ = await near.endpoint(asyncio.DatagramProtocol, remote=("10.0.0.2", 7))
+    for number in range(200):
+        transport.sendto(bytes(7 * number))
+        await asyncio.sleep(0.007123)
+    print(net.report())
+
+aio.run(main(), seed=7, history="python.history")
 """
 Done = subprocess.CompletedProcess
 
@@ -62,26 +104,56 @@ class Cargo:
 
 
 def copied(place: Path) -> Path:
-    """A copy of the crate, so that cargo writes nothing into the clone."""
-    return Path(shutil.copytree(CRATE, place / "hingetulip", ignore=shutil.ignore_patterns("target", "Cargo.lock")))
+    """A copy of the crates, so that cargo writes nothing into the clone."""
+    return Path(shutil.copytree(RUST, place / "rust", ignore=shutil.ignore_patterns("target", "Cargo.lock")))
 
 
-def of_the_sources(tally: Tally, cargo: Cargo, crate: Path, library: str) -> None:
-    done = cargo.run(crate, "test", HINGETULIP_LIB=library)
+def of_the_sources(tally: Tally, cargo: Cargo, crate: Path, library: str, *options: str) -> None:
+    done = cargo.run(crate, "test", *options, HINGETULIP_LIB=library)
     counts = re.findall(r"^test result: ok\. (\d+) passed; 0 failed", done.stdout, re.M)
-    binaries = 2 + len(list((CRATE / "tests").glob("*.rs")))  # beside these the library's own tests and its samples
-    tally.note("cargo test", "" if done.returncode == 0 and len(counts) == binaries else done.stdout)
+    binaries = 2 + len(list((crate / "tests").glob("*.rs")))  # beside these the library's own tests and its samples
+    tally.note(f"cargo test of {crate.name}", "" if done.returncode == 0 and len(counts) == binaries else done.stdout)
     tally.passed += sum(map(int, counts))
     for name, *words in (("cargo doc", "doc", "--no-deps"), ("cargo clippy", "clippy", "--all-targets")):
         if words[0] == "clippy" and shutil.which("cargo-clippy") is None:
             print("clippy: skipped, since it isn't on the path")
             continue
-        done = cargo.run(crate, *words, HINGETULIP_LIB=library)
-        tally.note(name, "" if done.returncode == 0 else done.stdout)
-    done = cargo.run(crate, "build", HINGETULIP_LIB=str(crate / "src"))
-    tally.note(
-        "no library", "" if done.returncode and "libhingetulip.a isn't there: HINGETULIP_LIB names" in done.stdout else done.stdout
-    )
+        done = cargo.run(crate, *words, *options, HINGETULIP_LIB=library)
+        tally.note(f"{name} of {crate.name}", "" if done.returncode == 0 else done.stdout)
+
+
+def over_debians(tally: Tally, cargo: Cargo, rust: Path, library: str) -> None:
+    """The crate over tokio and quinn, with Debian's crates."""
+    if not (any(DEBIAN.glob("quinn-0.9.*")) and any(DEBIAN.glob("tokio-1.*"))):
+        print("hingetulip-tokio: skipped, since librust-tokio-dev and librust-quinn-dev aren't there")
+        return
+    (rust / ".cargo").mkdir()
+    (rust / ".cargo" / "config.toml").write_text(SOURCE)
+    of_the_sources(tally, cargo, rust / "hingetulip-tokio", library, "--all-features")
+
+
+def lines(text: str) -> str:
+    """A text without the spaces at the beginnings of its lines."""
+    return re.sub(r"^ +", "", text, flags=re.M)
+
+
+def shown(tally: Tally) -> None:
+    """The sample of docs/TESTING.md is one of the tests."""
+    tests = lines((RUST / "hingetulip" / "tests" / "simulated.rs").read_text())
+    samples = re.findall(r"^```rust\n(.*?)^```$", (TOP / "docs" / "TESTING.md").read_text(), re.M | re.S)
+    for sample in samples or [""]:
+        tally.note("docs/TESTING.md", "" if sample and lines(sample) in tests else "has no sample that tests/simulated.rs has")
+
+
+def as_in_python(tally: Tally, user: Path, done: Done[str]) -> None:
+    words, env = [sys.executable, "-c", IN_PYTHON], {**os.environ, "PYTHONPATH": str(TOP / "python")}
+    told = subprocess.run(words, cwd=user, env=env, stdout=subprocess.PIPE, text=True)
+    tally.equal("the report of a program over the packed crate", (0, told.stdout), (done.returncode, done.stdout))
+    if done.returncode == 0 and told.returncode == 0:
+        same = (user / "rust.history").read_bytes() == (user / "python.history").read_bytes()
+        tally.note("its history", "" if same else "isn't Python's")
+        audit = subprocess.run([TOP / "dummynet", "audit", user / "rust.history"], stdout=subprocess.PIPE, text=True)
+        tally.note("its audit", "" if audit.returncode == 0 and audit.stdout.startswith("lawful ") else audit.stdout)
 
 
 def as_packed(tally: Tally, cargo: Cargo, place: Path) -> None:
@@ -97,8 +169,7 @@ def as_packed(tally: Tally, cargo: Cargo, place: Path) -> None:
     (user / "src").mkdir(parents=True)
     (user / "Cargo.toml").write_text(MANIFEST.format(place / f"hingetulip-{VERSION}"))
     (user / "src" / "main.rs").write_text(MAIN)
-    done = cargo.run(user, "run", "--quiet")
-    tally.equal("a program over the packed crate", (0, "Queued(0)\n21000000\n"), (done.returncode, done.stdout))
+    as_in_python(tally, user, cargo.run(user, "run", "--quiet"))
 
 
 def main() -> int:
@@ -106,9 +177,15 @@ def main() -> int:
     library = subprocess.run([TOP / "tools" / "release" / "library"], capture_output=True, text=True, check=True).stdout.strip()
     with TemporaryDirectory() as folder:
         place = Path(folder)
-        cargo = Cargo(place)
-        of_the_sources(tally, cargo, copied(place), library)
+        cargo, rust = Cargo(place), copied(place)
+        crate = rust / "hingetulip"
+        of_the_sources(tally, cargo, crate, library)
+        done = cargo.run(crate, "build", HINGETULIP_LIB=str(crate / "src"))
+        is_named = "libhingetulip.a isn't there: HINGETULIP_LIB names" in done.stdout
+        tally.note("no library", "" if done.returncode and is_named else done.stdout)
+        over_debians(tally, cargo, rust, library)
         as_packed(tally, cargo, place)
+    shown(tally)
     return tally.end()
 
 

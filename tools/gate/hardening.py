@@ -47,6 +47,7 @@ def main() -> int:
         subprocess.run([TOP / "tools" / "release" / "hosts", folder], stdout=subprocess.DEVNULL, check=True)
         for file, guarded in (
             (folder / "hinge-link", True),
+            (folder / "hinge-packets", True),
             (folder / "hinge-clock.so", False),
             (TOP / "release" / "dummynet", False),
             (TOP / "release" / "libhingetulip.so.1", False),

@@ -100,15 +100,15 @@ def copied(place: Path, program: str) -> Path:
 def with_hosts(tally: Tally, copy: Path) -> None:
     """The programs in C that hinge runs, in the copy's release, where there is a compiler."""
     if shutil.which("cc") is None:
-        print("hinge-link and hinge-clock.so: skipped, since there is no cc on the path")
+        print("hinge-link, hinge-packets and hinge-clock.so: skipped, since there is no cc on the path")
         return
     done(tally, "tools/release/hosts release", copy / "tools" / "release" / "hosts", "release")
 
 
 def python() -> Optional[str]:
-    """A Python that can make a virtual environment, with numpy, matplotlib and plotly where there is one."""
+    """A Python that can make a virtual environment, with numpy and matplotlib where there is one."""
     asked = [word for word in ("/usr/bin/python3", sys.executable) if shutil.which(word)]
-    for modules in ("ensurepip, numpy, matplotlib, plotly", "ensurepip"):
+    for modules in ("ensurepip, numpy, matplotlib", "ensurepip"):
         for word in asked:
             if run(word, "-c", f"import {modules}").returncode == 0:
                 return word
@@ -214,12 +214,13 @@ def by_pip(tally: Tally, copy: Path, place: Path) -> None:
     for module, name, where_it_is in (
         ("program", "dummynet", "bin/dummynet"),
         ("program", "clock", f"{Path(modules).parent}/hinge-clock.so"),
+        ("program", "packets", f"{Path(modules).parent}/hinge-packets"),
         ("run.host", "program", f"{Path(modules).parent}/run/hinge-link"),
     ):
         told = done(tally, f"hinge.{module}", own, "-c", f"from hinge.{module} import {name}; print({name}())", cwd=place)
         tally.equal("a program that hinge takes", f"{venv / where_it_is}\n", told)
-    if run(own, "-c", "import numpy, matplotlib, plotly").returncode:
-        print("the pages' commands: skipped, since no Python has numpy, matplotlib and plotly")
+    if run(own, "-c", "import numpy, matplotlib").returncode:
+        print("the pages' commands: skipped, since no Python has numpy and matplotlib")
     else:
         pages(tally, venv, place / "pages")
         behind_a_link(tally, venv, place / "pages")
@@ -269,7 +270,7 @@ def by_each_python(tally: Tally, copy: Path, place: Path) -> None:
 
 def glibc(tally: Tally, copy: Path, place: Path) -> None:
     """What is released needs no later glibc than the wheel's tag and the packages say: 2.34."""
-    for name in ("dummynet", "libhingetulip.so.1", "hinge-link", "hinge-clock.so"):
+    for name in ("dummynet", "libhingetulip.so.1", "hinge-link", "hinge-packets", "hinge-clock.so"):
         file = copy / "release" / name
         if file.is_file():
             asked = {tuple(map(int, it.split(b"."))) for it in re.findall(rb"GLIBC_(\d+\.\d+)", file.read_bytes())}

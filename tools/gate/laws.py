@@ -4,7 +4,7 @@
 
 Of five rows that the seed chooses, refuted_laws.py asks that the prover refutes the law. A law that is false has no proof, so
 wrong_definitions.py, which asks that the law's proof is refused, is run only for a row without a refutation. With the seeds 0 to
-20 each row is tried. The scripts call the prover as RT, which is `rt` without it.
+24 each row is tried. The scripts call the prover as RT, which is `rt` without it.
 """
 
 from __future__ import annotations
@@ -21,7 +21,7 @@ sys.path.insert(0, str(LAWS))
 
 import wrong_definitions  # noqa: E402
 
-SHARES = 21
+SHARES = 25
 # The last line of each script, where all of so many rows passed.
 LAST = {"refuted_laws.py": "{} refuted, 0 not refuted, 0 without a file", "wrong_definitions.py": "{} tried, 0 not refused"}
 

@@ -30,7 +30,7 @@ CALLS_BY_DEFINITIONS = 10_000
 LONGEST_PART, LONGEST_EDITS = 1800, 7200
 FUZZED_IN_C, FUZZED_IN_PYTHON = 20_000, 800  # inputs of each target
 SYSTEMS = "/usr/bin/python3"
-NUMPY = "/usr/lib/python3/dist-packages/numpy/__init__.py"
+NUMPY, MATPLOTLIB = (f"/usr/lib/python3/dist-packages/{name}/__init__.py" for name in ("numpy", "matplotlib"))
 FUZZER = "/usr/lib/llvm-*/lib/clang/*/lib/linux/libclang_rt.fuzzer-x86_64.a"  # clang's libFuzzer
 
 
@@ -75,11 +75,12 @@ def growths() -> list[Part]:
     """Tests with each growth refused, once and twice in a row: a list that is refused room for more asks again for just
     enough, which hides one refusal."""
     tests = [
-        *[f"test_{crate} memory::" for crate in ("histories", "replay", "callers", "live")],
-        "test_shaper refused_growths::",
+        *[f"test_{crate} memory::" for crate in ("histories", "replay", "live")],
+        "test_replay callers_memory::",
+        *[f"test_shaper {part}::" for part in ("refused_growths", "reserve")],
         "test_flows scheduler::",
-        "test_heap examples::",
         "test_parts heap::",
+        "test_parts placed_heap::",
         *[f"test_flows {part}::a_refused_growth_changes_nothing" for part in ("link", "flows")],
         *[f"test_service one_caller::a_{call}_that_memory_refuses_leaves_no_trace" for call in ("call", "try")],
     ]
@@ -120,6 +121,7 @@ def parts(fresh: Optional[int], program: str) -> list[Part]:
         Part("the command line", [python, "tools/gate/command_line.py", program]),
         Part("the wrapper and ./build", [python, "tools/gate/wrapper.py", program]),
         Part("examples", [python, "tools/gate/examples.py", program]),
+        Part("pictures of the pages", [kit, "tools/gate/pictures.py"], MATPLOTLIB),
         Part("the release", [python, "tools/gate/release.py", program]),
         Part("a bare root", [python, "tools/gate/bare_root.py", program], "debootstrap", True),
         Part("what a team installs", [python, "tools/gate/installs.py", program], is_long=True),
@@ -136,6 +138,7 @@ def parts(fresh: Optional[int], program: str) -> list[Part]:
         Part("hardening of what is released", [python, "tools/gate/hardening.py"], "readelf"),
         Part("the texts of edits", [python, "tools/edits/edit_controls.py", "--missing"]),
         Part("doc comments", [python, "tools/gate/doc_comments.py"]),
+        Part("docstrings", [python, "tools/gate/docstrings.py"]),
         Part("words of the laws", [python, "tools/laws/pinned_words.py"]),
         Part("wrong definitions", [python, "tools/gate/laws.py", of_laws], "rt", True),
         Part("the text of the definitions", [python, "tools/definitions", "gate", *words, str(CALLS_BY_DEFINITIONS)], is_long=True),
@@ -145,6 +148,7 @@ def parts(fresh: Optional[int], program: str) -> list[Part]:
         Part("types of Python", [python, "tools/gate/python_types.py"], "mypy"),
         Part("unused names of Python", [python, "tools/gate/linter.py"], "pyflakes3"),
         Part("the form of Python", [python, "tools/gate/linter.py", "--format"], "black", is_long=True),
+        Part("the form and checks of C", [python, "tools/gate/linter.py", "--c"], "clang-tidy", is_long=True),
         Part("the source archive", [python, "tools/gate/archive.py"], "git"),
         Part("what grows", [python, "tools/gate/growth.py"], "git"),
         Part("samples of the READMEs", [python, "tools/gate/samples.py"]),

@@ -29,7 +29,7 @@ from link_library import SHARED, STATIC  # noqa: E402
 RELEASE = TOP / "release"
 LIBRARY = "hingetulip_c"
 COMPILER = re.compile(rb"GCC: \([^)]*\) [\d.]+")
-HOSTS = ["hinge-link", "hinge-clock.so"]
+HOSTS = ["hinge-link", "hinge-packets", "hinge-clock.so"]
 SUM = re.compile("[0-9a-f]{64}")
 
 

@@ -17,7 +17,7 @@ from typing import Optional
 TOP = Path(__file__).resolve().parents[2]
 PROGRAMS = ("dummynet", "hingetulip_c")
 KIT = tuple(f"python/{package}/**/*.py" for package in ("hinge", "hingetulip", "hingetulip_words"))
-HOSTS, LAWS = ("hosts/link/*.[ch]",), ("crates/*/specs/*", "tools/laws/*.py")
+HOSTS, LAWS = ("hosts/*/*.[ch]",), ("crates/*/specs/*", "tools/laws/*.py")
 FRESH = "fresh"
 BITS = 32
 

@@ -36,7 +36,8 @@ def in_sources(tally: Tally, program: str) -> None:
     tally.equal("the program (crates/dn_command/src/form.rt)", ["dummynet", VERSION], told.split()[:2])
     header = found(TOP / "crates" / "hingetulip_c" / "include" / "hingetulip.h", r"^#define DN_VERSION (\d+)u$")
     tally.equal("hingetulip.h", VERSION, spelled(int(header)) if header.isdigit() else header)
-    tally.equal("the crate for cargo", VERSION, found(TOP / "rust" / "hingetulip" / "Cargo.toml", r'^version = "(.*)"$'))
+    for crate in ("hingetulip", "hingetulip-tokio"):
+        tally.equal(f"the crate {crate}", VERSION, found(TOP / "rust" / crate / "Cargo.toml", r'^version = "(.*)"$'))
     tally.equal("CHANGELOG.md", VERSION, found(TOP / "CHANGELOG.md", r"^## \[(\d.*?)\]"))
     tally.equal("CITATION.cff", VERSION, found(TOP / "CITATION.cff", r"^version: (.*)$"))
     told = subprocess.run([sys.executable, TOP / "hinge", "--version"], capture_output=True, text=True).stdout

@@ -35,10 +35,7 @@ FUNCTION = re.compile(r"^[0-9a-f]+ <(?P<name>.*)>:\n(?P<body>(?:.+\n)*)", re.M)
 TAKES, GIVES = re.compile(r"\block cmpxchg %r"), re.compile(r"\bxchg +%r\w+,\S*\(%r")
 # What the model was read from.
 TEXTS = {
-    "lock.rt": [
-        "compare_exchange::<Try>(seat, 0, 0, number as u64 + 1);",
-        "desk.table.shared.store::<Publish>(seat, 0, 0);",
-    ],
+    "lock.rt": ["compare_exchange::<Try>(seat, 0, 0, number as u64 + 1);", "desk.table.shared.store::<Publish>(seat, 0, 0);"],
     "bell.rt": [
         "if self.word.load(Ordering::SeqCst) == 0 { self.word.store(1, Ordering::SeqCst); } }",
         "{ self.word.park(rt, 1); self.raise(); }",

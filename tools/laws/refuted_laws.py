@@ -130,7 +130,7 @@ def proved_lemmas(crate: str, tell: bool = False) -> Dict[int, List[bool]]:
     command = os.environ.get("RT", "rt").split() + ["check", "--only", "laws"]
     told = subprocess.run(command, cwd=crate, stdout=subprocess.PIPE, stderr=subprocess.STDOUT, text=True).stdout
     verdicts = re.findall(r"^fn dn_types::laws::refuted(\d+)_\d+: (.*)$", told, flags=re.M)
-    if not verdicts or re.search(r"specs/\w+\.antt:\d+:\d+: error", told):
+    if not verdicts or re.search(r"specs/[\w/]+\.antt:\d+:\d+: error", told):
         sys.exit(told + "\nthe copy is not accepted")
     if tell:
         print(*re.findall(r"^.*: error: .*$", told, flags=re.M), sep="\n", file=sys.stderr)

@@ -1,5 +1,5 @@
 #!/usr/bin/env python3
-"""Tries wrong definitions of dn_types one at a time, and asks that the laws of dn_laws refuse each.
+"""Tries wrong definitions of dn_types, dn_config and dn_service one at a time, and asks that the laws of dn_laws refuse each.
 
     tools/laws/wrong_definitions.py              prints a table in Markdown: a law, and the wrong definitions that it refuses
     tools/laws/wrong_definitions.py 3 17         tries these rows alone
@@ -9,10 +9,10 @@
 
 In the table a row without a file in tools/laws/refuted has a star: refuted_laws.py doesn't show that the law is false of it.
 
-Each row changes one line of crates/dn_types/specs, or a few, in a copy that has both crates in one. The worked
-examples, the lists of calls and the witnesses are taken out of it. A row checks the function with the law that is false
-of the definition, and passes where it is not proved. A row without a law is a choice that no law judges: it is pinned by
-examples alone. A row without a clause is about a function that has one clause without a name.
+Each row changes one line of a crate's specs, or a few, in a copy that has the crate and its laws in one: of dn_service only
+what the laws use. The worked examples, the lists of calls and the witnesses are taken out of it. A row checks the function
+with the law that is false of the definition, and passes where it is not proved. A row without a law is a choice that no law
+judges, and one without a clause is about a function that has one clause without a name.
 The prover is called as RT, which is `rt` where the environment names nothing else.
 """
 import contextlib
@@ -22,6 +22,7 @@ import shutil
 import subprocess
 import sys
 import tempfile
+from typing import NamedTuple
 
 TOP = os.path.dirname(os.path.dirname(os.path.dirname(os.path.abspath(__file__))))
 SET_ASIDE = [
@@ -36,6 +37,7 @@ SET_ASIDE = [
     "LawWitnesses",
     "DeleteWitnesses",
     "DividedWitnesses",
+    "KeptWitnesses",
     "PartWitnesses",
     "ReadingWitnesses",
     "ReplyWitnesses",
@@ -370,17 +372,75 @@ ROWS = [
      'laws_of_histories', 'none'),
     ('a Kbyte has 2,048 bytes', 'Drops', 'nat_lt (count * 1024) (sum lengths)', 'nat_lt (count * 2048) (sum lengths)',
      'laws_of_waiting', 'kbytes'),
+    ('K is 1,024', 'Values', '== 107) (1000,', '== 107) (1024,', 'laws_of_lines', 'pipes'),
+    ('M is 2^20', 'Values', '== 109) (1000000,', '== 109) (1048576,', 'laws_of_lines', 'pipes'),
+    ('a byte has 10 bits', 'Values', '(Some 8) None', '(Some 10) None', 'laws_of_lines', 'pipes'),
+    ('units are in lower case alone', 'Values', '(rate_of (lower (unit w)))', '(rate_of (unit w))', 'laws_of_lines', 'pipes'),
+    ('a loss rate is rounded up', 'Values', 'Ok (n * 2 ^ 31 / 10 ^ 18)',
+     'Ok ((n * 2 ^ 31 + (10 ^ 18 - 1)) / 10 ^ 18)', 'laws_of_lines', 'pipes'),
+    ('each place behind the point is the last', 'Values', '10 ^ (18 - length fs)', '10 ^ (18 - 18)', 'laws_of_lines', 'pipes'),
+    ('a limit in Kbytes counts packets', 'Values', '(limited Kbytes (placed', '(limited Slots (placed', 'laws_of_lines', 'pipes'),
+    ('a queue has 100 slots at first', 'Settings', 'limit = Slots 50;', 'limit = Slots 100;', 'laws_of_lines', 'defaults'),
+    ('a queue weighs 10 at first', 'Settings', 'weight = 1;', 'weight = 10;', 'laws_of_lines', 'defaults'),
+    ('bw sets the delay', 'Settings', 'record o { bw = n }', 'record o { delay = n }', 'laws_of_lines', 'pipes'),
+    ('a queue is on the pipe with its number', 'Line', 'c.Queue n p o.weight', 'c.Queue n n o.weight', 'laws_of_lines', 'defaults'),
+    ('weights are forgotten', 'Line', 'Ok (c.Queue n p o.weight', 'Ok (c.Queue n p 1', 'laws_of_lines', 'queues'),
+    ('dst-port sets the source port', 'Masks', 'record mask { dport = n }', 'record mask { sport = n }', 'laws_of_lines', 'pipes'),
+    ('all spares the protocol', 'Masks', '2 ^ 32 - 1; proto = 255;', '2 ^ 32 - 1; proto = 0;', 'laws_of_lines', 'pipes'),
+    ('a service is by rule Free', 'Callers', ('Rule.TheVariants.{Ordered}', 'pub lawful : IsLawful Ordered history'),
+     ('Rule.TheVariants.{Ordered, Free}', 'pub lawful : IsLawful Free history'), 'laws_of_services', 'deliveries'),
+    ('a history has entries of anybody', 'Histories', '(λ e. e.caller < n)',
+     '(λ e. e.caller ≡ e.caller)', 'laws_of_services', 'entries'),
+    ('a service closes without a caller', 'Callers', '(k : ℕ) → k < service',
+     '(k : ℕ) → k + 1 < service', 'laws_of_services', 'entries'),
+    ('a front begins no history', 'Histories', '× (history ≡ front ++ rest)', '× (rest ≡ rest)', 'laws_of_services', 'callers'),
+    ('each caller has every entry', 'Callers', '≡ own_entries c.number history', '≡ history', 'laws_of_services', 'callers'),
+    ('each entry is of caller 0', 'Histories', 'record { caller = k;', 'record { caller = 0;', 'laws_of_services', 'callers'),
+    ('no try is counted', 'Callers', 'c.faced ≡ lost_to c.number callers', 'c.faced ≡ c.faced', 'laws_of_services', 'callers'),
 ]
 # fmt: on
 
 
-def in_one_crate(text):
-    """A text of dn_laws as one of dn_types, for the copy that has both."""
-    return text.replace("Rattle.dn_laws.", "Rattle.dn_types.").replace("use dn_types::", "use crate::")
+class Base(NamedTuple):
+    """A crate, those below it that its copy has too, and the word with which the names of its laws' files begin."""
+
+    crate: str
+    below: tuple
+    word: str
+    kept: tuple = ()  # what the copy has of src/ and specs/, where that isn't all
 
 
-def add_the_laws(crate):
-    """Puts the files of dn_laws into the copy of dn_types, so that a wrong definition meets its law first."""
+DEFINITIONS = Base("dn_types", (), "")
+BASES = {
+    "laws_of_lines": Base("dn_config", ("dn_types", "dn_text"), "line"),
+    "laws_of_services": Base(
+        "dn_service", ("dn_types",), "service", ("close_fault", "open_fault", "try_fault", "Accounts", "Callers", "Histories")
+    ),
+}
+
+
+def base_of(row):
+    return BASES.get(row[4], DEFINITIONS)
+
+
+def in_one_crate(text, crate="dn_types"):
+    """A text of dn_laws as one of the crate, for the copy that has both."""
+    return text.replace("Rattle.dn_laws.", "Rattle.%s." % crate).replace("use %s::" % crate, "use crate::")
+
+
+def has_word(path, word):
+    return any(part.lower().startswith(word) for part in path.split(os.sep))
+
+
+def is_wanted(path, base):
+    """Whether the copy has this file of dn_laws: none of another word, and of a crate above dn_types no law of the definitions."""
+    if any(has_word(path, other.word) for other in BASES.values() if other != base):
+        return False
+    return has_word(path, base.word) or not {"src", "laws", "determined"} & set(os.path.dirname(path).split(os.sep))
+
+
+def add_the_laws(crate, base=DEFINITIONS):
+    """Puts the files of dn_laws into the copy of the crate, so that a wrong definition meets its law first."""
     top = os.path.join(TOP, "crates", "dn_laws")
     for folder, folders, names in os.walk(top):
         folders[:] = [name for name in folders if name != "out"]
@@ -389,12 +449,16 @@ def add_the_laws(crate):
             if not name.endswith((".antt", ".rt")) or path == os.path.join("src", "lib.rt"):
                 continue
             with open(os.path.join(folder, name)) as file:
-                text = in_one_crate(file.read())
+                text = in_one_crate(file.read(), base.crate)
+            if name == "Lib.antt":
+                text = "".join(line for line in text.splitlines(True) if is_wanted(os.path.join(path, line.split()[-1]), base))
+            elif not is_wanted(path, base):
+                continue
             os.makedirs(os.path.dirname(os.path.join(crate, path)), exist_ok=True)
             with open(os.path.join(crate, path), "a" if name == "Lib.antt" else "w") as file:
                 file.write(text)
     with open(os.path.join(crate, "src", "lib.rt"), "a") as file:
-        file.write("pub mod determined;\npub mod laws;\n")
+        file.write("pub mod %ss;\n" % base.word if base.word else "pub mod determined;\npub mod laws;\n")
 
 
 def set_aside(proofs):
@@ -411,26 +475,51 @@ def set_aside(proofs):
     shutil.rmtree(os.path.join(proofs, "Cases"), ignore_errors=True)
 
 
-def copy_of_the_crate(folder):
-    """A copy of dn_types that has the laws too, without what computes at single points."""
-    crate = os.path.join(folder, "crates", "dn_types")
-    shutil.copytree(os.path.join(TOP, "crates", "dn_types"), crate, ignore=shutil.ignore_patterns("out", "must-fail"))
+def only_kept(crate, kept):
+    """Leaves of the copy what has these names in src/ and specs/, and no proof."""
+    shutil.rmtree(os.path.join(crate, "proofs"))
+    for folder, library, form in (("src", "lib.rt", "pub mod %s;\n"), ("specs", "Lib.antt", "pub mod %s\n")):
+        whole = os.path.join(crate, folder)
+        for name in os.listdir(whole):
+            path = os.path.join(whole, name)
+            if os.path.isdir(path):
+                shutil.rmtree(path)
+            elif name.split(".")[0] not in kept:
+                os.remove(path)
+        modules = [form % name.split(".")[0] for name in sorted(os.listdir(whole))]
+        with open(os.path.join(whole, library), "w") as file:
+            file.writelines(["#![tactic(auto)]\n"] * (folder == "src") + modules)
+
+
+def copy_of_the_crate(folder, base=DEFINITIONS):
+    """A copy of the crate with its laws, without what computes at single points, beside the crates below it."""
+    crates = os.path.join(folder, "crates")
+    crate = os.path.join(crates, base.crate)
+    shutil.copytree(os.path.join(TOP, "crates", base.crate), crate, ignore=shutil.ignore_patterns("out", "must-fail", "edits"))
+    for name in base.below:
+        shutil.copytree(os.path.join(TOP, "crates", name), os.path.join(crates, name), dirs_exist_ok=True)
     shutil.copy(os.path.join(TOP, "HANDLES"), folder)
+    with open(os.path.join(TOP, "crates.txt")) as file:
+        lines = [line.split() for line in file if line.split(":")[0] in (*base.below, base.crate)]
+    ours = set(os.listdir(os.path.join(TOP, "crates"))) - {*base.below}
     with open(os.path.join(folder, "crates.txt"), "w") as own:
-        own.write("dn_types:\n")
-    add_the_laws(crate)
+        own.writelines(" ".join([line[0], *(name for name in line[1:] if name not in ours)]) + "\n" for line in lines)
+    if base.kept:
+        only_kept(crate, base.kept)
+    add_the_laws(crate, base)
     set_aside(os.path.join(crate, "proofs"))
     return crate
 
 
-def check(crate, function):
-    """The functions that are not proved, the first lemma that was refused, and whether the check was finished."""
+def check(crate, function, word=""):
+    """The functions that are not proved, the first lemma that was refused of the laws' own, and whether the check was finished."""
     command = os.environ.get("RT", "rt").split() + ["check", "--only", function]
     told = subprocess.run(command, cwd=crate, stdout=subprocess.PIPE, stderr=subprocess.STDOUT, text=True).stdout
-    unproved = re.findall(r"^fn dn_types::(?:laws|determined)::(\w+): (?!proved)", told, flags=re.M)
-    proved = re.findall(r"^fn dn_types::(?:laws|determined)::(\w+): proved", told, flags=re.M)
-    refused = re.search(r"proofs/(\w+)\.antt:\d+:\d+: error: `([^`]+)`", told)
-    return set(unproved), refused.group(1) + "." + refused.group(2) if refused else "", len(unproved) + len(proved) > 0
+    unproved = re.findall(r"^fn \w+::\w+::(\w+): (?!proved)", told, flags=re.M)
+    proved = re.findall(r"^fn \w+::\w+::(\w+): proved", told, flags=re.M)
+    refused = re.findall(r"proofs/(\w+)\.antt:\d+:\d+: error: `([^`]+)`", told)
+    own = [".".join(lemma) for lemma in refused if has_word(lemma[0], word)]
+    return set(unproved), own[0] if own else "", len(unproved) + len(proved) > 0
 
 
 def changed(text, old, new):
@@ -465,10 +554,10 @@ def try_row(crate, row):
     """What was refused, and whether the row went as it should."""
     function = row[4]
     with wrongly_defined(crate, row):
-        unproved, refused, finished = check(crate, function or "laws")
+        unproved, refused, finished = check(crate, function or "laws", base_of(row).word)
     if function is None:
         return refused, finished
-    refuses = finished and function in unproved
+    refuses = finished and function in unproved and (refused != "" or base_of(row) == DEFINITIONS)
     return refused if refuses else "not refused", refuses
 
 
@@ -493,6 +582,22 @@ def print_table(rows):
         print("| %s | %s |" % (function, ". ".join(clause + "; ".join(wrongs) for clause, wrongs in clauses.items())))
 
 
+def try_rows(base, rows, function):
+    """The rows of a crate that passed, or None where its laws are not proved of the right definitions."""
+    with tempfile.TemporaryDirectory() as folder:
+        crate = copy_of_the_crate(folder, base)
+        unproved, _, finished = check(crate, function)
+        if unproved or not finished:
+            print("the laws are not proved of the right definitions:", ", ".join(sorted(unproved)))
+            return None
+        passed = []
+        for row in rows:
+            told, good = try_row(crate, row)
+            print("%s: %s" % (row[0], told), file=sys.stderr, flush=True)
+            passed += [row] if good else []
+    return passed
+
+
 def main(arguments):
     if "--list" in arguments:
         for place, row in enumerate(ROWS, 1):
@@ -503,18 +608,15 @@ def main(arguments):
         return 0
     rows = [ROWS[int(argument) - 1] for argument in arguments if argument != "--determined"] or ROWS
     if "--determined" in arguments:
-        rows = [row[:4] + ("laws_hold", "") for row in rows]
-    with tempfile.TemporaryDirectory() as folder:
-        crate = copy_of_the_crate(folder)
-        unproved, _, finished = check(crate, "laws_hold" if "--determined" in arguments else "laws")
-        if unproved or not finished:
-            print("the laws are not proved of the right definitions:", ", ".join(sorted(unproved)))
+        rows = [row[:4] + ("laws_hold", "") for row in rows if base_of(row) == DEFINITIONS]
+    passed = []
+    for base in (DEFINITIONS, *BASES.values()):
+        own = [row for row in rows if base_of(row) == base]
+        function = "laws_hold" if "--determined" in arguments else base.word + "s" if base.word else "laws"
+        good = try_rows(base, own, function) if own else []
+        if good is None:
             return 1
-        passed = []
-        for row in rows:
-            told, good = try_row(crate, row)
-            print("%s: %s" % (row[0], told), file=sys.stderr, flush=True)
-            passed += [row] if good else []
+        passed += good
     print_table(passed)
     print("\n%d tried, %d not refused" % (len(rows), len(rows) - len(passed)))
     return 0 if len(passed) == len(rows) else 1

@@ -27,6 +27,7 @@ _hinge() {
         change:[34] | exec:3) words=$("$hinge" status "${COMP_WORDS[2]}" 2>/dev/null | sed -n 's/^ *"\(from\|to\|name\)": "\(.*\)",*$/\2/p' | sort -u) ;;
         esac
     fi
-    if [ -n "$words" ]; then COMPREPLY=($(compgen -W "$words" -- "$word")); else COMPREPLY=($(compgen -f -- "$word")); fi
+    [ -z "$words" ] || COMPREPLY=($(compgen -W "$words" -- "$word"))
 }
-complete -o filenames -F _hinge hinge ./hinge
+# Where there is no word, the shell's own completion names files.
+complete -o default -F _hinge hinge ./hinge

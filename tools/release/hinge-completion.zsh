@@ -4,4 +4,4 @@ autoload -Uz bashcompinit && bashcompinit
 for place in "${${(%):-%x}:A:h}"/{../../bash-completion/completions/hinge,hinge-completion.bash}; do
     [[ ! -f $place ]] || . "$place"
 done
-_bash_complete -o filenames -F _hinge
+_bash_complete -o default -F _hinge

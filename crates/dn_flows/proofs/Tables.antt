@@ -19,7 +19,7 @@ use Rattle.dn_flows.proofs.Counted.{Keeps, kept, carried, start-leaves, length_u
 use Rattle.dn_flows.proofs.Places.{get-set, get-set-other, get-read, get-more, get-kept, length-more, map-set-but, sum-set}
 
 -- Each queue reserves one place at most.
-at-most-one-each : (queues : List FlowQueue) → reservations queues ≤ length queues
+pub at-most-one-each : (queues : List FlowQueue) → reservations queues ≤ length queues
 at-most-one-each [] = omega arith
 at-most-one-each (q ∷ queues) =
     let all = sum_by-cons reserved_one q queues in

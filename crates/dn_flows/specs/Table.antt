@@ -1,7 +1,7 @@
 -- The flow table as callers see it: the keys of the flows in order of first sight, and the state of each flow. A flow's
 -- number is its place in both lists.
 use Rattle.std.specs.Prelude.{ℕ, ◌+◌, ◌≡◌, Bool, true, false, cond, nat_eq, List, [], ◌∷◌, ◌++◌, map, sum, length, slice_index_or}
-use Rattle.std.specs.List.{list_any}
+use Rattle.std.specs.List.{list_any, sum_by}
 use Rattle.dn_types.specs.Configuration.{target_eq}
 use Rattle.dn_types.specs.Drops.{is_lost, is_full}
 use Rattle.dn_types.specs.Flows.{key_eq}
@@ -39,6 +39,13 @@ new_flow = record { backlog = []; reserved = false; active = false; lost = 0; fu
 -- The flow with a number, which for a number that no flow has is a new flow.
 abbrev pub flow_at : List FlowState → ℕ → FlowState
 flow_at flows flow = slice_index_or flows flow new_flow
+
+-- How many flows have a reserved place.
+abbrev pub place_of : FlowState → ℕ
+place_of s = cond s.reserved 1 0
+
+abbrev pub places : List FlowState → ℕ
+places flows = sum_by place_of flows
 
 -- Whether a flow has the key.
 abbrev pub is_known : FlowKey → List FlowKey → Bool

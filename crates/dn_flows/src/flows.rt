@@ -5,6 +5,7 @@ ghost use Rattle.dn_flows.specs.Table.{flow_at, is_known, flows_with, IsUnused, 
 mod active;
 mod find;
 mod pass;
+mod places;
 
 use crate::drop_rule::DropRule;
 use crate::flow_queue::FlowQueue;

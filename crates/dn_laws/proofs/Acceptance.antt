@@ -28,8 +28,6 @@ use Rattle.dn_types.proofs.Giving.{count-event}
 use Rattle.dn_types.proofs.InForce.{IsOfTarget, IsKept, settings-kept}
 use Rattle.dn_laws.proofs.ToldCounts.{arrival-told, told-few}
 
--- ---- A packet that is taken
-
 pub record IsTakenAs (calls : List Call) (target : Target) (packet : Packet) (moment : ℕ) (p : Accepted) : Type 0 where
   pub how : Treatment
   pub by : treatment (settings calls target) ≡ Some how
@@ -113,8 +111,6 @@ taken-as calls target packet moment p now = by (verdict calls target packet (tra
               ∙ (λ i. Queued (max (effective_moment calls) moment) (sym flow_is i) (sym number_is i));
         }
 
--- ---- What carries it
-
 pub carried-by : (t : Target) (command : Command) → IsOfTarget t command → (how : Treatment) → treatment (Some command) ≡ Some how → (flow : ℕ) →
     IsCarriedBy command flow (link_of t flow how.pipe)
 carried-by (ToPipe n) (Pipe number bw delay limit loss buckets mask) kept how e flow = ap (λ (m : ℕ). own m flow) (sym (ap (pipe-or 0) e))
@@ -156,8 +152,6 @@ arrivals-are-told rule calls c later between p few e =
           carried = subst (λ (l : Link). IsCarriedBy command p.stamped.flow l) (sym as'.link) (carried-by target command kept as'.how (ap treatment (sym set) ∙ as'.by) p.stamped.flow);
         }
     by _ h = absurd h
-
--- ---- And each packet that is told to be queued arrives
 
 abbrev HasArrival : List Event → List Event → Type 0
 HasArrival new old = (later between : List Event) × ((p : Accepted) × (new ≡ later ++ arrived p ∷ between ++ old))

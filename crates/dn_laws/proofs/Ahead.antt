@@ -23,8 +23,6 @@ IsPrompt (started s ∷ trace) = ((s.moment ≡ free s.packet.link trace) ⊎ ((
     × IsHome s.packet.link s.packet.stamped.flow × IsPrompt trace
 IsPrompt (_ ∷ trace) = IsPrompt trace
 
--- ---- The packet with a number
-
 module _ (p : Accepted) (before : List Event) where
   abbrev pub IsIt : Accepted → Type 0
   IsIt q = q.packet ≡ p.packet → q ≡ p
@@ -55,8 +53,6 @@ module _ (p : Accepted) (before : List Event) where
   one-of-number link flow (started s ∷ g) h = drop-it (is_of link flow s.packet) (backlog link flow (g ++ (arrived p ∷ before))) (one-of-number link flow g h.2)
   one-of-number link flow (discarded f ∷ g) h = clear-it (nat_eq f flow) (backlog link flow (g ++ (arrived p ∷ before))) (one-of-number link flow g h)
   one-of-number link flow (_ ∷ g) h = one-of-number link flow g h
-
--- ---- While it waits
 
 middle : (P : Accepted → Type 0) (xs : List Accepted) (q : Accepted) (rest : List Accepted) → All P (xs ++ q ∷ rest) → P q
 middle P [] q rest h = All-head P q rest h

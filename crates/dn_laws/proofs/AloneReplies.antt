@@ -28,8 +28,6 @@ use Rattle.dn_laws.proofs.PartReplies.{HasTarget, has-target, counted-reply}
 use Rattle.dn_laws.proofs.PartsAlone.{less, less-on, in-turn, none-alone, less-within, behind, submit-told, collect-told, show-told, command-told}
 use Rattle.dn_types.proofs.Ordered.{trace-proper}
 
--- ---- The part of a reply
-
 module _ (flows packets : ℕ → Bool) where
   abbrev told : Reply → Reply
   told r = own_reply_by flows packets r
@@ -58,8 +56,6 @@ module _ (flows packets : ℕ → Bool) where
   verdict-stays chosen at (loses l f) t h = refl
   verdict-stays chosen at (refuses l f) t h = refl
   verdict-stays chosen at (takes l f how) t h = refl
-
--- ---- The part's own calls
 
 module _ (rule : Rule) (mine : Target → Bool) (is_own : ℕ → Bool) (flows packets : ℕ → Bool) where
   abbrev part-of : Reply → Reply
@@ -124,8 +120,6 @@ module _ (rule : Rule) (mine : Target → Bool) (is_own : ℕ → Bool) (flows p
         let fewer = (behind mine is_own calls d).no_more in
         let n = length-on (links_of mine) calls in
         counts rule (own_of is_own calls) c (omega (arith, fewer, n, few)) ∙ counted-alone c more k own le ∙ sym (ap part-of (counts rule calls c few))
-
-  -- ---- All calls
 
   replies-length : (calls : List Call) → length (replies rule calls) ≡ length calls
   replies-length [] = refl

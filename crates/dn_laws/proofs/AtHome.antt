@@ -10,7 +10,7 @@ use Rattle.dn_types.specs.Flows.{Treatment, keys, keys_with, key_of, flow_number
 use Rattle.dn_types.specs.Replies.{reply, status_of, statuses_from}
 use Rattle.dn_laws.specs.ReplyLaws.{IsStateOf}
 use Rattle.dn_laws.specs.Told.{is_arrival_of}
-use Rattle.dn_types.specs.Trace.{Link, link_eq, Accepted, Start, Event, opened, arrived, started, lost, refused, discarded, collected, is_of, backlog, is_start_of, discarded_count}
+use Rattle.dn_types.specs.Trace.{Link, link_eq, Accepted, Start, Event, arrived, started, discarded, is_of, backlog, is_start_of, discarded_count}
 use Rattle.dn_types.specs.declared.call.Call.{Call}
 use Rattle.dn_types.specs.declared.call.Call.TheVariants.{Submit, Show}
 use Rattle.dn_types.specs.declared.flow_key.FlowKey.{FlowKey}
@@ -31,8 +31,6 @@ use Rattle.dn_types.proofs.Settled.{and-left, link_eq-true, link_eq-refl}
 use Rattle.dn_types.proofs.Settling.{and-right}
 use Rattle.dn_laws.proofs.ToldCounts.{queued-of-count, lost-of-count, full-of-count}
 use Rattle.dn_types.proofs.StepFacts.{clear-some, push-length, clear-length}
-
--- ---- Homes
 
 pub record IsHomeOf (known : List FlowKey) (link : Link) (flow : ℕ) : Type 0 where
   pub key : FlowKey
@@ -99,8 +97,6 @@ first-some p (x ∷ q) e = omega arith
 pub start-home : (known : List FlowKey) (s : Start) (t : List Event) → IsProper (started s ∷ t) → HaveHomes known t → IsHomeOf known s.packet.link s.packet.stamped.flow
 start-home known s t proper h = waits-home known t h s.packet.link s.packet.stamped.flow (first-some s.packet (backlog s.packet.link s.packet.stamped.flow t) proper.0)
 
--- ---- Sums
-
 module _ (known : List FlowKey) (flow : ℕ) (key : FlowKey) (at : slice_get known flow ≡ Some key) where
   abbrev home : Link
   home = link_of key.target flow key.pipe
@@ -158,8 +154,6 @@ pub packets-add-up : (calls : List Call) (flow : ℕ) (key : FlowKey) → slice_
     let link = link_of key.target flow key.pipe in
     count_by (is_arrival_of flow) trace ≡ count_by (is_start_of flow) trace + length (backlog link flow trace) + discarded_count link flow trace
 packets-add-up calls flow key at = adds-up (keys calls) flow key at (trace_of calls) (trace-proper calls) (have-homes calls)
-
--- ---- Shows
 
 many-states : (from : ℕ) (known : List FlowKey) (trace : List Event) → length (statuses_from from known trace) ≡ length known
 many-states from [] trace = refl

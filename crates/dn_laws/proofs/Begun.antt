@@ -33,8 +33,6 @@ use Rattle.dn_types.proofs.Picks.{heads-alone, pick-alone}
 use Rattle.dn_types.proofs.Settled.{settled-ends, first_start-of, next_start-link, and-left}
 use Rattle.dn_types.proofs.Settling.{next_start-packet, next_packet-first, and-no}
 
--- ---- One start
-
 -- A packet waited for the link before, and none has arrived since.
 abbrev pub HasWaited : List Event → Link → List Event → Type 0
 HasWaited old link f = ((flow : ℕ) × (0 < length (backlog link flow old))) × (accepted_count (f ++ old) ≡ accepted_count old)
@@ -135,8 +133,6 @@ alone-next link p trace l home none = by link l home none
 
         picked : pick (virtual_time (shared pipe) (arrived p ∷ trace)) (link_heads (shared pipe) (arrived p ∷ trace)) ≡ Some p.stamped
         picked = ap (λ (hs : List Stamped). pick (virtual_time (shared pipe) (arrived p ∷ trace)) hs) alone ∙ pick-alone (virtual_time (shared pipe) (arrived p ∷ trace)) p.stamped
-
--- ---- All that a call adds
 
 module _ (P : Event → List Event → Type 0) (old : List Event) where
   abbrev pub AllEvents : List Event → Type 0

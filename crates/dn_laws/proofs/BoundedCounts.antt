@@ -37,8 +37,6 @@ settled-accepted calls at =
     let few = accepted calls in
     omega (arith, same, few)
 
--- ---- The state of a flow
-
 abbrev AreFew : FlowStatus → Type 0
 AreFew s = (s.queued < 2 ^ 62) × (s.lost < 2 ^ 62) × (s.full < 2 ^ 62) × (s.started < 2 ^ 62) × (s.discarded < 2 ^ 62)
 
@@ -58,8 +56,6 @@ statuses-few : (calls : List Call) (flow : ℕ) (known : List FlowKey) → lengt
 statuses-few calls flow [] h = All-nil AreFew
 statuses-few calls flow (key ∷ known) h = All-cons AreFew (status_of flow key (trace_of calls)) (statuses_from (flow + 1) known (trace_of calls))
     (status-few calls flow key h) (statuses-few calls (flow + 1) known h)
-
--- ---- Replies
 
 verdict-few : (at : ℕ) (v : Verdict) (trace : List Event) → accepted_count trace < 2 ^ 62 → HasBoundedCounts (reply_to_verdict at v trace)
 verdict-few at no_target trace h = tt

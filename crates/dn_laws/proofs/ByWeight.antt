@@ -3,9 +3,8 @@ use Rattle.std.proofs.Common.{◌≡◌, ◌≤◌, ◌<◌, ℕ, ◌+◌, ◌-�
 use Rattle.std.specs.Prelude.{◌/◌, Some, slice_get}
 use Rattle.std.specs.List.{All}
 use Rattle.std.proofs.Math.Nat.{mul-le-mul_right, lt-div-mul-add, div-mul-le_self, div-lt_iff_lt-mul}
-use Rattle.dn_laws.specs.ByteShares.{IsWeighted, bytes_sent, packets_sent}
+use Rattle.dn_laws.specs.FairShare.{IsWeighted, bytes_sent, packets_sent, WaitsThroughout, EachThatWaits, CostsAtMost, share}
 use Rattle.dn_types.specs.Calls.{trace_of}
-use Rattle.dn_laws.specs.FairShare.{WaitsThroughout, EachThatWaits, CostsAtMost, share}
 use Rattle.dn_types.specs.Trace.{shared, Accepted, Start, Event, arrived, started, is_of, backlog}
 use Rattle.dn_types.specs.declared.call.Call.{Call}
 use Rattle.dn_laws.proofs.Fair.{start-first, shares-fairly}

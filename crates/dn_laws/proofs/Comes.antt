@@ -164,8 +164,6 @@ call-comes calls (Collect moment) =
     (comes-settled calls (Collect moment) (settings calls) (max (effective_moment calls) moment)) tt
 call-comes calls Show = ([], refl, tt)
 
--- ---- Discards
-
 -- A queue is emptied by a delete alone.
 pub discards-are-deletes : (rule : Rule) (calls : List Call) (c : Call) (later between : List Event) (flow : ℕ) → length calls < call_limit →
     trace_of (c ∷ calls) ≡ later ++ discarded flow ∷ between ++ trace_of calls → IsDelete rule calls c flow

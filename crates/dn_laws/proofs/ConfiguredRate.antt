@@ -7,7 +7,7 @@ use Rattle.dn_types.specs.Clock.{effective_moment}
 use Rattle.dn_types.specs.Configuration.{Settings, settings}
 use Rattle.dn_laws.specs.Explained.{sent, IsAtBandwidth}
 use Rattle.dn_types.specs.Links.{transmission_time}
-use Rattle.dn_laws.specs.RateLaws.{StaysInForce}
+use Rattle.dn_laws.specs.ConfiguredLaws.{StaysInForce}
 use Rattle.dn_types.specs.Starts.{bandwidth_of}
 use Rattle.dn_types.specs.Trace.{Link, link_eq, pipe_of, Start, Event, started}
 use Rattle.dn_types.specs.declared.call.Call.{Call}
@@ -19,8 +19,6 @@ use Rattle.dn_types.specs.declared.target.Target.TheVariants.{Pipe as ToPipe}
 use Rattle.dn_laws.proofs.Begun.{IsBegun, IsCaused, AllEvents, call-causes}
 use Rattle.dn_laws.proofs.Rates.{keeps-the-rate}
 use Rattle.dn_types.proofs.Settled.{link_eq-true}
-
--- ---- What is at a bandwidth
 
 module _ (bw : ℕ) (link : Link) where
   pub both-at : (f g : List Event) → IsAtBandwidth bw link f → IsAtBandwidth bw link g → IsAtBandwidth bw link (f ++ g)
@@ -37,8 +35,6 @@ module _ (bw : ℕ) (link : Link) where
   back-at [] g h = h
   back-at (started s ∷ f) g h = back-at f g h.1
   back-at (_ ∷ f) g h = back-at f g h
-
--- ---- What calls add while a command stays in force
 
 module _ (number bw delay : ℕ) (limit : Limit) (loss : ℕ) (buckets : Option ℕ) (mask : Mask) (link : Link) (of_pipe : pipe_of link ≡ number) where
   abbrev pub command : Command

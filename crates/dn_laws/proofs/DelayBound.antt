@@ -11,7 +11,7 @@ use Rattle.dn_types.specs.Clock.{call_limit, effective_moment}
 use Rattle.dn_types.specs.Configuration.{settings}
 use Rattle.dn_laws.specs.Explained.{IsDueBy, IsDeliveryOf}
 use Rattle.dn_types.specs.Links.{free, last_due, due_by, arrival_time, transmission_time}
-use Rattle.dn_laws.specs.RateLaws.{StaysInForce}
+use Rattle.dn_laws.specs.ConfiguredLaws.{StaysInForce}
 use Rattle.dn_types.specs.Replies.{reply}
 use Rattle.dn_types.specs.Starts.{bandwidth_of, delay_of}
 use Rattle.dn_types.specs.Trace.{Link, own, shared, link_eq, pipe_of, Accepted, Start, Event, arrived, started, discarded, is_of, backlog}
@@ -43,8 +43,6 @@ use Rattle.dn_laws.proofs.ToldCounts.{told-few}
 use Rattle.dn_laws.proofs.ToldDeliveries.{collects-are-told}
 use Rattle.dn_laws.proofs.WaitBounds.{longer-takes-longer, time_ahead, slots-ahead, kbytes-ahead}
 use Rattle.dn_laws.proofs.Waits.{IsJoined, joined, IsAwaited, awaited, own-pipe, trace-prompt, wait-is-known}
-
--- ---- Lengths
 
 module _ (pipe most : ℕ) where
   -- What arrived for a pipe's own flows is short.
@@ -104,8 +102,6 @@ module _ (pipe most : ℕ) where
         let home : s.packet.stamped.flow ≡ flow = sym (subst (λ (l : Link). IsHome l s.packet.stamped.flow) same prompt.1) in
         let mine = and_from (link_eq s.packet.link (own pipe flow)) (nat_eq s.packet.stamped.flow flow) e (eq-eqb s.packet.stamped.flow flow home) in
         first-all IsShort s.packet (backlog (own pipe flow) flow t) (own-first (own pipe flow) flow s t proper.0 mine) (queue-short t short)
-
--- ---- Starts by the command
 
 module _ (pipe bw delay flow by_then : ℕ) where
   -- Each start on the flow's link is by the command, and by the moment.
@@ -204,8 +200,6 @@ module _ (pipe bw delay : ℕ) (limit : Limit) (loss : ℕ) (buckets : Option �
         new.1 ∙ ap (λ (t : List Event). new.0 ++ t) rest.1 ∙ sym (append_assoc new.0 rest.0 (trace_of calls)),
         both-by pipe bw delay flow by_then new.0 rest.0 (call-by (after ++ calls) c new.0 (now pipe bw delay limit loss buckets mask (own pipe flow) refl after calls h.1) soon new.2) rest.2,
       )
-
--- ---- The bound
 
 module _ (rule : Rule) (after since older : List Call) (pipe bw delay : ℕ) (limit : Limit) (loss : ℕ) (buckets : Option ℕ) (mask : Mask) (packet : Packet) (moment at flow number most : ℕ)
     (in_force : StaysInForce (ToPipe pipe) (Pipe pipe bw delay limit loss buckets mask) since older)

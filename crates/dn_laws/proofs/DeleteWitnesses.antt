@@ -35,8 +35,6 @@ no_target = none-unconfigured Ordered [] (ToPipe 1) (worded 0) 0 (omega arith) r
 its_key : slice_get (keys (to_queue 1 0 ∷ weighted)) 0 ≡ Some (key (ToQueue 1) 1 no_mask (kept_by no_mask (worded 0).tuple))
 its_key = flows-have-their-keys Ordered weighted (ToQueue 1) (worded 0) 0 (Queue 1 1 4 (Slots 50) 0 None no_mask) no_mask 1 0 refl (refl, refl) refl
 
--- ---- Commands
-
 moves_nothing : free (shared 1) (trace_of (Configure (DeleteQueue 1) ∷ queued)) ≡ free (shared 1) (trace_of queued)
 moves_nothing = (commands-move-nothing Ordered queued (DeleteQueue 1) (shared 1)).0
 
@@ -54,8 +52,6 @@ left_in_force = only-commands-count queued (Advance 5000000) (ToQueue 1) (λ com
 its_pipe : is_some (settings queued (ToPipe 1)) ≡ true
 its_pipe = queues-have-pipes queued (ToQueue 1) 1 1 4 (Slots 50) 0 None no_mask refl
 
--- ---- Deletes
-
 abbrev on_its_own : List Call
 on_its_own = to_pipe 1 0 ∷ to_pipe 1 0 ∷ pipe 1 8000000 0 ∷ []
 
@@ -70,8 +66,6 @@ queue_spared = queue-delete-spares queued 2 (shared 1) [] [] (key (ToQueue 1) 1 
 
 pipe_spared : backlog (shared 1) 0 (trace_of (Configure (DeletePipe 2) ∷ queued)) ≡ backlog (shared 1) 0 (trace_of queued)
 pipe_spared = pipe-delete-spares queued 2 (shared 1) [] [] (key (ToQueue 1) 1 no_mask (tuple 0 0 0 0 0)) refl (λ (e : 1 ≡ 2). absurd (omega arith))
-
--- ---- Other pipes
 
 by_the_clock : free (shared 1) (trace_of (Advance 5000000 ∷ pipe 2 8000000 0 ∷ queued)) ≡ free (shared 1) (trace_of (Advance 5000000 ∷ queued))
 by_the_clock = (other-pipes-change-nothing Ordered (Advance 5000000 ∷ pipe 2 8000000 0 ∷ []) queued (shared 1) (tt, ((λ (e : 2 ≡ 1). absurd (omega arith)), tt))).1

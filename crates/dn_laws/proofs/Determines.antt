@@ -2,7 +2,8 @@
 use Rattle.std.proofs.Common.{◌≡◌, ◌∙◌, ◌<◌, ⊎_elim, List, sym, subst, length, arith}
 use Rattle.std.specs.Prelude.{◌^◌}
 use Rattle.std.proofs.lemmas.Bool.Decides.{leb_tells}
-use Rattle.dn_laws.specs.Determined.{Emulator, Readings, AnswersOneMore, ObeysTheLaws}
+use Rattle.dn_laws.specs.Determined.Emulators.{Emulator, Readings}
+use Rattle.dn_laws.specs.Determined.Laws.{AnswersOneMore, ObeysTheLaws}
 use Rattle.dn_types.specs.declared.call.Call.{Call}
 use Rattle.dn_types.specs.declared.rule.Rule.{Rule}
 use Rattle.dn_laws.proofs.SameCalls.{agree, told-one}

@@ -24,8 +24,6 @@ use Rattle.dn_laws.proofs.Isolation.{false-if}
 use Rattle.dn_laws.proofs.PartCalls.{keys-of}
 
 module _ (mine : Target → Bool) where
-  -- ---- The pipe of a target is in its part
-
   abbrev pub IsWithin : Settings → Type 0
   IsWithin set = (target : Target) (how : Treatment) → treatment (set target) ≡ Some how → mine (ToPipe how.pipe) ≡ mine target
 
@@ -62,8 +60,6 @@ module _ (mine : Target → Bool) where
   within is_own (Collect moment ∷ calls) d target how e = within is_own calls d.2 target how e
   within is_own (Show ∷ calls) d target how e = within is_own calls d.2 target how e
 
-  -- ---- Whether the part carries a packet
-
   on-is : (target : Target) (key : FlowKey) → is_flow_of (links_of mine) target key ≡ mine (ToPipe key.pipe)
   on-is (ToPipe number) key = refl
   on-is (ToQueue number) key = refl
@@ -85,8 +81,6 @@ module _ (mine : Target → Bool) where
   none-uncarried target tuple None in_part on is = refl
   none-uncarried target tuple (Some how) in_part on is =
       let t : true ≡ false = sym on ∙ sym (in_part how refl) ∙ sym (on-is target (key_of target tuple how)) ∙ is in absurd cc
-
-  -- ---- Keys
 
   abbrev AreWithin : List FlowKey → Type 0
   AreWithin [] = ⊤
@@ -132,8 +126,6 @@ module _ (mine : Target → Bool) where
   pub keys-mine : (is_own : ℕ → Bool) (calls : List Call) → AreDivided mine is_own calls → AreMine (keys-of (links_of mine) (keys calls))
   keys-mine is_own calls d = filtered-mine (keys calls) (keys-within is_own calls d)
 
-  -- ---- A command of another part
-
   no-reach : (command : Command) (key : FlowKey) → mine (subject command) ≡ false → mine (ToPipe key.pipe) ≡ true → mine key.target ≡ true → reaches command key ≡ false
   no-reach (Pipe number bw delay limit loss buckets mask) key off pipe target = refl
   no-reach (Queue number carrier' weight limit loss buckets mask) key off pipe target = refl
@@ -157,8 +149,6 @@ module _ (mine : Target → Bool) where
   setting-elsewhere calls command target off on =
       let other = false-if (target_eq (subject command) target) (λ same. let t : true ≡ false = sym on ∙ sym (ap mine (target_eq-true (subject command) target same)) ∙ off in cc) in
       ap (λ b. cond b (setting_after (command_reply (settings calls) (queue_numbers calls) command) command (settings calls target)) (settings calls target)) other
-
-  -- ---- A command of the part
 
   abbrev pub queues-of : List ℕ → List ℕ
   queues-of queues = filter (λ q. mine (ToQueue q)) queues

@@ -19,8 +19,6 @@ use Rattle.dn_types.proofs.ExampleWords.{tuple, no_mask, delivery, key, status, 
 use Rattle.std.proofs.Common.{refl, arith}
 use Rattle.std.proofs.lemmas.Bool.Decides.{nat_tests}
 
--- ---- The first part has pipe 1 and queue 3, and the other part has pipe 2
-
 abbrev in_the_first : Target → Bool
 in_the_first (ToPipe number) = nat_eq number 1
 in_the_first (ToQueue number) = nat_eq number 3
@@ -79,8 +77,6 @@ happens = parts-happen-alone in_the_first of_the_first divided are_divided
 
 eight_events : length (part_of (links_of in_the_first) divided) ≡ 8
 eight_events = refl
-
--- ---- Out of order: the clock was moved by another part, beyond the moment at which the part's command would be alone
 
 abbrev out_of_order : List Call
 out_of_order = Show ∷ Configure (DeletePipe 1) ∷ Advance 20000000 ∷ to_pipe 1 0 ∷ to_pipe 1 0 ∷ pipe 1 1000000 0 ∷ []

@@ -48,8 +48,6 @@ module _ (rule : Rule) (link : Link) where
           let soon : free link (trace_of calls) ≤ effective_moment calls = grind (arith, nat_tests) in
           absurd (omega (arith, busy, soon))
 
-  -- ---- Commands
-
   subject-elsewhere : (calls : List Call) (command : Command) → IsCommandElsewhere (pipe_of link) calls command → target_eq (subject command) (ToPipe (pipe_of link)) ≡ false
   subject-elsewhere calls (Pipe number bw delay limit loss buckets mask) h = false-if (nat_eq number (pipe_of link)) (λ same. h (eqb-true number (pipe_of link) same))
   subject-elsewhere calls (Queue number carrier weight limit loss buckets mask) h = refl
@@ -89,8 +87,6 @@ module _ (rule : Rule) (link : Link) where
   command-alike : (calls : List Call) (command : Command) → IsCommandElsewhere (pipe_of link) calls command → IsAlike rule link (trace_of (Configure command ∷ calls)) (trace_of calls)
   command-alike calls command h = let still = commands-move-nothing rule calls command link in (λ flow. command-backlog calls command h flow, still.0, still.1, still.2)
 
-  -- ---- Packets
-
   packet-alike : (calls : List Call) (target : Target) (packet : Packet) (moment : ℕ) → IsElsewhere (pipe_of link) calls (Submit target packet moment) →
       IsAlike rule link (trace_of (Submit target packet moment ∷ calls)) (trace_of (Advance moment ∷ calls))
   packet-alike calls target packet moment h = by target (settings calls target) refl (settings-kept calls target) h
@@ -113,8 +109,6 @@ module _ (rule : Rule) (link : Link) where
       by (ToPipe n) (Some (DeleteQueue number)) set kept other = absurd kept
       by (ToQueue n) (Some (DeletePipe number)) set kept other = absurd kept
       by (ToQueue n) (Some (DeleteQueue number)) set kept other = absurd kept
-
-  -- ---- Calls
 
   setting-stays : (calls : List Call) (c : Call) → IsElsewhere (pipe_of link) calls c → settings (c ∷ calls) (ToPipe (pipe_of link)) ≡ settings calls (ToPipe (pipe_of link))
   setting-stays calls (Configure command) h =

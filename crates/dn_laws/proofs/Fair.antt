@@ -20,8 +20,6 @@ use Rattle.dn_laws.proofs.Steady.{IsSteady, IsChain, steady, suffix-steady, chai
 abbrev IsPut' : Accepted → Type 0
 IsPut' p = p.stamped.start_tag ≤ p.stamped.finish_tag
 
--- ---- A start is fair to each flow that waits
-
 module _ (pipe : ℕ) where
   abbrev link : Link
   link = shared pipe
@@ -42,8 +40,6 @@ module _ (pipe : ℕ) where
       put = All-map (λ (y : Stamped). y.start_tag ≤ y.finish_tag) (λ (a : Accepted). a.stamped) (heads (flow_bound t) (λ f. backlog (shared pipe) f t))
           (all-heads (λ (a : Accepted). a.stamped.start_tag ≤ a.stamped.finish_tag) (flow_bound t)
           (λ f. backlog (shared pipe) f t) (λ f. all-put (shared pipe) f t h))
-
-  -- ---- A stretch
 
   some-first : (q : List Accepted) → 0 < length q → (p : Accepted) × (slice_get q 0 ≡ Some p)
   some-first [] h = absurd (omega arith)
@@ -176,8 +172,6 @@ module _ (pipe : ℕ) where
         by true f = absurd cc
         by false f = let same = ap (λ (a : Accepted). a.stamped.finish_tag) (same-first (backlog link flow t) p r e f) in omega arith
     rises _ t p r h e f = let same = ap (λ (a : Accepted). a.stamped.finish_tag) (same-first (backlog link flow t) p r e f) in omega arith
-
-  -- ---- Two flows
 
   module _ (one other most : ℕ) where
     -- After a start of the other flow its head is behind the one's by a packet at most.

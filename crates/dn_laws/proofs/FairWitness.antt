@@ -1,12 +1,11 @@
 -- The premises of the law of fair shares are met: two queues of one weight, each with four packets of 1,000 bytes.
-use Rattle.std.proofs.Common.{◌≡◌, ◌≤◌, ◌<◌, ◌+◌, ◌*◌, max, ℕ, true, List, [], ◌∷◌, refl, arith}
+use Rattle.std.proofs.Common.{◌≡◌, ◌≤◌, ◌+◌, ◌*◌, max, ℕ, List, [], ◌∷◌, refl}
 use Rattle.std.specs.Prelude.{None, ⊤, nat_eq}
 use Rattle.std.specs.List.{All, filter}
 use Rattle.std.proofs.lemmas.List.Elements.{All-nil, All-cons}
-use Rattle.dn_laws.specs.ByteShares.{IsWeighted}
+use Rattle.dn_laws.specs.FairShare.{IsWeighted, CostsAtMost, share}
 use Rattle.std.proofs.lemmas.Bool.{leb-true, ltb-true}
 use Rattle.dn_types.specs.Calls.{trace_of}
-use Rattle.dn_laws.specs.FairShare.{CostsAtMost, share}
 use Rattle.dn_types.specs.SharedLinks.{link_heads, virtual_time}
 use Rattle.dn_types.specs.Trace.{shared, Accepted, Start, started, backlog}
 use Rattle.dn_types.specs.declared.call.Call.{Call}

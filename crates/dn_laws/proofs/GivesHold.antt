@@ -8,7 +8,8 @@ use Rattle.std.proofs.lemmas.List.Elements.{All-cons, All-head, All-tail}
 use Rattle.dn_types.specs.Calls.{trace_of}
 use Rattle.dn_types.specs.Clock.{call_limit, effective_moment}
 use Rattle.dn_types.specs.Deliveries.{AreInOrder}
-use Rattle.dn_laws.specs.Determined.{answers, Has, IsGivenBy, GivesNot, ComesBefore, ComeInOrder, IsGiven}
+use Rattle.dn_laws.specs.Determined.Emulators.{answers, Has}
+use Rattle.dn_laws.specs.Determined.Reports.{IsGivenBy, GivesNot, ComesBefore, ComeInOrder, IsGiven}
 use Rattle.dn_laws.specs.Emulated.{is_on, on_link, emulated}
 use Rattle.dn_laws.specs.Explained.{IsDueBy, IsDeliveryOf}
 use Rattle.dn_types.specs.Given.{is_packet, start_count}
@@ -29,8 +30,6 @@ use Rattle.dn_laws.proofs.ReadingsObey.{read, due-on, kept-on}
 use Rattle.dn_laws.proofs.Isolation.{false-if}
 use Rattle.dn_types.proofs.Settled.{link_eq-true, link_eq-refl}
 use Rattle.dn_laws.proofs.ToldDeliveries.{collects-are-told, told-once, told-when-due, one-start, one-due}
-
--- ---- Lists of deliveries
 
 all-has : (P : Delivery → Type 0) (ds : List Delivery) (d : Delivery) → All P ds → Has ds d → P d
 all-has P [] d h there = absurd there
@@ -79,8 +78,6 @@ strictly (d ∷ ds) h once = (before, strictly ds h.1 (λ n. let one = count-del
         le : (d.due ≤ other.due) × (d.due ≡ other.due → d.packet ≤ other.packet)
         le = all-has (λ e. (d.due ≤ e.due) × (d.due ≡ e.due → d.packet ≤ e.packet)) ds other h.0 there
 
--- ---- What was told before
-
 none-in : (n : ℕ) (ds : List Delivery) → count_by (is_packet n) ds ≡ 0 → All (λ d. d.packet ≢ n) ds
 none-in n [] e = λ k d lt. absurd (omega (arith, lt))
 none-in n (x ∷ ds) e =
@@ -110,8 +107,6 @@ not-given n _ h = refl
 never-told : (n : ℕ) (rs : List Reply) → All (GivesNot n) rs → times_told n rs ≡ 0
 never-told n [] h = refl
 never-told n (r ∷ rs) h = let one = not-given n r (All-head (GivesNot n) r rs h) in let rest = never-told n rs (All-tail (GivesNot n) r rs h) in omega (arith, one, rest)
-
--- ---- Starts on one link
 
 on-append : (link : Link) (a b : List Event) → on_link link (a ++ b) ≡ on_link link a ++ on_link link b
 on-append link [] b = refl
@@ -151,8 +146,6 @@ among link (x ∷ t) later earlier s e = by (is_on link x) refl later e (λ l h.
           of_link = link_eq-true s.packet.link link (ap (is_on link) (sym first) ∙ is);
         }
     by true is (y ∷ later) e rest = let tail : on_link link t ≡ later ++ started s ∷ earlier = cc in more (rest later tail)
-
--- ---- A Collect
 
 module _ (rule : Rule) (calls : List Call) (moment : ℕ) (lt : length calls < call_limit) where
   all : List Event

@@ -32,8 +32,6 @@ use Rattle.dn_types.proofs.Keys.{target_eq-refl}
 use Rattle.dn_types.proofs.Known.{all-known, reached-emptied, fewer-discarded, pipe_of-link}
 use Rattle.dn_types.proofs.Settled.{link_eq-true, true_or_false, backlog-elsewhere, free-elsewhere, virtual_time-elsewhere, last_due-elsewhere}
 
--- ---- Deletes
-
 pub after-deleted : (calls : List Call) (command : Command) → reply_to_command calls command ≡ Deleted →
     trace_of (Configure command ∷ calls) ≡ discard_reached command 0 (keys calls) (trace_of calls)
 after-deleted calls command e = ap (λ (r : Reply). after_command r command (keys calls) (trace_of calls)) e
@@ -131,8 +129,6 @@ pub commands-move-nothing : (rule : Rule) (calls : List Call) (command : Command
     × (undelivered rule (trace_of (Configure command ∷ calls)) ≡ undelivered rule (trace_of calls))
 commands-move-nothing rule calls command link = same-command rule link (reply_to_command calls command) command (keys calls) (trace_of calls)
 
--- ---- Packets
-
 module _ (rule : Rule) (link : Link) where
   abbrev IsUntouched : List Event → List Event → Type 0
   IsUntouched new old = ((flow : ℕ) → backlog link flow new ≡ backlog link flow old) × (free link new ≡ free link old) × (last_due rule link new ≡ last_due rule link old)
@@ -212,8 +208,6 @@ packets-keep-apart rule calls target packet moment command rate most carrier lin
     let before = settled (settings calls) at (trace_of calls) in
     untouched-verdict rule link (settings calls) at packet (verdict calls target packet before) before
     (elsewhere-by rule link (keys calls) target packet (treatment (settings calls target)) before carrier (λ how e. carried-by command rate most carrier judged how (sym (ap treatment set) ∙ e)) other)
-
--- ---- Commands
 
 pub commands-count : (calls : List Call) (command : Command) →
     (reply_to_command calls command ≡ Configured → settings (Configure command ∷ calls) (subject command) ≡ Some command)

@@ -6,7 +6,8 @@ use Rattle.std.proofs.lemmas.Bool.Decides.{nat_tests}
 use Rattle.dn_types.specs.Calls.{trace_of, link_of, Verdict, no_target, loses, refuses, takes, verdict, accept, join, after_verdict}
 use Rattle.dn_types.specs.Clock.{call_limit, effective_moment}
 use Rattle.dn_types.specs.Configuration.{settings}
-use Rattle.dn_laws.specs.Determined.{IsBy, IsWeight, IsTaggedBy, Joins}
+use Rattle.dn_laws.specs.Determined.Laws.{IsWeight}
+use Rattle.dn_laws.specs.Determined.Links.{IsBy, IsTaggedBy, Joins}
 use Rattle.dn_laws.specs.Emulated.{is_on, on_link}
 use Rattle.dn_types.specs.Flows.{Treatment, treatment, keys}
 use Rattle.dn_types.specs.Links.{free}
@@ -37,8 +38,6 @@ use Rattle.dn_laws.proofs.SettlingHolds.{is-by, busy-beyond}
 use Rattle.dn_laws.proofs.Shares.{tagged}
 use Rattle.dn_types.proofs.StepFacts.{opened-count}
 
--- ---- What is taken
-
 carried-one : (command : Command) (flow : ℕ) (a b : Link) → IsCarriedBy command flow a → IsCarriedBy command flow b → a ≡ b
 carried-one (Pipe number bw delay limit loss buckets mask) flow a b h k = h ∙ sym k
 carried-one (Queue number pipe weight limit loss buckets mask) flow a b h k = h ∙ sym k
@@ -54,8 +53,6 @@ weight-is (Pipe number bw delay limit loss buckets mask) how weight e h = sym (a
 weight-is (Queue number pipe own limit loss buckets mask) how weight e h = sym (ap (weight-or 0) e) ∙ sym h
 weight-is (DeletePipe number) how weight e h = absurd h
 weight-is (DeleteQueue number) how weight e h = absurd h
-
--- ---- A packet on its link
 
 total-none : (n : ℕ) (q : ℕ → List Accepted) → ((flow : ℕ) → q flow ≡ []) → total n q ≡ 0
 total-none zero q h = refl
@@ -182,8 +179,6 @@ module _ (rule : Rule) (calls : List Call) (moment : ℕ) where
         (on_link link (join (settings calls) now (accept link packet flow how (opening link now before)) (opening link now before)))
     joined there = record { packet = accept link packet flow how (opening link now before); waits = waits'; goes = goes' there }
 
-    -- ---- On another link nothing happens
-
     left-out : (other : Link) (e : Event) (t : List Event) → is_on other e ≡ false → on_link other (e ∷ t) ≡ on_link other t
     left-out other e t h = ap (λ b. cond b (e ∷ on_link other t) (on_link other t)) h
 
@@ -215,8 +210,6 @@ module _ (rule : Rule) (calls : List Call) (moment : ℕ) where
             ≡ on_link other (opening link (max (effective_moment calls) moment) (trace_of (Advance moment ∷ calls)))
         by true = left-out other (started (start_at (settings calls) link p (max (effective_moment calls) moment))) (arrived p ∷ u) no' ∙ arrives
         by false = arrives
-
--- ---- By what the packet is told
 
 -- What a packet that is told to be queued was taken as.
 pub record IsTakenSo (calls : List Call) (target : Target) (packet : Packet) (moment at flow number : ℕ) : Type 0 where

@@ -1,5 +1,5 @@
 -- Each law of what a user configures at an example: its premises hold, and what it speaks of is there.
-use Rattle.std.proofs.Common.{◌≡◌, ◌≤◌, ◌<◌, ◌⊎◌, ◌+◌, ◌*◌, ℕ, true, List, [], ◌∷◌, ◌++◌, refl, arith, drop, take}
+use Rattle.std.proofs.Common.{◌≡◌, ◌≤◌, ◌<◌, ◌⊎◌, ◌+◌, ◌*◌, ℕ, List, [], ◌∷◌, ◌++◌, refl, arith, drop, take}
 use Rattle.std.specs.Prelude.{◌%◌, ◌^◌, ◌-◌, max, Some, None, slice_get}
 use Rattle.std.specs.List.{All}
 use Rattle.std.proofs.lemmas.List.Elements.{All-nil, All-cons}
@@ -43,8 +43,6 @@ use Rattle.dn_laws.proofs.Sums.{delays-add-up, delivered-delays-add-up}
 use Rattle.dn_laws.proofs.Timely.{events-stay, starts-in-time, none-starts-early}
 use Rattle.dn_types.proofs.TransmissionTime.{unlimited-takes-no-time}
 
--- ---- Drops: half of all packets are lost, and one waits at most
-
 abbrev lossy : Command
 lossy = Pipe 1 8000000 0 (Slots 1) 1073741824 None no_mask
 
@@ -66,8 +64,6 @@ full_by_the_limit = drops-are-explained Ordered one_waits (ToPipe 1) (worded 107
 refused_for_nothing : backlog (own 1 0) 0 (trace_of (Submit (ToPipe 1) (worded 1073741824) 0 ∷ one_waits)) ≡ backlog (own 1 0) 0 (trace_of (Advance 0 ∷ one_waits))
 refused_for_nothing = ((dropped-changes-nothing Ordered one_waits (ToPipe 1) (worded 1073741824) 0 (own 1 0) tt).0 0).0
 
--- ---- Flows: by the upper half of the destination's port
-
 abbrev by_port : List Call
 by_port = Configure (Pipe 1 8000000 0 (Slots 50) 0 None (mask 0 0 0 0 65280)) ∷ []
 
@@ -87,8 +83,6 @@ another_flow = refl
 -- The flow keeps its number once its pipe is deleted.
 it_stays : slice_get (keys (Configure (DeletePipe 1) ∷ to_port 2000 ∷ by_port)) 0 ≡ Some (key (ToPipe 1) 1 (mask 0 0 0 0 65280) (tuple 0 0 0 0 1792))
 it_stays = keys-stay (to_port 2000 ∷ by_port) (Configure (DeletePipe 1)) 0 (key (ToPipe 1) 1 (mask 0 0 0 0 65280) (tuple 0 0 0 0 1792)) refl
-
--- ---- Links: two packets of 1,000 bytes at 0, at 8 Mbit/s with a delay of 50 ms
 
 abbrev two : List Call
 two = to_pipe 1 0 ∷ to_pipe 1 0 ∷ pipe 1 8000000 50 ∷ []
@@ -198,8 +192,6 @@ free_at_once = refl
 both_in_order : AreInOrder (given Ordered 60000000 (trace_of (Advance 1000000 ∷ two)))
 both_in_order = gives-in-order Ordered 60000000 (trace_of (Advance 1000000 ∷ two))
 
--- ---- Tags: two packets to a queue of weight 4, the first of which finds its link idle
-
 abbrev weighted : List Call
 weighted = queue 1 1 4 ∷ pipe 1 8000000 0 ∷ []
 
@@ -213,8 +205,6 @@ by_weight = tags-by-weight (to_queue 1 0 ∷ weighted) (ToQueue 1) (worded 0) 0 
 begins_afresh : (tagged 0 0 16384000).stamped.start_tag ≡ 0
 begins_afresh = tags-begin-afresh weighted (ToQueue 1) (worded 0) 0 (take 1 (trace_of (to_queue 1 0 ∷ weighted))) (drop 2 (trace_of (to_queue 1 0 ∷ weighted)))
     (tagged 0 0 16384000) refl (leb-true 0 0 refl)
-
--- ---- Deletes
 
 abbrev one_queued : List Call
 one_queued = to_queue 1 0 ∷ to_queue 1 0 ∷ weighted

@@ -1,7 +1,8 @@
 -- The definitions obey the laws, and whatever obeys them answers as the definitions do.
 use Rattle.std.proofs.Common.{◌≡◌, ◌∙◌, ◌<◌, List, [], ◌∷◌, refl, sym, length}
 use Rattle.dn_types.specs.Clock.{call_limit}
-use Rattle.dn_laws.specs.Determined.{Emulator, AnswersOneMore, ObeysTheLaws}
+use Rattle.dn_laws.specs.Determined.Emulators.{Emulator}
+use Rattle.dn_laws.specs.Determined.Laws.{AnswersOneMore, ObeysTheLaws}
 use Rattle.dn_laws.specs.Emulated.{emulated, IsToldAfter}
 use Rattle.dn_types.specs.History.{IsLawfulAfter, IsLawful}
 use Rattle.dn_types.specs.Replies.{reply}

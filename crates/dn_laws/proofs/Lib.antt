@@ -27,9 +27,14 @@ pub mod Heads
 pub mod Isolation
 pub mod JoinsHold
 pub mod Kept
+mod KeptWitnesses
 pub mod LawsHold
 mod LawWitnesses
 pub mod Least
+pub mod LineLawsHold
+pub mod LineSteps
+pub mod LineValues
+mod LineWitnesses
 pub mod Masks
 pub mod Obeyed
 pub mod Obeying
@@ -61,6 +66,8 @@ pub mod SameCalls
 pub mod SameReadings
 pub mod SameReplies
 pub mod Seen
+pub mod ServiceLawsHold
+mod ServiceWitnesses
 pub mod SettlingHolds
 pub mod Shares
 pub mod Spares

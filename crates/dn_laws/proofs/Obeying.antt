@@ -5,7 +5,8 @@ use Rattle.std.specs.List.{list_any}
 use Rattle.std.proofs.lemmas.Bool.{eq-eqb, and_from}
 use Rattle.dn_types.specs.Clock.{call_limit, effective_moment}
 use Rattle.dn_types.specs.Configuration.{Settings, settings, target_eq, subject, has_queues, queue_numbers, command_reply, setting_after, reply_to_command}
-use Rattle.dn_laws.specs.Determined.{Emulator, ObeysTheLaws, Has, about, key_by}
+use Rattle.dn_laws.specs.Determined.Emulators.{Emulator, Has}
+use Rattle.dn_laws.specs.Determined.Laws.{ObeysTheLaws, about, key_by}
 use Rattle.dn_laws.specs.FlowLaws.{IsMaskedBy}
 use Rattle.dn_types.specs.Flows.{treatment, key_eq, keys_with, keys}
 use Rattle.dn_laws.specs.ReplyLaws.{IsToldBy}
@@ -25,8 +26,6 @@ use Rattle.dn_types.specs.declared.target.Target.TheVariants.{Pipe as ToPipe, Qu
 use Rattle.dn_types.proofs.InForce.{target_eq-true, IsKept, settings-kept}
 use Rattle.dn_types.proofs.Keys.{key_eq-true, target_eq-refl}
 use Rattle.dn_laws.proofs.ToldCommands.{some-queue, has}
-
--- ---- What a command is told
 
 pub told-one : (calls : List Call) (command : Command) (r : Reply) → IsToldBy (settings calls) command r → r ≡ command_reply (settings calls) (queue_numbers calls) command
 told-one calls (Pipe number bw delay limit loss buckets mask) r h = h
@@ -54,8 +53,6 @@ about-is (Pipe number bw delay limit loss buckets mask) = refl
 about-is (Queue number pipe weight limit loss buckets mask) = refl
 about-is (DeletePipe number) = refl
 about-is (DeleteQueue number) = refl
-
--- ---- Keys that a list has
 
 same : (n : ℕ) → nat_eq n n ≡ true
 same n = eq-eqb n n refl
@@ -87,8 +84,6 @@ key-had key (x ∷ known) h = ⊎_elim
     by false there = there
 
 module _ (rule : Rule) (e : Emulator) (E : ObeysTheLaws rule e) where
-  -- ---- The clock
-
   pub clock-is : (calls : List Call) → length calls ≤ call_limit → e.clock calls ≡ effective_moment calls
   clock-is [] le = E.clock_begins
   clock-is (Submit target packet moment ∷ calls) le = (E.one_more calls (omega (arith, le))).clock.submits target packet moment ∙ ap (λ n. max n moment) (clock-is calls (omega (arith, le)))
@@ -102,8 +97,6 @@ module _ (rule : Rule) (e : Emulator) (E : ObeysTheLaws rule e) where
       let h = (E.one_more calls (omega (arith, le))).clock.stays Show (λ t. t) in
       let k = clock-is calls (omega (arith, le)) in
       omega (arith, h, k)
-
-  -- ---- Commands
 
   command-told : (calls : List Call) → length calls < call_limit → ((target : Target) → e.in_force calls target ≡ settings calls target) →
       (command : Command) → e.told calls (Configure command) ≡ reply_to_command calls command
@@ -141,8 +134,6 @@ module _ (rule : Rule) (e : Emulator) (E : ObeysTheLaws rule e) where
 
   pub commands-told : (calls : List Call) → length calls < call_limit → (command : Command) → e.told calls (Configure command) ≡ reply_to_command calls command
   commands-told calls lt command = command-told calls lt (forced calls (omega (arith, lt))) command
-
-  -- ---- Flows
 
   flows-submitted : (calls : List Call) → length calls < call_limit → e.flows calls ≡ keys calls → (target : Target) (packet : Packet) (moment : ℕ) →
       e.flows (Submit target packet moment ∷ calls) ≡ keys (Submit target packet moment ∷ calls)

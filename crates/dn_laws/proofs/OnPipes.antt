@@ -48,8 +48,6 @@ module _ (On : ℕ → Type 0) where
   pub settled-on : (set : Settings) (at : ℕ) (t : List Event) → AreOn (links t) → AreOn (links (settled set at t))
   settled-on set at t h = settle-on set (waiting_all (links t) t) at t h
 
-  -- ---- A packet
-
   abbrev pub IsOn : Verdict → Type 0
   IsOn no_target = ⊤
   IsOn (loses l f) = On (pipe_of l)
@@ -87,8 +85,6 @@ module _ (On : ℕ → Type 0) where
   after-on set at packet (takes l f how) t e h =
       join-on set at (accept l packet f how (opening l at t)) (opening l at t) e (opened-on (nat_eq (waiting l t) 0 && nat_le (free l t) at) l t h)
 
-  -- ---- A command
-
   discard-links : (command : Command) (from : ℕ) (known : List FlowKey) (t : List Event) → AreOn (links t) → AreOn (links (discard_reached command from known t))
   discard-links command from [] t h = h
   discard-links command from (key ∷ known) t h = discard-links command (from + 1) known (cond (reaches command key) (discarded from ∷ t) t) (by (reaches command key))
@@ -100,8 +96,6 @@ module _ (On : ℕ → Type 0) where
   pub after-links : (r : Reply) (command : Command) (known : List FlowKey) (t : List Event) → AreOn (links t) → AreOn (links (after_command r command known t))
   after-links Deleted command known t h = discard-links command 0 known t h
   after-links _ command known t h = h
-
-  -- ---- Where the same is in force for the pipes
 
   module _ (set other : Settings) (same : (n : ℕ) → On n → set (ToPipe n) ≡ other (ToPipe n)) where
     start-same : (l : Link) (p : Accepted) (m : ℕ) → On (pipe_of l) → start_at set l p m ≡ start_at other l p m

@@ -14,8 +14,6 @@ use Rattle.dn_types.proofs.Fifo.{append-none}
 use Rattle.dn_types.proofs.Settled.{backlog-elsewhere, free-elsewhere, last_due-elsewhere, virtual_time-elsewhere, first_start-of, next_start-link, settled-ends, link_eq-true, true_or_false}
 use Rattle.dn_types.proofs.Settling.{backlog-above}
 
--- ---- Heads of flows without packets
-
 pub heads-above : (m n : ℕ) (q : ℕ → List Accepted) → n ≤ m → ((f : ℕ) → n ≤ f → q f ≡ []) → heads m q ≡ heads n q
 heads-above zero n q le none = let e : zero ≡ n = omega arith in ap (λ k. heads k q) e
 heads-above (suc m) n q le none =
@@ -71,8 +69,6 @@ module _ (rule : Rule) (link : Link) where
 
   alike-elsewhere : (s : Start) (t : List Event) → link_eq s.packet.link link ≡ false → IsAlike rule link (started s ∷ t) t
   alike-elsewhere s t e = (λ flow. backlog-elsewhere link s t e flow, free-elsewhere link s t e, last_due-elsewhere link s t e rule, virtual_time-elsewhere link s t e)
-
-  -- ---- The link's own starts
 
   abbrev steps : ℕ → Settings → ℕ → List Event → List Event
   steps zero set at t = t

@@ -36,8 +36,6 @@ use Rattle.dn_laws.proofs.PartStarts.{start_at-part, settled-fit, settled-part}
 use Rattle.dn_laws.proofs.Places.{place-more, place-same}
 use Rattle.dn_laws.proofs.Timely.{events-stay}
 
--- ---- What the calls are without the other packets
-
 module _ (chosen : Choice) where
   queues-submit : (target : Target) (packet : Packet) (moment : ℕ) (b : Bool) (cs : List Call) → queue_numbers (cond b (Submit target packet moment) (Advance moment) ∷ cs) ≡ queue_numbers cs
   queues-submit target packet moment true cs = refl
@@ -80,8 +78,6 @@ module _ (chosen : Choice) where
   pub length-on : (calls : List Call) → length (calls_on chosen calls) ≡ length calls
   length-on [] = refl
   length-on (c ∷ calls) = ap {A = ℕ} suc (length-on calls)
-
-  -- ---- Keys
 
   abbrev pub is-on : FlowKey → Bool
   is-on key = is_key_on chosen key
@@ -142,8 +138,6 @@ module _ (chosen : Choice) where
       (calls_on chosen calls) (keys calls) (ap (λ (s : Settings). treatment (s target)) (settings-on calls)) (keys-on calls)
       (is_carried chosen target packet.tuple (treatment (settings calls target))) refl
   keys-on (_ ∷ calls) = keys-on calls
-
-  -- ---- Places of keys
 
   -- The test says of each known flow whether it is on the pipe.
   abbrev pub IsKeyed : (ℕ → Bool) → List FlowKey → Type 0
@@ -208,8 +202,6 @@ module _ (chosen : Choice) where
   flow-of mine known target packet (Some how) h =
       let key = key_of target packet.tuple how in
       h (flow_number known key) key (stands-there (with_key key known) (flow_number known key) key (known-flow key known))
-
-  -- ---- Numbers of packets
 
   module _ (mine : ℕ → Bool) where
     abbrev pub AreTaken : (ℕ → Bool) → List Event → Type 0
@@ -281,8 +273,6 @@ module _ (chosen : Choice) where
     all-taken (started s ∷ t) h = all-taken t h.2
     all-taken (_ ∷ t) h = all-taken t h
 
-  -- ---- What calls make happen
-
   module _ (mine taken : ℕ → Bool) where
     abbrev part-on : List Event → List Event
     part-on t = part chosen mine taken t
@@ -330,8 +320,6 @@ module _ (chosen : Choice) where
         ∙ count-on t h a ∙ sym (ap (place taken) (count-same (refused l f) t refl))
     count-on (discarded f ∷ t) h a = count-skip (mine f) (discarded (place mine f)) (part-on t) refl ∙ count-on t h a ∙ sym (ap (place taken) (count-same (discarded f) t refl))
     count-on (collected m ∷ t) h a = count-same (collected m) (part-on t) refl ∙ count-on t h a ∙ sym (ap (place taken) (count-same (collected m) t refl))
-
-    -- ---- A packet
 
     abbrev pub verdict-on : Verdict → Verdict
     verdict-on no_target = no_target
@@ -522,8 +510,6 @@ module _ (chosen : Choice) where
               by true = ap (λ b. cond b (started (start' chosen mine taken (start_at set p.link p at)) ∷ part-on (arrived p ∷ u)) (part-on (arrived p ∷ u))) off ∙ arrives
               by false = arrives
 
-    -- ---- A command
-
     -- The test says of each of the keys, from the flow number `from` on, whether it is on the pipe.
     abbrev pub IsKeyedFrom : ℕ → List FlowKey → Type 0
     IsKeyedFrom from [] = ⊤
@@ -578,8 +564,6 @@ module _ (chosen : Choice) where
     command-fit : (r : Reply) (command : Command) (known : List FlowKey) (t : List Event) → AreFitHere t → AreFitHere (after_command r command known t)
     command-fit Deleted command known t h = discard-fit command 0 known t h
     command-fit _ command known t h = h
-
-    -- ---- All calls
 
     pub trace-fit : (calls : List Call) → IsKeyed mine (keys calls) → AreFitHere (trace_of calls)
     trace-fit [] k = tt

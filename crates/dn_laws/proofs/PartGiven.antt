@@ -21,8 +21,6 @@ use Rattle.dn_laws.proofs.PartCalls.{AreTaken}
 use Rattle.dn_laws.proofs.Parts.{skip, IsFit, AreFit, link', accepted', start', last_due-part}
 use Rattle.dn_laws.proofs.Places.{place-lt}
 
--- ---- The order of deliveries
-
 delivery-total : IsTotalOrder delivery_cmp
 delivery-total =
     then_total (on_total (λ (d : Delivery). d.due) nat_cmp_total) (then_total (on_total (λ (d : Delivery). d.packet) nat_cmp_total)
@@ -79,8 +77,6 @@ undelivered-sorted rule (started s ∷ t) = sorted-with (delivery_of rule s (las
 undelivered-sorted rule (collected at ∷ t) = sorted-filter (λ d. nat_lt at d.due) (undelivered rule t) (undelivered-sorted rule t)
 undelivered-sorted rule (_ ∷ t) = undelivered-sorted rule t
 
--- ---- Some of the deliveries
-
 module _ (test : Delivery → Bool) where
   -- One that goes before all goes before the first of some.
   in-front : (d : Delivery) (ds : List Delivery) → All (λ x. is_given_before d x ≡ true) ds → in_order d ds ≡ d ∷ ds
@@ -119,8 +115,6 @@ module _ (test : Delivery → Bool) where
       by true is false is' rest = ap (λ c. cond c (x ∷ filter test (filter other xs)) (filter test (filter other xs))) is' ∙ rest
       by false is true is' rest = rest ∙ sym (ap (λ b. cond b (x ∷ filter other (filter test xs)) (filter other (filter test xs))) is)
       by false is false is' rest = rest
-
--- ---- The pipe's part
 
 module _ (chosen : Choice) (mine taken : ℕ → Bool) where
   abbrev part-on : List Event → List Event
@@ -185,8 +179,6 @@ module _ (chosen : Choice) (mine taken : ℕ → Bool) where
       by true rest = ap (λ (r : List Delivery). delivery-on d ∷ r) rest
       by false rest = rest
 
-  -- ---- The numbers of what starts
-
   abbrev IsNumbered : Accepted → Type 0
   IsNumbered p = taken p.packet ≡ is_link_on chosen mine p.link
 
@@ -229,8 +221,6 @@ module _ (chosen : Choice) (mine taken : ℕ → Bool) where
   all-taken rule (refused l g ∷ t) f h a = all-taken rule t f.1 h a
   all-taken rule (discarded g ∷ t) f h a = all-taken rule t f h a
   all-taken rule (collected at ∷ t) f h a = All-filter (λ d. nat_lt at d.due) IsTaken (undelivered rule t) (all-taken rule t f h a)
-
-  -- ---- What is still to be given
 
   started-part : (rule : Rule) (s : Start) (t : List Event) → IsFit chosen mine taken s.packet.link s.packet.stamped.flow → AreFit chosen mine taken t → AreTaken chosen mine taken t →
       slice_get (backlog s.packet.link s.packet.stamped.flow t) 0 ≡ Some s.packet → All IsTaken (undelivered rule t)

@@ -75,8 +75,6 @@ module _ (rule : Rule) (chosen : Choice) where
   abbrev own : List Call → List Call
   own calls = own_calls chosen calls
 
-  -- ---- Commands
-
   -- Commands alone are the same either way.
   own-commands : (calls : List Call) → AreCommands calls → own calls ≡ less calls
   own-commands [] h = refl
@@ -91,8 +89,6 @@ module _ (rule : Rule) (chosen : Choice) where
       let told = ap is_told one ∙ told-command (settings (less calls)) (queue_numbers (less calls)) command in
       ap (λ (rs : List Reply). reply rule (less calls) (Configure command) ∷ rs) rest ∙ sym (keep rule (reply rule (less calls) (Configure command)) (replies rule (less calls)) told)
   all-told (_ ∷ calls) h few = absurd h
-
-  -- ---- How two lists stand to each other
 
   -- The one with the chosen packets alone lags by no more than the clock.
   pub record IsBehind (mine whole : List Call) (clock : ℕ) : Type 0 where

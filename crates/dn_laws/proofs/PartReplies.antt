@@ -47,8 +47,6 @@ module _ (chosen : Choice) (mine taken : ℕ → Bool) where
   abbrev AreFitHere : List Event → Type 0
   AreFitHere t = AreFit chosen mine taken t
 
-  -- ---- The state of a flow
-
   module _ (P Q : Event → Bool) where
     -- An event counts in the part where it counts at all.
     abbrev Counts : Event → Type 0
@@ -187,8 +185,6 @@ module _ (chosen : Choice) (mine taken : ℕ → Bool) where
           ap (λ n. statuses_from n (keys-of chosen known) (part-on t)) same ∙ rest
           ∙ sym (ap (λ b. map (status_by (place mine)) (cond b (status_of from key t ∷ filter (λ s. mine s.flow) (statuses_from (from + 1) known t))
           (filter (λ s. mine s.flow) (statuses_from (from + 1) known t)))) e)
-
-  -- ---- Replies
 
   abbrev reply-part-of : Reply → Reply
   reply-part-of r = reply_by mine taken r

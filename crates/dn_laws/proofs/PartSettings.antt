@@ -34,8 +34,6 @@ Is pipe number = number ≡ pipe
 its : (pipe : ℕ) (set other : Settings) → set (ToPipe pipe) ≡ other (ToPipe pipe) → (number : ℕ) → Is pipe number → set (ToPipe number) ≡ other (ToPipe number)
 its pipe set other same number e = ap (λ n. set (ToPipe n)) e ∙ same ∙ sym (ap (λ n. other (ToPipe n)) e)
 
--- ---- Commands alone
-
 no-trace : (calls : List Call) → AreCommands calls → (trace_of calls ≡ []) × (keys calls ≡ []) × (effective_moment calls ≡ 0)
 no-trace [] h = (refl, refl, refl)
 no-trace (Configure command ∷ calls) h =
@@ -50,8 +48,6 @@ no-trace (Configure command ∷ calls) h =
     none Deleted = refl
     none _ = refl
 no-trace (_ ∷ calls) h = absurd h
-
--- ---- Packets
 
 module _ (rule : Rule) (pipe : ℕ) where
   record AreSame (mine theirs : List Call) : Type 0 where
@@ -109,8 +105,6 @@ module _ (rule : Rule) (pipe : ℕ) where
         },
         (λ i. Delivered (max (c i) moment) (given rule (max (c i) moment) (u i))),
       )
-
-  -- ---- Commands among the packets
 
   discard-append : (command : Command) (from : ℕ) (known : List FlowKey) (xs t : List Event) → discard_reached command from known (xs ++ t) ≡ discard_reached command from known xs ++ t
   discard-append command from [] xs t = refl
@@ -171,8 +165,6 @@ pub commands-act-by-force : (pipe : ℕ) (calls others : List Call) → AreMatch
 commands-act-by-force pipe calls others h =
     let same = matched-same Ordered pipe (calls_on (of_pipe pipe) calls) (calls_on (of_pipe pipe) others) h in
     sym (other-links-change-nothing (of_pipe pipe) calls) ∙ same.trace_is ∙ other-links-change-nothing (of_pipe pipe) others
-
--- ---- Replays
 
 module _ (rule : Rule) (pipe : ℕ) (commands others : List Call) (commands_are : AreCommands commands) (others_are : AreCommands others)
     (same : settings commands (ToPipe pipe) ≡ settings others (ToPipe pipe)) where

@@ -103,8 +103,6 @@ module _ (chosen : Choice) (mine taken : ℕ → Bool) where
   abbrev AreFitHere : List Event → Type 0
   AreFitHere t = AreFit chosen mine taken t
 
-  -- ---- The pick
-
   earlier-part : (x : Stamped) (o : Option Stamped) → ((y : Stamped) → o ≡ Some y → IsMine y) → earlier (stamped-on x) (option_map stamped-on o) ≡ option_map stamped-on (earlier x o)
   earlier-part x None h = refl
   earlier-part x (Some y) h = let less = place-less mine y.flow x.flow (h y refl) in
@@ -138,8 +136,6 @@ module _ (chosen : Choice) (mine taken : ℕ → Bool) where
 
   picked-mine : (v : ℕ) (hs : List Stamped) → All IsMine hs → (x : Stamped) → pick v hs ≡ Some x → IsMine x
   picked-mine v hs h x e = first_to_go-one-of IsMine (filter (is_eligible (raised v hs)) hs) x (All-filter (is_eligible (raised v hs)) IsMine hs h) e
-
-  -- ---- The next start of a link
 
   pub next_packet-part : (l : Link) → is_link_on chosen mine l ≡ true → (t : List Event) → AreFitHere t → next_packet (link-on l) (part-on t) ≡ option_map accepted-on (next_packet l t)
   next_packet-part (own a f) on t h =
@@ -176,8 +172,6 @@ module _ (chosen : Choice) (mine taken : ℕ → Bool) where
           by false o = refl
           by true None = refl
           by true (Some p) = ap (λ (s : Start). Some s) (start_at-part l p (free l t))
-
-      -- ---- The links
 
       abbrev links-on : List Link → List Link
       links-on [] = []
@@ -239,8 +233,6 @@ module _ (chosen : Choice) (mine taken : ℕ → Bool) where
       links-part (refused l f ∷ t) = seen-part l (refused (link-on l) (place mine f)) t refl (links-part t)
       links-part (discarded f ∷ t) = skip links (mine f) (discarded (place mine f)) (part-on t) refl ∙ links-part t
       links-part (collected m ∷ t) = links-part t
-
-      -- ---- The first start
 
       module _ (t : List Event) (h : AreFitHere t) where
         abbrev first-on : List Link → Option Start
@@ -331,8 +323,6 @@ module _ (chosen : Choice) (mine taken : ℕ → Bool) where
                 ∙ (λ i. sooner (option_map start-on (is i)) (first-none ls is' i))
                 ∙ ap (λ (v : Start). Some (start-on v)) same
             by (Some x) is (Some y) is' e rest = with x y is is' (nat_lt y.moment x.moment) refl e rest
-
-      -- ---- Settling
 
       backlog-fit : (l : Link) (f : ℕ) (t : List Event) → AreFitHere t → All (λ p. IsFit chosen mine taken p.link p.stamped.flow) (backlog l f t)
       backlog-fit l f [] h = All-nil (λ (p : Accepted). IsFit chosen mine taken p.link p.stamped.flow)

@@ -29,8 +29,6 @@ use Rattle.dn_laws.proofs.PartReplies.{other-links-change-no-reply}
 use Rattle.std.proofs.Common.{refl, ap, sym, arith}
 use Rattle.std.proofs.lemmas.Bool.Decides.{nat_tests}
 
--- ---- Two pipes, and a queue that moves from the slow one to the fast one, where it is deleted while it has a packet on each
-
 abbrev mixed : List Call
 mixed =
     Show ∷ Collect 100000000 ∷ Configure (DeleteQueue 3) ∷ to_queue 3 1500000 ∷ to_queue 3 1500000 ∷ queue 3 2 4 ∷ to_pipe 2 1000000 ∷ to_queue 3 0 ∷
@@ -55,8 +53,6 @@ the_same = other-links-change-no-reply Ordered (of_pipe 2) mixed
 
 the_same_trace : trace_of (calls_on (of_pipe 1) mixed) ≡ part_of (of_pipe 1) mixed
 the_same_trace = other-links-change-nothing (of_pipe 1) mixed
-
--- ---- A replay over a pipe that tells source addresses apart: each has a link of its own
 
 abbrev by_source : Call
 by_source = Configure (Pipe 1 8000000 0 (Slots 1) 0 None (mask 4294967295 0 0 0 0))
@@ -91,12 +87,8 @@ refused : replies Ordered (own_calls (of_host 3) replay)
     ≡ Delivered 100000000 (delivery 0 0 0 1000000 ∷ delivery 1 0 1000000 2000000 ∷ []) ∷ Full 500000 0 ∷ Queued 500000 0 1 ∷ Queued 0 0 0 ∷ Configured ∷ []
 refused = refl
 
--- ---- An Advance before a packet
-
 no_more : trace_of (from_the 2 500000 ∷ Advance 400000 ∷ by_source ∷ []) ≡ trace_of (from_the 2 500000 ∷ by_source ∷ [])
 no_more = advances-are-no-more (by_source ∷ []) 400000 (from_the 2 500000) tt (let h : nat_le 400000 500000 ≡ true = refl in grind (arith, nat_tests))
-
--- ---- Commands of other pipes, and the pipe of a delivery
 
 abbrev both_pipes : List Call
 both_pipes = queue 7 2 3 ∷ pipe 2 1000000 9 ∷ pipe 1 8000000 0 ∷ []
@@ -142,16 +134,12 @@ on_the_second = refl
 not_on_the_first : is_flow_on (of_pipe 1) (keys on_two) 1 ≡ false
 not_on_the_first = refl
 
--- ---- Two lists that agree on the second pipe's packets, where the first pipe's differ
-
 abbrev on_two_else : List Call
 on_two_else = to_pipe 2 0 ∷ to_queue 9 0 ∷ both_pipes
 
 agree : (part_of (of_pipe 2) on_two ≡ part_of (of_pipe 2) on_two_else)
     × (map (reply_on (of_pipe 2) on_two) (replies Ordered on_two) ≡ map (reply_on (of_pipe 2) on_two_else) (replies Ordered on_two_else))
 agree = agreeing-calls-agree Ordered (of_pipe 2) on_two on_two_else refl
-
--- ---- A command of another pipe between two packets, and a Show in its place
 
 abbrev with_it : List Call
 with_it = to_pipe 1 500000 ∷ pipe 2 1000000 9 ∷ to_pipe 1 0 ∷ pipe 1 8000000 0 ∷ []

@@ -84,8 +84,6 @@ module _ (chosen : Choice) (mine taken : ℕ → Bool) where
   clear-part true ps = refl
   clear-part false ps = refl
 
-  -- ---- Flows
-
   bound-arrived : (q : Accepted) (t : List Event) → IsFit q.link q.stamped.flow → flow_bound (part' t) ≤ place mine (flow_bound t)
       → flow_bound (part' (arrived q ∷ t)) ≤ place mine (flow_bound (arrived q ∷ t))
   bound-arrived q t h rest = by (is_link_on chosen mine q.link) refl
@@ -108,8 +106,6 @@ module _ (chosen : Choice) (mine taken : ℕ → Bool) where
   bound-part (discarded g ∷ t) h = let same = skip flow_bound (mine g) (discarded (place mine g)) (part' t) refl in omega (arith, same, bound-part t h)
   bound-part (collected at ∷ t) h = bound-part t h
 
-  -- ---- Heads
-
   least-part : (m : ℕ) (hs : List Stamped) → least_start_tag m (map stamped' hs) ≡ least_start_tag m hs
   least-part m [] = refl
   least-part m (x ∷ hs) = ap (min x.start_tag) (least-part m hs)
@@ -124,8 +120,6 @@ module _ (chosen : Choice) (mine taken : ℕ → Bool) where
 
   grown-part : (v : ℕ) (hs : List Stamped) (len : ℕ) → grown v (map stamped' hs) len ≡ grown v hs len
   grown-part v hs len = let r = raised-part v hs in let w = weights-part hs in λ i. r i + scaled len (w i)
-
-  -- ---- One link of the pipe
 
   module _ (l : Link) (on : is_link_on chosen mine l ≡ true) where
     same-of : (f : ℕ) (q : Accepted) → mine f ≡ true → is_link_on chosen mine q.link ≡ true → IsFit q.link q.stamped.flow → is_of (link' l) (place mine f) (accepted' q) ≡ is_of l f q
@@ -241,8 +235,6 @@ module _ (chosen : Choice) (mine taken : ℕ → Bool) where
 
       pub link_heads-mine : All (λ x. mine x.flow ≡ true) (link_heads l t)
       link_heads-mine = All-map (λ (x : Stamped). mine x.flow ≡ true) (λ (p : Accepted). p.stamped) (heads (flow_bound t) (λ f. backlog l f t)) (heads-mine (flow_bound t))
-
-    -- ---- When it is free, its last due moment, virtual time and last finish tags
 
     free-started : (s : Start) (t : List Event) → IsFit s.packet.link s.packet.stamped.flow → free (link' l) (part' t) ≡ free l t → free (link' l) (part' (started s ∷ t)) ≡ free l (started s ∷ t)
     free-started s t h rest = by (is_link_on chosen mine s.packet.link) refl

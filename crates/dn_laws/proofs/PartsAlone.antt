@@ -77,8 +77,6 @@ module _ (mine : Target → Bool) where
   less-on (Collect moment ∷ calls) = settled-on On (settings (less calls)) (max (effective_moment (less calls)) moment) (trace_of (less calls)) (less-on calls)
   less-on (Show ∷ calls) = less-on calls
 
-  -- ---- How the two lists stand to each other
-
   -- The part's own calls lag by no more than the clock.
   pub record IsBehind (alone whole : List Call) : Type 0 where
     pub set_is : (target : Target) → mine target ≡ true → settings alone target ≡ settings whole target
@@ -106,8 +104,6 @@ module _ (mine : Target → Bool) where
     at-clock le =
         let c : effective_moment alone ≡ effective_moment whole = omega (arith, h.lags, le) in
         sym (still alone) ∙ h.settles (effective_moment alone) le ∙ same-settled (effective_moment alone) ∙ ap (λ k. settled (settings whole) k (trace_of whole)) c ∙ still whole
-
-    -- ---- Calls of the part
 
     pub own-submit : (target : Target) (packet : Packet) (m : ℕ) → mine target ≡ true → IsCarried whole target → effective_moment whole ≤ max (effective_moment alone) m →
         IsBehind (Submit target packet m ∷ alone) (Submit target packet m ∷ whole)
@@ -216,8 +212,6 @@ module _ (mine : Target → Bool) where
           settles = λ n later. (λ i. settled (settings (Configure command ∷ alone)) n (after_command (r i) command (h.keys_are i) (at-clock le i)));
         }
 
-    -- ---- Calls of other parts
-
     pub other-advance : (m : ℕ) → IsBehind alone (Advance m ∷ whole)
     other-advance m =
         let at = max (effective_moment whole) m in
@@ -262,8 +256,6 @@ module _ (mine : Target → Bool) where
               h.settles n (omega (arith, later))
               ∙ ap (λ (t : List Event). settled (settings alone) n t) (sym (after-elsewhere mine (reply_to_command whole command) command (keys whole) (trace_of whole) off known));
         }
-
-  -- ---- All calls
 
   module _ (is_own : ℕ → Bool) where
     abbrev pub alone-of : List Call → List Call

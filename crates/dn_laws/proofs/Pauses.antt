@@ -103,8 +103,6 @@ suffix-unpaused [] earlier h = h
 suffix-unpaused (started s ∷ later) earlier h = suffix-unpaused later earlier h.1
 suffix-unpaused (_ ∷ later) earlier h = suffix-unpaused later earlier h
 
--- ---- While a packet waits
-
 module _ (p : Accepted) (before : List Event) where
   abbrev queue : List Event → List Accepted
   queue g = backlog p.link p.stamped.flow (g ++ (arrived p ∷ before))
@@ -263,8 +261,6 @@ module _ (p : Accepted) (before : List Event) where
       first : slice_get (backlog p.link p.stamped.flow (g ++ (arrived p ∷ before))) 0 ≡ Some s.packet
       first = own-first p.link p.stamped.flow s (g ++ (arrived p ∷ before)) h.0 (ap (λ (x : Accepted). is_of p.link p.stamped.flow x) it ∙ of-own p)
 
--- ---- What a packet that is queued makes happen
-
 record IsTold (calls : List Call) (target : Target) (packet : Packet) (moment flow number : ℕ) : Type 0 where
   pub p : Accepted
   pub opening : List Event
@@ -307,8 +303,6 @@ told-so rule calls target packet moment at flow number e =
           joins = ap (λ (v : Verdict). after_verdict (settings calls) (effective_moment (Advance moment ∷ calls)) packet v adv) is
               ∙ ap (λ (t : List Event). join (settings calls) (effective_moment (Advance moment ∷ calls)) (accept link packet f how t) t) o.1;
         }
-
--- ---- The law
 
 -- How often a packet starts in a trace in which it starts.
 one-start : (number : ℕ) (s : Start) (later earlier : List Event) → s.packet.packet ≡ number → start_count number earlier + 1 ≤ start_count number (later ++ started s ∷ earlier)

@@ -1,5 +1,5 @@
 -- What is picked is one of the heads, it is eligible, and none that is goes before it.
-use Rattle.std.proofs.Common.{◌≡◌, ◌≤◌, ℕ, true, List, get_or, arith}
+use Rattle.std.proofs.Common.{◌≡◌, ℕ, true, List, get_or}
 use Rattle.std.specs.Prelude.{Some}
 use Rattle.std.specs.List.{Contains, filter}
 use Rattle.std.proofs.lemmas.Bool.{le-leb, leb-true}

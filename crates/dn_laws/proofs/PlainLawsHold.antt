@@ -5,7 +5,10 @@ use Rattle.std.specs.List.{count_by, list_any}
 use Rattle.dn_types.specs.Calls.{trace_of, link_of, reaches, discard_reached, after_command}
 use Rattle.dn_types.specs.Clock.{call_limit, effective_moment}
 use Rattle.dn_types.specs.Configuration.{settings, target_eq}
-use Rattle.dn_laws.specs.Determined.{answers, Has, about, key_by, link_to, is_reached, discards}
+use Rattle.dn_laws.specs.Determined.Emulators.{answers, Has}
+use Rattle.dn_laws.specs.Determined.Laws.{about, key_by}
+use Rattle.dn_laws.specs.Determined.Links.{is_reached, discards}
+use Rattle.dn_laws.specs.Determined.Reports.{link_to}
 use Rattle.dn_laws.specs.Emulated.{on_link, emulated}
 use Rattle.dn_laws.specs.Explained.{IsJudgedBy, IsExplained}
 use Rattle.dn_laws.specs.FlowLaws.{IsMaskedBy}
@@ -42,8 +45,6 @@ answers-are rule (c ∷ calls) = ap (λ (rs : List Reply). reply rule calls c �
 pub link_to-is : (target : Target) (flow carrier : ℕ) → link_to target flow carrier ≡ link_of target flow carrier
 link_to-is (ToPipe n) flow carrier = refl
 link_to-is (ToQueue n) flow carrier = refl
-
--- ---- The clock and the flows
 
 pub clock-stays : (calls : List Call) (c : Call) → (IsTimed c → ⊥) → effective_moment (c ∷ calls) ≡ effective_moment calls
 clock-stays calls (Configure command) h = omega arith
@@ -85,8 +86,6 @@ module _ (calls : List Call) (target : Target) (packet : Packet) (moment : ℕ) 
   pub flow-none : settings calls target ≡ None → keys (Submit target packet moment ∷ calls) ≡ keys calls
   flow-none set = ap (λ (o : Option Command). keys_with target packet.tuple (treatment o) (keys calls)) set
 
--- ---- Deletes
-
 reached-same : (command : Command) (key : FlowKey) → reaches command key ≡ is_reached command key
 reached-same (Pipe number bw delay limit loss buckets mask) key = refl
 reached-same (Queue number pipe weight limit loss buckets mask) key = refl
@@ -120,8 +119,6 @@ module _ (rule : Rule) (calls : List Call) (lt : length calls < call_limit) wher
   pub spares : (command : Command) (link : Link) → reply rule calls (Configure command) ≢ Deleted → on_link link (trace_of (Configure command ∷ calls)) ≡ on_link link (trace_of calls)
   spares command link h = ap (on_link link) (commands-spare rule calls command lt h).1
 
-  -- ---- Commands
-
   pub configures : (command : Command) → reply rule calls (Configure command) ≡ Configured → settings (Configure command ∷ calls) (about command) ≡ Some command
   configures command h = ap (settings (Configure command ∷ calls)) (about-is command) ∙ (commands-count calls command).0 (sym (commands-are-answered rule calls command lt).0 ∙ h)
 
@@ -136,8 +133,6 @@ module _ (rule : Rule) (calls : List Call) (lt : length calls < call_limit) wher
 
   pub spares-others : (command : Command) (target : Target) → target ≢ about command → settings (Configure command ∷ calls) target ≡ settings calls target
   spares-others command target h = (commands-count calls command).3 target (λ e. h (e ∙ sym (about-is command)))
-
-  -- ---- Packets
 
   pub judges : (target : Target) (packet : Packet) (moment : ℕ) (command : Command) (rate : ℕ) (most : Limit) (carrier : ℕ) →
       settings calls target ≡ Some command → IsJudgedBy command rate most carrier →

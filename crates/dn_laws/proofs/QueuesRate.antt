@@ -6,7 +6,7 @@ use Rattle.dn_types.specs.Calls.{link_of, trace_of}
 use Rattle.dn_laws.specs.Explained.{sent}
 use Rattle.dn_types.specs.Flows.{keys}
 use Rattle.dn_laws.specs.PacketLaws.{is_of_queues, sent_by_queues}
-use Rattle.dn_laws.specs.RateLaws.{StaysInForce}
+use Rattle.dn_laws.specs.ConfiguredLaws.{StaysInForce}
 use Rattle.dn_types.specs.Trace.{Link, shared, link_eq, pipe_of, Start, Event, arrived, started}
 use Rattle.dn_types.specs.declared.call.Call.{Call}
 use Rattle.dn_types.specs.declared.command.Command.TheVariants.{Pipe}

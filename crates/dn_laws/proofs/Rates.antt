@@ -41,8 +41,6 @@ starts-apart calls later between earlier s r e same =
     let soon = h.1 in
     omega arith
 
--- ---- At a bandwidth
-
 module _ (bw : ℕ) (some : 0 < bw) (r : Start) (earlier : List Event) where
   abbrev link : Link
   link = r.packet.link

@@ -1,6 +1,5 @@
 -- The laws of readings at an example: two packets of 1,000 bytes at 0, at 8 Mbit/s, to a pipe whose queue holds one.
-use Rattle.std.specs.Prelude.{◌≡◌, ◌≤◌, ◌+◌, ◌*◌, ℕ, true, false, List, [], ◌∷◌, ◌++◌, drop, Some, None}
-use Rattle.std.specs.List.{count_by}
+use Rattle.std.specs.Prelude.{◌≡◌, ◌+◌, ◌*◌, ℕ, true, List, [], ◌∷◌, ◌++◌, Some, None}
 use Rattle.std.proofs.Common.{refl, arith}
 use Rattle.std.proofs.lemmas.Bool.{leb-true}
 use Rattle.dn_types.specs.Calls.{trace_of}
@@ -11,7 +10,7 @@ use Rattle.dn_types.specs.Given.{accepted_since, start_count}
 use Rattle.dn_types.specs.Links.{free}
 use Rattle.dn_types.specs.Replies.{reply}
 use Rattle.dn_types.specs.Starts.{next_start}
-use Rattle.dn_types.specs.Trace.{own, shared, Accepted, Start, Event, arrived, started, backlog, is_of, link_eq}
+use Rattle.dn_types.specs.Trace.{own, Accepted, Start, arrived, backlog, is_of}
 use Rattle.dn_types.specs.declared.call.Call.{Call}
 use Rattle.dn_types.specs.declared.call.Call.TheVariants.{Configure, Advance}
 use Rattle.dn_types.specs.declared.command.Command.{Command}

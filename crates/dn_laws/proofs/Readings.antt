@@ -1,29 +1,24 @@
 -- What laws read off calls and events is what these say.
-use Rattle.std.proofs.Common.{◌≡◌, ◌∙◌, ◌≤◌, ◌<◌, ℕ, ◌+◌, Bool, true, false, cond, ◌&&◌, List, [], ◌∷◌, ◌++◌, refl, ap, sym, subst, drop, length, arith}
+use Rattle.std.proofs.Common.{◌≡◌, ◌∙◌, ◌≤◌, ℕ, Bool, true, false, cond, List, [], ◌∷◌, ◌++◌, refl, ap, sym, subst, drop, arith}
 use Rattle.std.specs.Prelude.{Option, Some, None, nat_eq, nat_le, ◌≢◌}
 use Rattle.std.specs.List.{count_by}
 use Rattle.std.specs.Option.{option_map}
 use Rattle.std.proofs.lemmas.Bool.{eqb-true, eq-eqb, and_from}
 use Rattle.std.proofs.lemmas.Bool.Decides.{nat_tests}
 use Rattle.dn_types.specs.Calls.{trace_of, after_command}
-use Rattle.dn_types.specs.Clock.{call_limit}
-use Rattle.dn_types.specs.Configuration.{Settings, reply_to_command}
 use Rattle.dn_types.specs.Deliveries.{given}
 use Rattle.dn_types.specs.Flows.{Treatment, treatment, keys}
-use Rattle.dn_types.specs.Given.{accepted_since, started_since, is_packet, is_start_with, start_count, given_count}
+use Rattle.dn_types.specs.Given.{accepted_since, started_since, is_packet, is_start_with, start_count}
 use Rattle.dn_types.specs.Links.{free}
-use Rattle.dn_types.specs.Replies.{reply}
 use Rattle.dn_types.specs.SharedLinks.{next_packet}
 use Rattle.dn_types.specs.Starts.{next_start, start_at}
-use Rattle.dn_types.specs.Trace.{Link, link_eq, Accepted, Start, Event, opened, arrived, started, lost, refused, discarded, collected, is_of, backlog}
-use Rattle.dn_types.specs.declared.call.Call.{Call}
+use Rattle.dn_types.specs.Trace.{Link, link_eq, Accepted, Start, Event, opened, arrived, started, lost, refused, discarded, collected, backlog}
 use Rattle.dn_types.specs.declared.call.Call.TheVariants.{Configure}
 use Rattle.dn_types.specs.declared.command.Command.{Command}
 use Rattle.dn_types.specs.declared.command.Command.TheVariants.{Pipe, Queue, DeletePipe, DeleteQueue}
 use Rattle.dn_types.specs.declared.delivery.Delivery.{Delivery}
 use Rattle.dn_types.specs.declared.mask.Mask.{Mask}
 use Rattle.dn_types.specs.declared.reply.Reply.{Reply}
-use Rattle.dn_types.specs.declared.rule.Rule.{Rule}
 use Rattle.dn_types.proofs.Giving.{count-event, count-delivery}
 use Rattle.dn_types.proofs.Settled.{and-left, link_eq-true, link_eq-refl}
 use Rattle.dn_types.proofs.Settling.{and-right}
@@ -60,8 +55,6 @@ links-are-told-apart link = (
     λ on of. and_from (link_eq p.link link) (nat_eq p.stamped.flow flow) (subst (λ (l : Link). link_eq p.link l ≡ true) on (link_eq-refl p.link)) (eq-eqb p.stamped.flow flow of),
   ),
 )
-
--- ---- Queues
 
 other-flow : (f flow : ℕ) → f ≢ flow → nat_eq f flow ≡ false
 other-flow f flow apart = by (nat_eq f flow) refl
@@ -119,8 +112,6 @@ module _ (link : Link) (flow : ℕ) where
 
 pub queues-are-read : QueuesAreRead
 queues-are-read link flow = (waits link flow, arrives link flow, starts link flow)
-
--- ---- Starts and deliveries
 
 pub starts-are-due : StartsAreDue
 starts-are-due set at link trace = (by, λ calls moment. refl)

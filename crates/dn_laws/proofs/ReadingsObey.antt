@@ -4,7 +4,7 @@ use Rattle.std.specs.Prelude.{slice_get, nat_eq, map, sum, take, drop}
 use Rattle.std.proofs.lemmas.Bool.{eqb-true, eq-eqb, and_from}
 use Rattle.std.proofs.lemmas.Bool.Decides.{leb_tells}
 use Rattle.std.proofs.lemmas.List.Sums.{sum_by-cons}
-use Rattle.dn_laws.specs.Determined.{Readings, AreReadings, Has, IsOf, IsNotOf, IsFirst, IsRaised, GrowsBy, weights}
+use Rattle.dn_laws.specs.Determined.Emulators.{Readings, AreReadings, Has, IsOf, IsNotOf, IsFirst, IsRaised, GrowsBy, weights}
 use Rattle.dn_laws.specs.Emulated.{is_on, on_link}
 use Rattle.dn_laws.specs.Explained.{IsDueBy}
 use Rattle.dn_laws.specs.KeptLaws.{IsNoStart, IsNoOpening, IsApart}
@@ -28,8 +28,6 @@ read rule = record {
   last_finish_tag = λ link flow trace. last_finish_tag link flow trace;
 }
 
--- ---- Tests
-
 pub is-mine : (link : Link) (flow : ℕ) (p : Accepted) → IsOf link flow p → is_of link flow p ≡ true
 is-mine link flow p h = and_from (link_eq p.link link) (nat_eq p.stamped.flow flow) (ap (λ (l : Link). link_eq l link) h.0 ∙ link_eq-refl link) (eq-eqb p.stamped.flow flow h.1)
 
@@ -44,8 +42,6 @@ apart a b h = false-if (link_eq a b) (λ t. h (link_eq-true a b t))
 
 pub here : (a b : Link) → a ≡ b → link_eq a b ≡ true
 here a b e = ap (λ (l : Link). link_eq l b) e ∙ link_eq-refl b
-
--- ---- Heads
 
 has-left : (xs ys : List Accepted) (p : Accepted) → Has xs p → Has (xs ++ ys) p
 has-left [] ys p h = absurd h
@@ -77,8 +73,6 @@ has-head q (suc n) flow p behind lt e = ⊎_elim
 pub head-has : (q : ℕ → List Accepted) (n : ℕ) (p : Accepted) → Has (heads n q) p → (flow : ℕ) × ((behind : List Accepted) × (q flow ≡ p ∷ behind))
 head-has q zero p h = absurd h
 head-has q (suc n) p h = ⊎_elim (λ l. head-has q n p l) (λ r. (n, taken-first (q n) p r)) (has-either (heads n q) (take 1 (q n)) p h)
-
--- ---- Tags of heads
 
 abbrev stamps : List Accepted → List Stamped
 stamps ps = map (λ p. p.stamped) ps
@@ -128,8 +122,6 @@ one-weight (x ∷ ps) = let s = sum_by-cons (λ (n : ℕ). n) x.stamped.weight [
 weights-are : (q : ℕ → List Accepted) (n : ℕ) → weight_sum (stamps (heads n q)) ≡ weights q n
 weights-are q zero = refl
 weights-are q (suc n) = let all = weighed (heads n q) (take 1 (q n)) in let rest = weights-are q n in let last = one-weight (q n) in omega (arith, all, rest, last)
-
--- ---- The laws of readings
 
 due-is : (r : Rule) (s : Start) (last : ℕ) → IsDueBy r s last (due_by r (arrival_time s) last)
 due-is Free s last = refl
@@ -257,8 +249,6 @@ module _ (rule : Rule) where
           ∙ ap (λ w. raised (virtual_time s.packet.link t) (link_heads s.packet.link t) + s.packet.stamped.len * 65536 / w) (weights-are (λ flow. backlog s.packet.link flow t) (flow_bound t));
     };
   }
-
--- ---- On one link alone
 
 pub kept-on : (link : Link) (e : Event) (t : List Event) → is_on link e ≡ true → on_link link (e ∷ t) ≡ e ∷ on_link link t
 kept-on link e t h = ap (λ b. cond b (e ∷ on_link link t) (on_link link t)) h

@@ -1,5 +1,5 @@
 -- The laws of replies, of acceptance, of discards and of what stays at examples: what they ask for is there.
-use Rattle.std.specs.Prelude.{◌≡◌, ◌≢◌, ◌≤◌, ◌<◌, ◌+◌, ◌*◌, ◌^◌, ◌⊎◌, ℕ, true, List, [], ◌∷◌, ◌++◌, drop, take, length, Some, None}
+use Rattle.std.specs.Prelude.{◌≡◌, ◌≢◌, ◌≤◌, ◌<◌, ◌+◌, ◌*◌, ◌^◌, ◌⊎◌, ℕ, List, [], ◌∷◌, ◌++◌, drop, take, length, Some, None}
 use Rattle.std.specs.List.{count_by}
 use Rattle.std.proofs.Common.{refl, arith}
 use Rattle.std.proofs.lemmas.Bool.{leb-true}
@@ -35,8 +35,6 @@ use Rattle.dn_laws.proofs.Tags.{busy-periods-begin}
 use Rattle.dn_laws.proofs.ToldCommands.{limit-is-counted, replies-tell-the-clock, clock-is-the-greatest, commands-are-told}
 use Rattle.dn_laws.proofs.ToldCounts.{packets-are-numbered}
 use Rattle.dn_laws.proofs.ToldDeliveries.{told-once, told-when-due}
-
--- ---- Two packets of 1,000 bytes at 0, at 8 Mbit/s, to a pipe whose queue holds one
 
 abbrev narrow : Command
 narrow = Pipe 1 8000000 0 (Slots 1) 0 None no_mask
@@ -139,8 +137,6 @@ its_flow = flows-were-told Ordered (to_pipe 1 0 ∷ two) 0 (key (ToPipe 1) 1 no_
 arrives : IsAccepted Ordered (drop 2 two) (to_pipe 1 0) first
 arrives = let t = trace_of (drop 1 two) in arrivals-are-told Ordered (drop 2 two) (to_pipe 1 0) (take 1 t) (drop 2 t) first (omega arith) refl
 
--- ---- Two queues of one pipe, which share its 8 Mbit/s
-
 abbrev both : List Call
 both = Advance 1000000 ∷ to_queue 2 0 ∷ to_queue 1 0 ∷ queue 2 1 1 ∷ queue 1 1 1 ∷ []
 
@@ -155,8 +151,6 @@ at_the_rate =
     let t = trace_of (both ++ (pipe 1 8000000 0 ∷ [])) in
     queues-share-the-rate both (pipe 1 8000000 0 ∷ []) 1 8000000 0 (Slots 50) 0 None no_mask [] (take 1 (drop 1 t)) (drop 3 t) (start 1 1000000) (start 0 0)
     (refl, (refl, (refl, (refl, (refl, refl))))) (omega arith) refl refl refl
-
--- ---- What stays
 
 abbrev apart : List Call
 apart = to_pipe 2 0 ∷ pipe 2 8000000 0 ∷ two

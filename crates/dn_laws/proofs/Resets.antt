@@ -30,8 +30,6 @@ use Rattle.dn_types.proofs.Keys.{target_eq-refl}
 use Rattle.dn_types.proofs.Known.{reached-cleared}
 use Rattle.dn_types.proofs.Settled.{link_eq-refl}
 
--- ---- A link that is free
-
 total-none : (n : ℕ) (q : ℕ → List Accepted) → ((flow : ℕ) → q flow ≡ []) → total n q ≡ 0
 total-none zero q h = refl
 total-none (suc n) q h = let rest = total-none n q h in let one = ap (λ (ps : List Accepted). length ps) (h n) in omega arith
@@ -69,8 +67,6 @@ tags-begin-afresh calls target packet moment later between p e soon =
     ∙ ap (λ (t : List Event). (accept link packet flow how t).stamped.start_tag) taken.3
     ∙ opened-tag link packet flow how (effective_moment (Advance moment ∷ calls)) (trace_of (Advance moment ∷ calls)) (idle (Advance moment ∷ calls) link free_then) free_then
 
--- ---- Deletes
-
 pub queue-delete-resets : (calls : List Call) (number : ℕ) (link : Link) (before behind : List FlowKey) (key : FlowKey) →
     reply_to_command calls (DeleteQueue number) ≡ Deleted → keys calls ≡ before ++ key ∷ behind → key.target ≡ ToQueue number →
     last_finish_tag link (length before) (trace_of (Configure (DeleteQueue number) ∷ calls)) ≡ 0
@@ -88,8 +84,6 @@ pipe-delete-resets calls number link before behind key e parts mine =
     ∙ reached-cleared (length before) (last_finish_tag link (length before)) 0 (λ f t. refl) (DeletePipe number) (keys calls) (trace_of calls) key
     (record { before = before; behind = behind; parts = parts; place = refl })
     (eq-eqb key.pipe number mine)
-
--- ---- Drops
 
 module _ (rule : Rule) (link : Link) where
   abbrev IsUnchanged : List Event → List Event → Type 0

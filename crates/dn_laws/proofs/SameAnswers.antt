@@ -2,7 +2,8 @@
 use Rattle.std.proofs.Common.{◌≡◌, ◌∙◌, ◌≤◌, ◌<◌, ⊎_elim, ℕ, zero, suc, ◌+◌, ◌*◌, ◌/◌, List, [], ◌∷◌, refl, ap, sym, subst, arith}
 use Rattle.std.specs.Prelude.{Option, Some, None}
 use Rattle.std.proofs.lemmas.Bool.Decides.{leb_tells}
-use Rattle.dn_laws.specs.Determined.{Readings, IsFirst, IsPick, IsNext, IsTransmission, pipe_under, IsBy, IsStart, AreStarts, Settles, with_starts, IsTaggedBy, Joins}
+use Rattle.dn_laws.specs.Determined.Emulators.{Readings, IsFirst}
+use Rattle.dn_laws.specs.Determined.Links.{IsPick, IsNext, IsTransmission, pipe_under, IsBy, IsStart, AreStarts, Settles, with_starts, IsTaggedBy, Joins}
 use Rattle.dn_types.specs.Trace.{Link, own, shared, Accepted, Start, Event, opened, arrived, started}
 use Rattle.dn_types.specs.declared.command.Command.{Command}
 use Rattle.dn_types.specs.declared.command.Command.TheVariants.{Pipe, Queue, DeletePipe, DeleteQueue}
@@ -11,8 +12,6 @@ use Rattle.dn_types.specs.declared.target.Target.TheVariants.{Pipe as ToPipe}
 use Rattle.dn_laws.proofs.SameReadings.{raised-one}
 
 module _ (r : Readings) where
-  -- ---- What starts
-
   first-one : (link : Link) (t : List Event) (p q : Accepted) → p.stamped.flow ≡ q.stamped.flow → IsFirst r link t p → IsFirst r link t q → p ≡ q
   first-one link t p q same P Q =
       let e : p ∷ P.0 ≡ q ∷ Q.0 = sym P.1 ∙ ap (λ n. r.queue link n t) same ∙ Q.1 in cc
@@ -67,8 +66,6 @@ module _ (r : Readings) where
       let packet = next-one link t s.packet u.packet A.next B.next in
       start-of s u packet (A.at_once ∙ sym B.at_once) (by-one (force (ToPipe (pipe_under link))) s u packet A.by_command B.by_command)
 
-  -- ---- What a settling adds
-
   starting : (force : Target → Option Command) (link : Link) (at : ℕ) (s : Start) (t : List Event) → IsStart r force link at s t → AreStarts r force link at [] t → ⊥
   starting force link at s t A busy =
       let first = next-waits link t s.packet A.next in
@@ -89,8 +86,6 @@ module _ (r : Readings) where
 
   pub settles-one : (force : Target → Option Command) (link : Link) (at : ℕ) (before after other : List Event) → Settles r force link at before after → Settles r force link at before other → after ≡ other
   settles-one force link at before after other A B = A.adds ∙ starts-one force link at A.starts B.starts before A.are_starts B.are_starts ∙ sym B.adds
-
-  -- ---- What an accepted packet adds
 
   tagged-one : (link : Link) (number flow len weight : ℕ) (before : List Event) (p q : Accepted) → IsTaggedBy r link number flow len weight before p → IsTaggedBy r link number flow len weight before q → p ≡ q
   tagged-one link number flow len weight before p q A B = λ i. record {

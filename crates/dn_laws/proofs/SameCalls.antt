@@ -4,7 +4,10 @@ use Rattle.std.specs.Prelude.{◌^◌, ◌%◌, Option, Some, None, slice_get, m
 use Rattle.std.specs.List.{All, count_by}
 use Rattle.std.proofs.lemmas.Option.{slice_get_within, slice_get_cases}
 use Rattle.dn_types.specs.Clock.{call_limit}
-use Rattle.dn_laws.specs.Determined.{Emulator, Readings, AnswersOneMore, ObeysTheLaws, answers, key_by, link_to, IsWeight, Settles, Joins, discards, IsGivenBy, GivesNot, starts_of, IsStateBy}
+use Rattle.dn_laws.specs.Determined.Emulators.{Emulator, Readings, answers}
+use Rattle.dn_laws.specs.Determined.Laws.{AnswersOneMore, ObeysTheLaws, key_by, IsWeight}
+use Rattle.dn_laws.specs.Determined.Links.{Settles, Joins, discards}
+use Rattle.dn_laws.specs.Determined.Reports.{link_to, IsGivenBy, GivesNot, starts_of, IsStateBy}
 use Rattle.dn_laws.specs.Explained.{IsJudgedBy}
 use Rattle.dn_laws.specs.FlowLaws.{flow_told, IsMaskedBy}
 use Rattle.dn_types.specs.Flows.{keys}
@@ -63,8 +66,6 @@ module _ (rule : Rule) (r : Readings) (e f : Emulator) (E : ObeysTheLaws rule e)
     next : (c : Call) → length (c ∷ calls) ≤ call_limit
     next c = omega (arith, lt)
 
-    -- ---- The clock
-
     advanced : (moment : ℕ) (link : Link) → e.happened (Advance moment ∷ calls) link ≡ f.happened (Advance moment ∷ calls) link
     advanced moment link =
         let force : e.in_force calls ≡ f.in_force calls = λ i target. force-one calls here target i in
@@ -72,8 +73,6 @@ module _ (rule : Rule) (r : Readings) (e f : Emulator) (E : ObeysTheLaws rule e)
         let two = subst (λ (at : ℕ). Settles r (f.in_force calls) link at (e.happened calls link) (e.happened (Advance moment ∷ calls) link)) (clock-one (Advance moment ∷ calls) (next (Advance moment))) one in
         let three = subst (λ (before : List Event). Settles r (f.in_force calls) link (f.clock (Advance moment ∷ calls)) before (e.happened (Advance moment ∷ calls) link)) (H.happened link) two in
         settles-one r (f.in_force calls) link (f.clock (Advance moment ∷ calls)) (f.happened calls link) (e.happened (Advance moment ∷ calls) link) (f.happened (Advance moment ∷ calls) link) three (y.links.settles moment link)
-
-    -- ---- A packet
 
     flow-one : (target : Target) (packet : Packet) (moment : ℕ) (command : Command) (mask : Mask) (carrier : ℕ) → f.in_force calls target ≡ Some command → IsMaskedBy command mask carrier →
         (a b : ℕ) → flow_told (e.told calls (Submit target packet moment)) ≡ Some a → flow_told (f.told calls (Submit target packet moment)) ≡ Some b → a ≡ b
@@ -170,8 +169,6 @@ module _ (rule : Rule) (r : Readings) (e f : Emulator) (E : ObeysTheLaws rule e)
         by (Queued at flow number) h = forced' at flow number h (f.in_force calls target) refl (kept target)
         by reply h = dropped (ap is_queued h)
 
-    -- ---- A command
-
     command-one : (command : Command) → e.told calls (Configure command) ≡ f.told calls (Configure command)
     command-one command = commands-told rule e E calls lt command ∙ sym (commands-told rule f F calls lt command)
 
@@ -184,16 +181,12 @@ module _ (rule : Rule) (r : Readings) (e f : Emulator) (E : ObeysTheLaws rule e)
             let other : reply ≢ Deleted = λ k. absurd cc in
             x.links.spares command link (λ k. other (sym h ∙ sym (command-one command) ∙ k)) ∙ H.happened link ∙ sym (y.links.spares command link (λ k. other (sym h ∙ k)))
 
-    -- ---- What has happened
-
     happens : (c : Call) (link : Link) → e.happened (c ∷ calls) link ≡ f.happened (c ∷ calls) link
     happens (Configure command) link = configured command link
     happens (Submit target packet moment) link = submitted target packet moment link
     happens (Advance moment) link = advanced moment link
     happens (Collect moment) link = x.links.collects moment link ∙ advanced moment link ∙ sym (y.links.collects moment link)
     happens Show link = x.links.shows link ∙ H.happened link ∙ sym (y.links.shows link)
-
-    -- ---- A Collect
 
     collect-told : (moment : ℕ) → e.told calls (Collect moment) ≡ f.told calls (Collect moment)
     collect-told moment =
@@ -230,8 +223,6 @@ module _ (rule : Rule) (r : Readings) (e f : Emulator) (E : ObeysTheLaws rule e)
           moment = g.moment;
           due = g.due;
         }
-
-    -- ---- A Show
 
     state-one : (flow : ℕ) (key : FlowKey) (s u : FlowStatus) → IsStateBy r e calls flow key s → IsStateBy r f calls flow key u → s ≡ u
     state-one flow key s u A B = λ i. record {

@@ -3,7 +3,7 @@ use Rattle.std.proofs.Common.{◌≡◌, ◌∙◌, ◌≢◌, ◌≤◌, ◌⊎
 use Rattle.std.specs.Prelude.{nat_eq, map, sum, take, drop}
 use Rattle.std.proofs.lemmas.Bool.{eqb-true, eq-eqb, and_from}
 use Rattle.std.proofs.lemmas.Bool.Decides.{leb_tells}
-use Rattle.dn_laws.specs.Determined.{Readings, AreReadings, IsOf, IsFirst, IsRaised, GrowsBy, weights}
+use Rattle.dn_laws.specs.Determined.Emulators.{Readings, AreReadings, IsOf, IsFirst, IsRaised, GrowsBy, weights}
 use Rattle.dn_laws.specs.Explained.{IsDueBy}
 use Rattle.dn_laws.specs.KeptLaws.{IsNoStart, IsNoOpening, IsApart}
 use Rattle.dn_types.specs.Trace.{Link, link_eq, is_of, Accepted, Start, Event, opened, arrived, started, lost, refused, discarded, collected}
@@ -11,8 +11,6 @@ use Rattle.dn_types.specs.declared.rule.Rule.{Rule}
 use Rattle.dn_types.specs.declared.rule.Rule.TheVariants.{Free, Ordered}
 use Rattle.dn_types.proofs.Settled.{and-left, link_eq-true, link_eq-refl}
 use Rattle.dn_types.proofs.Settling.{and-right}
-
--- ---- What is decided
 
 pub decided : {A : Type 0} (b : Bool) → (b ≡ true → A) → (A → b ≡ true) → A ⊎ (A → ⊥)
 decided true forth back = inl (forth refl)
@@ -29,8 +27,6 @@ is-of link flow p = decided (is_of link flow p)
     (λ t. (link_eq-true p.link link (and-left (link_eq p.link link) (nat_eq p.stamped.flow flow) t), eqb-true p.stamped.flow flow (and-right (link_eq p.link link) (nat_eq p.stamped.flow flow) t)))
     (λ h. and_from (link_eq p.link link) (nat_eq p.stamped.flow flow) (ap (λ (l : Link). link_eq l link) h.0 ∙ link_eq-refl link) (eq-eqb p.stamped.flow flow h.1))
 
--- ---- Sums of weights
-
 pub weights-above : (q : ℕ → List Accepted) (n m : ℕ) → n ≤ m → ((flow : ℕ) → n ≤ flow → q flow ≡ []) → weights q m ≡ weights q n
 weights-above q n zero le none = let same : zero ≡ n = omega (arith, le) in ap (weights q) same
 weights-above q n (suc m) le none = ⊎_elim
@@ -43,8 +39,6 @@ weights-above q n (suc m) le none = ⊎_elim
 
 pub weights-one : (q : ℕ → List Accepted) (n m : ℕ) → ((flow : ℕ) → n ≤ flow → q flow ≡ []) → ((flow : ℕ) → m ≤ flow → q flow ≡ []) → weights q n ≡ weights q m
 weights-one q n m above beyond = ⊎_elim (λ low. sym (weights-above q n m low.1 above)) (λ high. weights-above q m n (omega (arith, high.1)) beyond) (leb_tells n m)
-
--- ---- Raised virtual time
 
 pub raised-most : (r s : Readings) (link : Link) (trace : List Event) (a b : ℕ) → ((flow : ℕ) → r.queue link flow trace ≡ s.queue link flow trace) →
     r.virtual_time link trace ≡ s.virtual_time link trace → IsRaised r link trace a → IsRaised s link trace b → a ≤ b
@@ -68,8 +62,6 @@ raised-one r s link trace a b queues same A B =
     let one : a ≤ b = raised-most r s link trace a b queues same A B in
     let other : b ≤ a = raised-most s r link trace b a (λ flow. sym (queues flow)) (sym same) B A in
     omega (arith, one, other)
-
--- ---- Readings
 
 due-one : (rule : Rule) (s : Start) (last a b : ℕ) → IsDueBy rule s last a → IsDueBy rule s last b → a ≡ b
 due-one Free s last a b h k = h ∙ sym k

@@ -1,7 +1,8 @@
 -- Lists that the laws of Collects and of Shows determine, and the reply to a packet.
 use Rattle.std.proofs.Common.{◌≡◌, ◌∙◌, inl, inr, ⊎_elim, ℕ, zero, suc, List, [], ◌∷◌, refl, ap, sym, subst, length, arith}
 use Rattle.std.specs.Prelude.{Some, slice_get}
-use Rattle.dn_laws.specs.Determined.{Has, ComesBefore, ComeInOrder}
+use Rattle.dn_laws.specs.Determined.Emulators.{Has}
+use Rattle.dn_laws.specs.Determined.Reports.{ComesBefore, ComeInOrder}
 use Rattle.dn_laws.specs.Explained.{IsExplained, IsAtLimit}
 use Rattle.dn_laws.specs.FlowLaws.{flow_told}
 use Rattle.dn_laws.specs.Told.{moment_told}
@@ -10,8 +11,6 @@ use Rattle.dn_types.specs.declared.flow_status.FlowStatus.{FlowStatus}
 use Rattle.dn_types.specs.declared.limit.Limit.{Limit}
 use Rattle.dn_types.specs.declared.reply.Reply.{Reply}
 use Rattle.dn_types.specs.declared.reply.Reply.TheVariants.{Queued, Lost, Full}
-
--- ---- Deliveries
 
 not-both : (d x : Delivery) → ComesBefore d x → ComesBefore x d → ⊥
 not-both d x (inl a) (inl b) = absurd (omega (arith, a, b))
@@ -34,8 +33,6 @@ sorted-one (x ∷ xs) (y ∷ ys) A B to back = let rest = sorted-one xs ys A.1 B
     others : (d : Delivery) → Has ys d → Has xs d
     others d h = ⊎_elim (λ e. absurd (let before = B.0 d h in let self = subst (λ (z : Delivery). ComesBefore y z) (sym e ∙ heads) before in not-both y y self self)) (λ rest. rest) (back d (inr h))
 
--- ---- States
-
 pub states-one : (a b : List FlowStatus) → length a ≡ length b → ((i : ℕ) (x y : FlowStatus) → slice_get a i ≡ Some x → slice_get b i ≡ Some y → x ≡ y) → a ≡ b
 states-one [] [] e h = refl
 states-one [] (y ∷ ys) e h = absurd (omega (arith, e))
@@ -44,8 +41,6 @@ states-one (x ∷ xs) (y ∷ ys) e h =
     let head : x ≡ y = h zero x y refl refl in
     let rest = states-one xs ys (omega (arith, e)) (λ i u v p q. h (suc i) u v p q) in
     (λ i. head i ∷ rest i)
-
--- ---- A packet
 
 module _ (rate draw : ℕ) (most : Limit) (lengths others : ℕ → List ℕ) (same : (flow : ℕ) → lengths flow ≡ others flow) where
   at-limit : (f g : ℕ) → f ≡ g → IsAtLimit most (lengths f) → IsAtLimit most (others g)

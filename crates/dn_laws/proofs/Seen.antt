@@ -14,7 +14,7 @@ use Rattle.dn_types.specs.Starts.{settled}
 use Rattle.dn_laws.specs.Told.{is_queued_of, is_lost_of, is_full_of}
 use Rattle.dn_types.specs.Trace.{Link, Event, backlog}
 use Rattle.dn_types.specs.declared.call.Call.{Call}
-use Rattle.dn_types.specs.declared.call.Call.TheVariants.{Configure, Submit, Advance, Collect, Show}
+use Rattle.dn_types.specs.declared.call.Call.TheVariants.{Submit}
 use Rattle.dn_types.specs.declared.flow_key.FlowKey.{FlowKey}
 use Rattle.dn_types.specs.declared.packet.Packet.{Packet}
 use Rattle.dn_types.specs.declared.reply.Reply.{Reply}

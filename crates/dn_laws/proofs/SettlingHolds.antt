@@ -6,7 +6,8 @@ use Rattle.std.proofs.lemmas.List.Elements.{All-head, All-tail}
 use Rattle.dn_types.specs.Calls.{trace_of}
 use Rattle.dn_types.specs.Clock.{effective_moment}
 use Rattle.dn_types.specs.Configuration.{Settings, settings}
-use Rattle.dn_laws.specs.Determined.{Readings, Has, IsFirst, IsRaised, IsPick, IsNext, IsTransmission, IsBy, IsStart, AreStarts, Settles}
+use Rattle.dn_laws.specs.Determined.Emulators.{Readings, Has, IsFirst, IsRaised}
+use Rattle.dn_laws.specs.Determined.Links.{IsPick, IsNext, IsTransmission, IsBy, IsStart, AreStarts, Settles}
 use Rattle.dn_laws.specs.Emulated.{on_link}
 use Rattle.dn_types.specs.Flows.{keys}
 use Rattle.dn_types.specs.Links.{free, transmission_time}
@@ -33,8 +34,6 @@ use Rattle.dn_types.proofs.Settled.{link_eq-true, first_start-of, next_start-lin
 use Rattle.dn_types.proofs.Settling.{next_start-packet, first-own, backlog-own}
 use Rattle.dn_laws.proofs.Shares.{pick-is-least}
 use Rattle.dn_types.proofs.TransmissionTime.{unlimited-takes-no-time, transmission-is-least}
-
--- ---- What starts next
 
 all-at : (P : Stamped → Type 0) (ps : List Accepted) (p : Accepted) → All P (map (λ q. q.stamped) ps) → Has ps p → P p.stamped
 all-at P [] p h there = absurd there
@@ -88,8 +87,6 @@ module _ (rule : Rule) where
             (first-head rule (shared pipe) t q (first.0, sym (queue-on (shared pipe) q.stamped.flow t) ∙ first.1)) low;
       }
 
-  -- ---- By the command in force
-
   pub is-transmission : (bw len : ℕ) → IsTransmission bw len (transmission_time bw len)
   is-transmission bw len = record {
     unlimited = λ e. ap (λ n. transmission_time n len) e ∙ unlimited-takes-no-time len;
@@ -112,8 +109,6 @@ module _ (rule : Rule) where
       by (Some (Queue number pipe weight limit loss buckets mask)) e t k = absurd k
       by (Some (DeletePipe number)) e t k = absurd k
       by (Some (DeleteQueue number)) e t k = absurd k
-
-  -- ---- A settling
 
   module _ (set : Settings) (known : List FlowKey) (at : ℕ) (old : List Event) (link : Link) (kept : IsKept (ToPipe (pipe_of link)) (set (ToPipe (pipe_of link)))) where
     start-on : (other : Link) (s : Start) (f : List Event) → HasSettled set known old f → next_start set at other (f ++ old) ≡ Some s → link_eq s.packet.link link ≡ true →

@@ -26,8 +26,6 @@ use Rattle.dn_laws.proofs.Least.{pick-least}
 use Rattle.dn_types.proofs.Settled.{link_eq-refl}
 use Rattle.std.proofs.lemmas.List.Elements.{All-filter, filter_passes, All-cons}
 
--- ---- The pick
-
 -- Where one has a greater finish tag, or the same, it doesn't go before.
 not-before : (f g m n : ℕ) → (nat_lt f g || nat_eq f g && nat_lt m n) ≡ false → g ≤ f
 not-before f g m n h = grind (arith, nat_tests)
@@ -60,8 +58,6 @@ pick-is-least v hs h e = λ k d lt. one (get_or hs k d) (pick-least v hs h e k d
     one x least soon =
         let not_first = least (le-leb x.start_tag (raised v hs) soon) in
         (not-before x.finish_tag h.finish_tag x.flow h.flow not_first, λ tie. no-later x.finish_tag h.finish_tag x.flow h.flow not_first tie)
-
--- ---- Virtual time
 
 least-most : (most : ℕ) (hs : List Stamped) → (least_start_tag most hs ≤ most) × All (λ h. least_start_tag most hs ≤ h.start_tag) hs
 least-most most [] = (omega arith, λ k d lt. absurd (omega arith))
@@ -109,8 +105,6 @@ grows-by-work link trace s same =
         let high = lt-div-mul-add {a = work} some in
         let one = add-mul to 1 w in
         (omega arith, omega arith)
-
--- ---- Tags
 
 pub tagged : (link : Link) (packet : Packet) (flow : ℕ) (how : Treatment) (before : List Event) → IsTagged packet.len how.weight before (accept link packet flow how before)
 tagged link packet flow how before = record {

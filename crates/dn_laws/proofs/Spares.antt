@@ -23,8 +23,6 @@ use Rattle.dn_types.specs.declared.target.Target.{Target}
 use Rattle.dn_laws.proofs.DropLaws.{not-exhausted}
 use Rattle.dn_laws.proofs.Isolation.{IsElsewhere, elsewhere-by, carried-by}
 
--- ---- Commands
-
 no-discard : (calls : List Call) (command : Command) (r : Reply) → r ≢ Deleted → after_command r command (keys calls) (trace_of calls) ≡ trace_of calls
 no-discard calls command Deleted other = absurd (other refl)
 no-discard calls command _ other = refl
@@ -52,8 +50,6 @@ commands-spare rule calls command few other =
         cond b (setting_after (reply_to_command calls command) command (settings calls target)) (settings calls target) ≡ settings calls target
     by target refused true = no-setting command (reply_to_command calls command) (settings calls target) refused (λ e. other (not-exhausted rule calls (Configure command) few ∙ e))
     by target refused false = refl
-
--- ---- Tags
 
 tags-settle : (most : ℕ) (set : Settings) (at : ℕ) (link : Link) (flow : ℕ) (t : List Event) → last_finish_tag link flow (settle most set at t) ≡ last_finish_tag link flow t
 tags-settle zero set at link flow t = refl

@@ -5,7 +5,7 @@ use Rattle.std.specs.List.{count_by}
 use Rattle.std.proofs.lemmas.Bool.{eqb-true}
 use Rattle.dn_types.specs.Calls.{trace_of, link_of}
 use Rattle.dn_types.specs.Clock.{call_limit}
-use Rattle.dn_laws.specs.Determined.{link_to, starts_of, IsStateBy}
+use Rattle.dn_laws.specs.Determined.Reports.{link_to, starts_of, IsStateBy}
 use Rattle.dn_laws.specs.Emulated.{on_link, emulated}
 use Rattle.dn_types.specs.Flows.{keys}
 use Rattle.dn_types.specs.Replies.{reply}

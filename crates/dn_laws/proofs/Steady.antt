@@ -56,8 +56,6 @@ pub suffix-steady : (later t : List Event) → IsSteady (later ++ t) → IsStead
 suffix-steady [] t h = h
 suffix-steady (e ∷ later) t h = suffix-steady later t h.1
 
--- ---- The tags of a backlog
-
 -- Each packet is tagged behind the one before it, and the last one's finish tag is the given.
 abbrev pub IsChain : List Accepted → ℕ → Type 0
 IsChain [] last = ⊤

@@ -19,8 +19,6 @@ use Rattle.dn_laws.proofs.Isolation.{false-if, none-left}
 use Rattle.dn_types.proofs.Settled.{and-left, link_eq-true, link_eq-refl}
 use Rattle.dn_types.proofs.Settling.{and-right, backlog-above}
 
--- ---- Tags
-
 module _ (link : Link) (flow : ℕ) where
   -- An event apart leaves the tag.
   left : (e : Event) (t : List Event) → IsApart link flow e → last_finish_tag link flow (e ∷ t) ≡ last_finish_tag link flow t
@@ -53,8 +51,6 @@ tags-are-kept link flow later earlier h = (
   where
     mine : (p : Accepted) → p.link ≡ link → p.stamped.flow ≡ flow → is_of link flow p ≡ true
     mine p on of = and_from (link_eq p.link link) (nat_eq p.stamped.flow flow) (ap (λ (l : Link). link_eq l link) on ∙ link_eq-refl link) (eq-eqb p.stamped.flow flow of)
-
--- ---- Busy periods
 
 empty-below : (n : ℕ) (q : ℕ → List Accepted) → total n q ≡ 0 → (flow : ℕ) → flow < n → length (q flow) ≡ 0
 empty-below zero q h flow lt = absurd (omega (arith, lt))

@@ -40,8 +40,6 @@ module _ (rule : Rule) (link : Link) (flow : ℕ) where
   abbrev IsOn : List FlowKey → Type 0
   IsOn known = (key : FlowKey) → slice_get known flow ≡ Some key → key.pipe ≡ pipe_of link
 
-  -- ---- Commands
-
   discard-spares : (command : Command) (from : ℕ) (known : List FlowKey) (t : List Event) →
       ((k : ℕ) (key : FlowKey) → slice_get known k ≡ Some key → from + k ≡ flow → reaches command key ≡ false) →
       last_finish_tag link flow (discard_reached command from known t) ≡ last_finish_tag link flow t
@@ -76,8 +74,6 @@ module _ (rule : Rule) (link : Link) (flow : ℕ) where
       by Deleted = discard-spares command 0 (keys calls) (trace_of calls) (λ k key e at. not-reached calls command k key h e (its k key e at))
       by _ = refl
 
-  -- ---- Packets
-
   packet-tag : (calls : List Call) (target : Target) (packet : Packet) (moment : ℕ) → IsElsewhere (pipe_of link) calls (Submit target packet moment) →
       last_finish_tag link flow (trace_of (Submit target packet moment ∷ calls)) ≡ last_finish_tag link flow (trace_of (Advance moment ∷ calls))
   packet-tag calls target packet moment h = by target (settings calls target) refl (settings-kept calls target) h
@@ -100,8 +96,6 @@ module _ (rule : Rule) (link : Link) (flow : ℕ) where
       by (ToPipe n) (Some (DeleteQueue number)) set kept other = absurd kept
       by (ToQueue n) (Some (DeletePipe number)) set kept other = absurd kept
       by (ToQueue n) (Some (DeleteQueue number)) set kept other = absurd kept
-
-  -- ---- Calls
 
   call-tag : (calls : List Call) (c : Call) → IsElsewhere (pipe_of link) calls c → IsOn (keys calls) → last_finish_tag link flow (trace_of (c ∷ calls)) ≡ last_finish_tag link flow (trace_of calls)
   call-tag calls (Configure command) h on = command-tag calls command h on

@@ -43,8 +43,6 @@ starts-in-time calls c later between s e = (⊎_elim (λ waited. when-free waite
         let rises = free-later s.packet.link between (trace_of calls) proper.2 in
         omega (arith, is, busy, rises)
 
--- ---- Where a start stands
-
 -- An event of a trace with some more is among these, or among those before.
 abbrev pub IsSplit : List Event → List Event → List Event → Event → List Event → Type 0
 IsSplit f old later e earlier =
@@ -102,8 +100,6 @@ made-by (c ∷ calls) later earlier s e = ⊎_elim (λ new. now new.0 new.1) (λ
       by_command =
           h.by_command;
     }
-
--- ---- Packet numbers
 
 count-settle : (most : ℕ) (set : Settings) (at : ℕ) (trace : List Event) → accepted_count (settle most set at trace) ≡ accepted_count trace
 count-settle zero set at trace = refl

@@ -23,8 +23,6 @@ use Rattle.dn_types.specs.declared.target.Target.TheVariants.{Pipe as ToPipe, Qu
 use Rattle.dn_laws.proofs.DropLaws.{not-exhausted}
 use Rattle.dn_types.proofs.InForce.{any-of, settings-whole}
 
--- ---- The limit
-
 command-answered : (set : Settings) (queues : List ℕ) (command : Command) → command_reply set queues command ≢ Exhausted
 command-answered set queues (Pipe number bw delay limit loss buckets mask) e = absurd cc
 command-answered set queues (Queue number pipe weight limit loss buckets mask) e = by (is_some (set (ToPipe pipe))) e
@@ -65,8 +63,6 @@ limit-is-counted rule calls c =
   where
     full : 2 ^ 62 ≤ length calls → nat_le call_limit (length calls) ≡ true
     full many = grind (arith, nat_tests)
-
--- ---- The clock
 
 verdict-told : (at : ℕ) (v : Verdict) (trace : List Event) → moment_told (reply_to_verdict at v trace) ≡ Some at
 verdict-told at no_target trace = refl
@@ -115,8 +111,6 @@ clock-is-the-greatest calls = (λ later c earlier e. subst (λ (cs : List Call).
         rest : moment_of c < effective_moment calls → (effective_moment calls ≡ 0) ⊎ IsNamed calls → (effective_moment (c ∷ calls) ≡ 0) ⊎ IsNamed (c ∷ calls)
         rest high before = ⊎_elim (λ none. inl (omega arith)) (λ (some : IsNamed calls). let is =
             some.1.1.2 in inr (c ∷ some.0, (some.1.0, (some.1.1.0, ap (λ (r : List Call). c ∷ r) some.1.1.1, omega arith)))) before
-
--- ---- Commands
 
 there : (o : Option Command) → IsThere o → is_some o ≡ true
 there None h = absurd h

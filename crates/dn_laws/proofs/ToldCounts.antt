@@ -129,8 +129,6 @@ module _ (p : Event → Bool) (no_opening : (l : Link) → p (opened l) ≡ fals
         ap {B = ℕ} (λ (r : Reply). cond (q r) 1 0) (not-exhausted rule calls c (omega (arith, few))) in
         omega (arith, rest, one, here, as')
 
--- ---- What is queued, lost and refused
-
 pub quiet-queued : (r : Reply) → IsQuiet r → is_queued r ≡ false
 quiet-queued (Queued at f number) h = absurd h
 quiet-queued (Lost at f) h = absurd h

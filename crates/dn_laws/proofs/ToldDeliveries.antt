@@ -33,8 +33,6 @@ use Rattle.dn_types.proofs.Giving.{count-delivery, count-event, gives-started}
 use Rattle.dn_types.proofs.InTurn.{gives-in-order}
 use Rattle.dn_types.proofs.Once.{starts-once}
 
--- ---- What a Collect is told
-
 pub collects-are-told : (rule : Rule) (calls : List Call) (moment : ℕ) → length calls < call_limit → (list : List Delivery)
     × (reply rule calls (Collect moment) ≡ Delivered (effective_moment (Collect moment ∷ calls)) list)
     × All (λ d. (d.due ≤ effective_moment (Collect moment ∷ calls)) × IsDeliveryOf rule (trace_of (Collect moment ∷ calls)) d) list
@@ -45,8 +43,6 @@ collects-are-told rule calls moment few =
     let due = gives-what-is-due rule at before in
     let started' = all-still rule (collected at) before (given rule at before) (delays-are-explained rule at before).1 in
     (given rule at before, not-exhausted rule calls (Collect moment) few, λ k d lt. (due k d lt, started' k d lt), gives-in-order rule at before)
-
--- ---- How often a packet is told
 
 module _ (rule : Rule) (number : ℕ) where
   command-times : (set : Settings) (queues : List ℕ) (command : Command) → times_in number (command_reply set queues command) ≡ 0
@@ -123,8 +119,6 @@ told-once rule number calls =
     let all = gives-started rule number (trace_of calls) in
     let once = starts-once number calls in
     omega (arith, most, all, once)
-
--- ---- What is due is told
 
 module _ (number : ℕ) where
   start-counted : (s : Start) (trace : List Event) → s.packet.packet ≡ number → start_count number (started s ∷ trace) ≡ 1 + start_count number trace

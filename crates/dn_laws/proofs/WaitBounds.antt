@@ -7,7 +7,7 @@ use Rattle.std.proofs.lemmas.List.{length-map}
 use Rattle.std.proofs.lemmas.List.Sums.{sum-map, sum_by-cons, sum_by-le}
 use Rattle.dn_laws.specs.Explained.{IsAtLimit, IsExplained}
 use Rattle.dn_types.specs.Links.{transmission_time}
-use Rattle.dn_laws.specs.RateLaws.{StaysInForce}
+use Rattle.dn_laws.specs.ConfiguredLaws.{StaysInForce}
 use Rattle.dn_types.specs.Replies.{reply}
 use Rattle.dn_types.specs.Trace.{Accepted}
 use Rattle.dn_laws.specs.WaitLaws.{ahead, SlotsBoundTheWait, KbytesBoundTheWait}
@@ -26,8 +26,6 @@ use Rattle.dn_laws.proofs.DropLaws.{drops-are-explained}
 use Rattle.dn_laws.proofs.ToldCounts.{told-few}
 use Rattle.dn_types.proofs.TransmissionTime.{transmission-is-least}
 use Rattle.dn_laws.proofs.Waits.{at-first, wait-is-known}
-
--- ---- Transmission times
 
 pub longer-takes-longer : (bw a b : ℕ) → a ≤ b → transmission_time bw a ≤ transmission_time bw b
 longer-takes-longer zero a b le = omega arith
@@ -67,8 +65,6 @@ all-in-one bw (p ∷ q) =
     let bytes = ap {B = ℕ} (λ n. transmission_time bw n) (sum_by-cons (λ (x : Accepted). x.stamped.len) p q) in
     let two = two-in-one bw p.stamped.len (sum_by (λ x. x.stamped.len) q) in
     omega (arith, rest, time, bytes, two)
-
--- ---- By the limit
 
 -- An accepted packet found its queue below the limit.
 pub below-its-limit : (rule : Rule) (calls : List Call) (pipe bw delay : ℕ) (limit : Limit) (loss : ℕ) (buckets : Option ℕ) (mask : Mask) (packet : Packet) (moment at flow number : ℕ) →

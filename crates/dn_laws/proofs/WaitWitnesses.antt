@@ -1,5 +1,5 @@
 -- Each law of waiting at an example: its premises hold, and no bound is loose.
-use Rattle.std.proofs.Common.{◌≡◌, ◌≤◌, ◌+◌, ◌*◌, ℕ, max, true, List, [], ◌∷◌, ◌++◌, refl, arith, drop, take}
+use Rattle.std.proofs.Common.{◌≡◌, ◌≤◌, ◌+◌, ◌*◌, ℕ, max, List, [], ◌∷◌, ◌++◌, refl, drop, take}
 use Rattle.std.specs.Prelude.{◌^◌, ◌-◌, None}
 use Rattle.std.specs.List.{All}
 use Rattle.std.proofs.lemmas.List.Elements.{All-nil, All-cons}
@@ -23,8 +23,6 @@ use Rattle.dn_laws.proofs.DelayBound.{slots-bound-the-delay, kbytes-bound-the-de
 use Rattle.dn_laws.proofs.Pauses.{links-make-no-pause}
 use Rattle.dn_laws.proofs.WaitBounds.{slots-bound-the-wait, kbytes-bound-the-wait}
 use Rattle.dn_laws.proofs.Waits.{waits-for-those-ahead, wait-is-known}
-
--- ---- Packets of 1,000 bytes at 0, at 8 Mbit/s with a delay of 50 ms. The first starts at once, and two wait at most
 
 abbrev by : Limit → Command
 by limit = Pipe 1 8000000 50 limit 0 None no_mask
@@ -71,8 +69,6 @@ slowed = Configure (Pipe 1 1000000 50 (Slots 2) 0 None no_mask)
 waits_longer : (starting (own 1 0) (stretch 8000000) ≡ numbered 1 65536000 131072000 ∷ []) × (9000000 ≡ max 0 1000000 + 8000000)
 waits_longer = waits-for-those-ahead Ordered (Advance 9000000 ∷ slowed ∷ []) (two (Slots 2)) 1 (sized 1000) 0 0 0 2 [] (stretch 8000000) (start 2 9000000 8000000) refl refl refl
 
--- ---- Two queues: of three packets at 0 the last waits for the two of the other queue
-
 abbrev queued : List Call
 queued = to_queue 2 0 ∷ to_queue 2 0 ∷ queue 1 1 1 ∷ queue 2 1 1 ∷ pipe 1 8000000 50 ∷ []
 
@@ -93,8 +89,6 @@ last = record {
 
 no_pause : 2000000 ≡ max 0 1000000 + 1000000
 no_pause = links-make-no-pause Ordered (Advance 3000000 ∷ []) queued (ToQueue 1) (sized 1000) 0 0 1 2 [] (take 2 (drop 1 all)) last refl refl refl
-
--- ---- The bounds, which the third packet reaches
 
 all_short : (limit : Limit) → All (IsAtMost 1 1000) (third limit)
 all_short limit =

@@ -10,7 +10,7 @@ use Rattle.dn_types.specs.Configuration.{settings}
 use Rattle.dn_laws.specs.Explained.{IsAtBandwidth}
 use Rattle.dn_types.specs.Flows.{Treatment, treatment, keys, key_of, flow_number}
 use Rattle.dn_types.specs.Links.{free, transmission_time}
-use Rattle.dn_laws.specs.RateLaws.{StaysInForce}
+use Rattle.dn_laws.specs.ConfiguredLaws.{StaysInForce}
 use Rattle.dn_types.specs.Replies.{reply}
 use Rattle.dn_types.specs.SharedLinks.{waiting, opening}
 use Rattle.dn_types.specs.Trace.{Link, own, link_eq, pipe_of, Accepted, Start, Event, opened, arrived, started, backlog, accepted_count}
@@ -41,8 +41,6 @@ use Rattle.dn_types.proofs.Ordered.{IsHome, link_of-home, trace-proper, suffix-p
 use Rattle.dn_laws.proofs.Rates.{shape}
 use Rattle.dn_laws.proofs.Timely.{split, queued, count-later, started-below}
 
--- ---- Each start of a trace of calls is prompt
-
 at-home : (known : List FlowKey) (s : Start) → IsHomeOf known s.packet.link s.packet.stamped.flow → IsHome s.packet.link s.packet.stamped.flow
 at-home known s h = subst (λ (l : Link). IsHome l s.packet.stamped.flow) (sym h.is) (link_of-home h.key.target s.packet.stamped.flow h.key.pipe)
 
@@ -69,8 +67,6 @@ pub suffix-prompt : (later earlier : List Event) → IsPrompt (later ++ earlier)
 suffix-prompt [] earlier h = h
 suffix-prompt (started s ∷ later) earlier h = suffix-prompt later earlier h.2
 suffix-prompt (_ ∷ later) earlier h = suffix-prompt later earlier h
-
--- ---- What stands at the acceptance
 
 pub record IsJoined (calls : List Call) (pipe : ℕ) (packet : Packet) (moment flow number : ℕ) : Type 0 where
   pub p : Accepted
@@ -146,8 +142,6 @@ joined rule calls pipe packet moment at flow number told = record {
     flow-is : flow_number (keys calls) (key_of (ToPipe pipe) packet.tuple taken.0) ≡ flow
     flow-is = sym (ap (λ (x : Accepted). x.stamped.flow) taken.2) ∙ h.2.3
 
--- ---- Where it starts
-
 pub behind-arrival : (p : Accepted) (before newer later earlier : List Event) (s : Start) → IsProper (newer ++ (arrived p ∷ before)) → newer ++ (arrived p ∷ before) ≡ later ++ started s ∷ earlier →
     s.packet.packet ≡ p.packet → (g : List Event) × (newer ≡ later ++ started s ∷ g) × (earlier ≡ g ++ (arrived p ∷ before))
 behind-arrival p before newer later earlier s proper e same =
@@ -162,8 +156,6 @@ behind-arrival p before newer later earlier s proper e same =
         let low = started-below s rest earlier (subst IsProper tail here.1) in
         let all = ap (λ (t : List Event). accepted_count t) (tail ∙ sym (append_assoc rest (started s ∷ []) earlier)) in
         omega (arith, low, count-later (rest ++ started s ∷ []) earlier, all, here.0, same)
-
--- ---- What is sent in a stretch
 
 module _ (link : Link) where
   -- Where nothing starts nothing is sent.
@@ -201,8 +193,6 @@ module _ (link : Link) where
           omega (arith, own, more, rest)
       by false is rest = omega (arith, rest)
   by-lengths bw (_ ∷ g) at = by-lengths bw g at
-
--- ---- The laws
 
 -- What is known of a packet's start.
 pub record IsAwaited (calls : List Call) (pipe : ℕ) (packet : Packet) (moment at flow number : ℕ) (j : IsJoined calls pipe packet moment flow number) (later earlier : List Event)
@@ -276,8 +266,6 @@ waits-for-those-ahead rule after calls pipe packet moment at flow number later b
     let sends = ap (λ (t : List Event). sending (own pipe flow) t) cut in
     let less = none.1 in
     (ap (λ (t : List Event). starting (own pipe flow) t) cut ∙ none.0 ∙ w.sent, omega (arith, sends, w.start, less))
-
--- ---- By the command in force
 
 module _ (pipe bw delay : ℕ) (limit : Limit) (loss : ℕ) (buckets : Option ℕ) (mask : Mask) (link : Link) (of_pipe : pipe_of link ≡ pipe) where
   before-at : (calls : List Call) (c : Call) → settings calls (ToPipe pipe) ≡ Some (Pipe pipe bw delay limit loss buckets mask) → (f : List Event) × (trace_of (c ∷ calls) ≡ f ++ trace_of calls)

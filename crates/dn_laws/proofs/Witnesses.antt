@@ -52,8 +52,6 @@ before = trace_of (Advance 1000000 ∷ calls)
 abbrev at_two : List Event
 at_two = settled (settings calls) 2000000 before
 
--- ---- Starts
-
 -- At 2 ms two packets wait and none of them starts.
 two_wait : waiting (shared 1) at_two ≡ 2
 two_wait = refl
@@ -90,8 +88,6 @@ it_started = refl
 it_started_once : start_count 2 before ≤ 1
 it_started_once = starts-once 2 (Advance 1000000 ∷ calls)
 
--- ---- The pick at 2 ms, by the tags of the queues' first packets
-
 abbrev picked : Stamped
 picked = record { flow = 0; len = 1000; weight = 1; start_tag = 65536000; finish_tag = 131072000 }
 
@@ -116,8 +112,6 @@ lesser_finish_tag = (pick-is-least (virtual_time (shared 1) (drop 1 before)) (li
 -- The weights of both are 4 together, so its 1,000 bytes let virtual time grow by 250.
 grown_by_250 : (81920000 * 4 ≤ 65536000 * 4 + 1000 * 65536) × (65536000 * 4 + 1000 * 65536 < (81920000 + 1) * 4)
 grown_by_250 = grows-by-work (shared 1) (drop 1 before) newest refl (omega arith)
-
--- ---- Due moments
 
 -- 8,000 bits at 300 Kbit/s
 in_time : (1000 * 8 * 10 ^ 9 ≤ 26666667 * 300000) × ((t : ℕ) → 1000 * 8 * 10 ^ 9 ≤ t * 300000 → 26666667 ≤ t)
@@ -146,8 +140,6 @@ it_is_the_last = due-is-last Ordered without_delay (trace_of two_delays)
 never_falls : last_due Ordered (own 1 0) (trace_of two_delays) ≤ last_due Ordered (own 1 0) (trace_of (to_pipe 1 2000000 ∷ two_delays))
 never_falls = due-moments-never-fall (own 1 0) (take 3 (trace_of (to_pipe 1 2000000 ∷ two_delays))) (trace_of two_delays)
 
--- ---- Collecting
-
 abbrev collected_at_two : List Call
 collected_at_two = Collect 2000000 ∷ calls
 
@@ -169,8 +161,6 @@ given_when_due = gives-what-is-due Ordered 2000000 at_two
 
 left_when_not_due : All (λ d. 2000000 < d.due) (undelivered Ordered (trace_of collected_at_two))
 left_when_not_due = leaves-what-is-not-due Ordered 2000000 calls
-
--- ---- Histories
 
 abbrev entry : ℕ → Call → Reply → Entry
 entry caller call reply = record { caller = caller; call = call; reply = reply }
@@ -216,8 +206,6 @@ exhausted = exhausted-changes-nothing Ordered (shows (2 ^ 62 - 1)) (to_pipe 1 0)
 not_yet : reply Ordered (pipe 1 8000000 0 ∷ []) (to_pipe 1 0) ≡ Queued 0 0 0
 not_yet = refl
 
--- ---- The standing
-
 -- A lowered clock changes nothing: the same calls, made at other moments before the greatest.
 abbrev advanced : ℕ → List Call
 advanced moment = Advance moment ∷ Advance 5000000 ∷ pipe 1 8000000 0 ∷ []
@@ -227,8 +215,6 @@ stands_the_same = refl
 
 replies_the_same : reply Ordered (advanced 1000000) (to_pipe 1 0) ≡ reply Ordered (advanced 2000000) (to_pipe 1 0)
 replies_the_same = (replies-by-standing Ordered (advanced 1000000) (advanced 2000000) refl (to_pipe 1 0)).0
-
--- ---- Bounds
 
 -- A packet to a pipe of 1 Kbit/s with a delay of an hour, sent twice at the last moment of the clock.
 abbrev latest : List Call

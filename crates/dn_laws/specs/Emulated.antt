@@ -3,7 +3,8 @@ use Rattle.std.specs.Prelude.{◌≡◌, ⊤, Bool, true, false, cond, List, [],
 use Rattle.dn_types.specs.Calls.{trace_of}
 use Rattle.dn_types.specs.Clock.{effective_moment}
 use Rattle.dn_types.specs.Configuration.{settings}
-use Rattle.dn_laws.specs.Determined.{Emulator, ObeysTheLaws}
+use Rattle.dn_laws.specs.Determined.Emulators.{Emulator}
+use Rattle.dn_laws.specs.Determined.Laws.{ObeysTheLaws}
 use Rattle.dn_types.specs.Flows.{keys}
 use Rattle.dn_types.specs.History.{IsLawful}
 use Rattle.dn_types.specs.Replies.{reply}

@@ -16,8 +16,6 @@ use Rattle.dn_types.specs.declared.packet.Packet.{Packet}
 use Rattle.dn_types.specs.declared.rule.Rule.{Rule}
 use Rattle.dn_types.specs.declared.target.Target.{Target}
 
--- ---- Links
-
 -- The event is no start on the link, and, for its virtual time, no beginning of a busy period of it.
 abbrev pub IsNoStart : Link → Event → Type 0
 IsNoStart link (started s) = s.packet.link ≢ link
@@ -40,8 +38,6 @@ abbrev pub VirtualTimeIsKept : Type 0
 VirtualTimeIsKept = (link : Link) (later earlier : List Event) → All (IsNoStart link) later → All (IsNoOpening link) later →
     (virtual_time link (later ++ earlier) ≡ virtual_time link earlier) × (virtual_time link (opened link ∷ earlier) ≡ 0)
     × (virtual_time link [] ≡ 0)
-
--- ---- Last finish tags
 
 -- A packet leaves the last finish tags on the links of other pipes, against a call at its moment that has none.
 abbrev pub PacketsSpareTags : Type 0

@@ -1,4 +1,3 @@
-pub mod ByteShares
 pub mod ConfiguredLaws
 pub mod Determined
 pub mod Divided
@@ -8,16 +7,17 @@ pub mod FairShare
 pub mod FlowLaws
 pub mod KeptLaws
 pub mod Laws
+pub mod LineLaws
 pub mod OtherPipes
 pub mod PacketLaws
 pub mod PartLaws
 pub mod Parts
-pub mod RateLaws
 pub mod ReadingLaws
 pub mod Replays
 pub mod ReplyLaws
 pub mod ReplyParts
 pub mod ResetLaws
+pub mod ServiceLaws
 pub mod SharingLaws
 pub mod TimeLaws
 pub mod Told

@@ -5,7 +5,7 @@ use Rattle.dn_types.specs.Calls.{trace_of, link_of}
 use Rattle.dn_types.specs.Clock.{call_limit, effective_moment}
 use Rattle.dn_types.specs.Configuration.{settings}
 use Rattle.dn_types.specs.Flows.{keys}
-use Rattle.dn_laws.specs.RateLaws.{StaysInForce}
+use Rattle.dn_laws.specs.ConfiguredLaws.{StaysInForce}
 use Rattle.dn_types.specs.Replies.{reply}
 use Rattle.dn_types.specs.SharedLinks.{last_finish_tag}
 use Rattle.dn_laws.specs.Told.{is_arrival_of, IsReached, IsCarriedBy}
@@ -22,8 +22,6 @@ use Rattle.dn_types.specs.declared.reply.Reply.TheVariants.{Configured, Deleted,
 use Rattle.dn_types.specs.declared.rule.Rule.{Rule}
 use Rattle.dn_types.specs.declared.target.Target.{Target}
 use Rattle.dn_types.specs.declared.target.Target.TheVariants.{Pipe as ToPipe, Queue as ToQueue}
-
--- ---- Accepted packets
 
 -- The packet was accepted by the call, which submitted it and was told its flow and its number. It has its own length, and its
 -- link is by the command in force for its target.
@@ -70,8 +68,6 @@ QueuesShareTheRate =
     is_of_queues number (slice_get (keys (after ++ calls)) r.packet.stamped.flow) ≡ true →
     is_of_queues number (slice_get (keys (after ++ calls)) s.packet.stamped.flow) ≡ true →
     sent_by_queues number (keys (after ++ calls)) (between ++ started r ∷ []) * 8 * 10 ^ 9 + r.moment * bw ≤ s.moment * bw
-
--- ---- Discarded packets
 
 -- The call was a delete that reaches the flow's key, and was told so.
 abbrev pub IsDelete : Rule → List Call → Call → ℕ → Type 0

@@ -14,8 +14,6 @@ use Rattle.dn_types.specs.declared.flow_key.FlowKey.{FlowKey}
 use Rattle.dn_types.specs.declared.target.Target.{Target}
 use Rattle.dn_types.specs.declared.target.Target.TheVariants.{Pipe as ToPipe, Queue as ToQueue}
 
--- ---- A choice of links
-
 -- Some of the links: flows with a link of their own by their keys, and shared links by their pipes.
 pub record Choice : Type 0 where
   pub own_flow : FlowKey → Bool
@@ -33,8 +31,6 @@ is_flow_of chosen (ToQueue number) key = chosen.shared_link key.pipe
 abbrev pub is_key_on : Choice → FlowKey → Bool
 is_key_on chosen key = is_flow_of chosen key.target key
 
--- ---- Calls
-
 -- Whether a chosen link carries the packet to the target, which is treated so.
 abbrev pub is_carried : Choice → Target → FiveTuple → Option Treatment → Bool
 is_carried chosen target tuple None = false
@@ -49,8 +45,6 @@ call_on chosen calls c = c
 abbrev pub calls_on : Choice → List Call → List Call
 calls_on chosen [] = []
 calls_on chosen (c ∷ calls) = call_on chosen calls c ∷ calls_on chosen calls
-
--- ---- Numbers
 
 -- How many numbers below `n` pass the test: the place of `n` among those that do.
 abbrev pub place : (ℕ → Bool) → ℕ → ℕ
@@ -79,8 +73,6 @@ is_arrival_on chosen is_flow number _ = false
 abbrev pub is_packet_on : Choice → (ℕ → Bool) → List Event → ℕ → Bool
 is_packet_on chosen is_flow trace number = list_any (is_arrival_on chosen is_flow number) trace
 
--- ---- Events, with other numbers of flows and packets
-
 abbrev pub link_by : (ℕ → ℕ) → Link → Link
 link_by flows (own pipe flow) = own pipe (flows flow)
 link_by flows (shared pipe) = shared pipe
@@ -102,8 +94,6 @@ event_by flows packets (lost link flow) = lost (link_by flows link) (flows flow)
 event_by flows packets (refused link flow) = refused (link_by flows link) (flows flow)
 event_by flows packets (discarded flow) = discarded (flows flow)
 event_by flows packets (collected at) = collected at
-
--- ---- The part of a trace
 
 -- Whether an event is on a chosen link, or of a flow on one. A Collect is of all links.
 abbrev pub is_event_on : Choice → (ℕ → Bool) → Event → Bool

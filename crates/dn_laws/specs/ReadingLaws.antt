@@ -1,5 +1,5 @@
 -- The laws of readings: what other laws read off calls and events, in words of these alone.
-use Rattle.std.specs.Prelude.{cond, ℕ, Option, ◌≡◌, ◌≢◌, ◌≤◌, ◌<◌, ◌+◌, ⊤, Bool, true, false, List, [], ◌∷◌, ◌++◌, drop, length, nat_eq, Some, None}
+use Rattle.std.specs.Prelude.{cond, ℕ, Option, ◌≡◌, ◌≢◌, ◌≤◌, ◌<◌, ◌+◌, ⊤, true, false, List, [], ◌∷◌, ◌++◌, drop, length, nat_eq, Some, None}
 use Rattle.std.specs.List.{count_by}
 use Rattle.dn_types.specs.Calls.{trace_of, after_command}
 use Rattle.dn_types.specs.Clock.{call_limit, effective_moment, moment_of}
@@ -25,8 +25,6 @@ use Rattle.dn_types.specs.declared.rule.Rule.{Rule}
 use Rattle.dn_types.specs.declared.target.Target.{Target}
 use Rattle.dn_types.specs.declared.target.Target.TheVariants.{Pipe as ToPipe, Queue as ToQueue}
 use Rattle.dn_laws.specs.FlowLaws.{IsMaskedBy, kept_by}
-
--- ---- Calls
 
 -- The moment that a call names, and 0 for one that names none.
 abbrev pub MomentsAreNamed : Type 0
@@ -57,8 +55,6 @@ TargetsAreTreated =
     × (treatment None ≡ None)
     × ((target : Target) (tuple : FiveTuple) (how : Treatment) →
     key_of target tuple how ≡ record { target = target; pipe = how.pipe; mask = how.mask; tuple = kept_by how.mask tuple })
-
--- ---- Events
 
 -- Two links are told apart, and so are the packets of a flow on a link from others.
 abbrev pub LinksAreToldApart : Type 0

@@ -1,5 +1,5 @@
 -- The laws of time: that what has happened stays, between which moments a packet starts, what its delay is the sum of, and in which order deliveries come.
-use Rattle.std.specs.Prelude.{max, ℕ, ◌≡◌, ◌≤◌, ◌+◌, ◌-◌, ⊤, List, [], ◌∷◌, ◌++◌, Some}
+use Rattle.std.specs.Prelude.{max, ℕ, ◌≡◌, ◌≤◌, ◌+◌, ◌-◌, List, ◌∷◌, ◌++◌, Some}
 use Rattle.std.specs.List.{All}
 use Rattle.dn_types.specs.Calls.{trace_of}
 use Rattle.dn_types.specs.Clock.{effective_moment}

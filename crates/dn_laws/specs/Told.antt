@@ -11,8 +11,6 @@ use Rattle.dn_types.specs.declared.reply.Reply.{Reply}
 use Rattle.dn_types.specs.declared.reply.Reply.TheVariants.{Queued, Lost, Full, NoTarget, Advanced, Delivered}
 use Rattle.dn_types.specs.declared.target.Target.TheVariants.{Queue as ToQueue}
 
--- ---- What a reply tells
-
 -- The moment that a reply tells.
 abbrev pub moment_told : Reply → Option ℕ
 moment_told (Queued at flow number) = Some at
@@ -49,14 +47,10 @@ abbrev pub times_told : ℕ → List Reply → ℕ
 times_told number [] = 0
 times_told number (r ∷ replies) = times_in number r + times_told number replies
 
--- ---- What a trace tells
-
 -- Whether an event is the arrival of a packet of the flow.
 abbrev pub is_arrival_of : ℕ → Event → Bool
 is_arrival_of flow (arrived p) = nat_eq p.stamped.flow flow
 is_arrival_of flow _ = false
-
--- ---- What commands do
 
 -- A queue of the pipe is configured.
 abbrev pub IsQueueOf : ℕ → Option Command → Type 0

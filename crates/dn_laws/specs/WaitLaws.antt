@@ -3,7 +3,7 @@ use Rattle.std.specs.Prelude.{ℕ, max, cond, ◌≡◌, ◌≤◌, ◌+◌, ◌
 use Rattle.std.specs.List.{All}
 use Rattle.dn_types.specs.Calls.{trace_of}
 use Rattle.dn_types.specs.Links.{free, transmission_time, last_due}
-use Rattle.dn_laws.specs.RateLaws.{StaysInForce}
+use Rattle.dn_laws.specs.ConfiguredLaws.{StaysInForce}
 use Rattle.dn_types.specs.Replies.{reply}
 use Rattle.dn_types.specs.Trace.{Link, own, link_eq, Accepted, Start, Event, started, backlog}
 use Rattle.dn_types.specs.declared.call.Call.{Call}

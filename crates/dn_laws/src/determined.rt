@@ -1,6 +1,6 @@
 //! The law of laws: what obeys them all is the emulator.
 
-ghost use Rattle.dn_laws.specs.Determined.{LawsDetermine};
+ghost use Rattle.dn_laws.specs.Determined.Laws.{LawsDetermine};
 ghost use Rattle.dn_laws.specs.Emulated.{HistoriesByTheLaws, LawsGiveTheReplies, LawsHold};
 
 /// The laws determine the emulator.

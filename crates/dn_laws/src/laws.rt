@@ -3,14 +3,13 @@
 //! A function here does nothing: its contract is the law, which the check proves.
 
 ghost use Rattle.dn_types.specs.Bounds.{IsInRange};
-ghost use Rattle.dn_laws.specs.ByteShares.{SharesByWeight};
+ghost use Rattle.dn_laws.specs.FairShare.{SharesByWeight, SharesFairly};
 ghost use Rattle.dn_laws.specs.ConfiguredLaws.{CommandsCount, DelaysAreExplained};
 ghost use Rattle.dn_laws.specs.ConfiguredLaws.{DropsAreExplained, IsNeverIdle, KeepsTheRate};
 ghost use Rattle.dn_laws.specs.ConfiguredLaws.{NoneUnconfigured, OnlyCommandsCount};
 ghost use Rattle.dn_laws.specs.ConfiguredLaws.{QueuesHavePipes, StartsApart, StartsAsConfigured};
 ghost use Rattle.dn_laws.specs.ConfiguredLaws.{StartsAtOnce, StartsTheNext};
 ghost use Rattle.dn_laws.specs.Divided.{PartsAreAlone, PartsHappenAlone};
-ghost use Rattle.dn_laws.specs.FairShare.{SharesFairly};
 ghost use Rattle.dn_laws.specs.FlowLaws.{FlowsAreByMask, FlowsHaveTheirKeys, FlowsStay};
 ghost use Rattle.dn_laws.specs.KeptLaws.{BusyPeriodsBegin, ClockSparesTags, LinksAreKept};
 ghost use Rattle.dn_laws.specs.KeptLaws.{PacketsSpareTags, TagsAreKept, VirtualTimeIsKept};
@@ -28,7 +27,7 @@ ghost use Rattle.dn_laws.specs.PacketLaws.{PacketsAddUp, QueuedPacketsArrive, Qu
 ghost use Rattle.dn_laws.specs.PartLaws.{AdvancesAreNoMore, AgreeingCallsAgree, CommandsActByForce};
 ghost use Rattle.dn_laws.specs.PartLaws.{OtherLinksChangeNoReply, OtherLinksChangeNothing};
 ghost use Rattle.dn_laws.specs.PartLaws.{PartsAreWhole, PartsRestOnTheirPipe, ReplaysFallApart};
-ghost use Rattle.dn_laws.specs.RateLaws.{KeepsTheConfiguredRate};
+ghost use Rattle.dn_laws.specs.ConfiguredLaws.{KeepsTheConfiguredRate};
 ghost use Rattle.dn_laws.specs.ReadingLaws.{CommandsAreAnswered, LinksAreToldApart};
 ghost use Rattle.dn_laws.specs.ReadingLaws.{MomentsAreNamed, PacketsAreCounted, QueuesAreRead};
 ghost use Rattle.dn_laws.specs.ReadingLaws.{StartsAreDue, SubjectsAreNamed, TargetsAreTreated};

@@ -3,3 +3,5 @@
 
 pub mod determined;
 pub mod laws;
+pub mod lines;
+pub mod services;

@@ -90,7 +90,7 @@ module _ {settings : Settings} {at : ℕ} {h : Home} {flow len weight : ℕ} {id
   )
 
   pub mid-within : (n : ℕ) → Within n old → Within (n + 1) mid
-  mid-within n w = arrives-within at h flow len weight idle old mid s n (in-table old (may-agree may) may.within) may.ready.line w
+  mid-within n w = arrives-within at h flow len weight idle old mid s n (in-table old (may-agree may) may.within) may.ready.place w
 
   pub mid-all : Within (2 ^ 62) mid
   mid-all = within-more (may.few.0 + 1) (2 ^ 62) mid (let a = may.few.1 in omega arith) (mid-within may.few.0 may.few.2)

@@ -11,7 +11,7 @@ use Rattle.dn_types.specs.Starts.{next_start, start_at}
 use Rattle.dn_types.specs.Trace.{Link, own, shared, Accepted, Event, opened, arrived, backlog, links, with_link, is_of}
 use Rattle.dn_types.specs.Wf2q.{Stamped, scaled, start_tag_on_arrival}
 use Rattle.dn_types.specs.declared.packet.Packet.{Packet}
-use Rattle.dn_flows.specs.Table.{FlowState, flow_at, pushed}
+use Rattle.dn_flows.specs.Table.{FlowState, flow_at, places, pushed}
 use Rattle.dn_flows.specs.declared.waiting.Waiting.{Waiting}
 use Rattle.dn_wf2q.specs.Schedule.{Flow, Schedule, flow_at as slot_at, waiting_of as waiting_in, joined_by, stamped}
 use Rattle.dn_shaper.specs.declared.links.home.Home.{Home}
@@ -26,6 +26,7 @@ use Rattle.dn_shaper.proofs.Next.{home-here, next_exists}
 use Rattle.dn_shaper.proofs.OnePlace.{agrees-as, each-flow, each-set}
 use Rattle.dn_shaper.proofs.Opened.{opened-agrees}
 use Rattle.dn_flows.proofs.Places.{eq-yes, get-set, map-set, map-set-same, sum-set, length-more}
+use Rattle.dn_flows.proofs.Reservations.{places-used}
 use Rattle.dn_types.proofs.Settling.{next_packet-first}
 use Rattle.dn_shaper.proofs.Waiting.{empty-all}
 use Rattle.std.proofs.lemmas.Bool.{eqb-true}
@@ -237,10 +238,16 @@ module _ (at : ℕ) (h : Home) (flow len weight : ℕ) (idle : Bool) (old new : 
   pub arrives-names : link_names (views_of new) ≡ link_names (views_of old)
   arrives-names = ap (λ (vs : List LinkView). link_names vs) s.views_are ∙ map-set-same (λ (x : LinkView). x.link) (views_of old) h.place s.view s.view' s.there s.joins.link
 
-  pub arrives-within : (n : ℕ) → flow < length old.flows.flows → old.waiting + 1 ≤ old.line.room → Within n old → Within (n + 1) new
-  arrives-within n lt room w = record {
+  pub arrives-within : (n : ℕ) → flow < length old.flows.flows → (flow_at old.flows.flows flow).reserved ≡ true → Within n old → Within (n + 1) new
+  arrives-within n lt reserved w = record {
     waiting_is = let a = arrives-waiting in let b = s.waiting in let c = w.waiting_is in omega arith;
-    room = let b = s.waiting in let c = ap {B = ℕ} (λ x. x.room) s.line in omega arith;
+    room =
+        let a = w.room in
+        let b = s.waiting in
+        let c = ap {B = ℕ} (λ x. x.room) s.line in
+        let d = ap {B = ℕ} places s.flows_are in
+        let e = places-used old.flows.flows flow (pushed packet (flow_at old.flows.flows flow)) lt reserved refl in
+        omega arith;
     pushed = let b = s.waiting in let c = ap {B = ℕ} (λ x. x.pushed) s.line in let d = w.pushed in omega arith;
     sums = let b = s.waiting in let c = ap {B = ℕ} (λ x. length x.pending) s.line in let d = w.sums in omega arith;
     flows_are = λ g. subst (λ (fs : List FlowState). AreCountsWithin (n + 1) (flow_at fs g)) (sym s.flows_are)

@@ -6,7 +6,7 @@ use Rattle.dn_types.specs.Trace.{Link}
 use Rattle.dn_types.specs.declared.delivery.Delivery.{Delivery}
 use Rattle.dn_types.specs.declared.rule.Rule.{Rule}
 use Rattle.dn_types.specs.declared.target.Target.{Target}
-use Rattle.dn_flows.specs.Table.{FlowState, flow_at}
+use Rattle.dn_flows.specs.Table.{FlowState, flow_at, places}
 use Rattle.dn_shaper.specs.declared.links.next_start.NextStart.{NextStart}
 use Rattle.dn_shaper.specs.declared.state.State.{State}
 use Rattle.dn_shaper.specs.Refinement.Agreement.{AgreesWith, IsAt, link_names}
@@ -54,7 +54,7 @@ module _ (s : State) (accepted : s.parts.accepted ≡ 0) (keys : s.parts.flows.k
   within-none : (n : ℕ) → Within n s.parts
   within-none n = record {
     waiting_is = waiting ∙ sym (ap (λ (vs : List LinkView). waits_in_all vs) views);
-    room = omega arith;
+    room = let e = ap {B = ℕ} places flows in omega arith;
     pushed = omega arith;
     sums = let e = ap (λ (ds : List Delivery). length ds) pending in omega arith;
     flows_are = λ g. flow-none g n;

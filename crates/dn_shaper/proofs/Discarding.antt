@@ -4,7 +4,7 @@ use Rattle.std.specs.Prelude.{Some, None, nat_lt, slice_get}
 use Rattle.std.proofs.lemmas.List.{length-map}
 use Rattle.dn_types.specs.Trace.{Link, own, shared, Accepted, backlog}
 use Rattle.dn_types.specs.Wf2q.{Stamped}
-use Rattle.dn_flows.specs.Table.{FlowState, flow_at, emptied}
+use Rattle.dn_flows.specs.Table.{FlowState, flow_at, emptied, places}
 use Rattle.dn_flows.specs.declared.waiting.Waiting.{Waiting}
 use Rattle.dn_wf2q.specs.Schedule.{Schedule}
 use Rattle.dn_shaper.specs.declared.links.home.Home.{Home}
@@ -20,6 +20,7 @@ use Rattle.dn_shaper.proofs.Discarded.{discarded-agrees}
 use Rattle.dn_shaper.proofs.HomeRead.{home-of, in-table}
 use Rattle.dn_shaper.proofs.Next.{home-here}
 use Rattle.dn_shaper.proofs.OnePlace.{agrees-as, each-flow, each-set}
+use Rattle.dn_flows.proofs.Reservations.{places-same}
 use Rattle.dn_flows.proofs.Places.{get-map, map-set, map-set-same, sum-set, sum-le}
 use Rattle.dn_shaper.proofs.Waiting.{waiting-discarded}
 
@@ -98,7 +99,13 @@ module _ {h : Home} {flow : ℕ} {old new : Parts} (bound : Within (2 ^ 62) old)
   pub discards-within : (n : ℕ) → Within n old → Within n new
   discards-within n w = record {
     waiting_is = let a = discards-waiting in let b = s.waiting in let c = w.waiting_is in omega arith;
-    room = let b = s.waiting in let c = ap {B = ℕ} (λ x. x.room) s.line in let d = w.room in omega arith;
+    room =
+        let b = s.waiting in
+        let c = ap {B = ℕ} (λ x. x.room) s.line in
+        let d = w.room in
+        let e = ap {B = ℕ} places s.flows_are in
+        let f = places-same old.flows.flows flow (emptied (flow_at old.flows.flows flow)) (in-table old agrees within) refl in
+        omega arith;
     pushed = let b = s.waiting in let c = ap {B = ℕ} (λ x. x.pushed) s.line in let d = w.pushed in omega arith;
     sums = let b = s.waiting in let c = ap {B = ℕ} (λ x. length x.pending) s.line in let d = w.sums in omega arith;
     flows_are = λ g. subst (λ (fs : List FlowState). AreCountsWithin n (flow_at fs g)) (sym s.flows_are)

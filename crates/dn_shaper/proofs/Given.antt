@@ -9,12 +9,12 @@ use Rattle.dn_shaper.specs.Refinement.Agreement.{AgreesWith}
 use Rattle.dn_shaper.specs.Refinement.Homing.{GivesHome, Houses, place_for}
 use Rattle.dn_shaper.specs.Refinement.Making.{Prepares}
 use Rattle.dn_shaper.specs.Refinement.Sound.{IsSound}
-use Rattle.dn_shaper.specs.Refinement.Starting.{IsReady}
+use Rattle.dn_shaper.specs.Refinement.Starting.{IsReady, KeepsReady}
 use Rattle.dn_shaper.specs.Refinement.Views.{LinkView, queue_lengths, views_of}
 use Rattle.dn_shaper.proofs.Alone.{all-seen-same}
 use Rattle.dn_shaper.proofs.Preparing.{IsOneMore, lengths-more, with_flows}
-use Rattle.dn_shaper.proofs.SharedHome.{shared-ready, shared-prepares, shared-sound}
-use Rattle.dn_shaper.proofs.NewHome.{opened-ready, opened-prepares, opened-sound}
+use Rattle.dn_shaper.proofs.SharedHome.{shared-leaves, shared-ready, shared-prepares, shared-sound}
+use Rattle.dn_shaper.proofs.NewHome.{opened-leaves, opened-ready, opened-prepares, opened-sound}
 
 module _ (new : State) {old : State} {t : Table} {key : FlowKey} (sound : IsSound old) (one : IsOneMore key old.parts.flows t) {trace : List Event} (a : AgreesWith old.parts [] trace) where
   abbrev pub Given : ℕ → Type 0
@@ -42,6 +42,17 @@ module _ (new : State) {old : State} {t : Table} {key : FlowKey} (sound : IsSoun
           IsReady (length old.parts.flows.keys) new.parts
       by (Some place) noted h = shared-ready old new t key one g a.as_many place noted h.0 h.1 sound.indexed a.as_many_homes
       by None noted h = opened-ready old new t key one g a.as_many noted h.0 h.1 sound.indexed a.as_many_homes
+
+  pub given-leaves : (f : ℕ) → f ≡ length old.parts.flows.keys → Given f → KeepsReady old.parts new.parts
+  given-leaves f e given = by (place_for key old.shared) refl (houses-before g)
+    where
+      g : Given (length old.parts.flows.keys)
+      g = given-at f e given
+
+      by : (o : Option ℕ) → place_for key old.shared ≡ o →
+          Houses o key (length old.parts.flows.keys) g.home (views_of old.parts) (views_of new.parts) new.heap old.shared new.shared → KeepsReady old.parts new.parts
+      by (Some place) noted h = shared-leaves old new t key one g a.as_many place noted h.0 h.1 sound.indexed trace a
+      by None noted h = opened-leaves old new t key one g a.as_many noted h.0 h.1 sound.indexed trace a
 
   pub given-prepares : (f : ℕ) → f ≡ length old.parts.flows.keys → Given f → Prepares f old.parts new.parts
   given-prepares f e given = subst (λ n. Prepares n old.parts new.parts) (sym e) (by (place_for key old.shared) refl (houses-before g))

@@ -15,13 +15,14 @@ use Rattle.dn_shaper.specs.Refinement.NextStarts.{Holds}
 use Rattle.dn_shaper.specs.Refinement.Homing.{GivesHome}
 use Rattle.dn_shaper.specs.Refinement.Making.{SameFlow}
 use Rattle.dn_shaper.specs.Refinement.Sound.{IsIndexed, IsSound}
-use Rattle.dn_shaper.specs.Refinement.Starting.{IsReady, Within}
+use Rattle.dn_shaper.specs.Refinement.Starting.{IsReady, KeepsReady, Within}
 use Rattle.dn_shaper.specs.Refinement.Views.{LinkView, views_of, next_starts, waits_in_all}
 use Rattle.std.proofs.lemmas.List.{length-set}
-use Rattle.dn_flows.proofs.Places.{eq-yes, get-last, length-more}
+use Rattle.dn_flows.proofs.Places.{eq-yes, get-below, get-kept, get-last, length-more}
+use Rattle.dn_flows.proofs.Reservations.{reserved-below}
 use Rattle.dn_shaper.proofs.OnePlace.{agrees-as}
 use Rattle.dn_shaper.proofs.Preparing.{IsOneMore, flow-more, with_flows}
-use Rattle.dn_shaper.proofs.Reserving.{place-reserved, same-within}
+use Rattle.dn_shaper.proofs.Reserving.{place-reserved, placed-keeps, same-within}
 
 module _ (old new : State) (t : Table) (key : FlowKey) (one : IsOneMore key old.parts.flows t) (g : GivesHome key (length old.parts.flows.keys) (with_flows old t) new) where
   abbrev flow : ℕ
@@ -65,7 +66,26 @@ module _ (old new : State) (t : Table) (key : FlowKey) (one : IsOneMore key old.
           let both : Some g.home ≡ Some h = sym last ∙ at in
           let same : g.home ≡ h = cc in
           subst (λ (x : Home). 0 < room_at v.schedule.room x.slot) same (room v pipe (ap (λ (x : Home). slice_get (views_of new.parts) x.place) same ∙ e) is);
-      line = let a = g.line in let b = g.waiting in omega arith;
+    }
+
+    -- Where no link has less room, and no flow another home, all flows are as ready as before.
+    pub leaves-by : (more : List Link) (trace : List Event) → AgreesWith old.parts more trace
+        → ((k : ℕ) (v : LinkView) → k < length (views_of old.parts) → slice_get (views_of new.parts) k ≡ Some v
+        → (w : LinkView) × (slice_get (views_of old.parts) k ≡ Some w) × (v.link ≡ w.link) × ((slot : ℕ) → room_at w.schedule.room slot ≤ room_at v.schedule.room slot))
+        → KeepsReady old.parts new.parts
+    leaves-by more trace a roomy f ready = record {
+      place = placed-keeps t.flows inside g.flows f
+          (ap (λ (fs : List FlowState). (flow_at fs f).reserved) one.flows ∙ ap (λ (s : FlowState). s.reserved) (flow-more old.parts.flows.flows f) ∙ ready.place);
+      slot = λ h v pipe at there is.
+          let below = reserved-below old.parts.flows.flows f ready.place in
+          let its = a.homes_are f (omega arith) in
+          let both : Some its.0 ≡ Some h = sym (get-kept old.parts.homes.items g.home its.0 f its.1) ∙ (λ i. slice_get (sym g.homes i) f) ∙ at in
+          let same : its.0 ≡ h = cc in
+          let before = ap (λ (x : Home). slice_get (views_of old.parts) x.place) (sym same) ∙ its.2.there in
+          let w = roomy h.place v (get-below (views_of old.parts) h.place its.2.view before) there in
+          let was = ready.slot h w.0 pipe (its.1 ∙ both) w.1 (sym w.2 ∙ is) in
+          let room = w.3 h.slot in
+          omega arith;
     }
 
     pub within-by : waits_in_all (views_of new.parts) ≡ waits_in_all (views_of old.parts) →
@@ -73,7 +93,7 @@ module _ (old new : State) (t : Table) (key : FlowKey) (one : IsOneMore key old.
         Within n old.parts → Within n new.parts
     within-by waits arrivals n w = record {
       waiting_is = g.waiting ∙ w.waiting_is ∙ sym waits;
-      room = let a = w.room in let b = g.waiting in let c = g.room in omega arith;
+      room = let a = g.line in let b = g.waiting in omega arith;
       pushed = let a = w.pushed in let b = g.waiting in let c = g.pushed in omega arith;
       sums = let a = w.sums in let b = g.waiting in let c = ap {B = ℕ} (λ (ds : List Delivery). length ds) g.pending in omega arith;
       flows_are = λ f. same-within (same-flows f) (w.flows_are f);

@@ -40,6 +40,7 @@ pub mod OnePlace
 pub mod OneSlot
 pub mod Opened
 pub mod Ordered
+pub mod OthersReady
 pub mod Passing
 pub mod Preparing
 pub mod Putting

@@ -16,7 +16,7 @@ use Rattle.dn_shaper.specs.Refinement.Homing.{GivesHome, Opens, NotesFor, place_
 use Rattle.dn_shaper.specs.Refinement.Making.{HasSlotRoom}
 use Rattle.dn_shaper.specs.Refinement.Slots.{Ascends, top}
 use Rattle.dn_shaper.specs.Refinement.Sound.{IsIndexed, IsSound}
-use Rattle.dn_shaper.specs.Refinement.Starting.{IsReady, Within}
+use Rattle.dn_shaper.specs.Refinement.Starting.{IsReady, KeepsReady, Within}
 use Rattle.dn_shaper.specs.Refinement.Submitting.{IsMade}
 use Rattle.dn_shaper.specs.Refinement.Views.{LinkView, views_of, home, home_by, next_starts, next_start_of, queue_lengths, waits_in_all}
 use Rattle.std.proofs.lemmas.List.{append-nil}
@@ -24,7 +24,7 @@ use Rattle.dn_shaper.proofs.Indexed.{noted-more, unnoted-unknown}
 use Rattle.dn_shaper.proofs.Made.{linked-agrees}
 use Rattle.dn_flows.proofs.Places.{get-more, get-last, length-more, sum-more}
 use Rattle.dn_shaper.proofs.Preparing.{IsOneMore, with_flows}
-use Rattle.dn_shaper.proofs.Housed.{keys-are, same-flows, many-flows, ready-by, within-by, sound-by, agrees-by}
+use Rattle.dn_shaper.proofs.Housed.{keys-are, same-flows, many-flows, ready-by, within-by, sound-by, agrees-by, leaves-by}
 
 -- ---- The links with a backlog, and one more without
 
@@ -95,6 +95,14 @@ module _ (old new : State) (t : Table) (key : FlowKey) (one : IsOneMore key old.
         let room : HasSlotRoom 0 v v.link = subst (λ (x : LinkView). HasSlotRoom 0 x x.link) same s.is_new.room in
         let here : 0 < room_at v.schedule.room 0 = subst (λ (l : Link). HasSlotRoom 0 v l) is room in
         subst (λ n. 0 < room_at v.schedule.room n) (sym s.slot_is) here) many
+
+    pub opened-leaves : (trace : List Event) → AgreesWith old.parts [] trace → KeepsReady old.parts new.parts
+    opened-leaves trace a = leaves-by old new t key one g as_many [] trace a (λ k v below e. by k v below (get-more (views_of old.parts) s.view v k (ap (λ (vs : List LinkView). slice_get vs k) (sym s.views_are) ∙ e)))
+      where
+        by : (k : ℕ) (v : LinkView) → k < length (views_of old.parts) → (slice_get (views_of old.parts) k ≡ Some v) ⊎ ((k ≡ length (views_of old.parts)) × (v ≡ s.view))
+            → (w : LinkView) × (slice_get (views_of old.parts) k ≡ Some w) × (v.link ≡ w.link) × ((slot : ℕ) → room_at w.schedule.room slot ≤ room_at v.schedule.room slot)
+        by k v below (inl there) = (v, there, refl, λ slot. omega arith)
+        by k v below (inr last) = absurd (let is = last.0 in omega arith)
 
     waits-more : waits_in_all (views_of new.parts) ≡ waits_in_all (views_of old.parts)
     waits-more =

@@ -1,5 +1,6 @@
 -- A loss or a full queue is noted in a flow's counts: the links are seen as before, and no count passes its limit.
-use Rattle.std.proofs.Common.{◌≡◌, ◌<◌, ◌+◌, ◌^◌, ℕ, List, [], ◌∷◌, set, length, refl, ap, sym, subst, arith}
+use Rattle.std.proofs.Common.{◌≡◌, ◌∙◌, ◌<◌, ◌+◌, ◌^◌, ℕ, true, List, [], ◌∷◌, set, length, refl, ap, sym, subst, arith}
+use Rattle.std.specs.Prelude.{slice_get}
 use Rattle.dn_types.specs.Trace.{Link, Event}
 use Rattle.dn_heap.specs.Heap.{Heap}
 use Rattle.dn_flows.specs.Table.{FlowState, Table, flow_at}
@@ -8,12 +9,12 @@ use Rattle.dn_shaper.specs.declared.links.parts.Parts.{Parts}
 use Rattle.dn_shaper.specs.Refinement.Agreement.{AgreesWith, IsAt}
 use Rattle.dn_shaper.specs.Refinement.NextStarts.{Holds}
 use Rattle.dn_shaper.specs.Refinement.Settling.{AreInStep}
-use Rattle.dn_shaper.specs.Refinement.Starting.{AreCountsWithin, Within}
+use Rattle.dn_shaper.specs.Refinement.Starting.{AreCountsWithin, KeepsReady, Within}
 use Rattle.dn_shaper.specs.Refinement.Submitting.{CanSee, IsMade, Sees}
 use Rattle.dn_shaper.specs.Refinement.Views.{LinkView, home, next_starts, queue_lengths, views_of}
 use Rattle.dn_shaper.proofs.Accepting.{within-more}
 use Rattle.dn_shaper.proofs.Alone.{all-seen-same, lengths-same}
-use Rattle.dn_shaper.proofs.OnePlace.{agrees-as}
+use Rattle.dn_shaper.proofs.OnePlace.{agrees-as, each-flow}
 use Rattle.dn_shaper.proofs.Preparing.{with_table}
 use Rattle.dn_shaper.proofs.Submitting.{noted-within}
 
@@ -23,6 +24,7 @@ pub record IsNoted (event : Link → ℕ → Event) (p : Parts) (flow : ℕ) (no
   pub seen : CanSee flow p
   pub keys : t.keys ≡ p.flows.keys
   pub flows : t.flows ≡ set p.flows.flows flow noted
+  pub placed : noted.reserved ≡ (flow_at p.flows.flows flow).reserved
   pub same : length noted.backlog ≡ queue_lengths p.flows.flows flow
   pub few : (n : ℕ) → AreCountsWithin n (flow_at p.flows.flows flow) → AreCountsWithin (n + 1) noted
   pub agrees : (more : List Link) (trace : List Event) → AgreesWith p more trace → IsMade flow p trace →
@@ -39,7 +41,15 @@ module _ {event : Link → ℕ → Event} {p : Parts} {flow : ℕ} {noted : Flow
   noted-sees more trace a made = agrees-as (with_table p t) refl refl is.keys refl same-views is.flows refl (is.agrees more trace a made)
 
   pub noted-counts : (n : ℕ) → Within n p → Within (n + 1) (with_table p t)
-  noted-counts n w = noted-within n flow noted p (with_table p t) inside is.flows (is.few n (w.flows_are flow)) same-views refl refl refl w
+  noted-counts n w = noted-within n flow noted p (with_table p t) inside is.flows (is.few n (w.flows_are flow)) is.placed same-views refl refl refl w
+
+  pub noted-ready : KeepsReady p (with_table p t)
+  noted-ready g ready = record {
+    place = subst (λ (fs : List FlowState). (flow_at fs g).reserved ≡ true) (sym is.flows)
+        (each-flow (λ (f : ℕ) (s : FlowState). (flow_at p.flows.flows f).reserved ≡ true → s.reserved ≡ true) p.flows.flows flow noted inside
+        (λ had. is.placed ∙ had) (λ f ne had. had) g ready.place);
+    slot = λ h v pipe at there on. ready.slot h v pipe at (ap (λ (vs : List LinkView). slice_get vs h.place) (sym same-views) ∙ there) on;
+  }
 
   pub noted-in-step : (limit : (n : ℕ) × (n < 2 ^ 62) × Within n p) → (heap : Heap NextStart) → AreInStep p heap → AreInStep (with_table p t) heap
   noted-in-step limit heap kept = record {

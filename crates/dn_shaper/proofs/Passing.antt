@@ -15,7 +15,7 @@ use Rattle.dn_flows.specs.declared.waiting.Waiting.{Waiting}
 use Rattle.dn_flows.proofs.Places.{eq-yes, get-below, get-map, get-read, get-set}
 use Rattle.dn_flows.proofs.Views.{flow_after_set}
 use Rattle.dn_link.specs.LinkState.{LinkState}
-use Rattle.dn_wf2q.specs.Schedule.{IsIdle, Passes as PassesIn, arrived, room_at}
+use Rattle.dn_wf2q.specs.Schedule.{IsIdle, KeepsRoom, Passes as PassesIn, arrived, room_at}
 use Rattle.dn_shaper.specs.declared.links.home.Home.{Home}
 use Rattle.dn_shaper.specs.declared.links.link_parts.Carries.{Carries}
 use Rattle.dn_shaper.specs.declared.links.link_parts.Carries.TheVariants.{Own, Shared}
@@ -63,9 +63,9 @@ module _ (l : LinkParts) {s : Box SharedLink Global} (on : l.carries ≡ Shared 
       IsIdle s.value.sched.flows × ((0 < room_at s.value.sched.room slot) × (s.value.sched.arrivals < 2 ^ 62))
   can-shared can = subst (λ (k : Carries). CanPass slot (view_of can.0 (record { pipe = l.pipe; times = l.times; carries = k }))) on can.1
 
-  pub shared-passes : {len weight : ℕ} (b : Box SharedLink Global) → PassesIn slot len weight s.value.sched b.value.sched → b.value.flows ≡ s.value.flows →
+  pub shared-passes : {len weight : ℕ} (b : Box SharedLink Global) → PassesIn slot len weight s.value.sched b.value.sched → KeepsRoom s.value.sched b.value.sched → b.value.flows ≡ s.value.flows →
       PassesLink slot len weight l (record { pipe = l.pipe; times = l.times; carries = Shared b })
-  shared-passes {len = len} {weight = weight} b passes flows-are =
+  shared-passes {len = len} {weight = weight} b passes keeps flows-are =
       subst
       (λ (k : Carries). PassesLink slot len weight (record { pipe = l.pipe; times = l.times; carries = k }) (record { pipe = l.pipe; times = l.times; carries = Shared b })) (sym on)
       (record {
@@ -79,7 +79,7 @@ module _ (l : LinkParts) {s : Box SharedLink Global} (on : l.carries ≡ Shared 
           value = refl;
           slots = refl;
           waits = passes.one_more;
-          arrives = record { flows = refl; virtual_time = refl; one_more = passes.one_more ∙ ap (λ n. n + 1) (sym (waits_forgotten s.value.sched.flows)); arrivals = refl };
+          arrives = record { flows = refl; virtual_time = refl; one_more = passes.one_more ∙ ap (λ n. n + 1) (sym (waits_forgotten s.value.sched.flows)); arrivals = refl; room = λ other ne. keeps other };
         };
         takes = λ flow before after has. record {
           link = refl;

@@ -1,5 +1,5 @@
 -- Where only room was made, a shaper stays sound. So does one whose last flow, which was made for a packet, is taken out.
-use Rattle.std.proofs.Common.{◌≡◌, ◌∙◌, ◌≤◌, ◌<◌, ◌-◌, ◌⊎◌, ℕ, zero, suc, ◌+◌, Bool, true, false, not, cond, ◌||◌, List, [], ◌∷◌, ◌++◌, refl, ap, sym, subst, length, take, arith, ⊎_elim, inl, inr}
+use Rattle.std.proofs.Common.{◌≡◌, ◌∙◌, ◌≤◌, ◌<◌, ◌-◌, ◌⊎◌, ℕ, zero, suc, ◌+◌, Bool, true, false, not, cond, ◌||◌, List, [], ◌∷◌, ◌++◌, map, refl, ap, sym, subst, length, take, arith, ⊎_elim, inl, inr}
 use Rattle.std.specs.Prelude.{Option, Some, Result, Ok, Err, OnErr, is_err, slice_get}
 use Rattle.std.specs.List.{list_any, position_or_len}
 use Rattle.std.proofs.lemmas.Bool.{cases_lt, or_right}
@@ -9,7 +9,7 @@ use Rattle.dn_heap.specs.Heap.{Heap}
 use Rattle.dn_types.specs.Flows.{key_eq, flow_number, with_key}
 use Rattle.dn_types.specs.Trace.{Link, shared, link_eq, Event, links}
 use Rattle.dn_types.specs.declared.flow_key.FlowKey.{FlowKey}
-use Rattle.dn_flows.specs.Table.{FlowState, Table, new_flow, flow_at, is_known, flows_with}
+use Rattle.dn_flows.specs.Table.{FlowState, Table, new_flow, flow_at, is_known, flows_with, places}
 use Rattle.dn_flows.specs.declared.waiting.Waiting.{Waiting}
 use Rattle.dn_shaper.specs.declared.links.next_start.NextStart.{NextStart}
 use Rattle.dn_shaper.specs.declared.links.parts.Parts.{Parts}
@@ -17,16 +17,17 @@ use Rattle.dn_shaper.specs.declared.state.State.{State}
 use Rattle.dn_shaper.specs.Refinement.Agreement.{AgreesWith, link_names}
 use Rattle.dn_shaper.specs.Refinement.NextStarts.{Holds}
 use Rattle.dn_shaper.specs.Refinement.Homing.{KeepsHeap, OnlyReserves, without_last}
-use Rattle.dn_shaper.specs.Refinement.Making.{KeepsAt, Prepares, OnlyMakesRoom, SameFlow}
+use Rattle.dn_shaper.specs.Refinement.Making.{KeepsAt, KeepsPlaces, Prepares, OnlyMakesRoom, SameFlow}
 use Rattle.dn_shaper.specs.Refinement.Settling.{AreInStep}
 use Rattle.dn_shaper.specs.Refinement.Sound.{IsSound}
-use Rattle.dn_shaper.specs.Refinement.Starting.{Within}
+use Rattle.dn_shaper.specs.Refinement.Starting.{HoldsPlaces, KeepsReady, Within}
 use Rattle.dn_shaper.specs.Refinement.Submitting.{IsMade}
-use Rattle.dn_shaper.specs.Refinement.Views.{LinkView, views_of, next_starts, home, queue_lengths}
+use Rattle.dn_shaper.specs.Refinement.Views.{LinkView, view_of, views_of, next_starts, home, queue_lengths}
 use Rattle.dn_shaper.specs.Refinement.Settings.{at_number}
 use Rattle.dn_shaper.proofs.Alone.{all-seen-same}
 use Rattle.std.proofs.lemmas.List.{append-nil}
 use Rattle.dn_flows.proofs.Places.{length-more}
+use Rattle.dn_flows.proofs.Reservations.{places-before, places-take}
 use Rattle.dn_shaper.proofs.Reserved.{reserved-names, reserves-agree, reserves-kept, reserves-within}
 use Rattle.dn_shaper.proofs.Reserving.{same-flow}
 use Rattle.dn_types.proofs.Settled.{link_eq-refl}
@@ -109,6 +110,14 @@ flow-more [] (suc g) = refl
 flow-more (s ∷ flows) zero = refl
 flow-more (s ∷ flows) (suc g) = flow-more flows g
 
+-- The last flow, which is new, has no place.
+pub last-placeless : (flows more : List FlowState) → more ≡ flows ++ new_flow ∷ [] → (flow_at more (length more - 1)).reserved ≡ false
+last-placeless flows more is =
+    let l = length-more flows new_flow in
+    let n = ap {B = ℕ} (λ (fs : List FlowState). length fs) is in
+    let last : length more - 1 ≡ length flows = omega arith in
+    (λ i. (flow_at (is i) (last i)).reserved) ∙ ap (λ (s : FlowState). s.reserved) (flow-more flows (length flows) ∙ get_or_past flows (length flows) new_flow (omega arith))
+
 -- The table has one flow more, which is new.
 pub record IsOneMore (key : FlowKey) (old new : Table) : Type 0 where
   pub keys : new.keys ≡ old.keys ++ key ∷ []
@@ -142,10 +151,11 @@ pub known-reserves : (old new : Parts) (t : Table) (key : FlowKey) → flow_numb
     (is_known key old.flows.keys ≡ true → t ≡ old.flows) → OnlyMakesRoom (with_table old t) new → OnlyMakesRoom old new
 known-reserves old new t key lt same room = same-reserves old new t (known-table old.flows t key lt same) room
 
-pub only-parts : (old : State) (new : Parts) → OnlyMakesRoom old.parts new →
+pub only-parts : (old : State) (new : Parts) → OnlyMakesRoom old.parts new → KeepsPlaces old.parts.flows.flows new.flows.flows →
     OnlyReserves old (record { parts = new; heap = old.heap; shared = old.shared; configured = old.configured; now = old.now; calls = old.calls })
-only-parts old new r = record {
+only-parts old new r placed = record {
   parts = r;
+  placed = placed;
   heap = record { keys = refl; moves = refl; room = omega arith };
   shared = refl;
   keeps = record { rule = r.rule; configured = refl; now = refl; calls = refl };
@@ -176,10 +186,12 @@ without-new old t key more new o =
         pending = r.parts.pending;
         pushed = r.parts.pushed;
         room = r.parts.room;
+        holds = r.parts.holds;
         flows = r.parts.flows;
         many = r.parts.many;
         views = r.parts.views;
       };
+      placed = r.placed;
       heap = r.heap;
       shared = r.shared;
       keeps = record { rule = r.keeps.rule; configured = r.keeps.configured; now = r.keeps.now; calls = r.keeps.calls };
@@ -187,7 +199,8 @@ without-new old t key more new o =
 
 module _ (old mid : State) (o : OnlyReserves old mid) (t : Table) (keys : t.keys ≡ take (length mid.parts.flows.keys - 1) mid.parts.flows.keys)
     (flows : t.flows ≡ take (length mid.parts.flows.flows - 1) mid.parts.flows.flows)
-    (empty : queue_lengths old.parts.flows.flows (length old.parts.flows.flows - 1) ≡ 0) where
+    (empty : queue_lengths old.parts.flows.flows (length old.parts.flows.flows - 1) ≡ 0)
+    (placeless : (flow_at old.parts.flows.flows (length old.parts.flows.flows - 1)).reserved ≡ false) where
   abbrev pub most : ℕ
   most = length old.parts.flows.flows - 1
 
@@ -241,6 +254,31 @@ module _ (old mid : State) (o : OnlyReserves old mid) (t : Table) (keys : t.keys
       ∙ lengths-left g
       ∙ sym (ap {B = ℕ} (λ (ws : List Waiting). length ws) (o.parts.flows g).backlog)
 
+  -- The last flow had no place in the delay line.
+  holds-left : HoldsPlaces (without_last old).parts → HoldsPlaces (with_table mid.parts t)
+  holds-left h =
+      let before = places-before most old.parts.flows.flows (omega arith) (ap (λ b. cond b 1 0) placeless) in
+      let then = o.parts.holds (omega arith) in
+      let is = ap {B = ℕ} places flows-are in
+      let fewer = places-take most mid.parts.flows.flows in
+      omega arith
+
+  placed-left : KeepsPlaces (take most old.parts.flows.flows) t.flows
+  placed-left g had = ⊎_elim below beyond (cases_lt g most)
+    where
+      below : g < most → (flow_at t.flows g).reserved ≡ true
+      below lt =
+          let a : flow_at (take most old.parts.flows.flows) g ≡ flow_at old.parts.flows.flows g = get_or-take most old.parts.flows.flows g new_flow lt in
+          let b : flow_at t.flows g ≡ flow_at mid.parts.flows.flows g = ap (λ (fs : List FlowState). flow_at fs g) flows-are ∙ get_or-take most mid.parts.flows.flows g new_flow lt in
+          ap (λ (s : FlowState). s.reserved) b ∙ o.placed g (ap (λ (s : FlowState). s.reserved) (sym a) ∙ had)
+
+      beyond : most ≤ g → (flow_at t.flows g).reserved ≡ true
+      beyond le =
+          let n = length-take-le most old.parts.flows.flows (omega arith) in
+          let a : flow_at (take most old.parts.flows.flows) g ≡ new_flow = get_or_past (take most old.parts.flows.flows) g new_flow (omega arith) in
+          let none : false ≡ true = sym (ap (λ (s : FlowState). s.reserved) a) ∙ had in
+          absurd cc
+
   -- What is left is the shaper without its last flow, but for room.
   pub forgets : OnlyReserves (without_last old) (with_flows mid t)
   forgets = record {
@@ -253,6 +291,7 @@ module _ (old mid : State) (o : OnlyReserves old mid) (t : Table) (keys : t.keys
       pending = o.parts.pending;
       pushed = o.parts.pushed;
       room = o.parts.room;
+      holds = holds-left;
       flows = flows-left;
       many = many-left;
       views = λ place.
@@ -265,10 +304,18 @@ module _ (old mid : State) (o : OnlyReserves old mid) (t : Table) (keys : t.keys
           ))
           (o.parts.views place);
     };
+    placed = placed-left;
     heap = o.heap;
     shared = o.shared;
     keeps = record { rule = o.keeps.rule; configured = o.keeps.configured; now = o.keeps.now; calls = o.keeps.calls };
   }
+
+-- The table has room for more flows, and all else stays.
+pub table-ready : (p : Parts) (t : Table) → t.flows ≡ p.flows.flows → KeepsReady p (with_table p t)
+table-ready p t same flow ready = record {
+  place = subst (λ (fs : List FlowState). (flow_at fs flow).reserved ≡ true) (sym same) ready.place;
+  slot = λ h v pipe at there is. ready.slot h v pipe at (ap (λ (fs : List FlowState). slice_get (map (view_of (queue_lengths fs)) p.links.items) h.place) (sym same) ∙ there) is;
+}
 
 -- ---- What a result says
 
@@ -276,6 +323,6 @@ pub err-of : {X E : Type 0} {A : Type 0} (r : Result X E) → is_err r ≡ true 
 err-of (Ok x) e a = absurd cc
 err-of (Err x) e a = a
 
-pub parts-sound : (old : State) (new : Parts) → OnlyMakesRoom old.parts new → IsSound old →
+pub parts-sound : (old : State) (new : Parts) → OnlyMakesRoom old.parts new → KeepsPlaces old.parts.flows.flows new.flows.flows → IsSound old →
     IsSound (record { parts = new; heap = old.heap; shared = old.shared; configured = old.configured; now = old.now; calls = old.calls })
-parts-sound old new r s = reserves-sound old (record { parts = new; heap = old.heap; shared = old.shared; configured = old.configured; now = old.now; calls = old.calls }) (only-parts old new r) s
+parts-sound old new r placed s = reserves-sound old (record { parts = new; heap = old.heap; shared = old.shared; configured = old.configured; now = old.now; calls = old.calls }) (only-parts old new r placed) s

@@ -17,10 +17,10 @@ use Rattle.dn_shaper.specs.declared.links.home.Home.{Home}
 use Rattle.dn_shaper.specs.declared.links.parts.Parts.{Parts}
 use Rattle.dn_shaper.specs.Refinement.Agreement.{AgreesWith, AreDistinct, IsAt, IsHomeOf, IsLinkAt, link_names}
 use Rattle.dn_shaper.specs.Refinement.NextStarts.{Holds}
-use Rattle.dn_shaper.specs.Refinement.Making.{KeepsLink, KeepsAt, OnlyMakesRoom}
+use Rattle.dn_shaper.specs.Refinement.Making.{KeepsLink, KeepsAt, KeepsPlaces, OnlyMakesRoom}
 use Rattle.dn_shaper.specs.Refinement.Settling.{AreInStep}
 use Rattle.dn_shaper.specs.Refinement.Slots.{Ascends, top}
-use Rattle.dn_shaper.specs.Refinement.Starting.{Within}
+use Rattle.dn_shaper.specs.Refinement.Starting.{KeepsReady, Within}
 use Rattle.dn_shaper.specs.Refinement.Views.{LinkView, views_of, home, next_starts, next_start_of, waits_in_all}
 use Rattle.dn_shaper.proofs.OnePlace.{agrees-as}
 use Rattle.dn_shaper.proofs.Reserving.{same-within}
@@ -125,12 +125,22 @@ module _ (old new : Parts) (r : OnlyMakesRoom old new) where
   pub reserves-within : (n : ℕ) → Within n old → Within n new
   reserves-within n w = record {
     waiting_is = r.waiting ∙ w.waiting_is ∙ sym reserved-waits;
-    room = let a = w.room in let b = r.waiting in let c = r.room in omega arith;
+    room = r.holds w.room;
     pushed = let a = w.pushed in let b = r.waiting in let c = r.pushed in omega arith;
     sums = let a = w.sums in let b = r.waiting in let c = ap {B = ℕ} (λ (ds : List Delivery). length ds) r.pending in omega arith;
     flows_are = λ g. same-within (r.flows g) (w.flows_are g);
     arrivals = λ k v e. let o = was-there (slice_get (views_of old) k) (slice_get (views_of new) k) (r.views k) v e in let a = w.arrivals k o.0 o.1 in let b = o.2.schedule.arrivals in omega arith;
     accepted = let a = w.accepted in let b = r.accepted in omega arith;
+  }
+
+  pub reserves-ready : KeepsPlaces old.flows.flows new.flows.flows → KeepsReady old new
+  reserves-ready placed flow ready = record {
+    place = placed flow ready.place;
+    slot = λ h w pipe at there is.
+        let v = was-there (slice_get (views_of old) h.place) (slice_get (views_of new) h.place) (r.views h.place) w there in
+        let before = ready.slot h v.0 pipe (ap (λ (hs : List Home). slice_get hs flow) (sym r.homes) ∙ at) v.1 (sym v.2.link ∙ is) in
+        let more = v.2.schedule.room h.slot in
+        omega arith;
   }
 
   pub reserves-kept : (heap : Heap NextStart) → AreInStep old heap → AreInStep new heap

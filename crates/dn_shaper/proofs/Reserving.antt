@@ -3,11 +3,12 @@ use Rattle.std.proofs.Common.{◌≡◌, ◌∙◌, ◌<◌, ◌⊎◌, ℕ, tru
 use Rattle.std.specs.Prelude.{Option, Some, None, Result, Ok, Err, OnOk, slice_get}
 use Rattle.std.proofs.lemmas.Bool.{cases_eq}
 use Rattle.dn_flows.specs.declared.waiting.Waiting.{Waiting}
-use Rattle.dn_flows.specs.Table.{FlowState, flow_at, with_place}
+use Rattle.dn_flows.specs.Table.{FlowState, flow_at, places, with_place}
+use Rattle.dn_flows.proofs.Reservations.{places-same}
 use Rattle.dn_flows.proofs.Views.{flow_after_set}
 use Rattle.dn_types.specs.Trace.{Link, own, shared}
 use Rattle.dn_wf2q.specs.Schedule.{room_at}
-use Rattle.dn_shaper.specs.Refinement.Making.{KeepsLink, SameFlow, KeepsAt, HasSlotRoom}
+use Rattle.dn_shaper.specs.Refinement.Making.{KeepsLink, KeepsPlaces, SameFlow, KeepsAt, HasSlotRoom}
 use Rattle.dn_shaper.specs.Refinement.Starting.{AreCountsWithin}
 use Rattle.dn_shaper.specs.Refinement.Views.{LinkView, queue_lengths}
 use Rattle.dn_shaper.proofs.Alone.{lengths-same}
@@ -77,6 +78,15 @@ module _ (flows : List FlowState) {flow : ℕ} (inside : flow < length flows) {n
 
   pub flows-placed : (g : ℕ) → SameFlow (flow_at flows g) (flow_at now g)
   flows-placed g = subst (λ (fs : List FlowState). SameFlow (flow_at flows g) (flow_at fs g)) (sym is) (place-reserved flows flow g inside)
+
+  pub placed-keeps : KeepsPlaces flows now
+  placed-keeps g had = subst (λ (fs : List FlowState). (flow_at fs g).reserved ≡ true) (sym is)
+      (each-flow (λ (f : ℕ) (s : FlowState). (flow_at flows f).reserved ≡ true → s.reserved ≡ true) flows flow (with_place (flow_at flows flow)) inside
+      (λ its. refl) (λ f ne its. its) g had)
+
+  -- A flow that has a place gets no other.
+  pub places-placed : (flow_at flows flow).reserved ≡ true → places (set flows flow (with_place (flow_at flows flow))) ≡ places flows
+  places-placed had = places-same flows flow (with_place (flow_at flows flow)) inside (sym had)
 
   pub place-ready : (flow_at now flow).reserved ≡ true
   place-ready =

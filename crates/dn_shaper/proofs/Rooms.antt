@@ -1,26 +1,27 @@
 -- Room for a packet of a flow that is known stays where only packets start or are given.
-use Rattle.std.proofs.Common.{◌≡◌, ◌∙◌, ◌<◌, ◌≤◌, ◌^◌, ℕ, Bool, false, List, length, refl, ap, sym, subst, arith}
-use Rattle.std.specs.Prelude.{Option, Result, Ok, Err, IfOk}
+use Rattle.std.proofs.Common.{◌≡◌, ◌∙◌, ◌+◌, ◌<◌, ◌^◌, ◌||◌, ℕ, Bool, true, false, not, cond, List, [], ◌∷◌, ◌++◌, length, refl, ap, sym, subst, arith}
+use Rattle.std.specs.Prelude.{Option, Some, Result, Ok, Err, IfOk}
 use Rattle.dn_types.specs.Clock.{call_limit}
-use Rattle.dn_types.specs.Flows.{Treatment, flow_number, treatment}
+use Rattle.dn_types.specs.Flows.{Treatment, flow_number, key_eq, key_of, treatment, with_key}
 use Rattle.dn_types.specs.declared.call.Call.{Call}
 use Rattle.dn_types.specs.declared.five_tuple.FiveTuple.{FiveTuple}
 use Rattle.dn_types.specs.declared.flow_key.FlowKey.{FlowKey}
 use Rattle.dn_types.specs.declared.rule.Rule.{Rule}
 use Rattle.dn_types.specs.declared.target.Target.{Target}
+use Rattle.dn_types.proofs.Keys.{key_eq-true}
 use Rattle.dn_flows.specs.Table.{is_known}
 use Rattle.dn_link.specs.Line.{Line}
 use Rattle.dn_shaper.specs.declared.links.parts.Parts.{Parts}
 use Rattle.dn_shaper.specs.declared.state.State.{State}
 use Rattle.dn_shaper.specs.Refinement.Settings.{settings_of}
-use Rattle.dn_shaper.specs.Refinement.Starting.{IsReady}
-use Rattle.dn_shaper.specs.Room.{IsNewBy, IsNewFlow, KeepsRoom, LeavesRoom}
+use Rattle.dn_shaper.specs.Refinement.Starting.{IsReady, KeepsOthersReady, KeepsReady}
+use Rattle.dn_shaper.specs.Room.{HasRoomOf, IsNewBy, IsNewFlow, IsOther, KeepsOthersRoom, KeepsRoom, LeavesRoom}
 use Rattle.dn_shaper.specs.Shaper.{StandsAfter}
 use Rattle.dn_shaper.specs.Standing.{StandsAt}
 use Rattle.dn_shaper.proofs.Counting.{all-count}
 
 pub keeps-room : (old new : State) → new.configured ≡ old.configured → new.parts.flows.keys ≡ old.parts.flows.keys
-    → ((flow : ℕ) → IsReady flow old.parts → IsReady flow new.parts) → KeepsRoom old new
+    → KeepsReady old.parts new.parts → KeepsRoom old new
 keeps-room old new same keys ready = (
   same,
   λ key has. record {
@@ -29,13 +30,68 @@ keeps-room old new same keys ready = (
   },
 )
 
--- More room in the delay line is room still.
-pub wider : (p : Parts) (line : Line) (flow : ℕ) → p.line.room ≤ line.room → IsReady flow p
-    → IsReady flow (record { rule = p.rule; accepted = p.accepted; flows = p.flows; homes = p.homes; links = p.links; waiting = p.waiting; line = line })
-wider p line flow more ready = record { place = ready.place; slot = ready.slot; line = let l = ready.line in omega arith }
+-- The delay line is another.
+pub with-line : (p : Parts) (line : Line) → KeepsReady p (record { rule = p.rule; accepted = p.accepted; flows = p.flows; homes = p.homes; links = p.links; waiting = p.waiting; line = line })
+with-line p line flow ready = record { place = ready.place; slot = ready.slot }
 
 pub leaves-of : (call named : Call) (old s new : State) → named ≡ call → old ≡ s → LeavesRoom call old new → LeavesRoom named s new
 leaves-of call named old s new same is leaves = subst (λ (x : Call × State). LeavesRoom x.0 x.1 new) (λ i. (sym same i, is i)) leaves
+
+-- ---- A packet leaves the room of other flows
+
+-- A flow with another key has another number.
+numbers-apart : (a b : FlowKey) (known : List FlowKey) → is_known a known ≡ true → flow_number known a ≡ flow_number known b → a ≡ b
+numbers-apart a b [] there same = absurd cc
+numbers-apart a b (k ∷ known) there same = by (key_eq a k) (key_eq b k) refl refl (λ its eq. numbers-apart a b known its eq) there same
+  where
+    by : (x y : Bool) → key_eq a k ≡ x → key_eq b k ≡ y → (is_known a known ≡ true → flow_number known a ≡ flow_number known b → a ≡ b) → (x || is_known a known) ≡ true
+        → cond (not x) (1 + flow_number known a) 0 ≡ cond (not y) (1 + flow_number known b) 0 → a ≡ b
+    by true true p q rest its eq = key_eq-true a k p ∙ sym (key_eq-true b k q)
+    by true false p q rest its eq = absurd (omega arith)
+    by false true p q rest its eq = absurd (omega arith)
+    by false false p q rest its eq = rest its (omega arith)
+
+-- A flow that is known has the number that it had before one more is.
+number-stays : (a key : FlowKey) (known : List FlowKey) → is_known a known ≡ true → (flow_number (known ++ key ∷ []) a ≡ flow_number known a) × (is_known a (known ++ key ∷ []) ≡ true)
+number-stays a key [] there = absurd cc
+number-stays a key (k ∷ known) there = by (key_eq a k) (λ its. number-stays a key known its) there
+  where
+    by : (x : Bool) → (is_known a known ≡ true → (flow_number (known ++ key ∷ []) a ≡ flow_number known a) × (is_known a (known ++ key ∷ []) ≡ true)) → (x || is_known a known) ≡ true
+        → (cond (not x) (1 + flow_number (known ++ key ∷ []) a) 0 ≡ cond (not x) (1 + flow_number known a) 0) × ((x || is_known a (known ++ key ∷ [])) ≡ true)
+    by true rest its = (refl, refl)
+    by false rest its = let r = rest its in (ap {B = ℕ} (λ n. 1 + n) r.0, r.1)
+
+number-then : (a key : FlowKey) (known : List FlowKey) → is_known a known ≡ true → (flow_number (with_key key known) a ≡ flow_number known a) × (is_known a (with_key key known) ≡ true)
+number-then a key known there = by (is_known key known)
+  where
+    by : (x : Bool) → (flow_number (cond x known (known ++ key ∷ [])) a ≡ flow_number known a) × (is_known a (cond x known (known ++ key ∷ [])) ≡ true)
+    by true = (refl, there)
+    by false = number-stays a key known there
+
+pub others-room : (old new : Parts) (key : FlowKey) → new.flows.keys ≡ with_key key old.flows.keys → KeepsOthersReady (flow_number old.flows.keys key) old new
+    → (other : FlowKey) → (other ≡ key → ⊥) → HasRoomOf other old → HasRoomOf other new
+others-room old new key keys ready other ne has =
+    let then = number-then other key old.flows.keys has.known in
+    record {
+      known = ap (is_known other) keys ∙ then.1;
+      ready = subst (λ n. IsReady n new) (sym (ap (λ (ks : List FlowKey). flow_number ks other) keys ∙ then.0))
+          (ready (flow_number old.flows.keys other) (λ same. ne (numbers-apart other key old.flows.keys has.known same)) has.ready);
+    }
+
+-- The packet is treated so, by what is configured.
+pub others-some : (old new : State) (target : Target) (tuple : FiveTuple) (how : Treatment) → Some how ≡ treatment (settings_of old.configured target) → new.configured ≡ old.configured
+    → new.parts.flows.keys ≡ with_key (key_of target tuple how) old.parts.flows.keys
+    → KeepsOthersReady (flow_number old.parts.flows.keys (key_of target tuple how)) old.parts new.parts → KeepsOthersRoom target tuple old new
+others-some old new target tuple how is same keys ready = (
+  same,
+  subst (λ (o : Option Treatment). (key : FlowKey) → IsOther o target tuple key → HasRoomOf key old.parts → HasRoomOf key new.parts) is
+      (λ key other. others-room old.parts new.parts (key_of target tuple how) keys ready key other),
+)
+
+pub others-all : (old new : State) (target : Target) (tuple : FiveTuple) → KeepsRoom old new → KeepsOthersRoom target tuple old new
+others-all old new target tuple keeps = (keeps.0, λ key other. keeps.1 key)
+
+-- ---- What is said of calls
 
 -- The shaper stands after these calls themselves, of which there are fewer than are answered.
 stands-at : (rule : Rule) (t : State) (calls : List Call) → StandsAfter rule t calls → length calls < call_limit → StandsAt rule t calls

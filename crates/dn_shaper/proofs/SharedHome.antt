@@ -1,5 +1,5 @@
 -- The home of a new flow is the next slot of a link that is there.
-use Rattle.std.proofs.Common.{◌≡◌, ◌∙◌, ◌≤◌, ◌<◌, ℕ, cond, List, [], ◌∷◌, ◌++◌, set, ap, sym, subst, length, arith}
+use Rattle.std.proofs.Common.{◌≡◌, ◌∙◌, ◌≤◌, ◌<◌, ℕ, cond, List, [], ◌∷◌, ◌++◌, set, refl, ap, sym, subst, length, arith}
 use Rattle.std.specs.Prelude.{Option, Some, None, nat_lt, slice_get}
 use Rattle.std.specs.List.{list_any}
 use Rattle.dn_types.specs.Calls.{link_of}
@@ -12,7 +12,7 @@ use Rattle.dn_shaper.specs.Refinement.Agreement.{AgreesWith, link_names}
 use Rattle.dn_shaper.specs.Refinement.NextStarts.{Holds}
 use Rattle.dn_shaper.specs.Refinement.Homing.{GivesHome, Shares, place_for}
 use Rattle.dn_shaper.specs.Refinement.Sound.{IsIndexed, IsSound}
-use Rattle.dn_shaper.specs.Refinement.Starting.{IsReady, Within}
+use Rattle.dn_shaper.specs.Refinement.Starting.{IsReady, KeepsReady, Within}
 use Rattle.dn_shaper.specs.Refinement.Submitting.{IsMade}
 use Rattle.dn_shaper.specs.Refinement.Views.{LinkView, views_of, next_starts, next_start_of, waits_in_all}
 use Rattle.dn_shaper.specs.Refinement.Settings.{at_number}
@@ -23,7 +23,7 @@ use Rattle.dn_shaper.proofs.OnePlace.{each-set}
 use Rattle.dn_flows.proofs.Places.{get-set, length-more, map-set-same, sum-set}
 use Rattle.dn_shaper.proofs.Preparing.{IsOneMore, seen-made, with_flows}
 use Rattle.dn_shaper.proofs.Sharing.{named-at}
-use Rattle.dn_shaper.proofs.Housed.{keys-are, same-flows, many-flows, ready-by, within-by, sound-by, agrees-by}
+use Rattle.dn_shaper.proofs.Housed.{keys-are, same-flows, many-flows, ready-by, within-by, sound-by, agrees-by, leaves-by}
 
 module _ (old new : State) (t : Table) (key : FlowKey) (one : IsOneMore key old.parts.flows t)
     (g : GivesHome key (length old.parts.flows.keys) (with_flows old t) new) (as_many : length old.parts.flows.flows ≡ length old.parts.flows.keys) where
@@ -73,6 +73,12 @@ module _ (old new : State) (t : Table) (key : FlowKey) (one : IsOneMore key old.
     shared-ready many = ready-by old new t key one g as_many
         (λ v pipe e is. subst (λ (x : LinkView × ℕ). 0 < room_at x.0.schedule.room x.1)
         (λ i. (view-now v (ap (slice_get (views_of new.parts)) (sym s.place_is) ∙ e) i, sym s.slot_is i)) s.takes.room) many
+
+    pub shared-leaves : (trace : List Event) → AgreesWith old.parts [] trace → KeepsReady old.parts new.parts
+    shared-leaves trace a = leaves-by old new t key one g as_many [] trace a (λ k v below e.
+        each-set (λ (k : ℕ) (v : LinkView). (w : LinkView) × (slice_get (views_of old.parts) k ≡ Some w) × (v.link ≡ w.link) × ((slot : ℕ) → room_at w.schedule.room slot ≤ room_at v.schedule.room slot))
+        (views_of old.parts) place s.view s.there s.view' (s.view, s.there, s.takes.link, s.takes.schedule.room)
+        (λ k v there ne. (v, there, refl, λ slot. omega arith)) k v (ap (λ (vs : List LinkView). slice_get vs k) (sym s.views_are) ∙ e))
 
     waits-same : waits_in_all (views_of new.parts) ≡ waits_in_all (views_of old.parts)
     waits-same =

@@ -8,8 +8,9 @@ use Rattle.dn_types.specs.SharedLinks.{next_packet}
 use Rattle.dn_types.specs.Starts.{start_at}
 use Rattle.dn_types.specs.Trace.{Link, own, shared, Accepted, Event, started, pipe_of, backlog}
 use Rattle.dn_types.specs.declared.delivery.Delivery.{Delivery}
-use Rattle.dn_flows.specs.Table.{FlowState, flow_at, popped, popped_from}
+use Rattle.dn_flows.specs.Table.{FlowState, flow_at, places, popped, popped_from}
 use Rattle.dn_flows.specs.declared.waiting.Waiting.{Waiting}
+use Rattle.dn_flows.proofs.Reservations.{places-same}
 use Rattle.dn_flows.proofs.Views.{popped_backlog}
 use Rattle.dn_wf2q.specs.Schedule.{room_at}
 use Rattle.dn_shaper.specs.declared.links.link_parts.LinkParts.{LinkParts}
@@ -23,6 +24,14 @@ use Rattle.dn_shaper.proofs.OnePlace.{agrees-as, each-flow, each-set}
 use Rattle.dn_flows.proofs.Places.{viewed, sum-set, sum-le, get-below, map-set}
 use Rattle.dn_shaper.proofs.Started.{start-agrees, popped_started, popped_rest}
 use Rattle.dn_shaper.proofs.Taking.{drop-fewer}
+
+-- A start leaves a reserved place.
+popped_reserved : (x : FlowState) → (popped x).reserved ≡ x.reserved
+popped_reserved x = by x.backlog
+  where
+    by : (ws : List Waiting) → (popped_from ws x).reserved ≡ x.reserved
+    by [] = refl
+    by (y ∷ ws) = refl
 
 -- A flow that has a packet is there.
 pub popped-below : (fs : List FlowState) (i : ℕ) (w : Waiting) → slice_get (flow_at fs i).backlog 0 ≡ Some w → i < length fs
@@ -128,7 +137,13 @@ module _ (place moment bandwidth delay : ℕ) (old new : Parts) (s : StartsAt pl
   pub starts-within : (n : ℕ) → Within n old → Within n new
   starts-within n w = record {
     waiting_is = let a = starts-waiting in let b = s.waiting in let c = w.waiting_is in omega arith;
-    room = let a = s.waiting in let b = s.room in let c = w.room in omega arith;
+    room =
+        let a = s.waiting in
+        let b = s.room in
+        let c = w.room in
+        let d = ap {B = ℕ} places s.starts.flows_are in
+        let e = places-same old.flows.flows s.starts.flow (popped (flow_at old.flows.flows s.starts.flow)) flow-there (popped_reserved (flow_at old.flows.flows s.starts.flow)) in
+        omega arith;
     pushed = let a = s.waiting in let b = s.pushed in let c = w.pushed in omega arith;
     sums =
         let a = s.waiting in
@@ -173,15 +188,7 @@ module _ (place moment bandwidth delay : ℕ) (old new : Parts) (s : StartsAt pl
         omega arith)
         (λ j v e ne here is. r.slot h v pipe home_before (ap (slice_get (views_of old)) (sym here) ∙ e) is) h.place v
         (ap (λ (vs : List LinkView). slice_get vs h.place) (sym s.views_are) ∙ e) refl is;
-    line = let a = s.waiting in let b = s.room in let c = r.line in omega arith;
   }
-    where
-      popped_reserved : (x : FlowState) → (popped x).reserved ≡ x.reserved
-      popped_reserved x = by x.backlog
-        where
-          by : (ws : List Waiting) → (popped_from ws x).reserved ≡ x.reserved
-          by [] = refl
-          by (y ∷ ws) = refl
 
   pub starts-nexts : next_starts (views_of new) ≡ set (next_starts (views_of old)) place (next_start_of s.view')
   starts-nexts = ap (λ (vs : List LinkView). next_starts vs) s.views_are ∙ map-set next_start_of (views_of old) place s.view'

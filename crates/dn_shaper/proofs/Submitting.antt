@@ -13,7 +13,8 @@ use Rattle.dn_types.specs.Trace.{Link, Accepted, Event, lost, refused, started, 
 use Rattle.dn_types.specs.declared.flow_key.FlowKey.{FlowKey}
 use Rattle.dn_types.specs.declared.packet.Packet.{Packet}
 use Rattle.dn_types.specs.declared.reply.Reply.TheVariants.{Queued, Lost as ReplyLost, Full as ReplyFull}
-use Rattle.dn_flows.specs.Table.{FlowState, flow_at, lengths, verdict_of}
+use Rattle.dn_flows.proofs.Reservations.{places-same}
+use Rattle.dn_flows.specs.Table.{FlowState, flow_at, lengths, places, verdict_of}
 use Rattle.dn_flows.specs.declared.verdict.Verdict.TheVariants.{Take, Lost, Full}
 use Rattle.dn_shaper.proofs.OnePlace.{each-flow}
 use Rattle.dn_shaper.specs.declared.links.next_start.NextStart.{NextStart}
@@ -134,11 +135,16 @@ module _ (flow : ℕ) {settings : Settings} {at : ℕ} {old mid : Parts} {heap h
 -- ---- A flow's counts
 
 pub noted-within : (n flow : ℕ) (x : FlowState) (old new : Parts) → flow < length old.flows.flows → new.flows.flows ≡ set old.flows.flows flow x →
-    AreCountsWithin (n + 1) x → views_of new ≡ views_of old → new.waiting ≡ old.waiting → new.line ≡ old.line → new.accepted ≡ old.accepted → Within n old →
+    AreCountsWithin (n + 1) x → x.reserved ≡ (flow_at old.flows.flows flow).reserved → views_of new ≡ views_of old → new.waiting ≡ old.waiting → new.line ≡ old.line → new.accepted ≡ old.accepted → Within n old →
     Within (n + 1) new
-noted-within n flow x old new lt flows inside views waiting line accepted w = record {
+noted-within n flow x old new lt flows inside placed views waiting line accepted w = record {
   waiting_is = waiting ∙ w.waiting_is ∙ ap (λ (vs : List LinkView). waits_in_all vs) (sym views);
-  room = let a = w.room in let b = ap {B = ℕ} (λ l. l.room) line in omega arith;
+  room =
+      let a = w.room in
+      let b = ap {B = ℕ} (λ l. l.room) line in
+      let c = ap {B = ℕ} places flows in
+      let d = places-same old.flows.flows flow x lt placed in
+      omega arith;
   pushed = let a = w.pushed in let b = ap {B = ℕ} (λ l. l.pushed) line in omega arith;
   sums = let a = w.sums in let b = ap {B = ℕ} (λ l. length l.pending) line in omega arith;
   flows_are = λ g. subst (λ (fs : List FlowState). AreCountsWithin (n + 1) (flow_at fs g)) (sym flows)

@@ -1,5 +1,5 @@
 -- The room that a call needs, where it is there before the call.
-use Rattle.std.specs.Prelude.{◌≡◌, ℕ, true, false, List, Option, Some, None, is_some}
+use Rattle.std.specs.Prelude.{◌≡◌, true, false, List, Option, Some, None, is_some}
 use Rattle.dn_types.specs.Configuration.{settings, subject}
 use Rattle.dn_types.specs.Flows.{Treatment, flow_number, key_of, keys, treatment}
 use Rattle.dn_types.specs.declared.call.Call.{Call}
@@ -13,8 +13,8 @@ use Rattle.dn_shaper.specs.declared.state.State.{State}
 use Rattle.dn_shaper.specs.Refinement.Settings.{settings_of}
 use Rattle.dn_shaper.specs.Refinement.Starting.{IsReady}
 
--- A flow has the key, and there is room for one more packet of it: in its queue, at its slot where its link is shared, and in
--- the delay line.
+-- A flow has the key, and there is room for one more packet of it: in its queue and at its slot where its link is shared. The
+-- delay line has room for one of each flow with a place in its queue (`HoldsPlaces`).
 pub record HasRoomOf (key : FlowKey) (p : Parts) : Type 0 where
   pub known : is_known key p.flows.keys ≡ true
   pub ready : IsReady (flow_number p.flows.keys key) p
@@ -46,8 +46,20 @@ HasRoomFor Show s = ⊥
 abbrev pub KeepsRoom : State → State → Type 0
 KeepsRoom old new = (new.configured ≡ old.configured) × ((key : FlowKey) → HasRoomOf key old.parts → HasRoomOf key new.parts)
 
--- What the call leaves of the room for packets: an Advance, a Collect and a Show leave all.
+-- The key isn't that of a packet that is treated so.
+abbrev pub IsOther : Option Treatment → Target → FiveTuple → FlowKey → Type 0
+IsOther None target tuple key = Unit {0}
+IsOther (Some how) target tuple key = key ≡ key_of target tuple how → ⊥
+
+-- All flows but that of the packet that had room for one more packet have it still, and the same settings are in force.
+abbrev pub KeepsOthersRoom : Target → FiveTuple → State → State → Type 0
+KeepsOthersRoom target tuple old new =
+    (new.configured ≡ old.configured) × ((key : FlowKey) → IsOther (treatment (settings_of old.configured target)) target tuple key → HasRoomOf key old.parts → HasRoomOf key new.parts)
+
+-- What the call leaves of the room for packets: an Advance, a Collect and a Show leave all, and a Submit leaves that for other
+-- flows, also if it is refused memory.
 abbrev pub LeavesRoom : Call → State → State → Type 0
+LeavesRoom (Submit target packet moment) old new = KeepsOthersRoom target packet.tuple old new
 LeavesRoom (Advance moment) old new = KeepsRoom old new
 LeavesRoom (Collect moment) old new = KeepsRoom old new
 LeavesRoom Show old new = KeepsRoom old new

@@ -120,10 +120,12 @@ impl Shaper {
     /// Makes room for a Submit of such a packet to the target, and says whether it is there.
     ///
     /// It isn't there only if the packet's flow is new, or after 2^62 calls. While it is there `apply` doesn't refuse that
-    /// Submit. An Advance, a Collect and a Show leave it. It is no call: no reply depends on it.
+    /// Submit. An Advance, a Collect, a Show, a Submit of another flow and a further `reserve` leave it, so that room can be made
+    /// for a packet of each of many flows before the first of them comes. It is no call: no reply depends on it.
     pub fn reserve(&mut self, target: Target, packet: &Packet) -> Result<bool, AllocError>
         ensures room { IfOk result (λ there. there ≡ true → (moment : ℕ) → HasRoomFor (Submit target packet.now moment) self.new) }
         ensures succeeds { (moment : ℕ) → HasRoomFor (Submit target packet.now moment) self.old → IsOk result }
+        ensures leaves { KeepsRoom self.old self.new }
         ensures known { IfOk result (λ there. there ≡ false → (rule : RuleValue) (calls : List CallValue) → StandsAfter rule self.old calls → length calls < call_limit → IsNewFlow target packet.now.tuple calls) }
         ensures same { (rule : RuleValue) (calls : List CallValue) → StandsAfter rule self.old calls → StandsAfter rule self.new calls }
     {

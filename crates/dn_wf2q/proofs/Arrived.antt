@@ -14,7 +14,7 @@ use Rattle.dn_wf2q.specs.declared.tagged_queue.TaggedQueue.{TaggedQueue}
 use Rattle.dn_wf2q.specs.declared.sched_parts.SchedParts.{SchedParts}
 use Rattle.dn_wf2q.specs.Rank.{RankView}
 use Rattle.dn_wf2q.specs.Schedule.{Flow, flow_at, no_packets, room_at, stamped, joined_by, after_arrival}
-use Rattle.dn_wf2q.specs.Queue.{arriving, last_finish_tag_in, packets_of, places, IsQueueKept}
+use Rattle.dn_wf2q.specs.Queue.{arriving, last_finish_tag_in, packets_of, places, IsQueueKept, last_tag}
 use Rattle.dn_wf2q.specs.Kept.{Kept, IsSchedKept, IsKeptWithout, IsEligible, IsWaiting, IsWithin, AreTagsWithin, flows_of, seen, tagged, by_slot, presence}
 use Rattle.dn_wf2q.specs.Kept.{behind, head_weight, bound, none_absent, only_absent}
 use Rattle.dn_wf2q.specs.Steps.{ArrivesAtSlot}
@@ -168,7 +168,7 @@ module _ (p : SchedParts) (kept : IsSchedKept p) (slot len weight : ℕ) (short 
     abbrev made : TaggedPacket
     made = arriving p.busy_from q p.virtual_time len weight
 
-    module _ (r : TaggedQueue) (packets : packets_of r ≡ packets_of q ++ made ∷ []) (last : r.last_finish_tag ≡ made.finish_tag) (arrived : r.arrived ≡ p.arrivals + 1)
+    module _ (r : TaggedQueue) (packets : packets_of r ≡ packets_of q ++ made ∷ []) (last : last_tag r ≡ made.finish_tag) (arrived : r.arrived ≡ p.arrivals + 1)
         (whole : IsQueueKept p.busy_from r) where
       stamped_is : tagged slot made ≡ stamped slot (seen p.busy_from slot q) p.virtual_time len weight
       stamped_is = rw (length-map (packets_of q) (tagged slot)) refl

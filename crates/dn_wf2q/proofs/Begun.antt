@@ -1,5 +1,5 @@
 -- A busy period begins.
-use Rattle.std.proofs.Common.{◌≡◌, ℕ, zero, suc, ◌+◌, ◌≤◌, List, [], ◌∷◌, length, All, refl, sym, ap, ◌∙◌, arith, nat_lt, false, get_or, Option, Some, None}
+use Rattle.std.proofs.Common.{◌≡◌, ℕ, zero, suc, ◌+◌, ◌≤◌, List, [], ◌∷◌, length, All, refl, sym, ap, ◌∙◌, arith, nat_lt, false, get_or}
 use Rattle.std.specs.List.{sum_by}
 use Rattle.std.proofs.lemmas.List.{length-map}
 use Rattle.std.proofs.lemmas.List.Sums.{sum_by-cons, get_or-le-sum_by}
@@ -7,16 +7,16 @@ use Rattle.std.proofs.lemmas.List.Elements.{All-nil, All-cons, All-head, All-tai
 use Rattle.std.proofs.lemmas.Bool.Decides.{nat_tests}
 use Rattle.dn_types.specs.Wf2q.{Stamped}
 use Rattle.dn_heap.specs.Heap.{Heap}
-use Rattle.dn_wf2q.specs.declared.queued_packet.QueuedPacket.{QueuedPacket}
 use Rattle.dn_wf2q.specs.declared.tagged_queue.TaggedQueue.{TaggedQueue}
 use Rattle.dn_wf2q.specs.declared.sched_parts.SchedParts.{SchedParts}
 use Rattle.dn_wf2q.specs.Rank.{RankView}
 use Rattle.dn_wf2q.specs.Schedule.{Flow, flow_at, no_packets, IsIdle, forgotten, without_tag}
 use Rattle.dn_wf2q.specs.Kept.{Kept, IsSchedKept, AreTagsWithin, flows_of, seen, tagged, by_slot, presence, behind, head_weight, bound, none_absent}
-use Rattle.dn_wf2q.specs.Queue.{behind_of, packets_of, stamped_from, IsChained, IsQueueKept}
+use Rattle.dn_wf2q.specs.Queue.{behind_of, packets_of, IsQueueKept}
 use Rattle.dn_wf2q.proofs.BySlot.{length-by_slot}
 use Rattle.dn_wf2q.proofs.Heads.{flow_at_seen}
 use Rattle.dn_wf2q.proofs.Counts.{idle_no_heads, waiting_is}
+use Rattle.dn_wf2q.proofs.Queues.{unchained}
 
 -- A sum over backlogs does not depend on finish tags.
 pub sum_forgotten : (h : List Stamped → ℕ) (flows : List Flow) → sum_by (λ fl. h fl.backlog) (forgotten flows) ≡ sum_by (λ fl. h fl.backlog) flows
@@ -74,11 +74,6 @@ module _ {flows : List Flow} {eligible waiting : Heap RankView} {virtual_time we
         waiting_room = let c = kept.waiting_room in omega arith;
       }
 
-none_waits : (a b c d last f : ℕ) (behind : List QueuedPacket) (head : Option QueuedPacket) → length (stamped_from head f behind) ≡ 0
-    → IsChained a c last f behind head → IsChained b d last f behind head
-none_waits a b c d last f behind None e k = k
-none_waits a b c d last f behind (Some h) e k = absurd (omega arith)
-
 -- No packet waits in any queue, so that none has to have arrived in this busy period.
 idle_queues : (p : SchedParts) → IsIdle (flows_of p) → All (IsQueueKept p.busy_from) p.flows.items → (a : ℕ) → All (IsQueueKept a) p.flows.items
 idle_queues p idle h a = λ i d l.
@@ -89,7 +84,7 @@ idle_queues p idle h a = λ i d l.
     let same = ap (λ (fl : Flow). length fl.backlog) (flow_at_seen p.busy_from p.flows.items i d l) in
     let count = length-map (packets_of q) (tagged i) in
     let kept = h i d l in
-    (none_waits p.busy_from a q.arrived q.arrived q.last_finish_tag q.finish_tag (behind_of q.behind) q.head (omega (arith, one, all, idle, same, count)) kept.0, kept.1)
+    (unchained p.busy_from a q.arrived q.arrived q.finish_tag (behind_of q.behind) q.head (omega (arith, one, all, idle, same, count)) kept.0, kept.1)
 
 pub begun : (p : SchedParts) → IsSchedKept p → IsIdle (flows_of p) → IsSchedKept (record p { virtual_time = 0; busy_from = p.arrivals })
 begun p kept idle = record {

@@ -14,7 +14,7 @@ use Rattle.dn_wf2q.specs.declared.tagged_queue.TaggedQueue.{TaggedQueue}
 use Rattle.dn_wf2q.specs.declared.sched_parts.SchedParts.{SchedParts}
 use Rattle.dn_wf2q.specs.Rank.{RankView}
 use Rattle.dn_wf2q.specs.Schedule.{Flow, flow_at, no_packets, after_discard}
-use Rattle.dn_wf2q.specs.Queue.{first_packet, places, packets_of, IsQueueKept}
+use Rattle.dn_wf2q.specs.Queue.{first_packet, places, packets_of, IsQueueKept, last_tag}
 use Rattle.dn_wf2q.specs.Kept.{Kept, IsSchedKept, NoneDue, HeadIs, IsEligible, IsWaiting, IsWithin, AreTagsWithin, presence, behind, head_weight, ranks_at}
 use Rattle.dn_wf2q.specs.Kept.{bound, flows_of, seen, tagged, by_slot, none_absent}
 use Rattle.dn_wf2q.specs.Steps.{DiscardsSlot}
@@ -175,7 +175,7 @@ beyond p slot l =
     }
 
 module _ (p : SchedParts) (kept : IsSchedKept p) (slot : ℕ) (listed : slot < length p.flows.items) (q : TaggedQueue)
-    (at : q ≡ get_or p.flows.items slot q) (r : TaggedQueue) (packets : packets_of r ≡ []) (last : r.last_finish_tag ≡ 0)
+    (at : q ≡ get_or p.flows.items slot q) (r : TaggedQueue) (packets : packets_of r ≡ []) (last : last_tag r ≡ 0)
     (arrived : r.arrived ≡ q.arrived) (whole : (b : ℕ) → IsQueueKept b r) (room : places q ≤ places r) where
   same_flow : flow_at (flows_of p) slot ≡ seen p.busy_from slot q
   same_flow = flow_at_seen p.busy_from p.flows.items slot q listed ∙ ap (seen p.busy_from slot) (sym at)

@@ -1,5 +1,5 @@
 -- A packet comes where none waits, and is sent at once.
-use Rattle.std.proofs.Common.{◌≡◌, ◌∙◌, ℕ, zero, suc, ◌+◌, ◌^◌, ◌<◌, ◌≤◌, max, cond, Option, Some, None, List, [], ◌∷◌, ◌++◌, length, map, take, All}
+use Rattle.std.proofs.Common.{◌≡◌, ◌∙◌, ℕ, zero, suc, ◌+◌, ◌^◌, ◌<◌, ◌≤◌, max, Some, None, List, [], ◌∷◌, ◌++◌, length, map, take, All}
 use Rattle.std.proofs.Common.{IsPermutation, refl, sym, ap, subst, arith, inl, inr, true, get_or, set, sum_by, nat_lt}
 use Rattle.std.proofs.lemmas.Bool.{cases_eq, cases_lt}
 use Rattle.std.proofs.lemmas.Bool.Decides.{nat_tests}
@@ -10,18 +10,18 @@ use Rattle.std.proofs.lemmas.List.Sums.{sum_by-cons, sum_by-set, get_or-le-sum_b
 use Rattle.std.specs.Vec.{with_item}
 use Rattle.dn_types.specs.Wf2q.{Stamped, grown, pick, scaled}
 use Rattle.dn_heap.specs.Heap.{Heap}
-use Rattle.dn_wf2q.specs.declared.queued_packet.QueuedPacket.{QueuedPacket}
 use Rattle.dn_wf2q.specs.declared.tagged_queue.TaggedQueue.{TaggedQueue}
 use Rattle.dn_wf2q.specs.declared.sched_parts.SchedParts.{SchedParts}
 use Rattle.dn_wf2q.specs.Rank.{RankView}
 use Rattle.dn_wf2q.specs.Schedule.{Flow, IsIdle, Passes, after_arrival, after_pick, flow_at, forgotten, heads_of, joined_by, no_packets, room_at, stamped, waiting_of, without_head, without_tag}
-use Rattle.dn_wf2q.specs.Queue.{behind_of, packets_of, places, stamped_from, IsChained, IsQueueKept}
+use Rattle.dn_wf2q.specs.Queue.{behind_of, packets_of, places, IsQueueKept}
 use Rattle.dn_wf2q.specs.Kept.{Kept, IsSchedKept, AreTagsWithin, IsWithin, by_slot, flows_of, seen, tagged, presence, behind, head_weight, bound, none_absent, ranks_at, schedule_of}
 use Rattle.dn_wf2q.specs.Steps.{PassesSlot}
 use Rattle.dn_wf2q.proofs.BySlot.{length-by_slot, by_slot-set}
 use Rattle.dn_wf2q.proofs.Heads.{flow_at_seen, flow_within_more, room_grows, room_listed}
 use Rattle.dn_wf2q.proofs.Counts.{first_packets, heads_are, heads_of_idle, idle_no_heads, no_heads_idle, waiting_is, waiting-set}
 use Rattle.dn_wf2q.proofs.Begun.{begun, flows_forgotten, forgotten_at, sum_forgotten}
+use Rattle.dn_wf2q.proofs.Queues.{emptied, unchained}
 use Rattle.dn_wf2q.proofs.Sent.{scaled-le}
 
 -- ---- Lists of flows
@@ -160,11 +160,6 @@ no_ranks : (g : ℕ) (ks : List RankView) → length ks ≡ 0 → ranks_at g ks 
 no_ranks g [] e = refl
 no_ranks g (k ∷ ks) e = absurd (omega arith)
 
-unchained : (a b c d last last' f : ℕ) (behind : List QueuedPacket) (head : Option QueuedPacket) → length (stamped_from head f behind) ≡ 0
-    → IsChained a c last f behind head → IsChained b d last' f behind head
-unchained a b c d last last' f behind None e k = k
-unchained a b c d last last' f behind (Some h) e k = absurd (omega arith)
-
 -- ---- The parts
 
 module _ (p : SchedParts) (kept : IsSchedKept p) (idle : IsIdle (flows_of p)) (slot len weight : ℕ) (short : len < 65536)
@@ -213,7 +208,7 @@ module _ (p : SchedParts) (kept : IsSchedKept p) (idle : IsIdle (flows_of p)) (s
 
   module _ (q : TaggedQueue) (at : q ≡ get_or p.flows.items slot q) (tag : ℕ) (tag_is : tag ≡ scaled len weight) where
     abbrev r : TaggedQueue
-    r = record { finish_tag = q.finish_tag; last_finish_tag = tag; arrived = p.arrivals + 1; head = q.head; alone = q.alone; behind = q.behind }
+    r = record { finish_tag = tag; arrived = p.arrivals + 1; head = q.head; alone = q.alone; behind = q.behind }
 
     seen_was : seen p.arrivals slot q ≡ no_packets
     seen_was =
@@ -222,12 +217,22 @@ module _ (p : SchedParts) (kept : IsSchedKept p) (idle : IsIdle (flows_of p)) (s
         ∙ ap (λ (fs : List Flow). flow_at fs slot) same
         ∙ empty_now
 
+    no_wait_at : length (packets_of q) ≡ 0
+    no_wait_at =
+        let none = ap (λ (fl : Flow). length fl.backlog) seen_was in
+        let count = length-map (packets_of q) (tagged slot) in
+        omega (arith, none, count)
+
+    whole_was : IsQueueKept p.arrivals q
+    whole_was = subst (IsQueueKept p.arrivals) (sym at) (began.queues slot q listed_queue)
+
+    blank_was : (q.head ≡ None) × (behind_of q.behind ≡ [])
+    blank_was = emptied p.arrivals q.arrived q.finish_tag (behind_of q.behind) q.head no_wait_at whole_was.0
+
     seen_is : seen p.arrivals slot r ≡ left fls slot len weight listed_now empty_now
     seen_is =
         let later : nat_lt p.arrivals (p.arrivals + 1) ≡ true = grind (arith, nat_tests) in
-        let none = ap (λ (fl : Flow). fl.backlog) seen_was in
-        let last = ap (λ b. cond b tag 0) later ∙ tag_is in
-        λ i. record { backlog = none i; last_finish_tag = last i }
+        rw (later, blank_was.0, blank_was.1, tag_is) refl
 
     flows_are : by_slot (seen p.arrivals) (set p.flows.items slot r) ≡ set fls slot (left fls slot len weight listed_now empty_now)
     flows_are = by_slot-set (seen p.arrivals) p.flows.items slot r ∙ (λ i. set (same i) slot (seen_is i))
@@ -321,8 +326,4 @@ module _ (p : SchedParts) (kept : IsSchedKept p) (idle : IsIdle (flows_of p)) (s
       }
         where
           whole : IsQueueKept p.arrivals r
-          whole =
-              let none = ap (λ (fl : Flow). length fl.backlog) seen_was in
-              let count = length-map (packets_of q) (tagged slot) in
-              let was = subst (IsQueueKept p.arrivals) (sym at) (began.queues slot q listed_queue) in
-              (unchained p.arrivals p.arrivals q.arrived (p.arrivals + 1) q.last_finish_tag tag q.finish_tag (behind_of q.behind) q.head (omega (arith, none, count)) was.0, was.1)
+          whole = (unchained p.arrivals p.arrivals q.arrived (p.arrivals + 1) q.finish_tag (behind_of q.behind) q.head no_wait_at whole_was.0, whole_was.1)

@@ -15,24 +15,42 @@ last_behind-push f [] p = refl
 last_behind-push f (x ∷ ps) p = last_behind-push (f + scaled x.len x.weight) ps p
 
 -- A packet that joins others starts at the last finish tag.
-pub joined : (b arrived last f v : ℕ) (behind : List QueuedPacket) (head : Option QueuedPacket) (p : QueuedPacket) → is_some head ≡ true
-    → IsChained b arrived last f behind head
-    → stamped_from head f (behind ++ p ∷ []) ≡ stamped_from head f behind ++ starting (start_tag_on_arrival (length (stamped_from head f behind) == 0) (cond (nat_lt b arrived) last 0) v) p ∷ []
-joined b arrived last f v behind None p e k = absurd (cc)
-joined b arrived last f v behind (Some h) p e k =
-    let l = k.0 in
+pub joined : (b arrived f v : ℕ) (behind : List QueuedPacket) (head : Option QueuedPacket) (p : QueuedPacket) → is_some head ≡ true
+    → IsChained b arrived behind head
+    → stamped_from head f (behind ++ p ∷ []) ≡ stamped_from head f behind ++ starting (start_tag_on_arrival (length (stamped_from head f behind) == 0) (cond (nat_lt b arrived) (last_behind f behind) 0) v) p ∷ []
+joined b arrived f v behind None p e k = absurd (cc)
+joined b arrived f v behind (Some h) p e k =
     let t : nat_lt b arrived ≡ true = grind (arith, nat_tests) in
     let z : (length (stamped_from (Some h) f behind) == 0) ≡ false = grind (arith, nat_tests) in
-    rw (z, t, stamped_behind-push f behind p, k.1) refl
+    rw (z, t, stamped_behind-push f behind p) refl
 
-pub joined_chained : (b arrived last f later : ℕ) (behind : List QueuedPacket) (head : Option QueuedPacket) (p : QueuedPacket) → is_some head ≡ true → b < later
-    → IsChained b arrived last f behind head
-    → IsChained b later (cond (nat_lt b arrived) last 0 + scaled p.len p.weight) f (behind ++ p ∷ []) head
-joined_chained b arrived last f later behind None p e m k = absurd (cc)
-joined_chained b arrived last f later behind (Some h) p e m k =
-    let l = k.0 in
+-- And its finish tag is the last one.
+pub joined_last : (b arrived f v : ℕ) (behind : List QueuedPacket) (head : Option QueuedPacket) (p : QueuedPacket) → is_some head ≡ true
+    → IsChained b arrived behind head
+    → last_behind f (behind ++ p ∷ []) ≡ start_tag_on_arrival (length (stamped_from head f behind) == 0) (cond (nat_lt b arrived) (last_behind f behind) 0) v + scaled p.len p.weight
+joined_last b arrived f v behind None p e k = absurd (cc)
+joined_last b arrived f v behind (Some h) p e k =
     let t : nat_lt b arrived ≡ true = grind (arith, nat_tests) in
-    (m, rw (t, last_behind-push f behind p, k.1) refl)
+    let z : (length (stamped_from (Some h) f behind) == 0) ≡ false = grind (arith, nat_tests) in
+    rw (z, t, last_behind-push f behind p) refl
+
+pub joined_chained : (b arrived later : ℕ) (behind : List QueuedPacket) (head : Option QueuedPacket) (p : QueuedPacket) → is_some head ≡ true → b < later
+    → IsChained b arrived behind head
+    → IsChained b later (behind ++ p ∷ []) head
+joined_chained b arrived later behind None p e m k = absurd (cc)
+joined_chained b arrived later behind (Some h) p e m k = m
+
+-- A queue without packets has none behind the head, whatever its finish tag is.
+pub emptied : (b arrived f : ℕ) (behind : List QueuedPacket) (head : Option QueuedPacket) → length (stamped_from head f behind) ≡ 0
+    → IsChained b arrived behind head → (head ≡ None) × (behind ≡ [])
+emptied b arrived f behind None e k = (refl, k)
+emptied b arrived f behind (Some h) e k = absurd (omega arith)
+
+-- A queue whose packets go or never came counts for any busy period.
+pub unchained : (a b c d f : ℕ) (behind : List QueuedPacket) (head : Option QueuedPacket) → length (stamped_from head f behind) ≡ 0
+    → IsChained a c behind head → IsChained b d behind head
+unchained a b c d f behind None e k = k
+unchained a b c d f behind (Some h) e k = absurd (omega arith)
 
 -- A packet stands behind once one has joined.
 pub not_alone : (behind : List QueuedPacket) (p : QueuedPacket) → false ≡ (length (behind ++ p ∷ []) == 0)
@@ -68,5 +86,5 @@ module _ (f : ℕ) (ps qs : List QueuedPacket) (o : Option QueuedPacket) (is : p
       let empty : ps ≡ [] = is ∙ ap (λ x. option_to_list x ++ qs) none ∙ none_left in
       rw (none, empty) refl
 
-  pub none_chained : (b arrived last : ℕ) → IsChained b arrived last f qs o
-  none_chained b arrived last = rw none none_left
+  pub none_chained : (b arrived : ℕ) → IsChained b arrived qs o
+  none_chained b arrived = rw none none_left

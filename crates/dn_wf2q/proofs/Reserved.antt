@@ -11,7 +11,7 @@ use Rattle.dn_wf2q.specs.declared.tagged_queue.TaggedQueue.{TaggedQueue}
 use Rattle.dn_wf2q.specs.declared.sched_parts.SchedParts.{SchedParts}
 use Rattle.dn_wf2q.specs.Rank.{RankView}
 use Rattle.dn_wf2q.specs.Schedule.{Flow, flow_at, no_packets, padded, room_at}
-use Rattle.dn_wf2q.specs.Queue.{places, packets_of, IsQueueKept}
+use Rattle.dn_wf2q.specs.Queue.{places, packets_of, IsQueueKept, last_tag}
 use Rattle.dn_wf2q.specs.Kept.{Kept, IsSchedKept, IsWithin, AreTagsWithin, flows_of, seen, by_slot, presence, behind, head_weight, bound, none_absent}
 use Rattle.dn_wf2q.specs.Steps.{MakesRoom, IsBlank, IsExtended}
 use Rattle.dn_wf2q.proofs.BySlot.{length-by_slot, by_slot-set, by_slot-append}
@@ -32,7 +32,7 @@ one_added xs ys q e b = record {
 pub extended_seen : (b : ℕ) (xs ys : List TaggedQueue) (n : ℕ) → IsExtended xs ys → length ys ≡ n → by_slot (seen b) ys ≡ padded (by_slot (seen b) xs) n
 extended_seen b xs ys n e l =
     let m : length e.more ≡ n - length (by_slot (seen b) xs) = omega (arith, length-by_slot (seen b) xs, length-append xs e.more, ap length e.is) in
-    let blank = All-weaker IsBlank (λ q. (slot : ℕ) → seen b slot q ≡ no_packets) (λ q h slot. rw (h.0, h.2, cond_zero (nat_lt b q.arrived)) refl) e.more e.blank in
+    let blank = All-weaker IsBlank (λ q. (slot : ℕ) → seen b slot q ≡ no_packets) (λ q h slot. rw (h.0, h.1, h.2, cond_zero (nat_lt b q.arrived)) refl) e.more e.blank in
     rw (e.is, ← m) (by_slot-append (seen b) xs e.more no_packets blank)
 
 extended_arrived : (a : ℕ) (xs ys : List TaggedQueue) → IsExtended xs ys → All (λ q. q.arrived ≤ a) xs → All (λ q. q.arrived ≤ a) ys
@@ -128,7 +128,7 @@ module _ (p : SchedParts) (kept : IsSchedKept p) (slot : ℕ) (listed : slot < l
   pub has_place : 0 < room_at (map places p.flows.items) slot → 0 < places q
   has_place h = rw room_is at h
 
-  module _ (r : TaggedQueue) (packets : packets_of r ≡ packets_of q) (last : r.last_finish_tag ≡ q.last_finish_tag) (arrived : r.arrived ≡ q.arrived)
+  module _ (r : TaggedQueue) (packets : packets_of r ≡ packets_of q) (last : last_tag r ≡ last_tag q) (arrived : r.arrived ≡ q.arrived)
       (whole : (b : ℕ) → IsQueueKept b q → IsQueueKept b r) (room : places q ≤ places r) where
     seen_is : seen p.busy_from slot r ≡ flow_at (flows_of p) slot
     seen_is =

@@ -15,7 +15,7 @@ use Rattle.dn_wf2q.specs.declared.tagged_queue.TaggedQueue.{TaggedQueue}
 use Rattle.dn_wf2q.specs.declared.sched_parts.SchedParts.{SchedParts}
 use Rattle.dn_wf2q.specs.Rank.{RankView}
 use Rattle.dn_wf2q.specs.Schedule.{Flow, flow_at, no_packets, heads_of, after_pick, without_head}
-use Rattle.dn_wf2q.specs.Queue.{first_packet, is_alone, places, packets_of, IsQueueKept}
+use Rattle.dn_wf2q.specs.Queue.{first_packet, is_alone, places, packets_of, IsQueueKept, last_tag}
 use Rattle.dn_wf2q.specs.Kept.{Kept, IsSchedKept, IsKeptBut, IsKeptWithout, HeadIs, IsEligible, IsWaiting, IsWithin, AreTagsWithin, flows_of, seen, tagged}
 use Rattle.dn_wf2q.specs.Kept.{presence, behind, head_weight, ranks_at, bound, none_absent, only_absent}
 use Rattle.dn_wf2q.specs.Steps.{SendsHead}
@@ -153,7 +153,7 @@ module _ (p : SchedParts) (kept : IsSchedKept p) (k : RankView) (es : Heap RankV
     alone_is = was_whole.1
 
     module _ (r : TaggedQueue) (sent : TaggedPacket) (is : packets_of q ≡ sent ∷ packets_of r)
-        (last : r.last_finish_tag ≡ q.last_finish_tag) (arrived : r.arrived ≡ q.arrived)
+        (last : last_tag r ≡ last_tag q) (arrived : r.arrived ≡ q.arrived)
         (whole : (b : ℕ) → IsQueueKept b q → IsQueueKept b r) (room : places r ≡ places q + 1) where
       abbrev head : Stamped
       head = tagged k.slot sent

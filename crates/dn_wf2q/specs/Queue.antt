@@ -57,10 +57,14 @@ head_spare (Some head) = 0
 abbrev pub places : TaggedQueue → ℕ
 places q = head_spare q.head + spare_of q.behind
 
--- Nothing waits behind no head, and behind a head, which arrived in this busy period, the last finish tag is the last packet's.
-abbrev pub IsChained : ℕ → ℕ → ℕ → ℕ → List QueuedPacket → Option QueuedPacket → Type 0
-IsChained busy_from arrived last finish behind None = behind ≡ []
-IsChained busy_from arrived last finish behind (Some head) = (busy_from < arrived) × (last ≡ last_behind finish behind)
+-- Nothing waits behind no head, and a head arrived in this busy period.
+abbrev pub IsChained : ℕ → ℕ → List QueuedPacket → Option QueuedPacket → Type 0
+IsChained busy_from arrived behind None = behind ≡ []
+IsChained busy_from arrived behind (Some head) = busy_from < arrived
+
+-- The finish tag of the last packet that came: behind the head that of the last one there, and without a head the one that is kept.
+abbrev pub last_tag : TaggedQueue → ℕ
+last_tag q = last_behind q.finish_tag (behind_of q.behind)
 
 -- Whether no packet stands behind the head.
 abbrev pub is_alone : TaggedQueue → Bool
@@ -68,11 +72,11 @@ is_alone q = length (behind_of q.behind) == 0
 
 -- What holds of a queue, where the busy period began after so many arrivals.
 abbrev pub IsQueueKept : ℕ → TaggedQueue → Type 0
-IsQueueKept busy_from q = IsChained busy_from q.arrived q.last_finish_tag q.finish_tag (behind_of q.behind) q.head × (q.alone ≡ is_alone q)
+IsQueueKept busy_from q = IsChained busy_from q.arrived (behind_of q.behind) q.head × (q.alone ≡ is_alone q)
 
 -- The last finish tag of a queue, where the busy period began after so many arrivals: an older tag counts for 0.
 abbrev pub last_finish_tag_in : ℕ → TaggedQueue → ℕ
-last_finish_tag_in busy_from q = cond (nat_lt busy_from q.arrived) q.last_finish_tag 0
+last_finish_tag_in busy_from q = cond (nat_lt busy_from q.arrived) (last_tag q) 0
 
 -- The packet that a queue appends on an arrival.
 abbrev pub arriving : ℕ → TaggedQueue → ℕ → ℕ → ℕ → TaggedPacket

@@ -71,7 +71,7 @@ pub record Begins (old new : SchedParts) : Type 0 where
 
 -- A queue that has had no packet.
 abbrev pub IsBlank : TaggedQueue → Type 0
-IsBlank q = (q.head ≡ None) × (behind_of q.behind ≡ []) × (q.last_finish_tag ≡ 0) × (q.arrived ≡ 0) × (q.alone ≡ true)
+IsBlank q = (q.head ≡ None) × (behind_of q.behind ≡ []) × (q.finish_tag ≡ 0) × (q.arrived ≡ 0) × (q.alone ≡ true)
 
 -- The second list is the first and then such queues.
 pub record IsExtended (xs ys : List TaggedQueue) : Type 0 where

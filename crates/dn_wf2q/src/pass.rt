@@ -30,7 +30,7 @@ impl SchedParts {
         self.picks += 1;
         self.virtual_time = finish_tag;
         let q = &mut self.flows[slot];
-        q.last_finish_tag = finish_tag;
+        q.finish_tag = finish_tag;
         q.arrived = self.arrivals;
         let _ = self.eligible.push_pop(Rank::new(finish_tag, slot));
     }

@@ -14,7 +14,7 @@ use std::marker::Model;
 /// Tags and virtual time are in units of 1/65536 byte per weight.
 ///
 /// A flow is named by its *slot*, its place among the flows of this link. The queues stand in one
-/// vector by slot, so the highest slot that was reserved decides the memory: about 112 bytes for
+/// vector by slot, so the highest slot that was reserved decides the memory: about 96 bytes for
 /// each slot up to it, and a block of 56 bytes or more for each flow that had room behind a packet
 /// (4 bytes for each packet beyond four). Number the flows of a link 0, 1, 2, .. as they are first
 /// seen. Ties between finish tags go to the lower slot.

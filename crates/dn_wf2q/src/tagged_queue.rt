@@ -1,6 +1,6 @@
 ghost use Rattle.std.specs.Prelude.{ℕ, ◌≡◌, ◌+◌, ◌<◌, ◌≤◌, ◌^◌, ◌==◌, [], ◌∷◌, ◌++◌, length, cond, option_to_list, Some, None, IsOk, IfSome, IfNone, OnOk, All};
 ghost use Rattle.dn_wf2q.specs.Steps.{IsBlank};
-ghost use Rattle.dn_wf2q.specs.Queue.{IsPayable, IsQueueKept, arriving, behind_of, finishing, first_packet, is_alone, last_behind, last_finish_tag_in, packets_of, places, spare_of, stamped_behind};
+ghost use Rattle.dn_wf2q.specs.Queue.{IsPayable, IsQueueKept, arriving, behind_of, finishing, first_packet, is_alone, last_finish_tag_in, last_tag, packets_of, places, spare_of, stamped_behind};
 
 use crate::behind::Behind;
 use crate::queued_packet::QueuedPacket;
@@ -14,9 +14,10 @@ use std::alloc::{AllocError, Global};
 /// packet's start tag behind another is that one's finish tag, and it is told when the packet becomes the head.
 #[derive(Drop)]
 pub(crate) struct TaggedQueue {
-    /// The head's finish tag.
+    /// The head's finish tag, or if there is no head that of the last one.
+    ///
+    /// If there is no head, it is the flow's last finish tag. Behind a head that one is told when it is asked for.
     pub(crate) finish_tag: u128,
-    pub(crate) last_finish_tag: u128,
     /// The count of arrivals at this flow's last one.
     ///
     /// If a busy period has begun since then, the last finish tag counts for 0, so that the beginning of one need not go
@@ -37,7 +38,6 @@ impl TaggedQueue {
     {
         TaggedQueue {
             finish_tag: 0,
-            last_finish_tag: 0,
             arrived: 0,
             head: None,
             alone: true,
@@ -51,7 +51,7 @@ impl TaggedQueue {
         ensures succeeds { 0 < places self.old → IsOk result }
         ensures ok { OnOk result (0 < places self.new) }
         ensures packets { packets_of self.new ≡ packets_of self.old }
-        ensures last_finish_tag { self.new.last_finish_tag ≡ self.old.last_finish_tag }
+        ensures last_finish_tag { last_tag self.new ≡ last_tag self.old }
         ensures arrived { self.new.arrived ≡ self.old.arrived }
         ensures room { places self.old ≤ places self.new }
         ensures kept { (busy_from : ℕ) → IsQueueKept busy_from self.old → IsQueueKept busy_from self.new }
@@ -79,24 +79,22 @@ impl TaggedQueue {
         requires kept { IsQueueKept busy_from self.old }
         ensures head { result ≡ cond (length (packets_of self.old) == 0) (Some (arriving busy_from self.old virtual_time len weight)) None }
         ensures packets { packets_of self.new ≡ packets_of self.old ++ arriving busy_from self.old virtual_time len weight ∷ [] }
-        ensures last_finish_tag { self.new.last_finish_tag ≡ (arriving busy_from self.old virtual_time len weight).finish_tag }
+        ensures last_finish_tag { last_tag self.new ≡ (arriving busy_from self.old virtual_time len weight).finish_tag }
         ensures arrived { self.new.arrived ≡ arrivals }
         ensures room { places self.new + 1 ≡ places self.old }
         ensures kept { IsQueueKept busy_from self.new }
     {
-        let last = self.last_in(busy_from);
         let packet = QueuedPacket { len, weight };
-        self.arrived = arrivals;
         if self.head.is_some() {
-            self.last_finish_tag = last + cost(len, weight) as u128;
+            self.arrived = arrivals;
             self.behind.push(packet);
             self.alone = false;
             return None;
         }
-        let start_tag = last.max(virtual_time);
+        let start_tag = self.last_in(busy_from).max(virtual_time);
         let finish_tag = start_tag + cost(len, weight) as u128;
+        self.arrived = arrivals;
         self.finish_tag = finish_tag;
-        self.last_finish_tag = finish_tag;
         self.head = Some(packet);
         Some(TaggedPacket {
             start_tag,
@@ -106,12 +104,13 @@ impl TaggedQueue {
         })
     }
 
-    /// The last finish tag, as it counts in a busy period that began after so many arrivals.
+    /// The last finish tag of a flow of which no packet waits, as it counts in a busy period that began after so many arrivals.
     fn last_in(&self, busy_from: u64) -> u128
+        requires none { behind_of self.now.behind ≡ [] }
         ensures value { result ≡ last_finish_tag_in busy_from self.now }
     {
         if busy_from < self.arrived {
-            self.last_finish_tag
+            self.finish_tag
         } else {
             0
         }
@@ -124,7 +123,7 @@ impl TaggedQueue {
         requires alone { self.old.alone ≡ is_alone self.old }
         ensures sent { packets_of self.old ≡ finishing self.old.finish_tag result.0 ∷ packets_of self.new }
         ensures next { result.1 ≡ first_packet (packets_of self.new) }
-        ensures last_finish_tag { self.new.last_finish_tag ≡ self.old.last_finish_tag }
+        ensures last_finish_tag { last_tag self.new ≡ last_tag self.old }
         ensures arrived { self.new.arrived ≡ self.old.arrived }
         ensures room { places self.new ≡ places self.old + 1 }
         ensures kept { (busy_from : ℕ) → IsQueueKept busy_from self.old → IsQueueKept busy_from self.new }
@@ -157,10 +156,10 @@ impl TaggedQueue {
         requires alone { self.old.alone ≡ is_alone self.old }
         ensures next { result ≡ first_packet (packets_of self.new) }
         ensures packets { packets_of self.new ≡ stamped_behind self.old.finish_tag (behind_of self.old.behind) }
-        ensures last_finish_tag { self.new.last_finish_tag ≡ self.old.last_finish_tag }
+        ensures last_finish_tag { last_tag self.new ≡ last_tag self.old }
         ensures arrived { self.new.arrived ≡ self.old.arrived }
         ensures room { places self.new ≡ spare_of self.old.behind + 1 }
-        ensures kept { (busy_from : ℕ) → busy_from < self.old.arrived → self.old.last_finish_tag ≡ last_behind self.old.finish_tag (behind_of self.old.behind) → IsQueueKept busy_from self.new }
+        ensures kept { (busy_from : ℕ) → busy_from < self.old.arrived → IsQueueKept busy_from self.new }
     {
         self.head = self.pop_behind();
         let next = self.head?;
@@ -199,7 +198,7 @@ impl TaggedQueue {
     /// Lets all packets and the last finish tag go.
     pub(crate) fn clear(&mut self)
         ensures packets { packets_of self.new ≡ [] }
-        ensures last_finish_tag { self.new.last_finish_tag ≡ 0 }
+        ensures last_finish_tag { last_tag self.new ≡ 0 }
         ensures arrived { self.new.arrived ≡ self.old.arrived }
         ensures room { places self.old ≤ places self.new }
         ensures kept { (busy_from : ℕ) → IsQueueKept busy_from self.new }
@@ -207,6 +206,6 @@ impl TaggedQueue {
         self.head = None;
         self.alone = true;
         self.behind.clear();
-        self.last_finish_tag = 0;
+        self.finish_tag = 0;
     }
 }

@@ -127,7 +127,8 @@ struct dn_packet {
     uint64_t moment; /* when it arrives, ns, at most DN_LAST_MOMENT */
     uint32_t src;
     uint32_t dst;
-    uint32_t word;   /* a random word: the packet is lost where its low 31 bits are below the loss rate times 2^31 */
+    uint32_t word;   /* a random word: the packet is lost where its low 31 bits are below the loss rate times 2^31. A zeroed packet's word
+                        is 0, which every loss rate above 0 loses: draw one anew for each packet. */
     uint16_t sport;
     uint16_t dport;
     uint16_t length; /* bytes, from 1 */
@@ -213,9 +214,9 @@ uint32_t dn_submit_many(struct dn_handle *handle, const struct dn_packet *packet
                         uint64_t *done);
 
 /* Makes room for a packet to come, whose moment, length and word may be any in range. DN_OK: dn_submit doesn't answer DN_MEMORY to a
-   packet to the same pipe or queue with the same addresses, ports and protocol, if at most dn_advance, dn_collect, dn_show and dn_wake
-   are called before it. DN_NEW_FLOW: no packet of its flow came before, or the handle answered 2^62 calls. It changes nothing else,
-   and counts as no call. */
+   packet to the same pipe or queue with the same addresses, ports and protocol, if at most dn_advance, dn_collect, dn_show, dn_wake,
+   dn_reserve and, for packets of other flows, dn_submit are called before it. DN_NEW_FLOW: no packet of its flow came before, or the
+   handle answered 2^62 calls. It changes nothing else, and counts as no call. */
 uint32_t dn_reserve(struct dn_handle *handle, const struct dn_packet *packet);
 
 /* Moves the clock. DN_OK writes *at: where the clock stands, ns. */

@@ -2,11 +2,19 @@
 #![tactic(auto)]
 
 #[cfg(test)]
+mod beside;
+#[cfg(test)]
 mod config;
 #[cfg(test)]
 mod heap;
 #[cfg(test)]
 mod keys;
+#[cfg(test)]
+mod placed_heap;
+#[cfg(test)]
+mod placed_key;
+#[cfg(test)]
+mod pushes;
 #[cfg(test)]
 mod readme;
 #[cfg(test)]

@@ -1,10 +1,18 @@
-//! Worked examples of replays by one caller: reports, faults, broken input, parts of any length and refused growths.
+//! Worked examples of replays by one caller and by several in threads: reports, faults, broken input, refused growths.
 #![tactic(auto)]
 
 #[cfg(test)]
 mod broken;
 #[cfg(test)]
+mod callers;
+#[cfg(test)]
+mod callers_memory;
+#[cfg(test)]
+mod example;
+#[cfg(test)]
 mod fed;
+#[cfg(test)]
+mod gates;
 #[cfg(test)]
 mod headers;
 #[cfg(test)]

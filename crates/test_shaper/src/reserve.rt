@@ -2,8 +2,8 @@
 
 use crate::destination::{Destination, pipe, queue};
 use crate::example::{answers_step, is_wanted};
-use crate::sent::sized;
-use crate::step::{Step, advance, collect, config, to_pipe, to_queue};
+use crate::sent::{Sent, sized, to_host};
+use crate::step::{Step, advance, collect, config, submit, to_pipe, to_queue};
 use crate::wanted::{Wanted, delivery, queued};
 use dn_shaper::Shaper;
 use std::alloc::Global;
@@ -11,10 +11,15 @@ use std::io::Print;
 use std::process::Abort;
 use std::test::Fail;
 
-// Whether there is room for a packet of 1,000 bytes. If memory is refused, it is asked for twice more.
-fn has_room(rt: &impl Print, shaper: &mut Shaper, destination: Destination) -> Result<bool, Fail> {
+// Whether there is room for a packet. If memory is refused, it is asked for twice more.
+fn has_room_for(
+    rt: &impl Print,
+    shaper: &mut Shaper,
+    destination: Destination,
+    sent: Sent,
+) -> Result<bool, Fail> {
     let target = destination.target()?;
-    let packet = sized(1_000).packet()?;
+    let packet = sent.packet()?;
     for _ in 0..2u64 {
         if let Ok(there) = shaper.reserve(target, &packet) {
             return Ok(there);
@@ -22,6 +27,11 @@ fn has_room(rt: &impl Print, shaper: &mut Shaper, destination: Destination) -> R
         println!(rt; "a growth was refused")?;
     }
     Ok(shaper.reserve(target, &packet)?)
+}
+
+// Whether there is room for a packet of 1,000 bytes.
+fn has_room(rt: &impl Print, shaper: &mut Shaper, destination: Destination) -> Result<bool, Fail> {
+    has_room_for(rt, shaper, destination, sized(1_000))
 }
 
 // A call that finds its room is made once, whatever memory is refused.
@@ -136,6 +146,68 @@ fn room_for_a_packet_without_a_target(rt: HostRuntime) -> Result<(), Fail> {
     let mut shaper = Shaper::new(rt.alloc());
     let steps = [(true, to_pipe(3, 0, Wanted::NoTarget { at: 0 }))];
     let held = check(&rt, rt.alloc(), &mut shaper, pipe(3), &steps);
+    drop(shaper);
+    held
+}
+
+// The flows of a pipe, each with a link of its own, and then those of a queue, which share one. A flow has its own address.
+const FLOWS: u32 = 40;
+
+fn destination_of(flow: u32) -> Destination {
+    if flow < 20 { pipe(1) } else { queue(1) }
+}
+
+fn sent_by(flow: u32) -> Sent {
+    to_host(0x0a00_0100 | flow)
+}
+
+// A packet of the flow at 0.
+fn packet_of<'a>(flow: u32, packet: u64) -> Step<'a> {
+    let wanted = queued(0, flow as usize, packet);
+    submit(destination_of(flow), sent_by(flow), 0, wanted)
+}
+
+// The first packet of each flow, which makes it.
+fn make_flows(rt: &(impl Abort + Print), alloc: Global, shaper: &mut Shaper) -> Result<(), Fail> {
+    for flow in 0..FLOWS {
+        answers_step(rt, alloc, shaper, 0, &packet_of(flow, u64::from(flow)))?;
+    }
+    Ok(())
+}
+
+// Room for the next packet of each flow.
+fn reserve_flows(rt: &(impl Abort + Print), shaper: &mut Shaper) -> Result<(), Fail> {
+    for flow in 0..FLOWS {
+        assert!(rt; has_room_for(rt, shaper, destination_of(flow), sent_by(flow))?);
+    }
+    Ok(())
+}
+
+// The next packet of each flow. Each finds the room that was made before the first of them came.
+fn submit_to_flows(rt: &impl Abort, alloc: Global, shaper: &mut Shaper) -> Result<(), Fail> {
+    for flow in 0..FLOWS {
+        let packet = u64::from(flow) + u64::from(FLOWS);
+        answers_at_once(rt, alloc, shaper, 0, &packet_of(flow, packet))?;
+    }
+    Ok(())
+}
+
+fn check_flows(rt: &(impl Abort + Print), alloc: Global, shaper: &mut Shaper) -> Result<(), Fail> {
+    let settings = [
+        config("pipe 1 config bw 8Mbit/s mask dst-ip 0xff"),
+        config("pipe 2 config bw 8Mbit/s"),
+        config("queue 1 config pipe 2 mask dst-ip 0xff"),
+    ];
+    answers(rt, alloc, shaper, &settings)?;
+    make_flows(rt, alloc, shaper)?;
+    reserve_flows(rt, shaper)?;
+    submit_to_flows(rt, alloc, shaper)
+}
+
+#[test]
+fn room_for_packets_of_many_flows(rt: HostRuntime) -> Result<(), Fail> {
+    let mut shaper = Shaper::new(rt.alloc());
+    let held = check_flows(&rt, rt.alloc(), &mut shaper);
     drop(shaper);
     held
 }

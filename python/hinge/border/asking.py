@@ -23,7 +23,7 @@ NUMBERS = count(1)
 
 @contextmanager
 def connected(path: str, patience: float = PATIENCE) -> Iterator[socket.socket]:
-    """A line to this user's run, by its socket or by its name."""
+    """A line to this user's run, by its socket or by its name. Wrong: there is no such run, or it is another user's."""
     path = socket_of(path)
     with socket.socket(socket.AF_UNIX, socket.SOCK_STREAM) as line:
         try:
@@ -33,6 +33,8 @@ def connected(path: str, patience: float = PATIENCE) -> Iterator[socket.socket]:
             if not is_own(line):
                 raise Wrong(f"{path}: another user's process answers there")
             yield line
+        except FileNotFoundError:
+            raise Wrong(f"{path}: no run has this name, from `hinge up` or --control") from None
         except OSError as error:
             raise Wrong(f"{path}: {error.strerror or error}") from None
 

@@ -30,7 +30,7 @@ def told_name(name: Name) -> str:
 @contextmanager
 def untrusted(name: Name, status: int = ROWS, what: str = "") -> Iterator[None]:
     """Reads what others wrote. What a reader says itself stays as it is, and so does a module that isn't there; all else
-    is a fault of the file, told by what it should be where that is said."""
+    is a Fault of the file, told by what it should be where that is said."""
     try:
         yield
     except (Told, ImportError):
@@ -70,7 +70,7 @@ def read_front(name: Name, most: int) -> bytes:
 
 
 def read_text(name: Name, errors: str = "strict", most: int = MOST_TEXT) -> str:
-    """A text of UTF-8; a byte order mark at its front is none of it."""
+    """A text of UTF-8; a byte order mark at its front is none of it. Fault: it isn't UTF-8."""
     data = read_bytes(name, most)
     try:
         return data.decode("utf-8-sig", errors)
@@ -79,7 +79,7 @@ def read_text(name: Name, errors: str = "strict", most: int = MOST_TEXT) -> str:
 
 
 def read_object(name: Name, what: str) -> dict[str, Any]:
-    """The object of a JSON file; what it is tells a fault."""
+    """The object of a JSON file; `what` names it in a fault. TypeError: the file holds something else."""
     with untrusted(name, what=what):
         record = json.loads(read_text(name, most=MOST_OBJECT))
         if not isinstance(record, dict):
@@ -88,7 +88,7 @@ def read_object(name: Name, what: str) -> dict[str, Any]:
 
 
 def opened_log(path: Name, is_new: bool = True) -> int:
-    """A descriptor of a file for what programs print: no link and no FIFO, and its owner is this user or the folder's."""
+    """A descriptor of a file for what programs print. PermissionError: it is a link, a FIFO, or owned by a third user."""
     log = os.open(path, os.O_WRONLY | os.O_CREAT | os.O_APPEND | os.O_NOFOLLOW | os.O_NONBLOCK | os.O_CLOEXEC, 0o666)
     result = os.fstat(log)
     if not stat.S_ISREG(result.st_mode) or result.st_uid not in (os.geteuid(), os.stat(Path(path).parent).st_uid):
@@ -157,7 +157,8 @@ class Unpacked:
         self.file = gzip.GzipFile(fileobj=cast(BinaryIO, self.packed))  # of which it takes `read` alone
 
     def read(self, size: int) -> bytes:
-        data: bytes = self.file.read(size)
+        """At most so many bytes, none lost if the archive ends too early behind them. Fault: it unpacks to far more than its length."""
+        data: bytes = self.file.read1(size)
         self.count += len(data)
         if self.count > self.FREE + self.TIMES * self.packed.count:
             raise Fault(

@@ -51,7 +51,7 @@ class Strange(Exception):
 
 
 def fitted(value: object, kind: Any) -> Any:
-    """A value of JSON as one of a type."""
+    """A value of JSON as one of a type. Strange: it has another type."""
     origin, parts = get_origin(kind), get_args(kind)
     if kind is Any or (kind in (int, str, bool, type(None)) and type(value) is kind):
         return value
@@ -88,7 +88,7 @@ class Lines:
         self.rest, self.doors = b"", list[int]()
 
     def next(self, patience: float) -> Optional[bytes]:
-        """None where no more come."""
+        """The next message, None after the last. Strange: a line is too long. TimeoutError: none came in time."""
         until = time.monotonic() + patience
         while b"\n" not in self.rest:
             if len(self.rest) > self.longest:

@@ -7,7 +7,6 @@ import fcntl
 import os
 import shutil
 import signal
-import tempfile
 import threading
 import time
 from contextlib import contextmanager, suppress
@@ -31,6 +30,8 @@ class Ended(BaseException):
 @contextmanager
 def unnamed() -> Iterator[tuple[IO[bytes], str]]:
     """A file without a name, and the path by which other programs reach it meanwhile."""
+    import tempfile  # which takes longer to load than a help may
+
     with tempfile.TemporaryFile() as file:
         yield file, f"/proc/{os.getpid()}/fd/{file.fileno()}"
 
@@ -39,6 +40,8 @@ class Folder:
     """A folder that is locked as long as this process, or one that it has forked, lives."""
 
     def __init__(self, within: Union[str, Path, None] = None, prefix: str = PREFIX) -> None:
+        import tempfile
+
         place = str(within or tempfile.gettempdir())
         remove_left(place, prefix)
         self.path = Path(tempfile.mkdtemp(prefix=prefix, dir=place))

@@ -78,6 +78,10 @@ class Shown(io.TextIOBase):
     def flush(self) -> None:
         sys.stdout.flush()
 
+    def fileno(self) -> int:
+        """For a program that writes nothing which a terminal would obey."""
+        return sys.stdout.fileno()
+
 
 def standard_output() -> TextIO:
     return cast(TextIO, Shown())

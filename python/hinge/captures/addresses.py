@@ -58,7 +58,7 @@ def address_of_six(text: str) -> str:
 
 
 def read_addresses(packets: str) -> dict[str, str]:
-    """The IPv6 address of each stand-in, none where there is no such file."""
+    """The IPv6 address of each stand-in, none where there is no such file. Fault: a line is something else."""
     path = addresses_file(packets)
     if not path.is_file():
         return {}

@@ -51,7 +51,7 @@ def read_frames(file: IO[bytes]) -> CaptureFile:
 
 @contextmanager
 def capture_file(name: str) -> Iterator[CaptureFile]:
-    """A capture of any form, which editcap writes as a classic pcap file with nanoseconds first."""
+    """A capture of any form, which editcap writes as a classic pcap file with nanoseconds first. Fault: editcap can't."""
     with read_again(name) as capture, unnamed() as (plain, place):
         process = subprocess.run(
             [path_of_program("editcap", "wireshark-common"), "-F", "nsecpcap", capture.path, place], capture_output=True, text=True

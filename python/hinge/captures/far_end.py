@@ -12,7 +12,7 @@ from hinge.replays.tables import read_table
 
 
 def frames_of_rows(path: str, replay: Replay) -> Integers:
-    """The frame of each row, by the index that hinge packets wrote."""
+    """The frame of each row, by the index that hinge packets wrote. Fault: the index is of other rows."""
     table = read_table(path, {"row": Number(), "frame": Number()})
     if not np.array_equal(table["row"], np.arange(1, len(replay.packets) + 1)):
         raise Fault(f"{path}: its rows aren't those of {replay.packets.path}", ROWS)
@@ -42,7 +42,7 @@ def refuse_other(capture: CaptureFile, frames: Integers) -> None:
 
 
 def write_arrivals(capture: CaptureFile, replay: Replay, frames: Integers, path: str) -> int:
-    """Writes the frames that arrive, and tells how many there are."""
+    """Writes the frames that arrive, and returns their number."""
     records = capture.records
     began = records[frames[0] - 1].time - int(replay.packets.moment[0]) if len(frames) else 0
     arrival = arrivals(replay, frames)

@@ -1,134 +1,142 @@
-"""The IP packet of a frame.
-
-The outermost IP header counts. Fragments aren't put together again, since a link carries them one by one.
-"""
+"""The IP packets of a capture, as the program hinge-packets finds them; hosts/packets/main.c says how it answers."""
 
 from __future__ import annotations
 
+import os
 import socket
-from functools import lru_cache
+import subprocess
+from array import array
+from contextlib import ExitStack, contextmanager, suppress
 from struct import Struct
-from typing import NamedTuple, Optional
+from typing import BinaryIO, Iterator, NamedTuple, Optional, cast
 
-from hinge.captures.capture_reader import RawFrame
-from hinge.captures.link_layers import LINKS, number_at
-from hinge.command import ROWS, Fault
+from hinge.border.files import Input, untrusted
+from hinge.captures.capture_reader import plain_capture
+from hinge.command import ROWS, Fault, say
+from hinge.program import packets
 
-TCP = 6
+NAME = "hinge-packets"
 PORTED = {6: "tcp", 17: "udp", 132: "sctp", 136: "udp", 33: "dccp"}
-FRAGMENT = 44
-# headers that extend IPv6, with the bytes that have to be there for what follows
-EXTENSIONS = {0: 2, FRAGMENT: 8, 43: 1, 60: 2}
-HOP_BY_HOP, JUMBO, PADDING = 0, 0xC2, 0
-WHOLE = {132: 12}  # bytes of a header that has to be whole; of the others the ports are enough
-TCP_HEADER, OTHER_HEADER = 20, 8  # of a packet that was cut, or of a later fragment
-HEADER4, PORTS = Struct("!BBHxxHxBxx4s4s"), Struct("!HH")
+HEAD, ADDRESS, FLOW, FRAME, COUNTS = map(Struct, ("=6Q", "=16sQ", "=IIHHBBxx", "=QqQII", "=6Q"))
+NOT_VALID = "a block of the capture isn't valid"
+FASTEST = 1 << 62  # bit/s, at which any packet takes 1 ns
+FAULT, SYSTEM = 4, (5, 6)  # the statuses with which it ends in a fault, and where the system refuses something
 
 
 class Frame(NamedTuple):
-    """An IP packet of a capture. `time` is in ns since 1970, `length` that of the IP packet, `headers` of IP and
-    transport."""
+    """What rules ask of a frame. Those of one flow differ by their numbers alone."""
 
     number: int
-    time: int
     src: str
     dst: str
     proto: int
     sport: int
     dport: int
+    dscp: int
+
+
+class Packet(NamedTuple):
+    """An IP packet as a whole. `time` is in ns since 1970, `length` that of the IP packet, `headers` of IP and transport."""
+
+    frame: Frame
+    time: int
     length: int
     headers: int
-    dscp: int
 
 
-class Internet(NamedTuple):
-    """What an IP header says. A length of 0 is one that it doesn't know; `transport` are the bytes behind it, none of a
-    later fragment."""
+class Counts(NamedTuple):
+    """What became of the packets."""
 
-    src: str
-    dst: str
-    proto: int
-    length: int
-    header: int
-    dscp: int
-    transport: bytes
+    rows: int
+    bytes: int
+    split: int
+    cut: int
+    strays: int  # frames without a target
+    stand_ins: int
 
 
-@lru_cache(maxsize=1 << 16)
-def address4(data: bytes) -> str:
-    """An address as it is written, one text for all its packets."""
-    return socket.inet_ntop(socket.AF_INET, data)
+class Plan(NamedTuple):
+    """How rows are written: `mtu` is the most bytes of a packet that a card cuts of a segment, 0 where none is cut, and `rate`
+    that of the card in bit/s, 0 where it sends them at once; the link adds `l2` bytes."""
+
+    mtu: int = 0
+    rate: int = 0
+    l2: int = 0
+    seed: int = 1
 
 
-def internet4(data: bytes) -> Optional[Internet]:
-    """An IPv4 packet, None where its header isn't valid or not whole."""
-    if len(data) < 20 or data[0] >> 4 != 4:
-        return None
-    version, service, length, fragment, proto, src, dst = HEADER4.unpack_from(data)
-    own = 4 * (version & 15)
-    if own < 20 or 0 < length < own or own > len(data):
-        return None
-    transport = b"" if fragment & 0x1FFF else data[own : length or len(data)]
-    return Internet(address4(src), address4(dst), proto, length, own, service >> 2, transport)
+class Capture:
+    """A capture that the program has read, and whose rows it will write. Its flows are in the order in which they begin."""
+
+    def __init__(self, name: str, program: "subprocess.Popen[bytes]", by_frame: bool) -> None:
+        self.name, self.program, self.read = name, program, cast(BinaryIO, program.stdout).read
+        self.frame_count, self.packet_count, self.long, self.is_cut, addresses, flows = HEAD.unpack(
+            self.whole(HEAD.size, f"{name}: ")
+        )
+        data = self.whole(ADDRESS.size * addresses)
+        self.addresses = [
+            socket.inet_ntop(*((socket.AF_INET6, it) if six else (socket.AF_INET, it[12:])))
+            for it, six in ADDRESS.iter_unpack(data)
+        ]
+        self.flows = self.whole(FLOW.size * flows)
+        self.items = self.whole(FRAME.size * self.packet_count) if by_frame else None
+
+    def whole(self, size: int, prefix: str = "") -> bytes:
+        """So many bytes that the program answers. Fault, or the OSError that the program met: the program has ended before."""
+        data = self.read(size)
+        if len(data) < size:
+            text = cast(BinaryIO, self.program.stderr).read().decode(errors="replace")
+            status = self.program.wait()
+            if status in SYSTEM:
+                raise OSError(int(text), os.strerror(int(text)))
+            raise Fault(prefix + (text if status == FAULT else f"{NAME} ended with status {status}"), ROWS)
+        return data
+
+    def frame(self, number: int, flow: int) -> Frame:
+        src, dst, sport, dport, proto, dscp = FLOW.unpack_from(self.flows, flow * FLOW.size)
+        return Frame(number, self.addresses[src], self.addresses[dst], proto, sport, dport, dscp)
+
+    def packets(self) -> Iterator[Packet]:
+        """All packets, in order of time, if the program was asked by frame."""
+        for low, high, number, flow, length in FRAME.iter_unpack(self.items or b""):
+            yield Packet(self.frame(number & (1 << 48) - 1, flow), (high << 64) + low, length, number >> 48)
+
+    def frames(self) -> Iterator[Frame]:
+        """A frame of each flow, or all frames if the program was asked by frame."""
+        if self.items is not None:
+            return (packet.frame for packet in self.packets())
+        return (self.frame(0, flow) for flow in range(len(self.flows) // FLOW.size))
+
+    def write(self, targets: "array[int]") -> tuple[Counts, list[str]]:
+        """Writes the rows of `frames` that go to these targets, 0 for none. Returns the counts, and the IPv6 addresses behind stand-ins."""
+        questions = cast(BinaryIO, self.program.stdin)
+        with suppress(BrokenPipeError):
+            questions.write(targets.tobytes())
+            questions.close()
+        counts = Counts(*COUNTS.unpack(self.whole(COUNTS.size)))
+        originals = array("I", self.whole(4 * counts.stand_ins))
+        return counts, [self.addresses[number] for number in originals]
 
 
-def internet6(data: bytes) -> Optional[Internet]:
-    """An IPv6 packet, None where its header isn't whole."""
-    if len(data) < 40:
-        return None
-    payload, following = number_at(data, 4), data[6]
-    src, dst = socket.inet_ntop(socket.AF_INET6, data[8:24]), socket.inet_ntop(socket.AF_INET6, data[24:40])
-    # what is behind the header of another one isn't
-    is_known = payload or following == HOP_BY_HOP and is_jumbo(data[40:])
-    proto, transport = behind_extensions(data[40 : 40 + (payload or len(data))], following) if is_known else (following, b"")
-    return Internet(src, dst, proto, payload and payload + 40, 40, (number_at(data, 0) >> 6) & 0x3F, transport)
-
-
-def is_jumbo(options: bytes) -> bool:
-    """Whether hop-by-hop options, as far as the capture has them, say that it is a packet of more than 65,535 bytes."""
-    at = 2
-    while at + 1 < len(options[: 8 * (options[1] + 1)]) and options[at] != JUMBO:
-        at += 1 if options[at] == PADDING else 2 + options[at + 1]
-    return at + 1 < len(options) and options[at] == JUMBO
-
-
-def behind_extensions(data: bytes, following: int) -> tuple[int, bytes]:
-    """The protocol behind the headers that extend an IPv6 packet, and its bytes, none of a later fragment. It is the
-    one behind the first of each kind."""
-    proto, members, is_later = following, set[int](), False
-    while following in EXTENSIONS and len(data) >= EXTENSIONS[following]:
-        kind, size = following, 8 if following == FRAGMENT else 8 * (data[1] + 1) if len(data) > 1 else 1
-        is_later = kind == FRAGMENT and number_at(data, 2) >> 3 > 0
-        following, data = data[0], data[size:]
-        if proto == kind and kind not in members:
-            proto = following
-        if is_later:
-            break
-        members.add(kind)
-    return proto, b"" if is_later else data
-
-
-def ports(packet: Internet) -> tuple[int, int, int]:
-    """The two ports, and the length of the transport header."""
-    if packet.proto not in PORTED:
-        return 0, 0, 0
-    data, has_ports = packet.transport, len(packet.transport) >= WHOLE.get(packet.proto, 4)
-    header = OTHER_HEADER if packet.proto != TCP else data[12] >> 4 << 2 if len(data) >= 14 else TCP_HEADER
-    sport, dport = PORTS.unpack_from(data) if has_ports else (0, 0)
-    return sport, dport, header
-
-
-def frame_of(capture: str, place: int, raw: RawFrame) -> Optional[Frame]:
-    """The IP packet in the frame of a number, None where there is none."""
-    inner = LINKS[raw.link_type](raw.data)
-    if inner is None:
-        return None
-    result = (internet6 if inner.is_six else internet4)(raw.data[inner.begin :])
-    if result is None:
-        return None
-    if raw.time is None:
-        raise Fault(f"{capture}: frame {place} of the capture has no time", ROWS)
-    # of more than 65,535 bytes, or one that the card was still to cut
-    length = result.length or raw.length - inner.begin
-    sport, dport, header = ports(result)
-    return Frame(place, raw.time, result.src, result.dst, result.proto, sport, dport, length, result.header + header, result.dscp)
+@contextmanager
+def read(capture: Input, plan: Plan, out: int, index: Optional[int] = None, by_frame: bool = False) -> Iterator[Capture]:
+    """A capture whose rows go to a descriptor, and the numbers of their frames to another one."""
+    with ExitStack() as files:
+        with untrusted(capture.name, what=NOT_VALID):
+            source, is_whole = plain_capture(capture, files)
+        os.lseek(source.fileno(), 0, os.SEEK_SET)  # which Python's own reading has moved
+        # copies, since the program has answers and faults at the descriptors of standard output and standard error
+        copies = [os.dup(number) for number in (source.fileno(), out, index) if number is not None]
+        for number in copies:
+            files.callback(os.close, number)
+        numbers = [*copies, -1][:3] + [plan.mtu, min(plan.rate, FASTEST), plan.l2, plan.seed, int(by_frame)]
+        pipe = subprocess.PIPE
+        program = files.enter_context(
+            subprocess.Popen([packets(), *map(str, numbers)], stdin=pipe, stdout=pipe, stderr=pipe, pass_fds=copies)
+        )
+        files.callback(program.kill)
+        with untrusted(capture.name):
+            result = Capture(capture.name, program, by_frame)
+        if result.is_cut or not is_whole:
+            say(f"{capture.name}: the capture is cut short in the middle of a frame")
+        yield result

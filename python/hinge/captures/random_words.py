@@ -7,13 +7,15 @@ of another.
 
 from __future__ import annotations
 
+from typing import Union
+
 MASK = (1 << 64) - 1  # of 64-bit arithmetic
 QUEUES = 1 << 16  # behind the directions of pipes
 
 
-def direction_of(kind: str, number: int) -> int:
+def direction_of(kind: str, number: Union[int, str]) -> int:
     """The direction of a pipe or queue."""
-    return number + QUEUES * (kind == "queue")
+    return int(number) + QUEUES * (kind == "queue")
 
 
 def word(seed: int, number: int, way: int = 1) -> int:

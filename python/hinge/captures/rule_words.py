@@ -143,7 +143,7 @@ class RuleReader:
 
 
 def parted(text: str) -> tuple[str, RuleTarget]:
-    """A rule's words before the arrow, and its target."""
+    """A rule's words before the arrow, and its target. BadRule: there is none."""
     rest, arrow, right = text.rpartition("=>")
     match = TARGET.match(right.strip())
     if not arrow or match is None or int(match[2]) > MOST_NUMBER:

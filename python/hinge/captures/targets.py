@@ -105,7 +105,8 @@ class Targets:
             raise BadRule("`up` and `down` are by --from, which names the senders")
         self.rules = [*rules, *sender] or [MapRule("pipe,1")]
         self.up = sender[0] if sender else None
-        self.matches = Matches(capture, list(dict.fromkeys(rule.filter for rule in self.rules if rule.filter)))
+        self.filters = list(dict.fromkeys(rule.filter for rule in self.rules if rule.filter))
+        self.matches = Matches(capture, self.filters)
         self.matched: dict[str, set[int]] = {}
 
     def resolve(self) -> None:

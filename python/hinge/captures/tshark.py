@@ -26,7 +26,7 @@ def tshark(capture: str, *words: str) -> list[str]:
 
 
 def judge(status: int, errors: str, what: str) -> None:
-    """Tells in tshark's own words why a pass failed. A capture whose last frame is incomplete is read up to it."""
+    """Fault: a pass failed, in tshark's words. A capture whose last frame is incomplete is read up to it, which is said."""
     if status == 0:
         return
     text = " ".join(line.strip() for line in errors.splitlines() if line.strip() and not line.startswith("Running as"))
@@ -36,7 +36,7 @@ def judge(status: int, errors: str, what: str) -> None:
 
 
 def refuse_bad(filters: list[str]) -> None:
-    """Has tshark read each filter, over a capture without frames."""
+    """Has tshark read each filter, over a capture without frames. Fault: a filter is wrong, or tshark is missing."""
     if filters and shutil.which("tshark") is None:
         raise Fault(f"--map {filters[0]!r}: a display filter needs tshark: apt-get install tshark", MISSING)
     with unnamed() as (empty, path):

@@ -17,8 +17,7 @@ SHOWN = 80  # letters of a record
 
 
 class HistoryRecords:
-    """The records of a history, each with its line. Empty lines aren't counted, nor the remarks of a live session's
-    transcript."""
+    """The records of a history, each with its line. Empty lines aren't counted, nor the remarks of a live session's transcript."""
 
     def __init__(self, data: bytes) -> None:
         self.data, self.is_live = data, data.startswith(b"dummynet-live,")

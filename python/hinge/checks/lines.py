@@ -75,7 +75,7 @@ def corrected(line: str) -> Optional[str]:
 
 
 def refuse_wrong(lines: Sequence[Placed]) -> None:
-    """Ends with the first line that is no command, and what to write. Without the program the host refuses it later."""
+    """Fault: a line is no command; it says what to write. Without the program the host refuses such a line later."""
     texts = list(dict.fromkeys(line.text for line in lines))  # long files say the same again and again
     try:
         report = session_of(text.encode("utf-8", "surrogateescape") for text in texts) if texts else b""

@@ -40,7 +40,7 @@ def last_line(text: str) -> str:
 
 
 def of_run(*options: str) -> Finding:
-    """Runs `true` behind a link with these options."""
+    """What a run of `true` behind a link with these options shows."""
     words = [*HINGE, "run", "--quiet", *options, "--", "true"]
     try:
         process = subprocess.run(words, stdin=subprocess.DEVNULL, capture_output=True, text=True, timeout=LIMIT)
@@ -59,8 +59,10 @@ def programs() -> Finding:
 
 def first_words() -> Finding:
     """Programs that the first samples of the pages call."""
-    lacking = {name: package for name, package in (("ping", "iputils-ping"), ("git", "git")) if shutil.which(name) is None}
-    return Finding(f"there is no {' and no '.join(lacking)}", tuple(lacking.values())) if lacking else Finding()
+    packages = {"ping": "iputils-ping", "git": "git", "redis-server": "redis-server"}
+    lacking = {name: package for name, package in packages.items() if shutil.which(name) is None}
+    names = [*lacking, *["/etc/hosts (touch it)"] * (not os.path.exists("/etc/hosts"))]
+    return Finding(f"there is no {' and no '.join(names)}", tuple(lacking.values())) if names else Finding()
 
 
 def outside() -> Finding:
@@ -113,8 +115,8 @@ TRIALS = (
     Trial("the samples of the pages", first_words),
     Trial("--outside: the rest of the network", outside),
     Trial("--simulated: simulated time", simulated),
-    Trial("pictures (.png, .svg)", lambda: modules(numpy="python3-numpy", matplotlib="python3-matplotlib")),
-    Trial("pictures (.html)", lambda: modules(numpy="python3-numpy", plotly="python3-plotly")),
+    Trial("pictures (.png, .svg, .pdf)", lambda: modules(numpy="python3-numpy", matplotlib="python3-matplotlib")),
+    Trial("pages (.html)", lambda: modules(numpy="python3-numpy")),
     Trial("the plugin of pytest", lambda: modules(pytest="python3-pytest")),
     Trial("--realtime: links before other programs", realtime),
     Trial("hosts with users of their own", users),

@@ -3,11 +3,12 @@
 from __future__ import annotations
 
 import os
+import sys
 
 from hinge.border.files import read_text, told_name
 from hinge.command import CONFIGURATION, Fault, parser, say
 from hinge.configurations.ipfw_lines import Conversion
-from hinge.elsewhere import WORDS, of_ipfw
+from hinge.elsewhere import of_ipfw
 from hinge.outputs import refuse_inputs, writing
 
 WHAT = """\
@@ -25,10 +26,10 @@ def main() -> None:
         "files", nargs="*", default=["-"], metavar="file", help="files in the order in which they are run (default: standard input)"
     )
     line.add_argument("-o", metavar="FILE", help="the configuration (default: standard output)")
-    arguments = line.parse_args()
-    answer = None if os.path.exists(arguments.files[0]) else of_ipfw(arguments.files) or WORDS.get(arguments.files[0])
+    answer = of_ipfw(sys.argv[1:]) if not any(map(os.path.exists, sys.argv[1:])) else None
     if answer is not None:
         line.error(f"it reads files, and a line of ipfw is written so: {answer.write}")
+    arguments = line.parse_args()
     refuse_inputs((arguments.o,), arguments.files)
     conversion = Conversion()
     for name in arguments.files:

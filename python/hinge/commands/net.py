@@ -54,6 +54,7 @@ words of FILE, one line each (hinge docs NET):
   wait NAME port N [TIME]             before the main command begins
   disk HOST PATH [64M]                that `crash` empties, in simulated time
   loss A B MODEL    line A B LINE    map A B RULE    trace A B FILE
+  faults FILE                         as `A > B packet 3 lost` (see TESTING)
   at TIME A B outage LENGTH [lossy]   at TIME A B LINK
   at TIME cut A [from B ..] [LENGTH]  at TIME heal A [from B ..]
   at TIME kill|stop HOST [LENGTH]     at TIME restart|cont HOST
@@ -137,7 +138,7 @@ def command_line() -> NetOptions:
 
 @contextmanager
 def net_refusals() -> Iterator[None]:
-    """As of all live links; a configuration line of the file has a status of its own."""
+    """As of all live links. Fault: a configuration line of the file is refused, which has a status of its own."""
     with refusals():
         try:
             yield
@@ -146,7 +147,7 @@ def net_refusals() -> Iterator[None]:
 
 
 def with_command(net: Description, command: list[str], path: str, shell: Optional[str]) -> Description:
-    """The net with the main command of the command line."""
+    """The net with the main command of the command line. Wrong: none of the two has one, or both have."""
     if shell is not None:
         if not net.is_room(shell) or command:
             raise Wrong(
@@ -185,7 +186,7 @@ def with_files(options: NetOptions) -> NetOptions:
 
 
 def outside_of(options: NetOptions, net: Description) -> Optional[str]:
-    """The host that --outside names."""
+    """The host that --outside names. Wrong: the net has no such host."""
     result = options.outside_loopback or options.outside
     if result is not None and not net.is_room(result):
         raise Wrong(f"--outside {result}: no host of {options.file}")
@@ -246,7 +247,7 @@ def show_drawn(net_plan: NetPlan, seed: int) -> None:
 
 
 def refuse_gap(net: Description, options: NetOptions) -> None:
-    """With --control a host may have commands later, as that of a proxy; then it is only told."""
+    """Wrong: a host that hands packets on has no command. With --control it may get one later, and is only told."""
     hole = gap(net)
     if hole is None or hole.between == options.shell:
         return

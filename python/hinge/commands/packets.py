@@ -11,9 +11,8 @@ from typing import Optional
 from hinge.arguments import bounded
 from hinge.border.files import Input, read_again
 from hinge.captures.addresses import addresses_file, write_addresses
-from hinge.captures.dissect import frames
-from hinge.captures.frame_table import FrameTable
-from hinge.captures.packet_rows import Card, PacketRows, TargetWords
+from hinge.captures.frames import Plan
+from hinge.captures.packet_rows import write_rows
 from hinge.captures.rule_words import HELP, TARGET, BadRule
 from hinge.captures.targets import MapRule, Targets, directions, read_rule
 from hinge.command import USAGE, Fault, parser, say
@@ -48,7 +47,7 @@ def two_directions(text: str) -> list[MapRule]:
 
 
 def bit_rate(text: str) -> int:
-    """bit/s of `1Gbit/s` and the like."""
+    """bit/s of `1Gbit/s` and the like. ArgumentTypeError: the text is no rate."""
     match = re.fullmatch(r"(\d+)([KMG]?)bit/s", text)
     if not match or not int(match[1]):
         raise argparse.ArgumentTypeError(f"{text!r} is no rate: write it as 1Gbit/s")
@@ -57,7 +56,7 @@ def bit_rate(text: str) -> int:
 
 
 def loss_model(text: str) -> tuple[str, Maker]:
-    """A model and the target that it is for, as `pipe,1`; an empty one where it is for all."""
+    """A model and its target, as `pipe,1`, or an empty one for all. ArgumentTypeError: the text has neither."""
     target, equals, model = text.rpartition("=")
     match = TARGET.match(target.strip())
     try:
@@ -165,34 +164,24 @@ def write_packets(options: PacketsOptions, capture: Input) -> None:
         targets = Targets(capture.path, options.map, options.sender)
     except BadRule as bad:
         raise Fault(f"--map: {bad}", USAGE) from None
-    packets, count = FrameTable(), 0
-    for count, frame in frames(capture):
-        if frame is not None:
-            packets.add(frame)
-    targets.resolve()
-    rows = PacketRows(targets, Card(options.mtu, options.rate), options.l2, TargetWords(options.seed, dict(options.loss)))
     with writing(options.o) as out, writing(options.index) if options.index else contextlib.nullcontext() as index:
-        rows.write(rows.packets(packets), out, index)
+        plan = Plan(options.mtu, options.rate, options.l2, options.seed)
+        product = write_rows(capture, targets, plan, dict(options.loss), out, index)
         if options.o is not None and options.o != "-":
-            write_addresses(options.o, rows.addresses)
-    for address, stand_in in rows.addresses.stand_ins.items():
+            write_addresses(options.o, product.addresses)
+    for address, stand_in in product.addresses.stand_ins.items():
         say(f"{stand_in} stands for {address}")
-    for text in rows.meetings.lines():
+    for text in product.meetings.lines():
         say(text)
-    counts = rows.counts
+    counts = product.counts
     say(
-        f"{count} frames, {rows.row} rows, seed {options.seed}; {count - len(packets)} not IP, "
-        f"{counts['unmapped']} without a target, {counts['split']} split at the MTU, {counts['cut']} longer than 65535 "
-        f"bytes"
+        f"{product.frames} frames, {counts.rows} rows, seed {options.seed}; {product.frames - product.packets} not IP, "
+        f"{counts.strays} without a target, {counts.split} split at the MTU, {counts.cut} longer than 65535 bytes"
     )
-    long = packets.longer(LONGEST)
-    if long and not options.mtu:
+    if product.long and not options.mtu:
         say(
-            f"{long} packets are longer than {LONGEST} bytes, since the card was still to cut them, or had joined "
+            f"{product.long} packets are longer than {LONGEST} bytes, since the card was still to cut them, or had joined "
             f"them: --mtu {LONGEST} cuts them as a link sees them"
         )
-    if counts["bytes"] > MOST_BYTES:
-        say(
-            f"{counts['bytes']:,} bytes are more than the {MOST_BYTES:,} that dummynet reads: split the capture "
-            f"(editcap -i, -c)"
-        )
+    if counts.bytes > MOST_BYTES:
+        say(f"{counts.bytes:,} bytes are more than the {MOST_BYTES:,} that dummynet reads: split the capture " f"(editcap -i, -c)")

@@ -8,9 +8,9 @@ import signal
 import sys
 from typing import Any, NoReturn
 
-from hinge.command import parser, say
+from hinge.command import Fault, parser, say
 from hinge.run.first import BLOCKED, live, status_of
-from hinge.run.hints import hints, link_as_command
+from hinge.run.hints import hints, lacking, link_as_command
 from hinge.run.host import program
 from hinge.run.inside import Inside
 from hinge.run.joined import network_of
@@ -18,7 +18,7 @@ from hinge.run.options import add_link, add_run, mtu, plan_of
 from hinge.run.order import order_of
 from hinge.run.outside import Outside
 from hinge.run.refusals import refusals
-from hinge.run.rooms import leave_the_system
+from hinge.run.rooms import NOT_FOUND, leave_the_system
 from hinge.run.settings import RunOptions
 from hinge.run.system import is_simulated
 from hinge.run.two_hosts import ends_of
@@ -79,11 +79,14 @@ def command_line() -> RunOptions:
     link = link_as_command(arguments.command)
     if link is not None:
         line.error(link)
+    missing = lacking(arguments.command)
+    if missing is not None:
+        raise Fault(missing, NOT_FOUND)
     return RunOptions(**vars(arguments), more_files=())
 
 
 def refuse_beside_netns(run: RunOptions) -> None:
-    """What a network that is there already has no place for."""
+    """Wrong: an option is given for which a network that is there already has no place."""
     options = {
         "--server": run.server,
         "--outside": run.outside,

@@ -76,7 +76,7 @@ def show_runs(runs: Runs, numbers: "list[int]") -> "list[int]":
 
 
 def smallest(runs: Runs, seed: int) -> "tuple[Case, int]":
-    """The least case of a failing seed, and how many runs that took."""
+    """The least case of a failing seed, and the number of runs. Fault: the seed's faults and pauses alone don't fail."""
     runner, ran, trial = runs.runner, runs.of(seed), dict[Case, bool]()
     whole = case_of(runner.asked.what, seed, ran.record)
 
@@ -127,7 +127,7 @@ def search(line: argparse.Namespace, least_file: Optional[Path], folder: Path) -
 
 
 def least_file(line: argparse.Namespace) -> Optional[Path]:
-    """Where the least net is written: beside the one that is searched, whose folder its commands know."""
+    """Where the least net is written. Fault: not beside the one that is searched, whose folder its commands know."""
     if line.what[0] == "run":
         return None
     file: Path = line.o or line.file.with_name(f"{line.file.name}.least")

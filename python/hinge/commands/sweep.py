@@ -39,7 +39,7 @@ def named_values(text: str) -> tuple[str, list[str]]:
 
 
 def seeds(text: str) -> list[int]:
-    """`7`, `1-5`, and lists of them."""
+    """The seeds of `7`, `1-5` and lists of them. ArgumentTypeError: there is none."""
     numbers: list[int] = []
     for part in text.split(","):
         low, _, high = part.partition("-")

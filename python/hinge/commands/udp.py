@@ -49,7 +49,7 @@ class SocketAddress(NamedTuple):
 
     @classmethod
     def read(cls, text: str) -> SocketAddress:
-        """Of PORT, HOST:PORT or [HOST]:PORT."""
+        """The address in PORT, HOST:PORT or [HOST]:PORT. ArgumentTypeError: the text is none of them."""
         host, _, port = text.rpartition(":")
         if not (is_number(port) and int(port) < 65536):
             raise argparse.ArgumentTypeError(f"{text!r} is neither PORT nor HOST:PORT")
@@ -57,7 +57,7 @@ class SocketAddress(NamedTuple):
 
 
 def found_address(address: SocketAddress, family: int) -> tuple[int, tuple[str, int]]:
-    """The family, numeric host and port of an address, of the given family."""
+    """The family, numeric host and port of an address of the given family. Wrong: there is no such address."""
     try:
         infos = socket.getaddrinfo(
             address.host or ("::1" if family == socket.AF_INET6 else "127.0.0.1"), address.port, family, socket.SOCK_DGRAM

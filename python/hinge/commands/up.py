@@ -44,7 +44,7 @@ def command_line() -> argparse.Namespace:
 
 
 def wait_until_ready(process: "subprocess.Popen[bytes]", socket: str, log: Path) -> list[str]:
-    """What it waited for in vain; a fault where it doesn't begin."""
+    """What it waited for in vain. Fault: the net ended before."""
     while not is_answered(socket) and process.poll() is None:
         time.sleep(POLL)
     try:

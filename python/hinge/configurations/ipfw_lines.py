@@ -69,8 +69,7 @@ class Conversion:
             self.say(place, f"left out: {command.strip()} ({reason})")
 
     def unsure(self, commands: list[str]) -> Optional[str]:
-        """Why a line that configures something can't be taken: a variable that only a shell knows, or it is a
-        scheduler's."""
+        """Why a line that configures something can't be taken: a variable that only a shell knows, or it is a scheduler's."""
         for command in (self.expanded(command) for command in commands):
             if UNSURE.search(command) and not HEAD.search(command) and not re.search(r"\s(?:add|show|list)\s", command):
                 unknown = VARIABLE.search(command) or re.search(r"\$\S+", command)

@@ -173,7 +173,7 @@ class Acts(Ticker):
         return any(act.word == "restart" for _, act in self.pending)
 
     def ask(self, acts: list[Act]) -> ObeyedLine:
-        """Of another thread: has the first one do an act now, and the others behind it at their moments."""
+        """Of another thread: has the first one do an act now, and others behind it at their moments. Wrong: the net ends."""
         reply: queue.SimpleQueue[Done] = queue.SimpleQueue()
         self.asked.put((acts, reply))
         os.kill(os.getpid(), signal.SIGCHLD)  # which it waits for

@@ -28,7 +28,7 @@ class Skew(NamedTuple):
 
 
 def read_skew(statement: Statement) -> Skew:
-    """As `+2s`, `-300ms 100ppm` or `+0s -50.5ppm`."""
+    """The skew of `+2s`, `-300ms 100ppm` or `+0s -50.5ppm`. Wrong: it is none of them."""
     word = statement.take(SKEW)
     if word[0] not in "+-":
         raise statement.wrong(word, f"how far the clock is ahead, as +2s, or behind, as -2s: {SKEW}")

@@ -25,14 +25,13 @@ def spelled_time(lasting: Time) -> str:
 
 class Described:
     def __init__(self, folder: Path, link: str, back: Optional[str]) -> None:
-        """`link` and `back` are the links of which nothing else is said. Commands of several lines are kept in the
-        folder."""
+        """`link` and `back` are the links of which nothing else is said. Commands of several lines are kept in the folder."""
         self.folder, self.default = folder, (link, back)
         self.lines: list[str] = []
         self.is_running = False
 
     def describe(self, text: str) -> None:
-        """Lines as the file of `hinge net` has them."""
+        """Adds lines as the file of `hinge net` has them. NetError: the net runs already."""
         if self.is_running:
             raise NetError("the net runs already; `change`, `cut` and `obey` change it")
         self.lines += text.splitlines()
@@ -53,7 +52,7 @@ class Described:
         self.host(name, command, port=port, word="router")
 
     def words(self, link: Optional[str], back: Optional[str], preset: Optional[str]) -> str:
-        """The two ways of a link, as a line has them."""
+        """The two ways of a link, as a line has them. NetError: one has a wrong word."""
         if preset is not None:
             link, back = either_way(preset, link, back)
         elif link is None:

@@ -3,6 +3,7 @@
 from __future__ import annotations
 
 import re
+from collections import Counter
 from dataclasses import dataclass, field, replace
 from typing import Callable, NamedTuple, Optional
 
@@ -179,6 +180,14 @@ class Description:
         host.command, host.is_switch = "", True
         statement.rest = rest
 
+    def ways(self) -> list[str]:
+        """The names of all ways: `A > B`, and `A > B 2` on the second link of the two."""
+        names, counts = list[str](), Counter[str]()
+        for name in (" > ".join(ends) for link in self.links for ends in (link.ends, link.ends[::-1])):
+            counts[name] += 1
+            names.append(f"{name} {counts[name]}" if counts[name] > 1 else name)
+        return names
+
     def ways_into_switches(self) -> dict[str, list[int]]:
         """The ways that end at each switch, by their places from 0."""
         table: dict[str, list[int]] = {name: [] for name, host in self.hosts.items() if host.is_switch}
@@ -231,7 +240,7 @@ FOLLOWS: tuple[dict[str, Does], ...] = (
         "routes": Description.routes,
         **{
             word: lambda net, statement: net.of_links.append(statement)
-            for word in ("loss", "line", "map", "trace", "at", "nemesis")
+            for word in ("loss", "faults", "line", "map", "trace", "at", "nemesis")
         },
     },
 )
@@ -239,7 +248,7 @@ WORDS = sorted({word for kinds in FOLLOWS for word in kinds})
 
 
 def read_description(path: str) -> Description:
-    """The net of a file, in which a line may name what a later one describes."""
+    """The net of a file, in which a line may name what a later one describes. Wrong: a statement is, or no link is there."""
     net, lines = Description(), list(statements(path))
     for statement in lines:
         if statement.word not in WORDS:

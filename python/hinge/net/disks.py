@@ -42,7 +42,7 @@ def read_disk(statement: Statement) -> Disk:
 
 
 def refuse_disks(path: str, hosts: Iterable[Host]) -> None:
-    """Where this system can't have those of a net's file."""
+    """Wrong: the net has disks in real time. Missing: this system lacks the program that makes them."""
     if any(host.disks for host in hosts):
         if not is_simulated():
             raise Wrong(f"{path}: disk: {IN_REAL_TIME}")
@@ -80,7 +80,7 @@ class Disks:
             enter_mounts(own)
 
     def ask(self, does: str, host: str) -> None:
-        """Has the machine's first process make the disks of a host, or lose what they didn't flush."""
+        """Has the first process make the disks of a host, or lose what they didn't flush. Missing: it didn't."""
         for number, disk in self.of[host]:
             answer = answer_of(PLACE, f"{does} {number} {disk.size} {self.mounts[host][1]} {disk.path}")
             if answer != "done":

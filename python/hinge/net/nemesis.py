@@ -32,7 +32,7 @@ class Span(NamedTuple):
 
 
 def read_span(text: str) -> Span:
-    """5s, or 5s..20s."""
+    """The least and greatest time of 5s, or 5s..20s. Wrong: the first is the greater."""
     least, dots, most = text.partition(SPAN)
     span = Span(duration(least), duration(most if dots else least))
     if span.least > span.most:

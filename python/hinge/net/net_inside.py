@@ -21,7 +21,7 @@ from hinge.net.moments import Act
 from hinge.net.net_control import opened_control
 from hinge.net.net_plan import NetPlan
 from hinge.net.net_rooms import NetRooms
-from hinge.net.net_summary import act_records, net_lines, net_record, of_hosts, of_plan, way_names
+from hinge.net.net_summary import act_records, net_lines, net_record, of_hosts, of_plan
 from hinge.run.host import Link
 from hinge.run.host_lines import HostLines
 from hinge.run.interfaces import something_listens
@@ -34,7 +34,6 @@ from hinge.run.summary import VOID, cautions, void
 from hinge.run.system import enter, is_simulated
 from hinge.run.transcripts import told
 from hinge.run.users import make_terminals
-from hingetulip_words.link import Extra
 
 WATCHED = {signal.SIGCHLD, signal.SIGTERM, signal.SIGHUP}
 LISTEN_POLL = 0.01  # s
@@ -111,13 +110,14 @@ class NetInside:
         where the jitter begins."""
         start, end = self.net.links[number].ends[way], self.net.links[number].ends[1 - way]
         pipe = 2 * number + way + 1
-        extra, second = self.order.made.plan.extras.get(pipe - 1, (Extra(), range(0)))
-        model = self.order.made.plan.decided.get(pipe - 1)
+        plan = self.order.made.plan
+        second = plan.extras[pipe - 1][1] if pipe - 1 in plan.extras else []
+        model = plan.decided.get(pipe - 1)
         between = self.rooms.ends.label(start, number).replace(".", "~", 1) if second else end
         return [
             f"remark pipe,{pipe},{start},{between}",
             *(f"remark pipe,{other},{between},{end}" for other in second),
-            *[f"remark copies,{pipe}"] * bool(extra.duplicate),
+            *[f"remark copies,{pipe}"] * (pipe - 1 in plan.copied),
             *[f"remark model,{pipe},{model}"] * bool(model),
         ]
 
@@ -286,7 +286,7 @@ class NetInside:
         """Tells how it went, on standard error and in the file that --json names; the status, or that of a void run."""
         order, counts = self.order, self.page.read()
         others = {name: one for name, one in endings.items() if name != self.net.main}
-        names = way_names(self.net)
+        names = self.net.ways()
         faults = void(counts, drops, order.limit, names)
         acts = act_records(order.made.told, self.acts.done, self.main_moment, counts["moment"])
         if not order.quiet:

@@ -6,7 +6,6 @@ import os
 import re
 from typing import Callable
 
-from hinge.arguments import is_number
 from hinge.border.files import untrusted
 from hinge.captures.rule_words import NETS
 from hinge.checks.lines import judged_lines
@@ -20,29 +19,16 @@ from hinge.net.statements import Statement, Unobeyed
 from hinge.run.changes import Change, Changes
 from hinge.run.options import TRACE_LASTING
 from hinge.run.plan import Plan
-from hinge.run.words import LAST_MOMENT, WAYS, Wrong, bare, duration, is_line, link_of
+from hinge.run.words import LAST_MOMENT, WAYS, Wrong, duration, is_line, link_of, renumbered
 from hingetulip_words.advice import advice
 from hingetulip_words.link import NO_WORDS, Place
 
 CUT, HEAL = "at TIME cut A [from B ..] [LENGTH]", "at TIME heal A [from B ..]"
 ACT = "at TIME kill|crash|stop HOST [LENGTH], cont|restart HOST, or skew HOST +TIME [PPM]"
 LOSS, LINE, MAP = "loss A B [N] MODEL", "line A B [N] LINE", "map A B [N] RULE"
-TRACE, AT = "trace A B [N] FILE", "at TIME A B [N] [up|down] outage LENGTH [lossy], or LINK, or a line"
+FAULTS, TRACE, AT = "faults FILE", "trace A B [N] FILE", "at TIME A B [N] [up|down] outage LENGTH [lossy], or LINK, or a line"
 BACK = {"up": "down", "down": "up"}
 BASES = ("start", "main")
-
-
-def renumbered(line: str, pipe: Callable[[int], int], queue: Callable[[int], int]) -> str:
-    """A line for the pipes 1 and 2 and the queues of one link, with the numbers that these have among all links."""
-    words = bare(line).split()
-    words = words[words[:1] == ["ipfw"] :]
-    kinds = {"pipe": pipe, "queue": queue}
-    for at, word in enumerate(words[:-1]):
-        place = at + 1 + (words[at + 1] == "delete" and at + 2 < len(words))
-        is_numbered = at == 0 and word in kinds or word == "pipe" and words[0] == "queue"
-        if is_numbered and is_number(words[place]):
-            words[place] = str(kinds[word](int(words[place])))
-    return " ".join(words)
 
 
 class NetPlan:
@@ -57,7 +43,7 @@ class NetPlan:
         self.heals: list[tuple[Moment, list[int], Statement]] = []
         self.told: list[Said] = []  # all lines `at`
         self.acts: list[Act] = []
-        self.faults = 0  # of hosts
+        self.host_faults = 0
         self.seed, self.drawn = seed, list[str]()  # the lines `at` that the seed draws
         self.moments, self.is_drawing = Draw(seed, OF_MOMENTS), False
         for number, link in enumerate(net.links):
@@ -65,16 +51,9 @@ class NetPlan:
                 words = link_of(text, link.statement.place, Place.RUN)
                 self.configure(link.statement, words.line(2 * number + way + 1))
                 self.plan.extra(2 * number + way, words.extra)
-        for word, add in (
-            ("line", self.line),
-            ("loss", self.loss),
-            ("map", self.map),
-            ("trace", self.trace),
-            ("at", self.at),
-            ("nemesis", self.nemesis),
-        ):
+        for add in (self.line, self.loss, self.faults, self.map, self.trace, self.at, self.nemesis):
             for statement in net.of_links:
-                if statement.word == word:
+                if statement.word == add.__name__:
                     self.said(statement, add)
         self.judge_heals()
         self.judge()
@@ -140,15 +119,22 @@ class NetPlan:
             for before, word in zip(["", *words], words)
         )
 
+    def faults(self, statement: Statement) -> None:
+        self.plan.faults(self.file(statement, FAULTS), self.net.ways())
+
+    def file(self, statement: Statement, form: str) -> str:
+        """The path of the last word of a statement."""
+        path = os.path.join(os.path.dirname(statement.path), statement.take(form))
+        statement.done(form)
+        return path
+
     def trace(self, statement: Statement) -> None:
         number, is_back = self.net.between(statement, TRACE)
-        path = os.path.join(os.path.dirname(statement.path), statement.take(TRACE))
-        statement.done(TRACE)
-        self.plan.trace(2 * number + is_back, path, None, TRACE_LASTING)
+        self.plan.trace(2 * number + is_back, self.file(statement, TRACE), None, TRACE_LASTING)
 
     def moment(self, word: str) -> Moment:
         """`5s` and `main+5s` are by the main command's beginning, `start+5s` is by that of the links, as is `5s` of a
-        net without a main command."""
+        net without a main command. Wrong: there is no such command."""
         base, plus, text = word.partition("+")
         if not plus or base not in BASES:
             return Moment(self.drawn_time(word), self.has_main, "")
@@ -234,8 +220,8 @@ class NetPlan:
             raise statement.wrong(host, "it has no command that could begin again")
         if word == "crash" and not self.net.hosts[host].disks:
             raise statement.wrong(host, f"it has no disk: {DISK}")
-        self.faults += word in ENDS
-        fault = self.faults if word in ENDS else 0
+        self.host_faults += word in ENDS
+        fault = self.host_faults if word in ENDS else 0
         self.acts.append(Act(moment, word, host, fault, more))
         if end:
             self.acts.append(Act(moment._replace(ns=moment.ns + length), end, host, fault))
@@ -275,7 +261,7 @@ class NetPlan:
                 raise statement.wrong("heal", "no cut of such a link goes on then")
 
     def judge(self) -> None:
-        """Lets the program judge all lines, in their order, before anything starts."""
+        """Has the program judge all lines, in their order, before anything starts. Unobeyed: it refuses one."""
         sequence = sorted(self.places, key=lambda place: place[:2])
         for verdict in judged_lines([line.encode() for _, _, line, _ in sequence]):
             _, _, line, statement = sequence[verdict.line - 1]

@@ -42,8 +42,7 @@ def end_addresses(link: int, end: int) -> Addresses:
 
 
 def mac_of(link: int) -> bytes:
-    """The hardware address of a host on the link with this place, from 0, to a switch: 02:00:00:00:00:01 on the first
-    of a net."""
+    """The hardware address of a host on the link with this place, from 0, to a switch: 02:00:00:00:00:01 on the first of a net."""
     return bytes([2, 0, 0, 0]) + (link + 1).to_bytes(2, "big")
 
 

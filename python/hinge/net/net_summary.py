@@ -10,8 +10,7 @@ from hinge.net.description import ACTS, Description
 from hinge.net.moments import Said
 from hinge.run.page import Counts, Times
 from hinge.run.processes import Ended, name_of
-from hinge.run.summary import SELDOM, times, way_record
-
+from hinge.run.summary import SELDOM, host_record, times, way_record
 
 MOST_SHOWN, MOST_DRAWN = 3, 50  # changes in a line, and lines of what was drawn
 
@@ -24,10 +23,6 @@ def of_hosts(endings: dict[str, Ended]) -> Iterator[str]:
             yield f"{name}: killed by an act after {one.after:.1f} s, and not begun again"
         elif one.by == "SIGKILL":
             yield f"{name}: killed, since SIGTERM didn't end it"
-
-
-def way_names(net: Description) -> list[str]:
-    return [f"{one} > {two}" for link in net.links for one, two in (link.ends, link.ends[::-1])]
 
 
 def all_ways(counts: Counts) -> tuple[Times, Times]:
@@ -79,7 +74,7 @@ def of_plan(acts: Sequence[Said], main: Optional[int], end: int) -> Iterator[str
 
 
 def net_lines(net: Description, counts: Counts, drops: Sequence[int]) -> Iterator[str]:
-    for name, way, losses in zip(way_names(net), counts.ways, drops):
+    for name, way, losses in zip(net.ways(), counts.ways, drops):
         if way["came"] or losses:
             seldom = "".join(f", {way[key]} {words}" for key, words in (*SELDOM, ("refused", "refused by the system")) if way[key])
             yield (
@@ -104,10 +99,4 @@ def net_record(net: Description, counts: Counts, drops: Sequence[int], endings: 
         {"from": one, "to": two, "pipe": pipe, **way_record(way, losses)}
         for pipe, ((one, two), way, losses) in enumerate(zip(ends, counts.ways, drops), 1)
     ]
-    return {
-        "moment": counts["moment"],
-        "wakeups": counts["wakes"],
-        "turns": counts["turns"],
-        "hosts": {name: one._asdict() for name, one in endings.items()},
-        "ways": ways,
-    }
+    return host_record(counts) | {"hosts": {name: one._asdict() for name, one in endings.items()}, "ways": ways}

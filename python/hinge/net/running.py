@@ -62,8 +62,7 @@ def shell_words(command: Command) -> list[str]:
 
 
 class Net(Described):
-    """What is said before `start` is how it begins. `run`, and a change without a moment, start it where it hasn't
-    begun."""
+    """What is said before `start` is how it begins. `run`, and a change without a moment, start it where it hasn't begun."""
 
     def __init__(
         self,
@@ -100,7 +99,7 @@ class Net(Described):
     # What is done to it.
 
     def obey(self, words: str, *, at: Optional[Time] = None) -> list[Obeyed]:
-        """Does what a line `at` says: at a moment, where the net hasn't begun, or now."""
+        """Does what a line `at` says: at a moment, where the net hasn't begun, or now. NetError: a line is refused."""
         if at is not None:
             self.describe(f"at {spelled_time(at)} {words}")
             return []
@@ -157,7 +156,7 @@ class Net(Described):
     # What runs there.
 
     def start(self) -> Net:
-        """Begins it, if it hasn't begun, and waits until the ports are there."""
+        """Begins it, if it hasn't begun, and waits until the ports are there. NetError: it can't begin, or ends before."""
         if self.process is not None:
             return self
         self.folder.mkdir(parents=True, exist_ok=True)
@@ -199,14 +198,14 @@ class Net(Described):
             raise NetError("\n".join(f"{line}\n{self.last_lines(line.split()[0])}".rstrip() for line in silent))
 
     def asked(self, change: Optional[str] = None, status: bool = False) -> Reply:
+        """The net's answer. NetError: it refuses the change, or doesn't answer."""
         try:
             return ask(str(self.socket), PATIENCE, change=change, status=status)
         except Wrong as wrong:
             raise NetError(str(wrong)) from None
 
     def popen(self, host: str, command: Command, **how: Any) -> "subprocess.Popen[Any]":
-        """A command on a host, which begins now. It ends with the net. What else is given is that of
-        subprocess.Popen."""
+        """A command on a host, which begins now. It ends with the net. What else is given is that of subprocess.Popen."""
         self.start()
         return subprocess.Popen([*HINGE, "exec", str(self.socket), host, "--", *shell_words(command)], **how)
 
@@ -221,8 +220,7 @@ class Net(Described):
         env: Optional[Mapping[str, str]] = None,
         cwd: Union[str, Path, None] = None,
     ) -> "subprocess.CompletedProcess[str]":
-        """Runs a command on a host until it ends, with what it printed. CommandFailed tells of a status that isn't 0,
-        where it is checked."""
+        """What a command on a host printed until it ended, and its status. CommandFailed: the status is checked, and isn't 0."""
         stdin: Union[int, IO[str]] = subprocess.DEVNULL if input is None else subprocess.PIPE
         process = self.popen(
             host, command, stdin=stdin, stdout=subprocess.PIPE, stderr=subprocess.PIPE, text=True, env=env, cwd=cwd

@@ -44,7 +44,7 @@ class Statement:
         return word
 
     def take_time(self, form: str) -> int:
-        """ns"""
+        """The ns of the next word. Wrong: it is no time."""
         word = self.take(form)
         try:
             return duration(word)

@@ -21,7 +21,7 @@ class Session(NamedTuple):
 
 
 def session_of(path: str, summary: Optional[str] = None) -> Session:
-    """That of a folder, or of a file of it."""
+    """The session of a folder, or of a file in it. Fault: there is no transcript."""
     if not os.path.isdir(path):
         return Session(files_of(path), summary)
     history, beside = os.path.join(path, HISTORY), os.path.join(path, SUMMARY)

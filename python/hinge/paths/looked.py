@@ -41,7 +41,7 @@ def audit(files: list[str]) -> None:
 
 
 def refuse_others(options: LookOptions, folder: str) -> None:
-    """What is of one link alone."""
+    """Fault: an option is given that is of one link alone."""
     for name, is_given in (
         ("--why", bool(options.why)),
         ("--by", options.by != "tuple"),

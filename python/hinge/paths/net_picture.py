@@ -10,7 +10,7 @@ from hinge.paths.net_graph import NetGraph
 from hinge.paths.report import MS, Path, WayFigures, hosts_of, paths, ways
 from hinge.paths.timeline import SECOND, Looked, carried_by_way
 from hinge.pictures.drawing import DOTTED, SOLID, Bars, Drawing, Item, Key, Line, Panel, Points
-from hinge.pictures.panels import CAUSE_COLORS, COLORS, MOST_ABOVE, PIPES, RESTS, time_of
+from hinge.pictures.panels import CAUSE_COLORS, COLORS, MOST_ABOVE, PIPES, RESTS, late_panel, time_of
 from hinge.pictures.series import round_step, spread
 from hinge.pictures.settings import capacities
 from hinge.replays.replay import EVENT_NAMES, FULL, LOST, OUT
@@ -124,7 +124,7 @@ class NetPicture:
 
     def lateness(self) -> Optional[Panel]:
         """The most of all ways in each second, late and unread: what no link did."""
-        items: list[Item] = []
+        items = list[Line]()
         for kind, dash in (("late", SOLID), ("unread", DOTTED)):
             columns = [way[kind] for way in self.looked.lateness.values()]
             if columns:
@@ -139,7 +139,7 @@ class NetPicture:
                         dash=dash,
                     )
                 )
-        return Panel("The links' lateness, the most of each second", "s", "ms", items) if items else None
+        return late_panel("The links' lateness, the most of each second", items)
 
     def drawing(self, below: list[str]) -> Drawing:
         panels = [

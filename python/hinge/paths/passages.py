@@ -94,8 +94,7 @@ class Topology:
         return [*self.switches, *(start for start, end in self.pipes.values() if end in self.switches and start in middles)]
 
     def add_pipe(self, pipe: int, ends: tuple[int, int]) -> None:
-        """The pipes of a second pass, from where the jitter of a way begins, are told together: as the first of
-        them."""
+        """The pipes of a second pass, from where the jitter of a way begins, are told together: as the first of them."""
         self.same[pipe] = self.first.setdefault(ends, pipe) if BETWEEN in self.hosts[ends[0]] else pipe
         if self.same[pipe] == pipe:
             self.pipes[pipe] = ends
@@ -233,7 +232,7 @@ class Reader:
         self.records += len(entries.records)
 
     def add(self, path: str, calls: Records, rows: list[Integers], items: list[Integers]) -> None:
-        """Takes the submits of a file, without those of packets that nobody sent."""
+        """Takes the submits of a file, without those that nobody sent. Fault: a pipe has no remark on its hosts."""
         kind, number, *flow, length, _ = rows
         content = content_before(calls)
         is_own = (flow[2] == OUTAGE_PROTOCOL) & (content == 0)

@@ -52,8 +52,7 @@ class WayFigures:
 
 
 def chains(matching: Matched) -> Iterator[Integers]:
-    """The passages of packets that arrived: a row for each packet, a column for each passage; all of one array are as
-    long."""
+    """The passages of packets that arrived: a row for each packet, a column for each passage; all of one array are as long."""
     last = np.flatnonzero(matching.is_there)
     chain = last[:, None]
     while len(chain):

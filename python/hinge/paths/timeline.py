@@ -61,7 +61,7 @@ class Looked(NamedTuple):
     def remarks(self) -> Iterator[str]:
         if self.lateness:
             most = [max(float(way[kind][1].max(initial=0)) for way in self.lateness.values()) for kind in KINDS]
-            yield late_remark(*most)
+            yield from late_remark(*most)
 
 
 def read_change(moment: int, text: str) -> WayChange | None:

@@ -41,7 +41,7 @@ def as_written(text: str) -> str:
 
 @singledispatch
 def draw(item: object, axes: Axes, base: Reals) -> Reals:
-    """Draws an item; bars are above `base`, which returns with them."""
+    """Draws an item; bars are above `base`, which returns with them. TypeError: the item is of no kind."""
     raise TypeError(item)
 
 

@@ -1,4 +1,4 @@
-"""What a picture shows: panels of lines, bands, points and bars. matplotlib (chart) and plotly (html_page) draw the
+"""What a picture shows: panels of lines, bands, points and bars. matplotlib (chart) and a page (html_page) draw the
 same of it."""
 
 from __future__ import annotations

@@ -51,8 +51,8 @@ def jitter(took: Integers) -> Optional[int]:
     """RFC 3550's interarrival jitter after the last of these packets, in order of arrival (its appendix A.8), in ns."""
     sixteenfold = 0  # sixteen times the jitter
     delays = took.tolist()
-    for before, now in zip(delays, delays[1:]):
-        sixteenfold += abs(now - before) - (sixteenfold + 8 >> 4)
+    for change in map(int.__abs__, map(int.__sub__, delays[1:], delays)):
+        sixteenfold += change - (sixteenfold + 8 >> 4)
     return sixteenfold >> 4 if len(delays) > 1 else None
 
 

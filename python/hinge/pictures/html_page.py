@@ -1,16 +1,17 @@
-"""A picture as a page of one file, without network, by plotly: zoom in, and over a packet read what happened to it."""
+"""A picture as a page of one file, without network: zoom in, and over a packet read what happened to it. page.html draws it,
+by its own script, from the points that are packed here."""
 
 from __future__ import annotations
 
 import gzip
 import html
-import textwrap
+import json
 from base64 import b64encode
 from functools import singledispatchmethod
 from pathlib import Path
-from typing import Callable, Optional
+from typing import Any, Callable, Iterator, Optional
 
-from hinge.command import Progress, module
+from hinge.command import Progress
 from hinge.lazy import Integers, Reals, np
 from hinge.pictures.chart import below_lines, title_lines
 from hinge.pictures.drawing import Band, Bars, Drawing, Line, Panel, Points
@@ -20,31 +21,11 @@ from hinge.replays.explain import Explainer
 from hinge.replays.replay import EVENT_NAMES, HELD
 from hinge.replays.units import ms
 
-PAGE = """\
-<!DOCTYPE html>
-<html lang="en">
-<head><title>NAME</title><meta charset="utf-8"><link rel="icon" href="data:,"></head>
-<body><div id="picture">A browser of 2023 or later draws this page, with JavaScript.</div>
-<script>
-fetch("data:application/gzip;base64,PACKED")
-  .then(packed => new Response(packed.body.pipeThrough(new DecompressionStream("gzip"))).text())
-  .then(program => {
-    document.getElementById("picture").textContent = "";
-    document.body.append(Object.assign(document.createElement("script"), {textContent: program}));
-  });
-</script></body>
-</html>
-"""
-SETTINGS = '{"scrollZoom": true, "displaylogo": false, "responsive": true}'
+PAGE = Path(__file__).with_name("page.html")
 PACKING = 6  # gzip's level
 MOST_TOLD = 6_000  # packets that left and are told of on a page
-TEXT_WIDTH, TITLE_WIDTH, BELOW_WIDTH = 90, 140, 200
-ROW_PIXELS, LINE_PIXELS = 400, 16
-
-
-def page_text(text: str) -> str:
-    """A text as a page shows it, letter by letter."""
-    return html.escape(text, quote=False)
+TITLE_WIDTH, BELOW_WIDTH = 140, 200
+Part = dict[str, Any]  # what the page draws by one path
 
 
 def teller(flows_in_time: Series, explainer: Explainer | None) -> Callable[[int], str]:
@@ -52,186 +33,140 @@ def teller(flows_in_time: Series, explainer: Explainer | None) -> Callable[[int]
     replay = flows_in_time.replay
     if explainer is not None:
         paragraph = explainer.paragraph
-        return lambda place: paragraph(place + 1)
+        return lambda place: " ".join(paragraph(place + 1).split())
 
     def parts(place: int) -> str:
         at, start, due = int(replay.at[place]), int(replay.start[place]), int(replay.due[place])
         if not replay.is_out[place]:
             return f"Row {place + 1}: {EVENT_NAMES[replay.event[place]]}."
-        return f"Row {place + 1} took {ms(due - at)} = {ms(start - at)} waiting + {ms(due - start)} transmission and " f"delay."
+        return f"Row {place + 1} took {ms(due - at)} = {ms(start - at)} waiting + {ms(due - start)} transmission and delay."
 
     return parts
 
 
-def outline(band: Band) -> tuple[Reals, Reals]:
-    """The outline of a band, step by step: for each run of steps with values along the top and back below it, and then
+def outline(edges: Reals, low: Reals, high: Reals) -> tuple[Reals, Reals]:
+    """The outline of steps between two values: for each run of steps with values along the top and back below it, and then
     a gap. So nothing is filled in a pause."""
-    has_value = np.zeros(len(band.middle) + 2, np.int8)
-    has_value[1:-1] = np.isfinite(band.middle)
+    has_value = np.zeros(len(low) + 2, np.int8)
+    has_value[1:-1] = np.isfinite(low)
     turns = np.flatnonzero(np.diff(has_value))
     xs, ys = list[Reals](), list[Reals]()
     for begin, end in turns.reshape(-1, 2).tolist():
-        across = np.repeat(band.x[begin : end + 1], 2)[1:-1]
+        across = np.repeat(edges[begin : end + 1], 2)[1:-1]
         xs += [across, across[::-1], np.array([np.nan])]
-        ys += [np.repeat(band.high[begin:end], 2), np.repeat(band.low[begin:end], 2)[::-1], np.array([np.nan])]
+        ys += [np.repeat(high[begin:end], 2), np.repeat(low[begin:end], 2)[::-1], np.array([np.nan])]
     return np.concatenate(xs or [np.zeros(0)]), np.concatenate(ys or [np.zeros(0)])
 
 
-def wrapped(text: str) -> str:
-    return "<br>".join(page_text(line) for line in textwrap.wrap(text, TEXT_WIDTH))
+def numbers(values: Reals) -> list[Optional[float]]:
+    """Nine digits of each, and None for a gap."""
+    return [None if value != value else float(f"{value:.9g}") for value in values.tolist()]
+
+
+def group_of(name: str, flow: Optional[int]) -> str:
+    """Under which name the page hides something in all panels."""
+    return name if flow is None else f"flow {flow}"
+
+
+def part(item: Line | Band | Points | Bars, x: Reals, y: Reals, **style: object) -> Part:
+    named = {"name": item.name, "group": group_of(item.name, item.flow), "color": item.color}
+    return {**named, "x": numbers(x), "y": numbers(y), "width": 1.5, **style}
 
 
 class HtmlPage:
-    """Draws a replay on a page."""
+    """Makes what a page draws of a replay."""
 
     def __init__(self, flows_in_time: Series, explainer: Explainer | None, drawing: Drawing) -> None:
         self.found, self.drawing, self.tell = flows_in_time, drawing, teller(flows_in_time, explainer)
-        self.graphs = module("plotly.graph_objects", "python3-plotly")
-        self.shown = [(number, panel) for number, panel in enumerate(drawing.panels) if panel is not None]
-        self.rows = len(self.shown) // 2 + 1  # with a cell for the names
-        titles = [panel.title + ": over a packet, why" * (number == DELAYS) for number, panel in self.shown]
-        make = module("plotly.subplots", "python3-plotly").make_subplots
-        self.figure = make(
-            rows=self.rows, cols=2, subplot_titles=titles, horizontal_spacing=0.07, vertical_spacing=0.28 / self.rows
-        )
-        self.progress, self.told, self.cell = Progress("packets told of"), 0, (1, 1)
-        self.named: set[str] = set()
-
-    def add(self, trace: object) -> None:
-        self.figure.add_trace(trace, row=self.cell[0], col=self.cell[1])
-
-    def naming(self, name: str, flow: Optional[int]) -> dict[str, object]:
-        """Under which name a trace is hidden. Each name is once in the legend, and hides what has it in all panels."""
-        group = page_text(name) if flow is None else f"flow {flow}"
-        first = group not in self.named
-        self.named.add(group)
-        rank: dict[str, object] = {} if flow is None else {"legendrank": flow}
-        return {"name": page_text(name), "legendgroup": group, "showlegend": first, **rank}
+        self.progress, self.told, self.base = Progress("packets told of"), 0, np.zeros(0)
 
     @singledispatchmethod
-    def draw(self, item: object) -> None:
-        """Draws an item into the present cell."""
+    def parts(self, item: object) -> Iterator[Part]:
+        """What the page draws of an item of a panel. TypeError: no page draws such an item."""
         raise TypeError(item)
 
-    @draw.register
-    def _(self, item: Line) -> None:
-        style = {"color": item.color, "shape": "hv" if item.steps else "linear", "width": item.width, "dash": item.dash}
-        self.add(self.graphs.Scatter(x=item.x, y=item.y, mode="lines", line=style, **self.naming(item.name, item.flow)))
+    @parts.register
+    def _(self, item: Line) -> Iterator[Part]:
+        x, y = (np.repeat(item.x, 2)[1:], np.repeat(item.y, 2)[:-1]) if item.steps else (item.x, item.y)
+        yield part(item, x, y, width=item.width, dash=item.dash)
 
-    @draw.register
-    def _(self, item: Band) -> None:
+    @parts.register
+    def _(self, item: Band) -> Iterator[Part]:
         """The packets' points are on the band, with what is told of them."""
-        naming = self.naming(item.name, item.flow)
-        hidden: dict[str, object] = {**naming, "showlegend": False, "hoverinfo": "skip"}
-        x, y = outline(item)
-        self.add(
-            self.graphs.Scatter(
-                x=x, y=y, mode="lines", line={"width": 0, "color": item.color}, fill="toself", opacity=0.3, **hidden
-            )
-        )
-        middle = {"shape": "hv", "width": 1.5, "color": item.color}
-        self.add(self.graphs.Scatter(x=item.x, y=np.append(item.middle, item.middle[-1]), mode="lines", line=middle, **naming))
-        self.points(item.name, self.found.flows[item.flow].out_places, item.color, item.flow)
+        yield part(item, *outline(item.x, item.low, item.high), fill=0.3)
+        yield part(item, np.repeat(item.x, 2)[1:-1], np.repeat(item.middle, 2))
+        yield self.points(item, self.found.flows[item.flow].out_places)
 
-    @draw.register
-    def _(self, item: Points) -> None:
+    @parts.register
+    def _(self, item: Points) -> Iterator[Part]:
         if item.is_cross:
-            marker = {"size": 7, "symbol": "x-thin-open", "color": item.color}
-            self.dots(item.x, item.y, item.places, marker, self.naming(item.name, item.flow))
+            yield part(item, item.x, item.y, width=1, cross=True, words=self.texts(item.places))
         else:
-            self.points(item.name, item.places, item.color, item.flow)
+            yield self.points(item, item.places)
 
-    @draw.register
-    def _(self, item: Bars) -> None:
-        self.add(
-            self.graphs.Bar(
-                x=item.begins + item.width / 2,
-                y=item.counts,
-                width=item.width,
-                marker={"color": item.color, "line": {"width": 0}},
-                **self.naming(item.name, item.flow),
-            )
-        )
+    @parts.register
+    def _(self, item: Bars) -> Iterator[Part]:
+        low = self.base if len(self.base) else np.zeros(len(item.counts))
+        self.base = low + item.counts
+        yield part(item, *outline(np.append(item.begins, item.begins[-1] + item.width), low, self.base), fill=1)
 
-    def points(self, name: str, places: Integers, color: str, flow: Optional[int]) -> None:
+    def points(self, item: Band | Points, places: Integers) -> Part:
         """Some of a flow's packets, the fastest and the slowest of each stretch of time among them."""
-        draw_lines = sum(len(one.out_places) for one in self.found.flows) or 1
-        places = thinned(places, self.found.replay, max(MOST_TOLD * len(places) // draw_lines, 100))
-        marker = {"size": 4, "color": color}
-        self.dots(self.found.sent_at(places), self.found.took_ms(places), places, marker, self.naming(name, flow))
-
-    def dots(self, x: Reals, y: Reals, places: Integers, marker: dict[str, object], naming: dict[str, object]) -> None:
-        """Packets, of each of which something is read."""
-        words = {"text": self.texts(places), "hoverinfo": "text", "mode": "markers"}
-        self.add(self.graphs.Scattergl(x=x, y=y, marker=marker, **words, **naming))
+        count = sum(len(one.out_places) for one in self.found.flows) or 1
+        places = thinned(places, self.found.replay, max(MOST_TOLD * len(places) // count, 100))
+        return part(item, self.found.sent_at(places), self.found.took_ms(places), width=4, words=self.texts(places))
 
     def texts(self, places: Integers) -> list[str]:
         self.told += len(places)
         self.progress.at(self.told)
-        return [wrapped(self.tell(place)) for place in places.tolist()]
+        return [self.tell(place) for place in places.tolist()]
 
-    def draw_panel(self, place: int, panel: Panel, marks: list[Points]) -> None:
-        self.cell = (place // 2 + 1, place % 2 + 1)
-        for item in [*panel.items, *marks]:
-            self.draw(item)
-        row, column = self.cell
-        self.figure.update_xaxes(title_text=panel.across, title_standoff=4, row=row, col=column)
-        self.figure.update_yaxes(
-            title_text=panel.up, title_standoff=4, rangemode="tozero" if panel.from_zero else "normal", row=row, col=column
-        )
-        if panel.has_time:
-            self.figure.update_xaxes(matches="x", row=row, col=column)
-
-    def lay_out(self, title: str) -> None:
-        below = [page_text(line) for line in below_lines([*self.notes(), *self.drawing.below], BELOW_WIDTH)]
-        self.figure.update_layout(
-            template="plotly_white",
-            title={"text": title, "y": 0.99, "yanchor": "top"},
-            barmode="stack",
-            bargap=0,
-            height=ROW_PIXELS * self.rows + LINE_PIXELS * len(below),
-            hovermode="closest",
-            hoverlabel={"align": "left"},
-            margin={"t": 130, "l": 60, "r": 30, "b": 60 + LINE_PIXELS * len(below)},
-            legend={
-                "x": 0.54,
-                "y": 0.86 / self.rows,
-                "yanchor": "top",
-                "font": {"size": 11},
-                "title": {"text": "Flows, the largest first, and what isn't a flow's; click to hide one"},
-            },
-        )
-        place = {"x": 0, "y": 0, "xref": "paper", "yref": "paper", "yshift": -45, "yanchor": "top", "xanchor": "left"}
-        font = {"size": 10, "color": "#444444"}
-        self.figure.add_annotation(text="<br>".join(below), align="left", showarrow=False, font=font, **place)
+    def panel(self, number: int, panel: Panel) -> Part:
+        self.base = np.zeros(0)
+        marks = Panels(self.found).drop_points() if number == DELAYS else []
+        return {
+            "title": panel.title + ": over a packet, why" * (number == DELAYS),
+            "across": panel.across,
+            "unit": panel.across.rpartition(" ")[2],
+            "up": panel.up,
+            "zero": panel.from_zero,
+            "most": panel.most,
+            "whole": panel.is_whole,
+            "time": panel.has_time,
+            "items": [one for item in [*panel.items, *marks] for one in self.parts(item)],
+        }
 
     def notes(self) -> list[str]:
         """What the panels say beside their names, and what the page leaves out, so that nobody counts points."""
-        notes = list(dict.fromkeys(note for _, panel in self.shown for note in panel.notes))
+        notes = list(dict.fromkeys(note for panel in self.drawing.panels if panel for note in panel.notes))
         rest = int(np.count_nonzero(self.found.replay.event != HELD)) - self.told
         if rest > 0:
             which = "the fastest and the slowest of a stretch of time, and some between"
             notes.append(f"{self.told:,} of {self.told + rest:,} packets have a point: {which}")
         return notes
 
-    def draw_all(self, title: str) -> None:
-        marks = Panels(self.found).drop_points()
-        for place, (number, panel) in enumerate(self.shown):
-            self.draw_panel(place, panel, marks if number == DELAYS else [])
+    def record(self, title: str) -> Part:
+        """All that page.html draws. Each name is there once: the flows, the largest first, and then what isn't a flow's."""
+        panels = [self.panel(number, panel) for number, panel in enumerate(self.drawing.panels) if panel is not None]
         self.progress.done()
-        self.lay_out("<br>".join(map(page_text, title_lines(title, TITLE_WIDTH))))
-
-
-def script_of(page: HtmlPage) -> str:
-    """A page's program: plotly's, and the call that draws."""
-    plotly = module("plotly.offline", "python3-plotly").get_plotlyjs()
-    return f"{plotly}\nconst drawn = {page.figure.to_json()};\nPlotly.newPlot('picture', drawn.data, drawn.layout, {SETTINGS});"
+        keys = enumerate(self.drawing.keys)
+        names = {group_of("", number): {"name": key.told, "color": key.color} for number, key in keys}
+        for one in [item for panel in panels for item in panel["items"]]:
+            names.setdefault(one["group"], {key: one[key] for key in ("name", "color", "dash") if key in one})
+        margin = 0.02 * self.drawing.seconds
+        return {
+            "title": "\n".join(title_lines(title, TITLE_WIDTH)),
+            "times": [-margin, self.drawing.seconds + margin],
+            "panels": panels,
+            "names": [{"group": group, **name} for group, name in names.items()],
+            "below": "\n".join(below_lines([*self.notes(), *self.drawing.below], BELOW_WIDTH)),
+        }
 
 
 def save_page(flows_in_time: Series, explainer: Explainer | None, drawing: Drawing, path: str, title: str) -> None:
-    """Writes a page of one file. Most of it is plotly, so a quarter is left of it when it is packed."""
-    page = HtmlPage(flows_in_time, explainer, drawing)
-    page.draw_all(title)
-    archive = b64encode(gzip.compress(script_of(page).encode(), PACKING, mtime=0)).decode("ascii")
-    name = page_text(" ".join(title.split()) or drawing.name)
-    Path(path).write_text(PAGE.replace("PACKED", archive).replace("NAME", name, 1), encoding="utf-8")
+    """Writes a page of one file. Most of it is what is told of packets, of which a tenth is left when it is packed."""
+    record = json.dumps(HtmlPage(flows_in_time, explainer, drawing).record(title), allow_nan=False, separators=(",", ":"))
+    packed = b64encode(gzip.compress(record.encode(), PACKING, mtime=0)).decode("ascii")
+    name = html.escape(" ".join(title.split()) or drawing.name, quote=False)
+    page = PAGE.read_text(encoding="utf-8").replace("PACKED", packed).replace("NAME", name, 1)
+    Path(path).write_text(page, encoding="utf-8")

@@ -10,6 +10,7 @@ from hinge.arguments import PICTURE_FLOWS
 from hinge.lazy import Integers, Reals, np
 from hinge.pictures.drawing import DASHED, DENSE, DOTTED, MIXED, SOLID, Band, Bars, Drawing, Item, Key, Line, Panel, Points
 from hinge.pictures.series import CAUSES, NS_PER_MS, NS_PER_S, Flow, Series, Steps, spread
+from hinge.replays.remarks import LEAST_LATE
 from hinge.replays.replay import EVENT_NAMES
 
 COLORS = ("#0072b2", "#d55e00", "#009e73", "#cc79a7", "#56b4e9", "#e69f00", "#882255", "#999933")
@@ -45,6 +46,12 @@ def percentiles(moments: Integers, values: Reals, steps: Steps) -> Reals:
     for row, part in enumerate((LOW, MIDDLE, HIGH)):
         places[row, there] = values[order[begins[there] - (-part * counts[there] // 100) - 1]]
     return places
+
+
+def late_panel(title: str, lines: list[Line]) -> Optional[Panel]:
+    """Of hosts that were late at all."""
+    is_late = any(line.y.max(initial=0) >= LEAST_LATE for line in lines)
+    return Panel(title, "s", "ms", [*lines]) if is_late else None
 
 
 class Panels:
@@ -207,8 +214,7 @@ class Panels:
 
     def lateness(self) -> Optional[Panel]:
         """By how much a live host was late, or let packets lie unread, in each second: what no link did."""
-        dashes = {"late": SOLID, "unread": DOTTED}
-        items: list[Item] = []
+        dashes, items = {"late": SOLID, "unread": DOTTED}, list[Line]()
         for number, (way, of_way) in enumerate(self.found.lateness.items()):
             for which, (moments, ms) in of_way.items():
                 x, y = np.append(0, moments), np.append(ms, ms[-1:])  # each is of the time up to its moment
@@ -222,7 +228,7 @@ class Panels:
                         dash=dashes[which],
                     )
                 )
-        return Panel("The host's lateness, the most of each second", "s", "ms", items) if items else None
+        return late_panel("The host's lateness, the most of each second", items)
 
     def drop_points(self) -> list[Points]:
         """A mark for each packet that was dropped, at a delay of 0."""

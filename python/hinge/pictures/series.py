@@ -39,8 +39,7 @@ class Steps:
 
     @property
     def rated(self) -> int:
-        """How many have a rate: the last one, which ends with the span, has none where less than half of it is
-        there."""
+        """How many have a rate: the last one, which ends with the span, has none where less than half of it is there."""
         return max((self.span + self.length // 2) // self.length, 1)
 
     @property
@@ -153,8 +152,7 @@ def spread(places: Integers, most: int) -> Integers:
 
 
 def thinned(places: Integers, replay: Replay, most: int) -> Integers:
-    """At most so many of the places: of each stretch of time the least and the greatest delay, and as many spread
-    evenly."""
+    """At most so many of the places: of each stretch of time the least and the greatest delay, and as many spread evenly."""
     if len(places) <= most:
         return places
     at, took = replay.at[places], replay.took[places]
@@ -185,8 +183,7 @@ def waiting(replay: Replay, places: Integers) -> tuple[Reals, Reals]:
 
 
 def shared_pipes(replay: Replay, groups: Groups, pipes: dict[str, str]) -> dict[str, Integers]:
-    """The places of the packets to each pipe, or queue whose pipe isn't known, unless one drawn flow is all that it
-    has."""
+    """The places of the packets to each pipe, or queue whose pipe isn't known, unless one drawn flow is all that it has."""
     rest = len(groups.names) - 1 if groups.has_rest else -1  # which stands for several
     return {
         name: places

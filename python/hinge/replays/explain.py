@@ -37,7 +37,7 @@ class Explainer:
             )
 
     def paragraph(self, row: int) -> str:
-        """What happened to a row of the packet file, counted from 1."""
+        """What happened to a row of the packet file, counted from 1. Fault: there is no such row."""
         if not 1 <= row <= len(self.packets):
             raise Fault(f"{self.packets.path} has {len(self.packets)} rows, and no row {row}", ROWS)
         place = row - 1
@@ -203,8 +203,7 @@ class Explainer:
         )
 
     def held_parts(self, place: int) -> tuple[int, int, int]:
-        """The parts of a packet that a link of one flow had not delivered: its packets go in order, the held ones
-        last."""
+        """The parts of a packet that a link of one flow had not delivered: its packets go in order, the held ones last."""
         replay, parts = self.replay, self.parts
         queue = self.order.accepted_of(int(replay.flow[place])).places
         free = 0

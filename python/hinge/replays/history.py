@@ -31,15 +31,14 @@ def one_number(fields: Fields) -> Integers:
 
 @dataclass(frozen=True)
 class Entries:
-    """The calls of a history with their replies, and the deliveries. A call is at the place before that of its
-    reply."""
+    """The calls of a history with their replies, and the deliveries. A call is at the place before that of its reply."""
 
     path: str
     records: Records
 
     @staticmethod
     def of(path: str, records: Records) -> Entries:
-        """Refuses a call without a reply, but for a last one, which is left out."""
+        """The entries of a history, without a last call that has no reply. Fault: another call has none."""
         is_call, is_reply = records.starts(b"c,"), records.starts(b"r,")
         if len(records) and is_call[-1]:
             records, is_call, is_reply = records.of(slice(len(records) - 1)), is_call[:-1], is_reply[:-1]
@@ -73,8 +72,7 @@ class Entries:
 
     @staticmethod
     def submits_of(records: Records) -> list[Integers]:
-        """A row for each submit: the number of its kind of target, that of the target, the five-tuple, length and
-        word."""
+        """A row for each submit: the number of its kind of target, that of the target, the five-tuple, length and word."""
         _, _, _, kind, number, src, dst, *rest, _ = records.fields(13)
         return [OneOf(KINDS).read(kind), one_number(number), Address().read(src), Address().read(dst), *map(one_number, rest)]
 
@@ -89,7 +87,7 @@ class Entries:
         return np.flatnonzero(self.records.starts(b"c,") & self.records.starts(b"submit,", 2))
 
     def replies(self, places: Integers) -> list[Integers]:
-        """Event, moment, flow and packet of the replies to these submits, -1 for what a reply doesn't have."""
+        """Event, moment, flow and packet of the replies to these submits, -1 for what a reply lacks. Bad: one is of no kind."""
         replies = self.records.of(places + 1)
         event, *columns = [np.full(len(places), -1, np.int64) for _ in range(4)]
         for begin, fate in FATES.items():
@@ -126,7 +124,7 @@ class Entries:
 
 
 def with_fates(entries: Entries, replies: list[Integers]) -> list[Integers]:
-    """Event, flow, packet, start and due of each submit, by the replies and the deliveries."""
+    """Event, flow, packet, start and due of each submit, by replies and deliveries. Fault: a delivered packet is unknown."""
     event, _, flow, packet = replies
     event = event.copy()
     start, due = np.full(len(event), -1, np.int64), np.full(len(event), -1, np.int64)
@@ -159,7 +157,7 @@ def packets_of(path: str, rows: list[Integers], moments: Integers, addresses: di
 
 
 def spelled_by_program(path: str, changes: list[tuple[int, int, str]]) -> list[tuple[int, int, str]]:
-    """The same commands in the program's spelling, since a history may have any line that asks for them."""
+    """The same commands in the program's spelling. Fault: one is no command."""
     verdicts = list(judged_lines([text.encode() for _, _, text in changes])) if changes else []
     bad = next((verdict for verdict in verdicts if verdict.name == "bad"), None)
     if bad is not None or len(verdicts) != len(changes):
@@ -169,7 +167,7 @@ def spelled_by_program(path: str, changes: list[tuple[int, int, str]]) -> list[t
 
 
 def read_history(path: str) -> Source:
-    """Each submit is a row, in the order of the calls. Its moment is the one that counted."""
+    """The submits of a history as rows, in the order of the calls, each at the moment that counted. Fault: it is no history."""
     with working(f"reading {path}"):
         file = read_records(path)
         records = file.records
@@ -205,7 +203,7 @@ def read_sources(
     inputs: Sequence[Optional[str]] = (),
 ) -> list[Source]:
     """What the command line names: a history, or a packet file and at most so many reports. None of the outputs is one
-    of them, or of some more inputs."""
+    of them, or of some more inputs. Fault: they are others."""
     refuse_inputs(outputs, (*files, addresses_file(files[0]), config, *inputs))
     first, *reports = files
     if len(reports) > most:

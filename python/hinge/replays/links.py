@@ -97,7 +97,7 @@ class Parts:
         return np.where(self.is_shared, -1 - pipe, self.replay.flow)
 
     def check(self) -> Parts:
-        """Refuses a configuration by which the parts of some row don't add up to what it took."""
+        """The parts, checked. Fault: those of some row don't add up to its delay, so the configuration is another one."""
         replay = self.replay
         wrong = replay.is_out & (self.waited + self.transmission + self.delay != replay.took)
         unknown = [self.configuration.own(target) is None for target in replay.packets.targets]

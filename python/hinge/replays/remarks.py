@@ -13,6 +13,7 @@ from hinge.lazy import Reals, few as np
 
 NS_PER_S, NS_PER_MS = 10**9, 10**6
 KINDS = ("late", "unread")
+LEAST_LATE = 0.001  # ms, of a host whose lateness is told and drawn: in simulated time it is less
 # of each way, `late` and `unread`: moments in s, and the most until then in ms
 Lateness = dict[str, dict[str, tuple[Reals, Reals]]]
 
@@ -60,9 +61,10 @@ def lateness_in(data: bytes) -> Lateness:
     }
 
 
-def late_remark(late: float, unread: float) -> str:
+def late_remark(late: float, unread: float) -> Iterator[str]:
     """What is told of a live host that was late by at most so many ms, and let packets lie unread for at most so many."""
-    return f"the host was late by {late:,.4g} ms and packets lay unread for {unread:,.4g} ms at most: the picture has each second"
+    if max(late, unread) >= LEAST_LATE:
+        yield f"the host was late by {late:,.4g} ms and packets lay unread for {unread:,.4g} ms at most: the picture has each second"
 
 
 def way_name(number: int, count: int) -> str:

@@ -107,7 +107,7 @@ def read_packets(path: str) -> Packets:
 
 
 def read_report(path: str, packets: Packets) -> Replay:
-    """The report of a replay of these packets: each row has one line."""
+    """The report of a replay of these packets, a line for each row. Fault: the lines are those of other packets."""
     columns = read_table(path, REPORT_COLUMNS)
     place = columns.pop("row") - 1
     count = np.bincount(place, minlength=len(packets)) if len(place) and place.min() >= 0 else np.zeros(len(packets), int)

@@ -40,7 +40,7 @@ class Source:
         return list(bounds(self.parts.replay, self.parts.configuration)) if self.parts else None
 
     def explained(self) -> Parts:
-        """The parts of the delays, or why there are none."""
+        """The parts of the delays, or why there are none. Fault: a paragraph needs them, and they can't be had."""
         if self.parts is not None:
             return self.parts
         if self.is_history:
@@ -58,7 +58,7 @@ class Source:
         if self.is_history and self.configuration is None:
             yield "the links were changed while packets came: no parts of the delay"
         if self.lateness:
-            yield late_remark(self.most_late("late"), self.most_late("unread"))
+            yield from late_remark(self.most_late("late"), self.most_late("unread"))
 
     def most_late(self, kind: str) -> float:
         """The most that a live host was late in either way, in ms."""

@@ -11,7 +11,7 @@ from typing import Callable, Iterator
 
 from hinge.border.files import read_bytes, untrusted
 from hinge.command import ROWS, Fault, working
-from hinge.lazy import Integers, Octets, few as np
+from hinge.lazy import Integers, Mask, Octets, few as np
 from hinge.replays.columns import Bad, Column, Fields
 
 csv.field_size_limit(sys.maxsize)  # a field may be as long as its file
@@ -50,23 +50,29 @@ def without_quotes(data: bytes, errors: str) -> bytes:
 
 def places_of(data: Octets, *letters: int) -> Integers:
     """Where these letters are, as numbers of four bytes if the file has less than 2 GiB."""
-    size = sum(int(np.count_nonzero(data == letter)) for letter in letters)
-    places: Integers = np.empty(size, "i8" if len(data) >> 31 else "i4")
+    masks = [(at, is_letter(data[at : at + PIECE], letters)) for at in range(0, len(data), PIECE)]
+    places: Integers = np.empty(sum(int(np.count_nonzero(mask)) for _, mask in masks), "i8" if len(data) >> 31 else "i4")
     count = 0
-    for at in range(0, len(data), PIECE):
-        more = np.flatnonzero(np.isin(data[at : at + PIECE], letters)) + at
+    for at, mask in masks:
+        more = np.flatnonzero(mask) + at
         places[count : count + len(more)] = more
         count += len(more)
     return places
 
 
+def is_letter(piece: Octets, letters: tuple[int, ...]) -> Mask:
+    mask: Mask = piece == letters[0]
+    for letter in letters[1:]:
+        mask |= piece == letter
+    return mask
+
+
 def fields_of(data: bytes, count: int) -> Iterator[Fields]:
-    """The fields of each column."""
-    rows = data.count(b"\n")
-    if data.count(b",") != rows * (count - 1):
-        raise Bad
-    octets = np.frombuffer(data, np.uint8)
+    """The fields of each column. Bad: a row has more or fewer."""
+    rows, octets = data.count(b"\n"), np.frombuffer(data, np.uint8)
     marks = places_of(octets, COMMA, LINE_FEED)
+    if len(marks) != rows * count:
+        raise Bad
     ends = [marks[place::count] for place in range(count)]
     if (octets[ends[-1]] != LINE_FEED).any():
         raise Bad
@@ -124,7 +130,7 @@ def located(path: str, data: bytes, columns: dict[str, Column]) -> Fault:
 
 
 def columns_of(path: str, data: bytes, columns: dict[str, Column]) -> dict[str, Integers]:
-    """The columns of a file; Bad is raised where some field isn't of its kind."""
+    """The columns of a file. Fault: it has another header. Bad: a field isn't of its kind."""
     header, _, rows = plain(data).partition(b"\n")
     if header and header.decode() != ",".join(columns):
         raise Fault(f"{path} line 1: the header isn't {','.join(columns)}", ROWS)

@@ -41,8 +41,7 @@ class Changes:
         self.outages: list[Outage] = []
 
     def lose(self, moment: int, length: int, pipe: int) -> None:
-        """A cut: a pipe loses all packets. The host counts cuts by their numbers, and opens a pipe as its last one
-        ends."""
+        """A cut: a pipe loses all packets. The host counts cuts by their numbers, and opens a pipe as its last one ends."""
         self.latest += 1
         self.lines.append(Change(moment, f"cut {pipe} {self.latest}"))
         if moment + length < LAST_MOMENT:
@@ -55,8 +54,7 @@ class Changes:
         return first + sorted((one for one in self.lines if target_of(one.line) == target), key=lambda one: one.moment)
 
     def shared(self) -> set[int]:
-        """The pipes with queues of their own or with masks, whose packets don't begin in the order in which they
-        came."""
+        """The pipes with queues of their own or with masks, whose packets don't begin in the order in which they came."""
         members = set()
         for line in [*self.begun.values(), *(change.line for change in self.lines)]:
             if "mask" not in line and "queue" not in line[: len("ipfw queue")]:

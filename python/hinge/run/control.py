@@ -33,7 +33,7 @@ Act = Callable[[str], Optional[ObeyedLine]]
 
 
 def nobody(host: str) -> HostRoom:
-    """Of a run without rooms."""
+    """Refuses the hosts of a run without rooms. Wrong: always."""
     raise Wrong(f"{host!r}: it has no hosts of its own")
 
 
@@ -83,7 +83,7 @@ class Control:
         return Answer(Reply(status=self.status()))
 
     def change_by(self, words: str, client: Client) -> list[ObeyedLine]:
-        """What a client asks for, once the orders before it are obeyed, as long as it waits for it."""
+        """What a client asks for, after the orders before it. Wrong: it is too long, came to a busy run, or its client has gone."""
         until = time.monotonic() + PATIENCE
         if len(words) > LONGEST_LINE:
             raise Wrong(f"words of more than {LONGEST_LINE:,} letters")
@@ -98,7 +98,7 @@ class Control:
             self.turn.release()
 
     def change(self, words: str) -> list[ObeyedLine]:
-        """Has the host obey what words ask for: each line with its moment, in ns, and why it is refused where it is."""
+        """Has the host obey words: each line with its moment, in ns, and why it is refused. Wrong: no lines say what they ask."""
         result = self.act(words) if self.act else None
         if result is not None:
             return [result]
@@ -140,8 +140,7 @@ class Control:
         return answer.moment
 
     def asked_of_host(self, line: str, later: int = 0) -> ObeyedLine:
-        """Has it obey a line so many ns later. What is told is the line that the pipe has then, if nothing else comes
-        before."""
+        """Has it obey a line so many ns later; the line that the pipe gets then, if nothing else comes before."""
         answer = self.lines.ask(f"at {later} {line}" if later else f"line {line}", self.until, self.is_wanted)
         return ObeyedLine(answer.moment + later, answer.line or line, answer.wrong)
 

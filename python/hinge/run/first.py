@@ -30,8 +30,7 @@ def live(run: Callable[[], int]) -> NoReturn:
 
 
 def status_of(first: int) -> int:
-    """Waits for the first process, and hands signals on. A ^C of the terminal came to the command too, and is its
-    affair."""
+    """The status of the first process, which gets all signals but a terminal's ^C: that came to the command too."""
     is_interrupted = False
     while True:
         came = signal.sigwaitinfo(BLOCKED)

@@ -11,7 +11,10 @@ from typing import Iterator, Optional, Sequence
 from hinge.run.settings import RunOptions
 from hingetulip_words.link import corrected
 
-CLIENTS = set("curl dig host iperf iperf3 mtr nc ncat nslookup ping socat ssh telnet traceroute wget".split())
+CLIENTS = """curl dig=bind9-dnsutils host=bind9-host iperf iperf3 mtr=mtr-tiny nc=netcat-openbsd ncat nslookup=bind9-dnsutils
+ping=iputils-ping socat ssh=openssh-client telnet traceroute wget"""
+PACKAGES = {name: package or name for name, _, package in (word.partition("=") for word in CLIENTS.split())}  # of Debian
+HOSTS = "/etc/hosts"
 URL = re.compile(r"[a-z][a-z0-9+.-]*://(?:[^@/]*@)?(\[[^]]*\]|[^/:]*).*", re.IGNORECASE)
 HOST = re.compile(r"(?=.*[.:])[\w.:-]+\.?", re.ASCII)
 OWN = re.compile(r"(server|client|localhost|127\..*|::1|10\.8\..*|fd08:.*)", re.IGNORECASE)
@@ -26,9 +29,22 @@ def link_as_command(command: Sequence[str]) -> Optional[str]:
     return None if link is None else f"{words[0]!r} is no command; write --link '{link}' -- {' '.join(command[len(words) + 1:])}"
 
 
+def lacking(command: Sequence[str]) -> Optional[str]:
+    """What the system lacks for a command, and how to get it: its program, and /etc/hosts, over which the name `server` is put."""
+    names, ways = list[str](), list[str]()
+    if command and "/" not in command[0] and shutil.which(command[0], os.F_OK) is None:
+        package = PACKAGES.get(command[0])
+        names.append(command[0] if package else f"{command[0]} on the path")
+        ways += [f"apt-get install {package}"] if package else []
+    if re.search(r"\bserver\b", " ".join(command)) and not os.path.exists(HOSTS):
+        names.append(HOSTS)
+        ways.append(f"touch {HOSTS}")
+    return f"there is no {' and no '.join(names)}{': ' * bool(ways)}{'; '.join(ways)}" if names else None
+
+
 def far_host(command: Sequence[str]) -> Optional[str]:
     """The host that a client asks for, if it isn't one of a run."""
-    if not command or os.path.basename(command[0]) not in CLIENTS:
+    if not command or os.path.basename(command[0]) not in PACKAGES:
         return None
     for word in command[1:]:
         url = URL.fullmatch(word)

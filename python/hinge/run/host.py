@@ -22,7 +22,8 @@ POLL = 0.0005  # s between looks at the page
 
 def program() -> str:
     """What the variable HINGE_LINK names, else the host beside this module, as it is installed, else that of the
-    repository in which this module lies: the one that tools/release/hosts has built, or the released one."""
+    repository in which this module lies: the one that tools/release/hosts has built, or the released one.
+    Missing: there is none."""
     if sys.platform != "linux":
         raise Missing("the host is a program of Linux")
     repository = HERE.parents[2]

@@ -48,7 +48,7 @@ class HostLines:
         return f"control {self.descriptor()}\n"
 
     def ask(self, text: str, until: Optional[float] = None, is_wanted: Callable[[], bool] = always) -> Answer:
-        """The host's answer, if it takes the line by that moment of the monotonic clock and while it is wanted."""
+        """The host's answer to a line that it takes by a moment and while it is wanted. Wrong: the line is too long."""
         if len(text.encode()) > LONGEST_LINE:
             raise Wrong("a line of more than 4,000 bytes")
         with self.lock:
@@ -80,7 +80,7 @@ class HostLines:
         return False
 
     def is_taken_back(self) -> bool:
-        """Reads the host's end itself, which has a line only while the host hasn't."""
+        """Whether a line was still at the host's end, which is read here, so that the host doesn't get it."""
         try:
             return bool(self.hosts.recv(2 * LONGEST_LINE, socket.MSG_DONTWAIT))
         except BlockingIOError:

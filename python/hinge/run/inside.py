@@ -43,8 +43,7 @@ class Inside:
         self.begun = time.monotonic()
 
     def started_server(self) -> tuple[Optional[int], Optional[int]]:
-        """The server's process, once something listens in its room, or its time is over; and a signal that came
-        before."""
+        """The server's process, once something listens in its room, or its time is over; and a signal that came before."""
         if not self.options.server:
             return None, None
         server = self.rooms.start_server(self.options.server, self.order.mask)
@@ -75,19 +74,19 @@ class Inside:
 
     def let_last_packets_pass(self, server: int) -> None:
         """Lets a server end by itself: until the link has carried nothing for a while."""
-        seen, since = -1, time.monotonic()
+        passages, since = -1, time.monotonic()
 
         def is_over() -> bool:
-            nonlocal seen, since
+            nonlocal passages, since
             total = sum(way["came"] + way["sent"] + way["held"] for way in self.page.read().ways)
-            if total != seen:
-                seen, since = total, time.monotonic()
+            if total != passages:
+                passages, since = total, time.monotonic()
             return server in self.processes.ended or time.monotonic() - since > QUIET
 
         self.processes.poll(is_over, LAST_PACKETS, QUIET_POLL)
 
     def ended_server(self, server: int, is_interrupted: bool) -> Ended:
-        """Ends the server, and tells where it had crashed or had to be killed."""
+        """Ends the server: how it ended. Tells where it had crashed or had to be killed."""
         self.processes.reap()
         if server in self.processes.ended and self.processes.ended[server]:
             say(f"the server ended with {name_of(self.processes.ended[server])} before the command did")

@@ -153,7 +153,7 @@ def add_tun(
 ) -> int:
     """Makes an interface of this namespace, and returns its descriptor. It has no multicast, so the kernel says nothing
     by itself on it, and packet 1 is the command's. With a hardware address it is one of Ethernet (tap), whose frames
-    are whole, with their checksums."""
+    are whole, with their checksums. Missing: the system gives none."""
     try:
         descriptor = os.open("/dev/net/tun", os.O_RDWR | os.O_CLOEXEC)
     except OSError as error:
@@ -177,8 +177,7 @@ def add_tun(
 
 
 def all_dropped() -> dict[str, int]:
-    """Packets that the system dropped on the way into the host, since its queue was full, by the interfaces of this
-    namespace."""
+    """Packets that the system dropped on the way into the host, since its queue was full, by the interfaces of this namespace."""
     rows = [line.partition(":") for line in read_system("/proc/thread-self/net/dev").splitlines()[2:]]
     return {name.strip(): int(counts.split()[DROPPED_OUT]) for name, _, counts in rows}
 

@@ -37,7 +37,7 @@ OF_INTERFACES, OF_ALL = {"rp_filter": "0", "accept_local": "1"}, {"ip_early_demu
 
 
 def network_of(text: str) -> int:
-    """The network of a process, or the one at a path."""
+    """The network of a process, or the one at a path. Wrong: it is none, or this system's. Missing: root is needed."""
     try:
         network = held(f"/proc/{text}/ns/net" if text.isdecimal() else text)
         if os.path.samestat(os.fstat(network), os.stat("/proc/self/ns/net")):
@@ -59,7 +59,7 @@ class WayOut(NamedTuple):
 
 
 def way_out() -> WayOut:
-    """The interface of the way to all other networks, and the address that packets have there."""
+    """The interface of the way to all other networks, and the address of packets there. Missing: there is no way."""
     rows = [line.split() for line in read_system("/proc/thread-self/net/route").splitlines()[1:]]
     result = [row for row in rows if row[1] == row[7] == "00000000"]
     if not result:

@@ -10,8 +10,7 @@ from hinge.run.words import WAYS, Wrong
 
 
 def gilbert(text: str) -> str:
-    """`P,R[,B[,G]]`: the chances to turn bad, to turn good, and to lose a packet in the bad state and in the good
-    one."""
+    """`P,R[,B[,G]]`: the chances to turn bad, to turn good, and to lose a packet in the bad state and in the good one."""
     to_bad, to_good, in_bad, in_good = (parts(rate) for rate in read_rates(text))
     return f"{to_bad} {to_good} {in_good} {in_bad}"
 
@@ -32,7 +31,7 @@ def remedy(text: str) -> str:
 
 def loss_lines(text: str, link: int = 0) -> dict[int, str]:
     """The line of a plan for each way of a link that a model is for: `[up:|down:]gilbert:P,R[,B[,G]]` or
-    `[up:|down:]list:N,N-M`."""
+    `[up:|down:]list:N,N-M`. Wrong: the text has no such form."""
     first, _, more = text.partition(":")
     ways, model = ([WAYS[first]], more) if first in WAYS else ([0, 1], text)
     kind, _, value = model.partition(":")

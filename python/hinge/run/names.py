@@ -37,7 +37,7 @@ def own_folder() -> str:
 
 
 def new_socket(name: str) -> str:
-    """Where a run gets a socket by name. Its folder is made, and must be this user's alone."""
+    """Where a run gets a socket by name, in a folder of this user alone. Wrong: the name has other letters."""
     if not NAME.fullmatch(name):
         raise Wrong(f"--name {name}: a name has letters, digits, dots and hyphens")
     os.makedirs(folder_of_names(), 0o700, exist_ok=True)

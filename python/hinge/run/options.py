@@ -12,6 +12,7 @@ from hinge.border.terminal import show
 from hinge.captures.rule_words import HELP
 from hinge.checks.lines import Placed, refuse_wrong
 from hinge.run.plan import MOST, Plan
+from hinge.run.refusals import refusals
 from hinge.run.settings import LinkOptions, LiveOptions
 from hinge.run.transcripts import refuse_own_input
 from hinge.run.words import Target, Wrong, bare, bytes_of_mtu, duration, link_of, read_lines, target_of
@@ -20,6 +21,7 @@ from hingetulip_words.presets import Preset, preset, table
 
 BIN_LEAST = 10**6  # ns
 TRACE_LASTING = 3600 * 10**9  # ns
+LINKS = "client > server", "server > client"  # the names of ways 0 and 1 in a file of faults
 
 
 def mtu(text: str) -> int:
@@ -51,6 +53,8 @@ class BothWays(argparse.Action):
     def __call__(
         self, parser: argparse.ArgumentParser, namespace: argparse.Namespace, values: object, option: Optional[str] = None
     ) -> None:
+        with refusals():
+            link_of(str(values), "--link", Place.RUN)  # a wrong word is of this option, and not of --up
         for way in ("up", "down"):
             if getattr(namespace, way, None) is None:
                 setattr(namespace, way, values)
@@ -131,9 +135,7 @@ def add_link(parser: argparse.ArgumentParser) -> None:
         metavar="RULE",
         action="append",
         default=[],
-        help=(
-            f"'{HELP} => queue N' or '=> pipe N': where a packet goes, by the first rule that fits; else pipe 1 up," " pipe 2 down"
-        ),
+        help=f"'{HELP} => queue N' or '=> pipe N': where a packet goes, by the first rule that fits; else pipe 1 up, pipe 2 down",
     )
     add_changes(parser.add_argument_group("changes"))
 
@@ -156,7 +158,10 @@ def add_changes(changes: argparse._ArgumentGroup) -> None:
         metavar="MODEL",
         action="append",
         default=[],
-        help=("[up:|down:]gilbert:P,R[,B[,G]] (to bad, to good, lost in bad 1, in good 0) or list:3,10-20 (packets," " from 1)"),
+        help="[up:|down:]gilbert:P,R[,B[,G]] (to bad, to good, lost in bad 1, in good 0) or list:3,10-20 (packets, from 1)",
+    )
+    changes.add_argument(
+        "--faults", metavar="FILE", help="`client > server packet 3 lost`, `twice` or `late 80ms`, in the place of --loss"
     )
     changes.add_argument("--seed", metavar="N", type=seed, help="of what is drawn, for each direction by itself (drawn, and told)")
 
@@ -190,13 +195,9 @@ def lines_of(options: LinkOptions) -> list[str]:
     and else before all lines, since queues may be of it. A direction of which nothing is said is the preset's, and else
     open."""
     path = preset_of(options.preset)
-    lines_with_places = [
-        *(
-            Placed(f"{options.config}:{number}", line)
-            for number, line in enumerate(read_lines(options.config) if options.config else [], 1)
-        ),
-        *(Placed("--line", part) for text in options.line for part in text.splitlines()),
-    ]
+    config = enumerate(read_lines(options.config) if options.config else [], 1)
+    lines_with_places = [Placed(f"{options.config}:{number}", line) for number, line in config]
+    lines_with_places += [Placed("--line", part) for text in options.line for part in text.splitlines()]
     refuse_wrong(lines_with_places)
     inputs = [line.text for line in lines_with_places]
     targets = {target_of(bare(line)) for line in inputs}
@@ -215,7 +216,7 @@ def lines_of(options: LinkOptions) -> list[str]:
 
 
 def refuse_lost_summary(path: Optional[str]) -> None:
-    """A file that can't be written is told before the run, whose figures it is to have."""
+    """Wrong: the file for the summary can't be written, which is told before the run."""
     if path is not None and (
         os.path.isdir(path) or not os.access(path if os.path.exists(path) else os.path.dirname(path) or ".", os.W_OK)
     ):
@@ -223,7 +224,7 @@ def refuse_lost_summary(path: Optional[str]) -> None:
 
 
 def limit_of(late: Optional[str]) -> Optional[float]:
-    """The limit of --late, in ms. Without a unit it would be taken for ms by the one, and for s by the other."""
+    """The limit of --late, in ms. Wrong: it has no unit, which one user would take for ms, and another for s."""
     if late is None:
         return None
     if late.replace(".", "", 1).isdecimal():
@@ -245,6 +246,8 @@ def plan_of(options: LiveOptions, longest: int) -> Plan:
         plan.rule(rule)
     for model in options.loss:
         plan.loss(model)
+    if options.faults:
+        plan.faults(options.faults, LINKS)
     if options.timeline:
         plan.timeline(options.timeline)
     for way, path in enumerate((options.up_trace, options.down_trace)):

@@ -129,7 +129,8 @@ class Outside:
 
     def join(self, network: int, interfaces: Sequence[str], others: Sequence[str]) -> bool:
         """In the first process: waits for the interface, and lets the room with this network hand packets on between it
-        and these interfaces, behind which others with these addresses of IPv6 are. Whether IPv6 leads out too."""
+        and these interfaces, behind which others with these addresses of IPv6 are. Whether IPv6 leads out too.
+        Missing: there is no way out."""
         enter(network)
         for name in ("accept_dad", "accept_ra"):
             # else it asks for a second whether its address is another's

@@ -26,8 +26,7 @@ class Times:
         self.bins, self.most = bins, most
 
     def within(self, share: float) -> float:
-        """The ms within which that share of the packets or the time was: the upper end of its bin, and at most what was
-        seen."""
+        """The ms within which that share of the packets or the time was: the upper end of its bin, and at most what was seen."""
         total, below = sum(self.bins), 0
         for index, count in enumerate(self.bins):
             below += count

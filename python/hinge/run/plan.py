@@ -20,6 +20,7 @@ here asks the system for more than files to read.
     jitter WAY FIRST COUNT SEED        what has left its pipe goes through one of so many pipes from FIRST on, drawn by
                                        the seed
     copies WAY CHANCE SEED             the chance of 2^31 that a packet enters twice
+    fault WAY KIND N VALUE             of packet N: KIND 1 enters twice, 2 is late, by the pipe VALUE for its second pass
     switch WAY WAY ..                  the ways that end at a switch, which carry frames (switches.h)
     control DESCRIPTOR                 a socket from which lines come while packets pass (control.h)
     epoch NS                           the time of the monotonic clock at which moments begin; else the beginning of the
@@ -34,11 +35,12 @@ from __future__ import annotations
 
 import gc
 from contextlib import contextmanager
-from typing import Iterator, Optional
+from typing import Iterable, Iterator, Optional, Sequence
 
 from hinge.arguments import is_number
 from hinge.border.files import untrusted
 from hinge.checks.lines import Placed, refuse_wrong
+from hinge.fault_lines import IS_LATE, IS_LOST, IS_TWICE, Fault, read_faults
 from hinge.run.changes import Change, Changes, Outage
 from hinge.run.losses import loss_lines, model_name
 from hinge.run.rules import Rule
@@ -73,7 +75,7 @@ def ways_and_rest(text: str) -> tuple[list[int], str]:
 
 
 def lines_meant(ways: list[int], rest: str, link: int, option: str) -> list[str]:
-    """The lines of `[up|down] LINK`; the option tells where it was said."""
+    """The lines of `[up|down] LINK`. Wrong: there is no word; the option says where."""
     if not rest:
         raise Wrong(NO_WORDS)
     words = link_of(rest, option)
@@ -103,26 +105,58 @@ class Plan:
         self.longest = longest
         self.changes = Changes(self.current, longest)
         self.behind_main = Changes(self.current, longest, FIRST_BEHIND_MAIN)  # by moments of the main command
-        self.extras: dict[int, tuple[Extra, range]] = {}  # by ways, with the pipes of the second pass
+        self.extras: dict[int, tuple[Extra, list[int]]] = {}  # by ways, with the pipes of the second pass, those of jitter first
+        self.copied: set[int] = set()  # the ways that packets may enter twice
         self.last_free = LAST_PIPE
 
     def extra(self, way: int, extra: Extra) -> None:
-        """Jitter and duplicates of a way. The pipes of its second passes have the greatest numbers that are free."""
-        if extra == Extra():
-            return
-        pipes = range(self.last_free - extra.pipes + 1, self.last_free + 1)
+        """Jitter and duplicates of a way."""
+        if extra != Extra():
+            self.extras[way] = extra, self.second_pipes(range(extra.pipes))
+            self.copied |= {way} if extra.duplicate else set()
+
+    def second_pipes(self, delays: Sequence[int]) -> list[int]:
+        """The pipes of second passes, by their delays, with the greatest free numbers. Wrong: these pipes are others'."""
+        pipes = list(range(self.last_free - len(delays) + 1, self.last_free + 1))
         others = {target.number for target in self.current if target.kind == "pipe"}
         if pipes and (pipes[0] <= self.ways or others & set(pipes)):
-            raise Wrong(f"jitter: pipe {max(others & set(pipes), default=pipes[0])} is needed for it, and is another's")
+            raise Wrong(f"pipe {max(others & set(pipes), default=pipes[0])} is needed for jitter or late packets, and is another's")
         self.last_free -= len(pipes)
-        self.extras[way] = extra, pipes
-        for delay, pipe in enumerate(pipes):
+        for delay, pipe in zip(delays, pipes):
             self.link(f"pipe {pipe} config delay {delay}" if delay else f"pipe {pipe} config")
+        return pipes
+
+    def faults(self, path: str, names: Iterable[str]) -> None:
+        """The faults of a file, which decide about all losses. The ways have these names. Wrong: a line of the file isn't a fault of one."""
+        by_names: dict[str, list[Fault]] = {name: [] for name in names}
+        try:
+            for fault in read_faults(path):
+                if fault.link not in by_names:
+                    raise ValueError(f"{path}: '{fault}': no such link; write {' or '.join(list(by_names)[:2])}")
+                by_names[fault.link].append(fault)
+        except ValueError as error:
+            raise Wrong(str(error)) from None
+        for way, faults in enumerate(by_names.values()):
+            self.faults_of(way, sorted(faults))
+
+    def faults_of(self, way: int, faults: Sequence[Fault]) -> None:
+        """A way with late packets gives all others a second pass without a delay, so that each takes as many."""
+        packets = {kind: [fault.packet for fault in faults if fault.kind == kind] for kind in (IS_LOST, IS_TWICE)}
+        late = {fault.packet: fault.ms for fault in faults if fault.kind == IS_LATE}
+        extra, pipes = self.extras.get(way, (Extra(), []))
+        delays = sorted({*late.values(), *[0] * (not pipes)} if late else ())
+        pipe_of = dict(zip(delays, self.second_pipes(delays)))
+        self.extras[way] = extra, [*pipes, *pipe_of.values()]
+        self.decided[way] = "faults"
+        self.copied |= {way} if packets[IS_TWICE] else set()
+        self.rest.append(f"list {way} {' '.join(map(str, packets[IS_LOST]))}")
+        self.rest += [f"fault {way} 1 {packet} 1" for packet in packets[IS_TWICE]]
+        self.rest += [f"fault {way} 2 {packet} {pipe_of[delay]}" for packet, delay in late.items()]
 
     def extra_lines(self, seed: int) -> list[str]:
         items = []
         for way, (extra, pipes) in self.extras.items():
-            items += [f"jitter {way} {pipes[0]} {len(pipes)} {seed}"] if pipes else []
+            items += [f"jitter {way} {pipes[0]} {max(1, extra.pipes)} {seed}"] if pipes else []
             items += [f"copies {way} {extra.duplicate} {seed}"] if extra.duplicate else []
         return items
 
@@ -208,7 +242,7 @@ class Plan:
     @uncollected()
     def trace(self, way: int, path: str, bin_ns: Optional[int], lasting: int) -> None:
         """The bandwidth of a way by a file. mahimahi's moments are obeyed each, where no bin is given and the pipe is
-        one queue; else they are counted over bins, which begin anew for so many ns."""
+        one queue; else they are counted over bins, which begin anew for so many ns. Wrong: the pipe isn't configured."""
         line = self.current.get(Target("pipe", way + 1))
         if line is None:
             raise Wrong(f"{path}: pipe {way + 1} isn't configured")

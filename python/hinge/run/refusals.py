@@ -15,7 +15,7 @@ WRONG = 2
 
 @contextmanager
 def refusals() -> Iterator[None]:
-    """A wrong word is a fault of the command line; something that the system lacks is one of its own."""
+    """A wrong word is a fault of the command line; something that the system lacks is one of its own. Each is a Fault."""
     try:
         yield
     except Wrong as wrong:

@@ -92,7 +92,7 @@ def unshared() -> bool:
 
 
 def leave_the_system() -> bool:
-    """Puts this process and its later children into namespaces of their own; whether they have users of their own."""
+    """Puts this process into namespaces; whether they have users of their own. Missing: the system allows none."""
     users = Users()
     try:
         own = unshared()
@@ -234,8 +234,7 @@ class Rooms:
         return start(words, mask, lambda: enter(room), self.own_users)
 
     def start_server(self, command: str, mask: Mask) -> int:
-        """Starts a command of the shell in the server's room, in a process group of its own, which a terminal doesn't
-        let read."""
+        """Starts a command of the shell in the server's room; its process, whose own group a terminal doesn't let read."""
 
         def enter_room() -> None:
             os.setpgid(0, 0)

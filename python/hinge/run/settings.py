@@ -19,6 +19,7 @@ class LinkOptions:
     line: Sequence[str]
     map: Sequence[str]
     timeline: Optional[str]
+    faults: Optional[str]
     up_trace: Optional[str]
     down_trace: Optional[str]
     bin: Optional[str]
@@ -28,7 +29,7 @@ class LinkOptions:
 
     def files(self) -> Sequence[Optional[str]]:
         """The files that are read."""
-        return self.config, self.timeline, self.up_trace, self.down_trace, *self.more_files
+        return self.config, self.timeline, self.faults, self.up_trace, self.down_trace, *self.more_files
 
     def has_link(self) -> bool:
         """Whether anything is said of what packets meet."""

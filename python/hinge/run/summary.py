@@ -50,7 +50,7 @@ def void(counts: Counts, drops: Sequence[int], limit: Optional[float], names: Se
 MOST_PIPE, MOST_TOLD = 65535, 4  # ways of a net that have a caution
 PART_OF_DELAY, WITHOUT_DELAY = 10, 5.0  # a tenth of the least delay is much; ms if no link has a delay
 DELAY = re.compile(r"^line (?:pipe (\d+)|queue \d+) config .*?\bdelay (\d+)", re.MULTILINE)
-SECOND_PASS = re.compile(r"^jitter \d+ (\d+)", re.MULTILINE)
+SECOND_PASS = re.compile(r"^(?:jitter \d+|fault \d+ 2 \d+) (\d+)", re.MULTILINE)
 
 
 def cautions(counts: Counts, drops: Sequence[int], plan: str, names: Sequence[str] = NAMES) -> list[str]:
@@ -95,22 +95,16 @@ def way_record(way: Way, drops: int) -> Record:
     return {
         **{key: way[key] for key in COUNTS if not key.endswith("_most")},
         **times(way),
-        "underway": way.underway,
-        "system_drops": drops,
+        **{"underway": way.underway, "system_drops": drops},
     }
+
+
+def host_record(counts: Counts) -> dict[str, object]:
+    return {"moment": counts["moment"], "wakeups": counts["wakes"], "turns": counts["turns"]}
 
 
 def record(counts: Counts, drops: Sequence[int], status: Optional[int], seed: int, faults: list[str]) -> dict[str, object]:
     """The same, as JSON takes it."""
     ways = [way_record(way, losses) for way, losses in zip(counts.ways, drops)]
-    return {
-        "format": FORMAT,
-        "status": status,
-        "seed": seed,
-        "void": faults,
-        "moment": counts["moment"],
-        "wakeups": counts["wakes"],
-        "turns": counts["turns"],
-        "up": ways[0],
-        "down": ways[1],
-    }
+    front = {"format": FORMAT, "status": status, "seed": seed, "void": faults}
+    return front | host_record(counts) | dict(zip(NAMES, ways))

@@ -73,7 +73,7 @@ def rates_of_rows(path: str, rows: list[tuple[int, list[str]]]) -> list[Rate]:
 
 
 def read_moments(path: str, rows: list[tuple[int, list[str]]]) -> list[int]:
-    """mahimahi's moments, in ms; the last is the period, after which they begin anew."""
+    """mahimahi's moments, in ms, of which the last is the period. Wrong: a line is none, or is earlier than the one before."""
     numbers: list[int] = []
     for at, [text] in rows:
         if not (is_number(text) and int(text) <= MOST_MS):
@@ -86,7 +86,7 @@ def read_moments(path: str, rows: list[tuple[int, list[str]]]) -> list[int]:
 
 def counted(path: str, moments: list[int], bin_ns: int, longest: int) -> list[Rate]:
     """The rate of each bin of moments, those of equal bins as one; the last bin ends with the period. A bin without a
-    moment lets the longest packet leave in as long as there is none."""
+    moment lets the longest packet leave in as long as there is none. Wrong: bins are too long or too many."""
     period = moments[-1] * MS
     if bin_ns > period:
         raise Wrong(f"{path}: the bin is longer than the trace, which begins anew after {moments[-1]} ms")

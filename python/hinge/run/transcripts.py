@@ -13,7 +13,7 @@ AUDITED = 268_435_456  # bytes: the most that an audit reads without being told
 
 
 def refuse_own_input(option: str, path: Optional[str], others: Iterable[Optional[str]]) -> None:
-    """A file that is written must be none that is read, and no other one that is written: it would empty it."""
+    """Wrong: a file that is written is read too, or is written twice, which would empty it."""
     if path is None:
         return
     if "\n" in os.path.abspath(path):

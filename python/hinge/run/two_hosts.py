@@ -31,7 +31,7 @@ OWN = Ends("10.8.0.1", "10.8.0.2", "fd08::1", "fd08::2", "10.8.0.0/24", 24)
 
 
 def ends_of(text: str | None) -> Ends:
-    """The first two addresses of a network; those of IPv6 are in fd08::, by the network's number."""
+    """The first two addresses of a network; of IPv6 in fd08::, by the network's number. Wrong: it is no such network."""
     if text is None:
         return OWN
     try:

@@ -4,7 +4,7 @@ from __future__ import annotations
 
 import re
 from functools import lru_cache
-from typing import NamedTuple, Optional
+from typing import Callable, NamedTuple, Optional
 
 from hinge.arguments import is_number
 from hinge.border.files import read_text
@@ -19,8 +19,6 @@ MTU_LEAST, MTU_MOST = 576, 65535  # bytes
 KEPT = 1 << 16  # texts whose meaning is remembered, since long files say the same again and again
 TIME = re.compile(r"(\d+(?:\.\d+)?)(ns|us|ms|s|min|h)?", re.ASCII)
 SCALE = {"ns": 1, "us": 10**3, "ms": 10**6, "s": SECOND, "min": 60 * SECOND, "h": 3600 * SECOND}
-
-
 NO_EXTRA = Extra()
 
 
@@ -29,7 +27,7 @@ class Wrong(Told):
 
 
 def duration(text: str) -> int:
-    """ns of a time as 5s, 600ms, 2min; without a unit it is in seconds."""
+    """The ns of a time as 5s, 600ms, 2min; without a unit it is in seconds. Wrong: it is none, or too long."""
     match = TIME.fullmatch(text)
     if not match:
         raise Wrong(f"{text}: no time, as 5s or 600ms")
@@ -58,7 +56,7 @@ def first_word(text: str) -> tuple[str, str]:
 
 
 def read_lines(path: str) -> list[str]:
-    """The lines of a text file; a byte order mark at its front is none of them."""
+    """The lines of a text file; a byte order mark at its front is none of them. Wrong: it can't be read."""
     try:
         return read_text(path).splitlines()
     except Fault as fault:
@@ -114,16 +112,22 @@ def target_of(line: str) -> Target:
     return Target(words[0] if words else "", int(numbers[0]) if numbers else 0)
 
 
+def renumbered(line: str, pipe: Callable[[int], int], queue: Callable[[int], int]) -> str:
+    """A line for the pipes 1 and 2 and the queues of one link, with the numbers that these have among all links."""
+    words = bare(line).split()
+    words = words[words[:1] == ["ipfw"] :]
+    kinds = {"pipe": pipe, "queue": queue}
+    for at, word in enumerate(words[:-1]):
+        place = at + 1 + (words[at + 1] == "delete" and at + 2 < len(words))
+        is_numbered = at == 0 and word in kinds or word == "pipe" and words[0] == "queue"
+        if is_numbered and is_number(words[place]):
+            words[place] = str(kinds[word](int(words[place])))
+    return " ".join(words)
+
+
 def of_link(line: str, link: int) -> str:
     """A line that names the pipes 1 and 2 of a link, counted from 0, as the plan of all links has it."""
-    if link == 0:
-        return line
-    words = line.split()
-    for at, word in enumerate(words[:-1]):
-        number = at + 1 + (words[at + 1] == "delete" and at + 2 < len(words))
-        if word == "pipe" and words[number] in ("1", "2"):
-            words[number] = str(2 * link + int(words[number]))
-    return " ".join(words)
+    return renumbered(line, lambda pipe: pipe + 2 * link * (pipe in (1, 2)), int) if link else line
 
 
 def is_line(text: str) -> bool:

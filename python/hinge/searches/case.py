@@ -30,8 +30,7 @@ KINDS = tuple(ONE)  # in which order they are left out
 
 @dataclass(frozen=True)
 class Case:
-    """A net, or the options of `hinge run`, by a seed. Its first lines are always there, those with losses in a form
-    without."""
+    """A net, or the options of `hinge run`, by a seed. Its first lines are always there, those with losses in a form without."""
 
     seed: int
     lines: "tuple[str, ...]"  # of a net, or an option with its word each

@@ -33,7 +33,7 @@ def least_of_kind(case: Case, kind: str, fails: Fails) -> Case:
 
 
 def left_out_by(case: Case, kind: str, size: int, fails: Fails) -> Case:
-    """Tries to leave out each so many neighbours, the last first, since what comes behind the failure does nothing."""
+    """The case without each so many neighbours that can go, the last first, since those behind the failure do nothing."""
     parts = case.of_kind(kind)
     for first in range(len(parts) - size, -size, -size):
         smaller = case.with_parts(without(case.parts, parts[max(first, 0) : first + size]))

@@ -6,6 +6,7 @@ import hashlib
 import os
 import re
 import shutil
+import signal
 import subprocess
 from contextlib import ExitStack
 from functools import partial
@@ -75,7 +76,7 @@ class Build:
         self.packed, self.jobs = place.resolve(), jobs
 
     def step(self, what: str, *words: "str | Path", where: Path) -> None:
-        """Runs a command, and tells its last lines where it fails."""
+        """Runs a command. Fault: it failed; its last lines are told before."""
         names = {"PATH": os.environ["PATH"], "HOME": str(where), "TMPDIR": str(where), "LC_ALL": "C", "ARCH": "um", **VERSION}
         bar, last = Bar(f"steps of the build ({what})", ABOUT), list[str]()
         with subprocess.Popen(
@@ -87,9 +88,9 @@ class Build:
             stdout=subprocess.PIPE,
             stderr=subprocess.STDOUT,
             errors="replace",
-            preexec_fn=die_with_parent,
+            preexec_fn=begin_group,
         ) as process, ExitStack() as behind:
-            behind.callback(process.kill)  # which nobody waits for where a signal came
+            behind.callback(end_group, process)  # where a signal came
             for line in process.stdout or ():
                 last = [*last[-WORDS:], line]
                 if MADE.match(line) and bar.done < ABOUT - 1:
@@ -109,7 +110,7 @@ class Build:
         return trees[0]
 
     def configure(self, tree: Path) -> None:
-        """Our patch, and the smallest configuration with ours over it."""
+        """Our patch, and the smallest configuration with ours over it. Fault: the source has no time travel."""
         self.step("our patch, which is for Linux 6.12", "patch", "-p1", "--forward", "-i", PATCH, where=tree)
         self.step("configuration", "make", "tinyconfig", where=tree)
         self.step("configuration", "scripts/kconfig/merge_config.sh", "-m", ".config", CONFIG, where=tree)
@@ -135,7 +136,7 @@ class Build:
             yield subprocess.run(words, capture_output=True, text=True, check=True).stdout.partition("\n")[0]
 
     def run(self) -> Iterator[Kernel]:
-        """The kernel that was built, and once it was tried, the same where it is kept."""
+        """The kernel that was built, and once it was tried, the same where it is kept. Missing: there is no room."""
         cache().mkdir(parents=True, exist_ok=True)
         with scratch() as place, scratch(cache(), ".new-") as new:
             if shutil.disk_usage(place).free < ROOM:
@@ -147,6 +148,18 @@ class Build:
             yield kept_as(new, folder_of(version_of(tree)))
 
 
+def begin_group() -> None:
+    os.setpgid(0, 0)
+    die_with_parent()
+
+
+def end_group(process: "subprocess.Popen[str]") -> None:
+    """Kills a process with all that it started, and waits until nothing of it writes into the build's folder any more."""
+    os.killpg(process.pid, signal.SIGKILL)
+    assert process.stdout
+    process.stdout.read()  # to its end, which comes when the last of them is gone
+
+
 def sha256_of(path: Path) -> str:
     digest = hashlib.sha256()
     with open(path, "rb") as file:
@@ -156,7 +169,7 @@ def sha256_of(path: Path) -> str:
 
 
 def add_init(kernel: Kernel) -> None:
-    """Compiles the first process of a kernel's machines."""
+    """Compiles the first process of a kernel's machines. Fault: the compiler refuses it."""
     words = ["cc", "-std=c17", "-O2", "-static", "-s", "-o", str(kernel.init), *map(str, INIT)]
     with scratch() as place:  # for what a compiler leaves that is killed
         process = subprocess.run(words, capture_output=True, text=True, errors="replace", env={**os.environ, "TMPDIR": str(place)})

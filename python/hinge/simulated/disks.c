@@ -4,9 +4,11 @@
 #define _GNU_SOURCE
 #include <errno.h>
 #include <fcntl.h>
+#include <limits.h>
 #include <linux/types.h>
 #include <sched.h>
 #include <signal.h>
+#include <stdbool.h>
 #include <stdio.h>
 #include <stdlib.h>
 #include <string.h>
@@ -25,8 +27,8 @@ enum { NO_FLUSH = 2, LINE = 5000, WORD = 200 };
 
 struct question {
     unsigned disk, size; /* MiB */
-    int namespace;       /* a descriptor of the one who asks */
-    char does[20], path[LINE];
+    unsigned namespace;  /* a descriptor of the one who asks */
+    const char *does, *path;
 };
 
 static _Noreturn void refuse(int peer, const char *what) {
@@ -47,44 +49,70 @@ static int set(unsigned disk, const char *name, unsigned value) {
     return written;
 }
 
-/* A new disk with nothing in it. Its cache holds all of it, so that nothing is flushed unasked. */
-static void make(int peer, const struct question *asked, const struct ucred *user) {
+/* A new disk with nothing in it. Its cache holds all of it, so that nothing is flushed unquestion. */
+static void make(int peer, const struct question *question, const struct ucred *user) {
     char text[WORD];
-    snprintf(text, sizeof text, SETTINGS, asked->disk);
-    if (mkdir(text, 0755) || set(asked->disk, "size", asked->size) < 0 || set(asked->disk, "cache_size", asked->size + 1) < 0
-        || set(asked->disk, "memory_backed", 1) < 0 || set(asked->disk, "irqmode", 0) < 0 || set(asked->disk, "power", 1) < 0)
+    snprintf(text, sizeof text, SETTINGS, question->disk);
+    if (mkdir(text, 0755) || set(question->disk, "size", question->size) < 0 || set(question->disk, "cache_size", question->size + 1) < 0 ||
+        set(question->disk, "memory_backed", 1) < 0 || set(question->disk, "irqmode", 0) < 0 || set(question->disk, "power", 1) < 0)
         refuse(peer, text);
-    snprintf(text, sizeof text, MAKE, user->uid, user->gid, asked->disk);
-    if (system(text)) errno = EIO, refuse(peer, "mkfs.ext4");
+    snprintf(text, sizeof text, MAKE, user->uid, user->gid, question->disk);
+    if (system(text)) {
+        errno = EIO;
+        refuse(peer, "mkfs.ext4");
+    }
 }
 
 /* Ends the file system as it is, takes it away, and takes the power of its disk away for a moment. */
-static void lose(int peer, const struct question *asked, int power) {
+static void lose(int peer, const struct question *question, int power) {
     __u32 how = NO_FLUSH;
-    int top = open(asked->path, O_RDONLY | O_DIRECTORY | O_CLOEXEC);
-    if (top < 0 || ioctl(top, END_AT_ONCE, &how)) refuse(peer, asked->path);
+    int top = open(question->path, O_RDONLY | O_DIRECTORY | O_CLOEXEC);
+    if (top < 0 || ioctl(top, END_AT_ONCE, &how)) refuse(peer, question->path);
     close(top);
-    if (umount2(asked->path, MNT_DETACH) || write(power, "0", 1) < 0 || write(power, "1", 1) < 0) refuse(peer, asked->path);
+    if (umount2(question->path, MNT_DETACH) || write(power, "0", 1) < 0 || write(power, "1", 1) < 0) refuse(peer, question->path);
+}
+
+static bool take_number(char **text, unsigned *number) {
+    char *end;
+    unsigned long value = strtoul(*text, &end, 10);
+    bool is_number = end > *text && value <= INT_MAX;
+    *number = (unsigned)value;
+    *text = end;
+    return is_number;
+}
+
+/* Reads DOES DISK SIZE NAMESPACE PATH; false where it is something else. */
+static bool read_question(char *text, struct question *question) {
+    char *does = text, *rest = text + strcspn(text, " ");
+    if (!take_number(&rest, &question->disk) || !take_number(&rest, &question->size) || !take_number(&rest, &question->namespace)) return false;
+    if (*rest != ' ') return false;
+    does[strcspn(does, " ")] = 0;
+    rest[strcspn(rest, "\n")] = 0;
+    question->does = does;
+    question->path = rest + 1;
+    return true;
 }
 
 static void answer(int peer) {
-    struct question asked;
+    struct question question;
     struct ucred user;
     char text[LINE + WORD] = "", place[WORD], device[WORD];
     socklen_t length = sizeof user;
     if (getsockopt(peer, SOL_SOCKET, SO_PEERCRED, &user, &length) || recv(peer, text, sizeof text - 1, 0) < 0) refuse(peer, "disks");
-    if (sscanf(text, "%19s %u %u %d %4999[^\n]", asked.does, &asked.disk, &asked.size, &asked.namespace, asked.path) != 5)
-        errno = EINVAL, refuse(peer, text);
-    if (!strcmp(asked.does, "make")) make(peer, &asked, &user);
-    int power = setting(asked.disk, "power");
-    snprintf(place, sizeof place, "/proc/%d/fd/%d", user.pid, asked.namespace);
-    snprintf(device, sizeof device, "/dev/disk%u", asked.disk);
+    if (!read_question(text, &question)) {
+        errno = EINVAL;
+        refuse(peer, text);
+    }
+    if (!strcmp(question.does, "make")) make(peer, &question, &user);
+    int power = setting(question.disk, "power");
+    snprintf(place, sizeof place, "/proc/%d/fd/%u", user.pid, question.namespace);
+    snprintf(device, sizeof device, "/dev/disk%u", question.disk);
     int namespace = open(place, O_RDONLY | O_CLOEXEC);
     if (namespace < 0 || setns(namespace, CLONE_NEWNS)) refuse(peer, place);
-    if (!strcmp(asked.does, "lose")) lose(peer, &asked, power);
-    mkdir(asked.path, 0755);
+    if (!strcmp(question.does, "lose")) lose(peer, &question, power);
+    mkdir(question.path, 0755);
     /* Nothing is made ready later, at moments of its own. */
-    if (mount(device, asked.path, "ext4", MS_NOATIME, "noinit_itable")) refuse(peer, asked.path);
+    if (mount(device, question.path, "ext4", MS_NOATIME, "noinit_itable")) refuse(peer, question.path);
     dprintf(peer, "done");
 }
 
@@ -97,7 +125,10 @@ void serve_disks(const char *path) {
     if (fork()) return;
     for (int peer; (peer = accept4(listener, NULL, NULL, SOCK_CLOEXEC)) >= 0 || errno == EINTR; close(peer)) {
         pid_t child = fork();
-        if (child == 0) answer(peer), _exit(0);
+        if (child == 0) {
+            answer(peer);
+            _exit(0);
+        }
         waitpid(child, NULL, 0);
     }
     _exit(1);

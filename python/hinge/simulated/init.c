@@ -25,7 +25,7 @@
 #define KEPT "/run/kept"
 #define SCRATCH "/run/scratch"
 #define DISKS "/run/disks"
-enum { SECOND = 1000000000, CANNOT_EXECUTE = 126, NOT_FOUND = 127, GROUPS = 1000, NAMES = 100000 };
+enum { SECOND = 1000000000, CANNOT_EXECUTE = 126, NOT_FOUND = 127, GROUPS = 1000, NAMES = 100000, LONGEST_JOB = 1 << 22 };
 
 void serve_disks(const char *path); /* disks.c */
 
@@ -63,35 +63,43 @@ static void must_mount(const char *source, const char *target, const char *kind,
 }
 
 /* The job: strings that end in 0. */
-static char job[1 << 22];
-static size_t length, at;
+struct job {
+    char *bytes;
+    size_t length, at;
+};
 
-static char *next(void) {
-    if (at >= length) return NULL;
-    char *text = job + at;
-    at += strlen(text) + 1;
+static char *next(struct job *job) {
+    if (job->at >= job->length) return NULL;
+    char *text = job->bytes + job->at;
+    job->at += strlen(text) + 1;
     return text;
 }
 
-static char *must_next(void) {
-    char *text = next();
-    if (!text) errno = ENODATA, stop("the job");
+static char *must_next(struct job *job) {
+    char *text = next(job);
+    if (!text) {
+        errno = ENODATA;
+        stop("the job");
+    }
     return text;
 }
 
-static void read_job(void) {
+static struct job read_job(void) {
+    struct job job = {.bytes = calloc(1, LONGEST_JOB)};
     int file = open(FOLDER "/job", O_RDONLY | O_CLOEXEC);
-    if (file < 0) stop("the job");
+    if (file < 0 || !job.bytes) stop("the job");
     ssize_t got;
-    while ((got = read(file, job + length, sizeof job - 1 - length)) > 0) length += (size_t)got;
+    while ((got = read(file, job.bytes + job.length, LONGEST_JOB - 1 - job.length)) > 0) job.length += (size_t)got;
     close(file);
+    return job;
 }
 
 /* Mounts the launcher's folder, which is where the kernel's own process is: the kernel's command line names no folder, since the kernel
    draws random numbers from that line. */
 static void mount_folder(void) {
     must_mount("run", "/run", "tmpfs", 0, "mode=0755");
-    mkdir(FOLDER, 0700), mkdir(KEPT, 0700);
+    mkdir(FOLDER, 0700);
+    mkdir(KEPT, 0700);
     must_mount("none", FOLDER, "hostfs", MS_NOATIME, "/proc/self/cwd/.");
     must_mount("none", KEPT, "hostfs", MS_NOATIME, "/proc/self/cwd/kept/.");
 }
@@ -100,28 +108,36 @@ static void mount_folder(void) {
    the namespace, since a kernel gives a chroot no namespaces of users. */
 static void change_root(void) {
     must_mount("scratch", "/run", "tmpfs", 0, "mode=0755");
-    mkdir(SCRATCH, 0755), mkdir("/run/upper", 0755), mkdir("/run/work", 0755);
+    mkdir(SCRATCH, 0755);
+    mkdir("/run/upper", 0755);
+    mkdir("/run/work", 0755);
     must_mount("scratch", SCRATCH, "overlay", MS_NOATIME, "lowerdir=/,upperdir=/run/upper,workdir=/run/work");
     if (chdir(SCRATCH) || mount(".", "/", NULL, MS_MOVE, NULL) || chroot(".") || chdir("/")) stop("the root");
 }
 
 static void mount_devices(void) {
     must_mount("dev", "/dev", "devtmpfs", 0, NULL);
-    mkdir("/dev/shm", 01777), mkdir("/dev/pts", 0755), mkdir("/dev/mqueue", 0755);
+    mkdir("/dev/shm", 01777);
+    mkdir("/dev/pts", 0755);
+    mkdir("/dev/mqueue", 0755);
     must_mount("pts", "/dev/pts", "devpts", 0, "ptmxmode=0666,mode=0620,gid=5");
     must_mount("shm", "/dev/shm", "tmpfs", 0, "mode=1777");
-    static const char *const links[][2] = {{"/proc/self/fd", "/dev/fd"}, {"/proc/self/fd/0", "/dev/stdin"}, {"/proc/self/fd/1", "/dev/stdout"},
-                                           {"/proc/self/fd/2", "/dev/stderr"}};
+    static const char *const links[][2] = {
+        {"/proc/self/fd", "/dev/fd"}, {"/proc/self/fd/0", "/dev/stdin"}, {"/proc/self/fd/1", "/dev/stdout"}, {"/proc/self/fd/2", "/dev/stderr"}};
     for (size_t i = 0; i < sizeof links / sizeof *links; i++)
         if (symlink(links[i][0], links[i][1])) {}
-    static const char *const open_to_all[] = {"/dev/net/tun", "/dev/null", "/dev/zero", "/dev/full", "/dev/random", "/dev/urandom", "/dev/tty", "/dev/ptmx"};
+    static const char *const open_to_all[] = {"/dev/net/tun", "/dev/null",    "/dev/zero", "/dev/full",
+                                              "/dev/random",  "/dev/urandom", "/dev/tty",  "/dev/ptmx"};
     for (size_t i = 0; i < sizeof open_to_all / sizeof *open_to_all; i++) chmod(open_to_all[i], 0666);
 }
 
 static void mount_all(int scratch) {
     /* With relatime the age of a file decides whether its time is written, which takes a reading of the clock. */
     mount(NULL, "/", NULL, MS_REMOUNT | MS_BIND | MS_NOATIME, NULL);
-    if (scratch) change_root(), mount_folder();
+    if (scratch) {
+        change_root();
+        mount_folder();
+    }
     must_mount("proc", "/proc", "proc", 0, NULL);
     must_mount("sys", "/sys", "sysfs", 0, NULL);
     mount_devices();
@@ -131,7 +147,7 @@ static void mount_all(int scratch) {
 
 /* Copies what a file of the kernel's tells now. */
 static void keep(const char *from, const char *to) {
-    static char text[1 << 16];
+    char text[1 << 16];
     size_t have = 0;
     ssize_t got;
     int file = open(from, O_RDONLY | O_CLOEXEC);
@@ -155,30 +171,31 @@ struct user {
     mode_t mask;
 };
 
-static struct user next_user(void) {
-    static struct user user;
-    user.uid = (uid_t)strtoul(must_next(), NULL, 10);
-    user.gid = (gid_t)strtoul(must_next(), NULL, 10);
-    for (char *text = must_next(), *end; user.count < GROUPS && *text; text = end + (*end == ' '))
+static struct user next_user(struct job *job) {
+    struct user user = {0};
+    user.uid = (uid_t)strtoul(must_next(job), NULL, 10);
+    user.gid = (gid_t)strtoul(must_next(job), NULL, 10);
+    for (char *text = must_next(job), *end; user.count < GROUPS && *text; text = end + (*end == ' '))
         user.groups[user.count++] = (gid_t)strtoul(text, &end, 10);
-    user.mask = (mode_t)strtoul(must_next(), NULL, 8);
+    user.mask = (mode_t)strtoul(must_next(job), NULL, 8);
     return user;
 }
 
 /* Becomes the job: a folder, how many words, the words, and the names of the environment. What the command writes goes into files, each
    write at once: a console of this kernel can block in real time, while simulated time goes on. */
-static _Noreturn void become_job(struct user user) {
-    char *place = must_next();
-    int count = atoi(must_next());
-    char **words = calloc((size_t)count + 1, sizeof *words), **names = calloc(NAMES, sizeof *names);
-    if (!words || !names) _exit(CANNOT_EXECUTE);
-    for (int i = 0; i < count; i++) words[i] = must_next();
-    for (int i = 0; i < NAMES - 1 && (names[i] = next()); i++) {}
+static _Noreturn void become_job(struct job *job, struct user user) {
+    char *place = must_next(job);
+    size_t count = strtoul(must_next(job), NULL, 10);
+    char **words = calloc(count + 1, sizeof *words), **names = calloc(NAMES, sizeof *names);
+    if (!words || !names || !count) _exit(CANNOT_EXECUTE);
+    for (size_t i = 0; i < count; i++) words[i] = must_next(job);
+    for (int i = 0; i < NAMES - 1 && (names[i] = next(job)); i++) {}
     int flags = O_WRONLY | O_APPEND | O_DSYNC;
-    if (dup2(stream(FOLDER "/in", O_RDONLY), 0) < 0 || dup2(stream(FOLDER "/out", flags), 1) < 0 || dup2(stream(FOLDER "/err", flags), 2) < 0) stop("a stream");
+    if (dup2(stream(FOLDER "/in", O_RDONLY), 0) < 0 || dup2(stream(FOLDER "/out", flags), 1) < 0 || dup2(stream(FOLDER "/err", flags), 2) < 0)
+        stop("a stream");
     struct rlimit most = {99, 99};
     setrlimit(RLIMIT_RTPRIO, &most); /* so that any user may put the link before all other programs */
-    prctl(PR_SET_TIMERSLACK, 1); /* ns: a sleep ends when it is over, and not up to 50 us later, with others */
+    prctl(PR_SET_TIMERSLACK, 1);     /* ns: a sleep ends when it is over, and not up to 50 us later, with others */
     umask(user.mask);
     setsid();
     if (setgroups(user.count, user.groups) || setgid(user.gid) || setuid(user.uid) || chdir(place)) {
@@ -207,12 +224,12 @@ static uint64_t spun(void) {
 
 int main(void) {
     mount_folder();
-    read_job();
-    int scratch = !strcmp(must_next(), "scratch");
-    const char *pauses = must_next();
+    struct job job = read_job();
+    int scratch = !strcmp(must_next(&job), "scratch");
+    const char *pauses = must_next(&job);
     mount_all(scratch);
     if (sethostname("simulated", strlen("simulated"))) stop("the name");
-    struct user user = next_user();
+    struct user user = next_user(&job);
     /* iputils' ping takes a clock below 1 s for one that it hasn't read, and then sends all its packets at once. */
     struct timespec begin = {1000, 0};
     clock_nanosleep(CLOCK_MONOTONIC, TIMER_ABSTIME, &begin, NULL);
@@ -221,7 +238,7 @@ int main(void) {
     uint64_t begun = now();
     pid_t child = fork();
     if (child < 0) stop("fork");
-    if (child == 0) become_job(user);
+    if (child == 0) become_job(&job, user);
     int status = 0;
     for (pid_t ended = 0; ended != child;) ended = wait(&status);
     uint64_t ended = now();

@@ -69,7 +69,7 @@ def environment(is_clean: bool) -> list[str]:
 
 
 def folder() -> str:
-    """The present folder."""
+    """The present folder. Missing: a machine has a folder of its own in that place."""
     place = os.getcwd()
     if any(place == own or place.startswith(f"{own}/") for own in OWN):
         raise Missing(f"--simulated: {place} isn't in the machine, whose {', '.join(OWN)} are its own")

@@ -86,7 +86,7 @@ def kept(*places: Path) -> Iterator[Kernel]:
 
 
 def found() -> Kernel:
-    """The kernel whose folder the variable HINGE_KERNEL names, else one that `hinge kernel` built, else the released one."""
+    """The kernel in the folder HINGE_KERNEL, else that of `hinge kernel`, else the released one. Missing: there is none."""
     path = os.environ.get("HINGE_KERNEL")
     if path:
         if not Kernel(Path(path)).is_whole:

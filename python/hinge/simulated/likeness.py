@@ -13,7 +13,7 @@ TIMES = ("simulated", "spun")  # what two equal runs have in common
 
 
 def earlier(path: str) -> "dict[str, Any]":
-    """The summary of an earlier run in simulated time."""
+    """The summary of an earlier run in simulated time. Wrong: the file is none, or can't be read."""
     strange = "no summary of a run in simulated time, as --json writes it"
     try:
         record = read_object(path, strange)

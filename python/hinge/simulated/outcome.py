@@ -63,7 +63,7 @@ class Outcome(NamedTuple):
         if self.pauses and self.settings.pauses:
             text = self.pauses
             yield (
-                f"pauses {self.settings.pauses.asked()}: {text.amount} in {text.calls:,} calls, "
+                f"pauses {self.settings.pauses.asked}: {text.amount} in {text.calls:,} calls, "
                 f"{text.time / 1e9:.6f} s of simulated time in all"
             )
             for one in text.first if text.amount <= SHOWN else []:
@@ -76,7 +76,7 @@ class Outcome(NamedTuple):
         first = [one._asdict() for one in self.pauses.first]
         return {
             "pauses": {
-                "asked": self.settings.pauses.asked(),
+                "asked": self.settings.pauses.asked,
                 "seed": self.settings.pauses.seed,
                 "calls": self.pauses.calls,
                 "count": self.pauses.amount,

@@ -16,10 +16,11 @@ from hinge.run.words import Wrong, duration
 from hinge.simulated.calls_of_linux import name_of
 
 DRAWN = "drawn"
-RAREST, OFTENEST = 13, 3  # powers of two: of how many calls one pauses, where that is drawn
+RAREST, OFTENEST = 14, 4  # powers of two: of calls between two pauses at most, where the seed draws them
 LONGEST = 22  # the longest pause is 2^22 us and as much again: the kernel's PAUSE_LONGEST
+GENTLE = 10  # the longest one of some seeds
 BUDGET = 13  # and 2^13 us for each call between two pauses
-LONG = 3  # by half of the seeds that draw how often, all are of an eighth of the longest at least
+LONG = 3  # by half of the seeds that draw pauses, all are of an eighth of the longest at least
 MOST = 10**12
 MOST_GIVEN = 256  # the kernel's PAUSES_KEPT
 SHOWN = 10  # pauses that are told in words
@@ -40,22 +41,17 @@ class Given(NamedTuple):
 class Pauses(NamedTuple):
     """So many pauses in each so many calls, drawn by a seed of their own, or those that are given."""
 
-    amount: int
-    calls: int
+    asked: str  # as the option has it
     seed: int
-    longest: int = LONGEST  # powers of two, of us
-    shortest: int = 0
+    amount: int = 0
+    calls: int = 1
     given: "tuple[Given, ...]" = ()
 
     def lines(self) -> Iterator[str]:
         """What the kernel reads."""
-        yield f"{self.amount} {self.calls} {self.seed} {self.longest} {self.shortest}"
+        yield f"{self.amount} {self.calls} {self.seed} {longest_of(self.amount, self.calls)}"
         for one in self.given:
             yield f"{one.call} {one.where} {one.ns}"
-
-    def asked(self) -> str:
-        """As the option has it."""
-        return ",".join(one.word() for one in self.given) or f"{self.amount}/{self.calls}"
 
 
 class Paused(NamedTuple):
@@ -90,17 +86,13 @@ class PausesMade(NamedTuple):
 
 def given(text: str) -> "tuple[Given, ...]":
     """Pauses one by one, one of a call, in the order of the calls; none where the text is of another form."""
-    items = []
-    for word in text.split(","):
-        parts = re.fullmatch(r"(\d{1,12})([-+])([\d.]{1,20}[mun]?s)", word, re.ASCII)
-        if not parts:
-            return ()
-        items.append(Given(int(parts[1]), "before" if parts[2] == "-" else "behind", duration(parts[3])))
-    return tuple(sorted(items)) if len({one.call for one in items}) == len(items) <= MOST_GIVEN else ()
+    words = [re.fullmatch(r"(\d{1,12})([-+])([\d.]{1,20}[mun]?s)", word, re.ASCII) for word in text.split(",")]
+    items = {Given(int(one[1]), "before" if one[2] == "-" else "behind", duration(one[3])) for one in words if one}
+    return tuple(sorted(items)) if len({one.call for one in items}) == len(words) <= MOST_GIVEN else ()
 
 
 def pauses_word(text: str) -> str:
-    """The word of the option, where it is one."""
+    """The word of the option. ArgumentTypeError: the text is none."""
     match = re.fullmatch(r"(\d{1,12})/(\d{1,12})", text, re.ASCII)
     try:
         one_by_one = bool(given(text))
@@ -121,18 +113,26 @@ def longest_of(amount: int, calls: int) -> int:
     return min((calls // max(amount, 1)).bit_length() - 1 + BUDGET, LONGEST)
 
 
+def drawn(seed: int) -> Iterator[Given]:
+    """Pauses that get rarer, so that few calls have some, until they are as rare as the seed says."""
+    rare, longest, are_long = (number_of(f"{what} {seed}") for what in ("how often", "longest", "how long"))
+    most = 2 ** (rare % (RAREST - OFTENEST + 1) + OFTENEST)
+    longest = longest % (LONGEST - GENTLE + 1) + GENTLE
+    shortest, call = are_long % 2 * (longest - LONG), 0
+    for _ in range(MOST_GIVEN):
+        place, power, more, where = (number_of(f"{what} {call} {seed}") for what in ("place", "length", "more", "where"))
+        call += 1 + place % min(call * 2 // 3 + 2**OFTENEST // 2, most)
+        span = 1000 << shortest + power % (longest - shortest + 1)
+        yield Given(call, ("before", "behind")[where % 2], span + more % span)
+
+
 def pauses_of(word: Optional[str], seed: int) -> Optional[Pauses]:
     """What an option asks for in the run of a seed."""
     if word is None:
         return None
-    if word == DRAWN:
-        rare = number_of(f"how often {seed}") % (RAREST - OFTENEST + 1) + OFTENEST
-        longest, are_long = longest_of(1, 2**rare), number_of(f"how long {seed}") % 2
-        return Pauses(1, 2**rare, number_of(f"pauses {seed}"), longest, are_long * (longest - LONG))
-    if one_by_one := given(word):
-        return Pauses(0, 1, 0, given=one_by_one)
-    amount, calls = map(int, word.split("/"))
-    return Pauses(amount, calls, number_of(f"pauses {seed}"), longest_of(amount, calls))
+    one_by_one = tuple(drawn(seed)) if word == DRAWN else given(word)
+    amount, calls = (0, 1) if one_by_one else map(int, word.split("/"))
+    return Pauses(word, number_of(f"pauses {seed}"), amount, calls, one_by_one)
 
 
 def paused(line: str) -> Paused:

@@ -25,7 +25,7 @@ def may_be_executed(folder: str) -> bool:
 
 
 def memory_folder(size: int) -> str:
-    """A folder that has so many bytes free and may be executed; best in memory, since each write goes there at once."""
+    """A folder, best in memory, that has so many bytes free and may be executed. Missing: there is none."""
     places = ["/dev/shm", tempfile.gettempdir(), "/var/tmp"]
     for place in places:
         if os.path.isdir(place) and may_be_executed(place) and shutil.disk_usage(place).free >= size:

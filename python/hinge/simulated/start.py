@@ -98,7 +98,7 @@ def hand_over(machine: Machine, transcript: Optional[str]) -> None:
 
 
 def report_of_machine(machine: Machine, options: SimulatedOptions, settings: Settings, kernel: Kernel) -> int:
-    """Tells how a run went; its status."""
+    """Tells how a run went; its status. Missing: this kernel lacks pauses."""
     hand_over(machine, options.transcript)
     if machine.cut is not None:
         if machine.cut == TIMED_OUT:

@@ -24,7 +24,7 @@ SHELLS = {"bash", "dash", "fish", "ksh", "sh", "zsh"}
 
 
 def date(text: str) -> int:
-    """Seconds since 1970 of a date, as 2026-01-01 or 2026-01-01T12:00, in UTC where it names no other zone."""
+    """Seconds since 1970 of a date as 2026-01-01 or 2026-01-01T12:00, in UTC without a zone. ArgumentTypeError: it is none."""
     if text == "now":
         return int(time.time())
     try:
@@ -37,7 +37,7 @@ def date(text: str) -> int:
 
 
 def size(text: str) -> int:
-    """Bytes of a size as 512M or 2G."""
+    """Bytes of a size as 512M or 2G. ArgumentTypeError: it is none from 64M to 64G."""
     match = re.fullmatch(r"(\d{1,6})([MG])", text, re.ASCII)
     bytes_ = int(match[1]) << {"M": 20, "G": 30}[match[2]] if match else 0
     if not LEAST <= bytes_ <= MOST:
@@ -71,7 +71,7 @@ def add_simulated(parser: argparse.ArgumentParser) -> None:
 
 
 def refuse_alone(options: SimulatedOptions) -> None:
-    """In real time none of the other options means anything."""
+    """Wrong: another option of simulated time is given in real time."""
     values = asdict(options)
     for name in OF_SIMULATED_TIME:
         if values[name]:
@@ -79,7 +79,7 @@ def refuse_alone(options: SimulatedOptions) -> None:
 
 
 def refuse_outside(options: SimulatedOptions, has_terminal: bool) -> None:
-    """What a machine of its own can't have."""
+    """Wrong: an option is given that a machine of its own can't have."""
     if options.leads_outside():
         raise Wrong("--outside: simulated time has no way to the rest of the network, whose time is real")
     if options.control:

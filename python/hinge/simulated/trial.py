@@ -34,7 +34,7 @@ def ended(kernel: Kernel, *words: str) -> MachineEnded:
 
 
 def try_hour(kernel: Kernel) -> float:
-    """Sleeps for an hour in a machine of this kernel; the simulated seconds that it took."""
+    """The simulated seconds of a sleep of an hour in a machine of this kernel. Fault: it doesn't travel in time."""
     how = ended(kernel, "sleep", "3600")
     if how.status or not HOUR <= how.simulated < HOUR + STARTED:
         raise Fault(f"the kernel was built, and doesn't travel in time: {how}", FAILED)

@@ -53,7 +53,7 @@ def copy_addresses(packets: Path, copy: Path) -> None:
 
 
 def tell_run(fault: Optional[BaseException], bar: Bar) -> None:
-    """Tells of a run that has come to its end, and why it failed, if it did."""
+    """Tells of a run that has ended, and why it failed, if it did. Fault: a process that made runs was killed."""
     if isinstance(fault, BrokenProcessPool):
         raise Fault("a process that made runs was killed; `sweep run` makes what is missing", ROWS)
     bar.step(failed=fault is not None)
@@ -64,8 +64,7 @@ def tell_run(fault: Optional[BaseException], bar: Bar) -> None:
 
 @dataclass(frozen=True)
 class Study:
-    """The folder of a sweep. `runs` has the values of each run by parameter, the seed among them; run n is runs[n -
-    1]."""
+    """The folder of a sweep. `runs` has the values of each run by parameter, the seed among them; run n is runs[n - 1]."""
 
     folder: Path
     packets: Path
@@ -73,7 +72,7 @@ class Study:
 
     @staticmethod
     def plan(folder: Path, packets: Path, template: Path, values: dict[str, list[str]], seeds: list[int]) -> Study:
-        """Writes a folder with all combinations of the values and seeds."""
+        """The study of a new folder with all combinations of values and seeds. Fault: a name in braces isn't in both."""
         text = read_text(template)
         places = set(PLACE.findall(text))
         if places != set(values):
@@ -111,7 +110,7 @@ class Study:
         return [run for run in range(1, len(self.runs) + 1) if not self.table_of(run).exists()]
 
     def run(self, number: int) -> None:
-        """Makes one run: its table of flows stands in the folder when it is done, and not before."""
+        """Makes one run, whose table of flows comes into the folder at its end. Fault: there is no such run."""
         if not 1 <= number <= len(self.runs):
             raise Fault(f"{self.folder} has runs 1 to {len(self.runs)}, and no run {number}", ROWS)
         values = self.runs[number - 1]
@@ -133,7 +132,7 @@ class Study:
             write_csv(table, out)
 
     def call(self, words: list[str], number: int, out: Optional[BinaryIO] = None) -> None:
-        """Runs a program of a run; its fault is told with the values of the run."""
+        """Runs a program of a run. Fault: it failed, told with the values of the run, or isn't there."""
         try:
             process = subprocess.run(words, stdout=out, stderr=subprocess.PIPE, text=True)
         except OSError as error:
@@ -143,7 +142,7 @@ class Study:
             raise Fault(f"run {number} ({values}): {' '.join(process.stderr.split())[:300]}", process.returncode)
 
     def run_all(self, processes: int) -> None:
-        """Makes the runs that are missing, so many at a time. A run that fails is told, and the others go on."""
+        """Makes the missing runs, so many at a time. A run that fails is told, and the others go on. Fault: some are missing."""
         todo = self.missing()
         bar = Bar("runs", len(todo))
         with ProcessPoolExecutor(processes) as pool:
@@ -160,7 +159,7 @@ class Study:
             raise Fault(f"{len(rest)} of {len(self.runs)} runs are missing, run {rest[0]} first", ROWS)
 
     def rows(self) -> Iterator[dict[str, str]]:
-        """The tables of all runs as one: the parameters of a run before the figures of each of its flows."""
+        """The tables of all runs as one: a run's parameters before the figures of each flow. Fault: a run is missing."""
         if rest := self.missing():
             raise Fault(f"{len(rest)} of {len(self.runs)} runs are missing, run {rest[0]} first: sweep run " f"{self.folder}", ROWS)
         for number, values in enumerate(self.runs, 1):

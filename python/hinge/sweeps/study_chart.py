@@ -25,7 +25,7 @@ def magnitude(text: str) -> Optional[float]:
 
 
 def plot_lines(rows: list[dict[str, str]], names: list[str], figure: str, against: str, flow: str) -> Lines:
-    """For each combination of the other parameters, the figures of all seeds by the value of the parameter."""
+    """The figures of all seeds against a parameter, a line for each combination of the others. Fault: there are none."""
     if against not in names or figure not in (rows[0] if rows else {}):
         raise Fault(f"a sweep of {', '.join(names)} has no {figure!r} against {against!r}", CONFIGURATION)
     lines: Lines = defaultdict(lambda: defaultdict(list))

@@ -19,8 +19,7 @@ def is_asynchronous(call: object) -> bool:
 
 
 def asynchronous(call: Callable[..., Any]) -> Optional[Callable[..., Any]]:
-    """The coroutine or asynchronous generator of a fixture or test, also if another plugin has wrapped it; None if it
-    is none."""
+    """The coroutine or asynchronous generator of a fixture or test, also if another plugin has wrapped it; None if it is none."""
     result = inspect.unwrap(call)
     return result if is_asynchronous(result) else None
 
@@ -60,8 +59,7 @@ async def step(generator_of_loop: AsyncGenerator[object, None]) -> object:
 
 
 def is_in_simulated_time(request: pytest.FixtureRequest, scope: str) -> bool:
-    """Whether a fixture of a scope belongs to simulated time: its test has the network, and it isn't shared with
-    another test."""
+    """Whether a fixture of a scope belongs to simulated time: its test has the network, and it isn't shared with another test."""
     return scope == "function" and NETWORK in request.fixturenames
 
 

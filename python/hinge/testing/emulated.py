@@ -6,11 +6,13 @@ import re
 import select
 import signal
 import subprocess
+from abc import ABC, abstractmethod
 from collections import Counter
 from pathlib import Path
-from typing import TYPE_CHECKING, Iterator, Optional, Protocol
+from typing import TYPE_CHECKING, Iterator, Optional
 
-from hinge.faults import IS_LOST, Fault, Faults, FaultyNetwork
+from hinge.fault_lines import IS_LOST, Fault, Faults
+from hinge.faults import FaultyNetwork
 from hinge.program import HINGE, dummynet
 from hingetulip.aio import Network
 from hingetulip.aio.options import Options
@@ -65,28 +67,35 @@ def losses_of(net: Network, history: Path) -> Faults:
     return Faults(*faults)
 
 
-class Emulated(Protocol):
+class Emulated(ABC):
     """What a test has of a link, for its report."""
 
-    history: Path
-    verdict: Optional[str]
-    faults: list[str]
-    """Exceptions that nobody took."""
+    def __init__(self, history: Path) -> None:
+        self.history, self.told = history, ""
+        self.verdict: Optional[str] = None
+        self.faults: list[str] = []  # exceptions that nobody took
 
     def finish(self) -> None:
         """Ends the link, if it hasn't ended, and audits its history."""
+        if self.verdict is None:
+            self.end()
+            self.verdict = self.verdict or audited(self.history)
 
+    @abstractmethod
+    def end(self) -> None:
+        """Ends the link."""
+
+    @abstractmethod
     def report(self) -> str:
         """What the link did."""
 
 
-class UdpPath:
+class UdpPath(Emulated):
     """A proxy on the loopback, towards a server there: `address` and `port` are those to which a client sends."""
 
     def __init__(self, server: str, there: str, back: str, seed: int, history: Path) -> None:
-        self.history, self.seed, self.told = history, seed, ""
-        self.verdict: Optional[str] = None
-        self.faults: list[str] = []
+        super().__init__(history)
+        self.seed = seed
         links = [f"pipe {number} config {Options(text)}".strip() for number, text in enumerate((there, back), 1)]
         words = ["udp", "0", server, *links, "--seed", str(seed), "--transcript", str(history)]
         self.process = subprocess.Popen([*HINGE, *words], stdout=subprocess.PIPE, stderr=subprocess.PIPE, text=True)
@@ -105,31 +114,27 @@ class UdpPath:
             raise RuntimeError(f"no UDP path: {self.process.communicate()[1].strip()}")
         return match[1], int(match[2])
 
-    def finish(self) -> None:
-        if self.verdict is None:
-            self.process.send_signal(signal.SIGTERM)
-            self.told = self.process.communicate(timeout=PATIENCE)[1].strip()
-            self.verdict = audited(self.history)
+    def end(self) -> None:
+        self.process.send_signal(signal.SIGTERM)
+        self.told = self.process.communicate(timeout=PATIENCE)[1].strip()
 
     def report(self) -> str:
         return "\n".join([self.told, *dropped_in_history(self.history), closing(self.seed, self.verdict, self.history)])
 
 
-class SimulatedPath:
+class SimulatedPath(Emulated):
     """The network of simulated time of a test."""
 
     def __init__(self, net: FaultyNetwork, history: Path) -> None:
-        self.net, self.history, self.told, self.faults = net, history, "", net.faults
-        self.verdict: Optional[str] = None
+        super().__init__(history)
+        self.net, self.faults = net, net.faults
 
-    def finish(self) -> None:
-        if self.verdict is None:
-            try:
-                self.told = self.net.report() + self.net.waiting()
-            except Exception as fault:
-                self.told = no_report(fault)
-            self.net.close()
-            self.verdict = audited(self.history)
+    def end(self) -> None:
+        try:
+            self.told = self.net.report() + self.net.waiting()
+        except Exception as fault:
+            self.told = no_report(fault)
+        self.net.close()
 
     def is_disturbed(self) -> Optional[bool]:
         """Whether a packet was lost, met a full queue, or was late or doubled by more than its link; None if none came to a link."""
@@ -153,18 +158,16 @@ class SimulatedPath:
         return "\n".join(lines)
 
 
-class NetOfTest:
+class NetOfTest(Emulated):
     """The net of a test. One that never began is lawful."""
 
     def __init__(self, net: Net) -> None:
-        self.net, self.history = net, net.history
-        self.verdict: Optional[str] = None
-        self.faults: list[str] = []
+        super().__init__(net.history)
+        self.net = net
 
-    def finish(self) -> None:
-        if self.verdict is None:
-            self.net.close()
-            self.verdict = audited(self.history) if self.history.exists() else "lawful, since the net didn't begin"
+    def end(self) -> None:
+        self.net.close()
+        self.verdict = None if self.history.exists() else "lawful, since the net didn't begin"
 
     def named(self, line: str) -> str:
         """A line with the names of hosts in the place of their addresses."""

@@ -7,7 +7,7 @@ from typing import Optional, Sequence
 import pytest
 from _pytest.runner import runtestprotocol
 
-from hinge.faults import Faults
+from hinge.fault_lines import Faults
 from hinge.pytest_plugin import LINKS, TRIED
 from hinge.searches.case import Case, Part
 from hinge.searches.shrinking import least

@@ -149,7 +149,7 @@ def variation_of(words: Mapping[str, object]) -> Variation:
 
 
 def vary_of(item: pytest.Item) -> Variation:
-    """What the marks `vary` of a test say, the nearest last."""
+    """What the marks `vary` of a test say, the nearest last. WrongMark: one has an argument without a name."""
     marks = list(item.iter_markers("vary"))
     if any(mark.args for mark in marks):
         raise WrongMark("the mark vary takes spans by their names alone, as vary(delay='5..100ms')")

@@ -47,17 +47,17 @@ class VariedNetwork(FaultyNetwork):
             self._cut_next(Random(f"cuts {self.seed}"), variation.cuts, MOST_CUTS)
 
     def new_host(self, addresses: tuple[str, ...], name: Optional[str]) -> Host:
-        made = VariedHost(self, addresses, name)
+        host = VariedHost(self, addresses, name)
         if self.variation.drift is not None:
-            made.drift = self.variation.drift.drawn(self.drawn)
-        return made
+            host.drift = self.variation.drift.drawn(self.drawn)
+        return host
 
     def link(self, near: Host, far: Host, options: Optional[str] = None, *, jitter: Optional[DelayOf] = None, **more: Any) -> Link:
         own = self.variation.jitter
-        made = super().link(near, far, options, jitter=jitter if own is None else self._more(own, jitter), **more)
+        link = super().link(near, far, options, jitter=jitter if own is None else self._more(own, jitter), **more)
         if self.variation.delay is not None:
-            made.change(f"{made.options.without('delay')} delay {self.variation.delay.ms(self.drawn)}ms")
-        return made
+            link.change(f"{link.options.without('delay')} delay {self.variation.delay.ms(self.drawn)}ms")
+        return link
 
     def _more(self, span: Span, jitter: Optional[DelayOf]) -> DelayOf:
         random = Random(self.drawn.getrandbits(64))

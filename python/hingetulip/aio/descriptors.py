@@ -53,6 +53,7 @@ class Descriptors:
             self._readable[made._descriptor] = None
 
     def number(self, descriptor: Descriptor) -> int:
+        """The number of a descriptor. ValueError: it is closed."""
         found: int = descriptor if isinstance(descriptor, int) else descriptor.fileno()
         if found < 0:
             raise ValueError(f"no descriptor: {descriptor!r}")

@@ -65,7 +65,7 @@ class Network(Traffic):
         loop.default_exception_handler(context)
 
     def number_of(self, kind: str) -> int:
-        """The number of a new pipe or queue."""
+        """The number of a new pipe or queue. ValueError: there are none left."""
         if self._made[kind] == MOST_PIPES:
             raise ValueError(f"a network has at most {MOST_PIPES} {kind}s")
         self._made[kind] += 1
@@ -76,7 +76,7 @@ class Network(Traffic):
 
     def host(self, *addresses: str, name: Optional[str] = None) -> Host:
         """The host with these addresses, of which the first is one of IPv4, and which is made if there is none yet. Others
-        find it by its name too. A history has an address of IPv6 as the first one."""
+        find it by its name too. A history has an address of IPv6 as the first one. ValueError: another host has one of them."""
         texts = (str(ipaddress.IPv4Address(addresses[0])), *(str(ipaddress.ip_address(it)) for it in addresses[1:]))
         if texts[0] in self.hosts:
             return self.hosts[texts[0]]
@@ -106,6 +106,7 @@ class Network(Traffic):
         of the packets, under a loss rate of 0.5. `copies` returns how often a datagram enters the link, and `jitter` for how many ms more it is
         under way, by a second pass. A datagram longer than `mtu` bytes with its headers isn't taken: the sender's socket is told so at
         the first link, as one that forbids fragments. LineError: the options are none.
+        ValueError: there is one already. TypeError: an end is no host.
         """
         for it in (near, far):
             if not isinstance(it, Host):

@@ -27,7 +27,7 @@ EPOCH = 1_700_000_000  # s: what time.time() returns at the start
 @contextmanager
 def simulated(loop: Loop, source: random.Random) -> Iterator[None]:
     """The module `time` returns the simulated time, and so does the clock in C code with the library of `hinge kernel --clock`. Numbers of
-    `random`, `secrets`, `os.urandom` and OpenSSL come from `source`."""
+    `random`, `secrets`, `os.urandom` and OpenSSL come from `source`. RuntimeError: another run is under way."""
     if not ONE.acquire(blocking=False):
         raise RuntimeError("another run of simulated time is under way in this process, in another thread or around this one")
     try:

@@ -49,7 +49,8 @@ class Transport(asyncio.DatagramTransport):
         return super().get_extra_info(name, default)
 
     def sendto(self, data: Data, addr: Optional[Any] = None) -> None:
-        """Sends a datagram. What the system refuses, `error_received` gets, as with asyncio's own sockets."""
+        """Sends a datagram. What the system refuses, `error_received` gets, as with asyncio's own sockets.
+        OSError, TypeError and ValueError: as there."""
         if not isinstance(data, (bytes, bytearray, memoryview)):
             raise TypeError(f"data has to be bytes, not {type(data).__name__}")
         if self.closing:

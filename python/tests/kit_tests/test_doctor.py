@@ -22,7 +22,9 @@ class Doctor(unittest.TestCase):
 
     def test_what_is_missing_is_named_with_its_package(self) -> None:
         with mock.patch.dict(os.environ, {"PATH": "/nonexistent"}):
-            self.assertEqual(first_words(), Finding("there is no ping and no git", ("iputils-ping", "git")))
+            self.assertEqual(
+                first_words(), Finding("there is no ping and no git and no redis-server", ("iputils-ping", "git", "redis-server"))
+            )
             self.assertEqual(outside(), Finding("there is neither slirp4netns nor pasta", ("slirp4netns",)))
             with mock.patch.object(os, "geteuid", lambda: 1000):
                 self.assertEqual(users(), Finding("there is no newuidmap", ("uidmap",)))

@@ -108,3 +108,10 @@ class Ipfw(unittest.TestCase):
     def test_standard_input_and_a_missing_file(self) -> None:
         self.assertEqual(run("ipfw", input="dnctl pipe 1 config bw 1Mbit/s\n").stdout, "pipe 1 config bw 1Mbit/s\n")
         self.assertEqual(run("ipfw", "missing").returncode, 6)
+
+    def test_a_line_of_ipfw_in_place_of_a_file_is_answered(self) -> None:
+        config, line = "pipe 1 config bw 1Mbit/s", "hinge run --line 'pipe 1 config bw 1Mbit/s' -- COMMAND"
+        answers = {f"{option}{config}": line for option in ("", "-q ", "-n ", "-f ", "-S ")}
+        for words, wanted in {**answers, "-f pipe flush": "hinge down NAME", "-S pipe list": "hinge status NAME"}.items():
+            done = run("ipfw", *words.split())
+            self.assertEqual((done.returncode, done.stderr.rpartition("written so: ")[2]), (2, f"{wanted}\n"), words)

@@ -158,7 +158,11 @@ class Look(unittest.TestCase):
         moments, ms = found.lateness["up"]["unread"]
         self.assertEqual((moments.tolist(), ms.tolist()), ([1, 2], [0, 81]))
         replay = found.replay
-        drawn = Panels(series(replay, group(replay, "tuple"), 10**9, 2 * 10**9, found.changes, found.lateness)).lateness()
+        made = series(replay, group(replay, "tuple"), 10**9, 2 * 10**9, found.changes, found.lateness)
+        drawn = Panels(made).lateness()
+        made.lateness.clear()
+        made.lateness["up"] = {"late": (moments, ms / 10**5)}
+        self.assertIsNone(Panels(made).lateness(), "of simulated time")
         line = next(item for item in drawn.items if item.name.startswith("up: unread"))
         self.assertEqual((line.x.tolist(), line.y.tolist()), ([0, 1, 2], [0, 81, 81]), "each is of the time before its moment")
         done = run("look", "late.history", "-o", "late.svg")

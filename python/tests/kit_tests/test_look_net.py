@@ -192,10 +192,11 @@ class OfNets(unittest.TestCase):
             self.assertEqual((done.returncode, "is of one history" in done.stderr), (4, True), done.stderr)
         self.assertEqual(run("look", place, "--json", place / "net.history").returncode, 2)
         self.assertRegex(run("look", place, "--audit").stderr, r"^hinge look: lawful \d+\n$")
-        done = run("look", ".")
+        (folder() / "nothing").mkdir()
+        done = run("look", "nothing")
         self.assertEqual(
             (done.returncode, done.stderr),
-            (4, "hinge look: .: there is no net.history in it, as hinge net --transcripts makes it\n"),
+            (4, "hinge look: nothing: there is no net.history in it, as hinge net --transcripts makes it\n"),
         )
 
 

@@ -15,12 +15,9 @@ from pathlib import Path
 from captures import BEGAN, ETHERNET, ethernet, ip4, nested, odd_ethernet, other_links, timed_in_ns, udp, without_times, write
 from kit import MIXED, folder, needs_tshark, rows_of, run
 from random_frames import Frames
-from tshark_frames import frames_by_tshark
+from tshark_frames import frames_by_kit, frames_by_tshark
 
-from hinge.border.files import Input
 from hinge.captures.capture_file import write_frame, write_header
-from hinge.captures.dissect import frames
-from hinge.captures.link_layers import LINKS
 from hinge.command import Fault
 from packets_told import edited
 
@@ -79,17 +76,19 @@ class Reader(unittest.TestCase):
     def test_the_captures_of_the_tests(self) -> None:
         for capture in every_capture():
             with self.subTest(capture=capture.name):
-                self.assertEqual(list(frames(Input.as_it_is(str(capture)))), list(frames_by_tshark(str(capture))))
+                self.assertEqual(list(frames_by_kit(str(capture))), list(frames_by_tshark(str(capture))))
 
     def test_random_frames_of_every_link(self) -> None:
         for capture in of_every_link(SEED):
-            found = list(frames(Input.as_it_is(str(capture))))
+            found = list(frames_by_kit(str(capture)))
             self.assertGreater(sum(frame is not None for _, frame in found), 20)
             for one, other in zip(found, frames_by_tshark(str(capture))):
                 self.assertEqual(one, other, f"{capture.name} of seed {SEED}")
 
     def test_every_link_that_is_known_is_tried(self) -> None:
-        self.assertEqual(sorted(Frames(1).links), sorted(LINKS))
+        write(folder() / "other.pcap", 147, [(0, bytes(60))])
+        known = run("packets", "other.pcap").stderr.rpartition(": ")[2]
+        self.assertEqual(sorted(Frames(1).links), [int(link) for link in known.split(", ")])
 
 
 class Hostile(unittest.TestCase):
@@ -115,7 +114,7 @@ class Hostile(unittest.TestCase):
         for at in [*range(20), *range(20, len(whole), len(whole) // 40)]:
             capture = self.made("d.pcap.gz", whole[:at] + bytes([whole[at] ^ 4]) + whole[at + 1 :])
             with contextlib.redirect_stderr(io.StringIO()), contextlib.suppress(Fault):
-                list(frames(Input.as_it_is(str(capture))))
+                list(frames_by_kit(str(capture)))
         head = struct.pack("<IHHIIII", 0xA1B2C3D4, 2, 4, 0, 0, 65535, 12)
         bomb = gzip.compress(head + (struct.pack("<IIII", 0, 0, 1 << 20, 0) + bytes(1 << 20)) * 80)
         self.assertLess(len(bomb), 1 << 18)
@@ -130,6 +129,16 @@ class Hostile(unittest.TestCase):
             done = run("packets", pipe, timeout=60)
             writer.kill()
         self.assertEqual((done.returncode, done.stdout), (0, run("packets", MIXED).stdout), done.stderr)
+
+    def test_a_program_that_is_killed_or_cannot_write(self) -> None:
+        killed = self.made("killed", b"#!/bin/sh\nkill -SEGV $$\n")
+        killed.chmod(0o755)
+        for env, words, status, line in (
+            ({"HINGE_PACKETS": str(killed)}, (), 4, "hinge-packets ended with status -11"),
+            ({}, ("-o", "/dev/full"), 6, "No space left on device"),
+        ):
+            done = run("packets", MIXED, *words, env={**os.environ, **env})
+            self.assertEqual((done.returncode, line in done.stderr), (status, True), done.stderr)
 
 
 class Forms(unittest.TestCase):
@@ -171,4 +180,4 @@ class Forms(unittest.TestCase):
                     )
                 (folder() / name).write_bytes(changed)
                 with contextlib.suppress(Fault), contextlib.redirect_stderr(io.StringIO()):
-                    list(frames(Input.as_it_is(str(folder() / name))))
+                    list(frames_by_kit(str(folder() / name)))

@@ -3,6 +3,7 @@
 from __future__ import annotations
 
 import random
+import shutil
 import subprocess
 import sys
 import unittest
@@ -48,6 +49,14 @@ class WithoutNumpy(unittest.TestCase):
         self.assertIn("all", self.same("look", path))
         self.same("why", 1, 400, 5000, path)
         self.same("look", path, "--by", "target", "--csv")
+
+    def test_a_net_has_its_ways_alone(self) -> None:
+        place = folder() / "plain.session"
+        place.mkdir()
+        shutil.copy(self.history(), place / "net.history")
+        done, ways = without_numpy("look", place), run("look", place / "net.history", "--by", "target")
+        self.assertEqual((done.returncode, done.stdout), (7, ways.stdout))
+        self.assertRegex(done.stderr, r"hinge look: the hosts, the paths .*: needs Python's numpy: .*numpy\n\Z")
 
     def test_a_capture(self) -> None:
         self.same("packets", MIXED, "--from", "10.9.0.1")

@@ -62,7 +62,7 @@ def random_frame(rng: random.Random) -> Frame:
     dst = rng.choice([it for it in ADDRESSES if (":" in it) == (":" in src)])
     proto = rng.choice((6, 17, 58 if ":" in src else 1))
     ports = [rng.randint(1, 7) if proto in (6, 17) else 0 for _ in range(2)]
-    return Frame(1, 0, src, dst, proto, *ports, 100, 40, rng.choice((0, 46)))
+    return Frame(1, src, dst, proto, *ports, rng.choice((0, 46)))
 
 
 class Rules(unittest.TestCase):
@@ -99,7 +99,7 @@ class Rules(unittest.TestCase):
         """`up` is from the sender; what no rule matches goes by direction."""
         targets = Targets("", [read_rule("up udp => queue 1"), read_rule("down => pipe 9")], directions("10.0.0.1"))
         targets.matched = {}
-        sent = [Frame(1, 0, *ends, proto, 5, 5, 100, 40, 0) for ends in (ADDRESSES[:2], ADDRESSES[1::-1]) for proto in (17, 6)]
+        sent = [Frame(1, *ends, proto, 5, 5, 0) for ends in (ADDRESSES[:2], ADDRESSES[1::-1]) for proto in (17, 6)]
         self.assertEqual([targets.of(frame) for frame in sent], ["queue,1", "pipe,1", "pipe,9", "pipe,9"])
         self.assertEqual(UP, 0)
         self.assertRaisesRegex(BadRule, "by --from", Targets, "", [read_rule("up => pipe 1")], [])

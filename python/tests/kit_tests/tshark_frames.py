@@ -1,12 +1,13 @@
 """tshark's view of a capture: the IP packet of each frame, from the fields that tshark finds in it. The reader of the
-kit is tried against it."""
+kit is tried against tshark."""
 
 from __future__ import annotations
 
 import subprocess
 from typing import Iterator, Optional
 
-from hinge.captures.frames import Frame
+from hinge.border.files import Input
+from hinge.captures.frames import Frame, Packet, Plan, read
 from hinge.captures.tshark import tshark
 
 PORTED = {6: "tcp", 17: "udp", 132: "sctp", 136: "udp", 33: "dccp"}
@@ -67,7 +68,7 @@ def transport(value: dict[str, str], proto: int, is_later_fragment: bool) -> tup
     return int(value[f"{name}.srcport"] or 0), int(value[f"{name}.dstport"] or 0), header
 
 
-def frame_by_fields(number: int, value: dict[str, str]) -> Optional[Frame]:
+def frame_by_fields(number: int, value: dict[str, str]) -> Optional[Packet]:
     """The IP packet in the frame of a number, None where there is none."""
     protocols = value["frame.protocols"].split(":")
     ip = next((name for name in protocols if name in ("ip", "ipv6")), None)
@@ -85,21 +86,19 @@ def frame_by_fields(number: int, value: dict[str, str]) -> Optional[Frame]:
             return None
         length = int(value["frame.len"]) - before
     sport, dport, header = transport(value, proto, fragment not in ("", "0"))
-    return Frame(
-        number,
-        nanoseconds(value["frame.time_epoch"]),
-        value[f"{ip}.src"],
-        value[f"{ip}.dst"],
-        proto,
-        sport,
-        dport,
-        length,
-        own + header,
-        int(value[DSCP[ip]] or "0", 0),
-    )
+    dscp = int(value[DSCP[ip]] or "0", 0)
+    frame = Frame(number, value[f"{ip}.src"], value[f"{ip}.dst"], proto, sport, dport, dscp)
+    return Packet(frame, nanoseconds(value["frame.time_epoch"]), length, own + header)
 
 
-def frames_by_tshark(capture: str) -> Iterator[tuple[int, Optional[Frame]]]:
+def frames_by_kit(capture: str) -> Iterator[tuple[int, Optional[Packet]]]:
+    """The same by the program of the kit."""
+    with open("/dev/null", "wb") as nowhere, read(Input.as_it_is(capture), Plan(), nowhere.fileno(), by_frame=True) as reader:
+        packets = {packet.frame.number: packet for packet in reader.packets()}
+        yield from ((number, packets.get(number)) for number in range(1, reader.frame_count + 1))
+
+
+def frames_by_tshark(capture: str) -> Iterator[tuple[int, Optional[Packet]]]:
     """Each frame's number, and its IP packet if it has one."""
     fields = [word for field in FIELDS for word in ("-e", field)]
     words = tshark(capture, "-T", "fields", "-E", "occurrence=f", "-E", "separator=/t", *fields)

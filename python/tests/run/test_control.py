@@ -106,7 +106,10 @@ class OfRuns(InAFolder):
                 )
         self.assertEqual(len(self.obeyed()), 2)
         done = self.change("up", "5ms")
-        self.assertEqual((done.returncode, done.stderr), (2, f"hinge change: {self.socket}: No such file or directory\n"))
+        self.assertEqual(
+            (done.returncode, done.stderr),
+            (2, f"hinge change: {self.socket}: no run has this name, from `hinge up` or --control\n"),
+        )
 
     def test_it_is_asked(self) -> None:
         with self.running("run", "--up", "5ms"):
@@ -178,10 +181,7 @@ class OfHosts(InAFolder):
                 (done.returncode, done.stdout.split()), (3, ["a", "a", str(self.folder), str(self.folder)]), done.stderr
             )
             self.assertEqual(
-                (
-                    hinge("net", "exec", self.socket, "r", "hostname").stdout,
-                    self.exec("c", "--", "/no/such").returncode,
-                ),
+                (hinge("net", "exec", self.socket, "r", "hostname").stdout, self.exec("c", "--", "/no/such").returncode),
                 ("r\n", 127),
             )
             refused = self.exec("d", "--", "true")

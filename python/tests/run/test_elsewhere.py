@@ -4,21 +4,32 @@ from __future__ import annotations
 
 import contextlib
 import io
+import os
 import shlex
+import shutil
+import subprocess
+import sys
+import tempfile
 import unittest
+from concurrent.futures import ThreadPoolExecutor
+from functools import partial
 from pathlib import Path
+from typing import Any, Optional
+from unittest import mock
 
 from hinge.__main__ import COMMANDS
 from hinge.commands.docs import folder_of_pages
 from hinge.commands.run import options
 from hinge.elsewhere import WORDS, answer_of
-from hinge.run.hints import far_host, hints, link_as_command
+from hinge.run import hints as hints_of_run
+from hinge.run.hints import far_host, hints, lacking, link_as_command
 from hinge.run.options import ELSEWHERE, OTHERS, plan_of
 from hinge.run.settings import RunOptions
 from hinge.run.words import Wrong, link_of
 from hingetulip_words.link import Place, corrected
+from linked import needs, needs_rooms
 
-DATA = Path(__file__).resolve().parents[1] / "kit_data"
+PYTHON, DATA = Path(__file__).resolve().parents[2], Path(__file__).resolve().parents[1] / "kit_data"
 LINES = {
     "tc qdisc add dev eth0 root netem delay 100ms": "--link 100ms",
     "tc qdisc add dev eth0 root netem rate 10mbit delay 20ms 5ms loss 1%": "--link '10Mbit/s 20ms jitter 5ms loss 1%'",
@@ -33,7 +44,7 @@ LINES = {
     "tc qdisc add dev eth0 root tbf rate 256kbit burst 1540 limit 10k": "--link '256Kbit/s queue 10Kbytes'",
     "netem rate 10mbit": "--link 10Mbit/s",
     "mm-delay 20 bash": "--link 20ms",
-    "mm-delay 40 mm-loss uplink 0.05 mm-link a.up a.down -- bash": "--link '40ms loss 5%' --up-trace a.up --down-trace a.down",
+    "mm-delay 40 mm-loss uplink 0.05 mm-link a.up a.down -- bash": "--up '40ms loss 5%' --down 40ms --up-trace a.up --down-trace a.down",
     "toxic add -t latency -a latency=1000 redis": "--link 1000ms --outside",
     "toxic add -t latency -a latency=100 -a jitter=20 redis": "--link '100ms jitter 20ms' --outside",
     "toxiproxy-cli toxic add -t bandwidth -a rate=100 redis": "--link 800Kbit/s --outside",
@@ -89,17 +100,6 @@ class Lines(unittest.TestCase):
                 if "--up-trace" not in words:
                     plan_of(run_options(words[2:]), 1500)
 
-    def test_a_hundred_lines_of_other_manuals(self) -> None:
-        lines, answers = (DATA / "foreign.txt").read_text().splitlines(), 0
-        for words in map(shlex.split, lines):
-            answer = answer_of(words[words[0] == "ipfw" :])
-            write = answer.write.partition(";")[0].replace("sudo ", "").replace(" --netns PID", "") if answer else ""
-            answers += answer is not None or words[0] in COMMANDS
-            if write.startswith("hinge run ") and "--up-trace" not in write:
-                plan_of(run_options(shlex.split(write)[2:]), 1500)
-        self.assertEqual(len(lines), 100)
-        self.assertGreaterEqual(answers, 95)
-
     def test_what_a_link_does_not_do_is_named(self) -> None:
         answer = answer_of("tc qdisc add dev eth0 root netem delay 10ms reorder 25% 50% corrupt 0.1%".split())
         self.assertEqual(answer and answer.write, "hinge run --link 10ms -- COMMAND; a link has no reorder, corrupt")
@@ -117,6 +117,59 @@ class Lines(unittest.TestCase):
     def test_pages_are_there(self) -> None:
         for page in {answer.page for answer in WORDS.values() if answer.page}:
             self.assertTrue((folder_of_pages() / f"{page}.md").exists(), page)
+
+
+PROGRAMS = {  # of a folder in which answers are typed
+    **dict.fromkeys(("COMMAND", "chromium", "iperf3"), "exit 0"),
+    "sudo": 'exec "$@"',
+    "hinge": f'PYTHONPATH={PYTHON} exec {sys.executable} -m hinge "$@"',
+}
+FILES = {
+    **dict.fromkeys(("up.trace", "down.trace", "up", "down", "12Mbps.up", "12Mbps.down"), "1\n2\n"),
+    "FILE": "host a true\nhost b true\nlink a b 1ms\n",
+    "NAME.net": "host HOST\nhost h1\nhost s1\nlink HOST h1 1ms\nlink h1 s1 1ms\n",
+}
+
+
+def typed(place: Path, text: str) -> Optional[str]:
+    """Types an answer as it stands; why it fails, if it does."""
+    env = {**os.environ, "PATH": f"{place}/bin:{os.environ['PATH']}", "XDG_RUNTIME_DIR": str(place / "run")}
+    how: dict[str, Any] = {"stdin": subprocess.DEVNULL, "stdout": subprocess.DEVNULL, "stderr": subprocess.PIPE, "text": True}
+    done = subprocess.run(["sh", "-c", text], cwd=place, env=env, timeout=100, **how)
+    return f"{text}: {done.returncode} {done.stderr}" if done.returncode else None
+
+
+@needs_rooms
+@needs("slirp4netns")
+class Typed(unittest.TestCase):
+    def setUp(self) -> None:
+        folder = tempfile.TemporaryDirectory()
+        self.addCleanup(folder.cleanup)
+        self.place = Path(folder.name)
+        for name in ("bin", "run"):
+            (self.place / name).mkdir()
+        for name, text in {**FILES, **{f"bin/{name}": f"#!/bin/sh\n{text}\n" for name, text in PROGRAMS.items()}}.items():
+            (self.place / name).write_text(text)
+            (self.place / name).chmod(0o755)
+        shutil.copy(DATA / "mixed.pcap", self.place / "CAPTURE")
+        for text in ("hinge try --transcript HISTORY", "hinge up NAME.net"):
+            self.assertIsNone(typed(self.place, text))
+        self.addCleanup(typed, self.place, "hinge down NAME")
+
+    def test_a_hundred_lines_of_other_manuals_get_what_works_as_it_stands(self) -> None:
+        lines, texts = (DATA / "foreign.txt").read_text().splitlines(), list[str]()
+        for answer in map(answer_of, map(shlex.split, lines)):
+            text = answer.write.partition(";")[0] if answer else "false"
+            if "--netns PID" in text:  # which joins a network of another process: test_joined has one
+                plan_of(run_options(shlex.split(text.replace(" --netns PID", " true"))[3:]), 1500)
+                text = "true"
+            texts.append(text)
+        each = [text for text in dict.fromkeys(texts) if not text.startswith("hinge down")]
+        with ThreadPoolExecutor(4) as pool:
+            faults = dict(zip(each, pool.map(partial(typed, self.place), each)))
+        faults["hinge down NAME"] = typed(self.place, "hinge down NAME")
+        self.assertEqual(len(lines), 100)
+        self.assertLessEqual(sum(faults[text] is not None for text in texts), 1, [*filter(None, faults.values())])
 
 
 class Links(unittest.TestCase):
@@ -176,6 +229,18 @@ class Options(unittest.TestCase):
         )
         self.assertIsNone(link_as_command(["true", "--", "x"]))
         self.assertIsNone(link_as_command(["no-such-program"]))
+
+    def test_what_a_command_lacks_is_one_line(self) -> None:
+        ways = "apt-get install iputils-ping; touch /none"
+        for hosts, path, words, wanted in (
+            ("/etc/hosts", "", ["ping", "-c", "3", "server"], "there is no ping: apt-get install iputils-ping"),
+            ("/none", "", ["ping", "server"], f"there is no ping and no /none: {ways}"),
+            ("/none", "/usr/bin:/bin", ["sh", "-c", "nc server 80"], "there is no /none: touch /none"),
+            ("/none", "", ["nosuch", "10.8.0.2"], "there is no nosuch on the path"),
+            ("/none", "", ["./nosuch"], None),
+        ):
+            with mock.patch.dict(os.environ, {"PATH": path}), mock.patch.object(hints_of_run, "HOSTS", hosts):
+                self.assertEqual(lacking(words), wanted)
 
 
 class Hints(unittest.TestCase):

@@ -65,24 +65,8 @@ class OfNetworks(unittest.TestCase):
 
     def test_a_command_there_goes_through_the_link(self) -> None:
         before = self.state()
-        done = run(
-            "--quiet",
-            "--netns",
-            self.path,
-            "--up",
-            "10Mbit/s 20ms",
-            "--down",
-            "30ms",
-            "--transcript",
-            self.folder / "h",
-            "--",
-            "ping",
-            "-c",
-            "3",
-            "-i",
-            "0.1",
-            OUTSIDE,
-        )
+        links = ["--up", "10Mbit/s 20ms", "--down", "30ms", "--transcript", self.folder / "h"]
+        done = run("--quiet", "--netns", self.path, *links, "--", *"ping -c 3 -i 0.1".split(), OUTSIDE)
         self.assertEqual((done.returncode, self.took(done) >= DELAY, self.state()), (0, True, before), done.stderr)
         audited_as_lawful(self, self.folder / "h")
         self.assertEqual((self.folder / "h").read_text().count(f"c,0,submit,pipe,1,{INSIDE},{OUTSIDE},1,"), 3)

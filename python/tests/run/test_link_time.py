@@ -25,17 +25,17 @@ class OfTime(unittest.TestCase):
         return plan.text(1)
 
     def test_a_change_and_an_outage(self) -> None:
-        link = Linked(self.timeline(plan_of("pipe 1 config delay 0"), "0.2s up outage 3s\n4s pipe delete 1\n"))
+        link = Linked(self.timeline(plan_of("pipe 1 config delay 0"), "0.2s up outage 2s\n3s pipe delete 1\n"))
         until(lambda: link.page.read().ways[0]["held"] == 1)  # the packet of the outage
         link.near.send(udp(1))
         link.far.recv(100)
-        until(lambda: link.page.read()["moment"] >= 4 * 10**9)  # it has made the delete
+        until(lambda: link.page.read()["moment"] >= 3 * 10**9)  # it has made the delete
         link.near.send(udp(1))
         until(lambda: link.came() == 2)
         ended = link.end()
         self.assertEqual((ended.status, ended.counts.ways[0]["no_target"], ended.counts.ways[0]["sent"]), (0, 1, 1))
-        self.assertIn("c,0,advance,3200000000\nr,advanced,3200000000\n", ended.history)
-        self.assertGreaterEqual(int(found(r"^d,1,.*,(\d+)$", ended.history)[0]), 3_200_000_000)
+        self.assertIn("c,0,advance,2200000000\nr,advanced,2200000000\n", ended.history)
+        self.assertGreaterEqual(int(found(r"^d,1,.*,(\d+)$", ended.history)[0]), 2_200_000_000)
         audited_as_lawful(self, link.transcript)
 
     def test_its_lateness_is_remarked(self) -> None:

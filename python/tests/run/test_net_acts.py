@@ -23,14 +23,14 @@ class OfHosts(InAFolder):
         """Also of what is in no group of the command any more."""
         command = f"setsid sleep 77.3 & echo begun >> {self.folder}/told; exec sleep 1000"
         done = self.net(
-            f"host a {command}\nhost b exec sleep 1000\nmain c sleep 1.2; cat /proc/[0-9]*/cmdline | tr '\\0' ' '\n{TWO}"
-            "link b c 5ms\nat main+300ms kill a\nat 600ms restart a\nat 900ms kill a\n"
+            f"host a {command}\nhost b exec sleep 1000\nmain c sleep 4; cat /proc/[0-9]*/cmdline | tr '\\0' ' '\n{TWO}"
+            "link b c 5ms\nat main+1s kill a\nat 2s restart a\nat 3s kill a\n"
         )
         self.assertEqual(done.returncode, 0, done.stderr)
         self.assertEqual((self.lines(), found("sleep (77.3|1000) ", done.stdout)), (["begun", "begun"], ["1000"]))
         summary = self.summary()
         self.assertEqual([one["words"] for one in summary["acts"]], ["kill a", "restart a", "kill a"])
-        for act, late in zip(summary["acts"], (0.3, 0.6, 0.9)):
+        for act, late in zip(summary["acts"], (1, 2, 3)):
             self.assertGreaterEqual(act["moment"], summary["main"] + late * 10**9 * 0.99)
         self.assertEqual({name: one["by"] for name, one in summary["hosts"].items()}, {"a": "kill", "b": "SIGTERM", "c": "itself"})
         self.assertEqual(found("^#,act,(.*)", self.history()), ["kill a", "restart a", "kill a"])

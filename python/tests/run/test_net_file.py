@@ -40,15 +40,12 @@ WRONG = (  # a net's file, and what is said of it
     (
         "hots a\n",
         (
-            "line 1: 'hots': no word of a net, which are at, disk, host, line, link, loss, main, map, mtu, nemesis, router,"
+            "line 1: 'hots': no word of a net, which are at, disk, faults, host, line, link, loss, main, map, mtu, nemesis, router,"
             " routes, switch, trace, wait; did you mean 'host'?"
         ),
     ),
     ("host\n", "line 1: a word is missing: host NAME [COMMAND]"),
-    (
-        "host 1st\n",
-        "line 1: '1st': a name has letters, digits and hyphens, begins with a letter and has at most 63",
-    ),
+    ("host 1st\n", "line 1: '1st': a name has letters, digits and hyphens, begins with a letter and has at most 63"),
     ("host heal\n", "line 1: 'heal': a word with a meaning of its own; take another name"),
     ("host a\n\nhost a\n", "line 3: 'a': a second host of this name"),
     ("host alpha\nhost b\nlink alhpa b\n", "line 3: 'alhpa': no host of this net; did you mean 'alpha'?"),
@@ -61,10 +58,7 @@ WRONG = (  # a net's file, and what is said of it
     (TWO + "link a b\nat soon a b outage 1s\n", "line 4: soon: no time, as 5s or 600ms"),
     (TWO + "link a b\nat 1s a b outage\n", "line 4: `[up|down] outage LENGTH [lossy]`, LENGTH as 600ms"),
     (TWO + "link a b\nat 1s cut a from a 2s\n", "line 4: 'a': it has no such link"),
-    (
-        TWO + "link a b\nat 1s cut a 2s 3s\n",
-        "line 4: '3s': nothing belongs behind it: at TIME cut A [from B ..] [LENGTH]",
-    ),
+    (TWO + "link a b\nat 1s cut a 2s 3s\n", "line 4: '3s': nothing belongs behind it: at TIME cut A [from B ..] [LENGTH]"),
     (TWO + "link a b\nat 1s heal a\nat 2s cut a\n", "line 4: 'heal': no cut of such a link goes on then"),
     (TWO + "link a b\nat 1s cut a 1s\nat 3s heal a\n", "line 5: 'heal': no cut of such a link goes on then"),
     (TWO + "link a b\nat main+1s cut a\n", "line 4: main+1s: the net has no main command"),
@@ -78,15 +72,9 @@ WRONG = (  # a net's file, and what is said of it
     (TWO + "link a b\nnemesis isolate-one every 1s for 2s\n", "line 4: '2s': it lasts until the next one at most"),
     (TWO + "link a b\nnemesis stop-one every 1s for 1s\n", "line 4: 'stop-one': it takes 1 host or more"),
     (TWO + "switch s a b\nnemesis partition-one every 1s for 1s\n", "line 4: 'partition-one': no link leads from one of"),
-    (
-        TWO + "link a b\nat 1s heal a 2s\n",
-        "line 4: '2s': nothing belongs behind it: at TIME heal A [from B ..]",
-    ),
+    (TWO + "link a b\nat 1s heal a 2s\n", "line 4: '2s': nothing belongs behind it: at TIME heal A [from B ..]"),
     (TWO + "link a b\nwait a port 0\n", "line 4: 'port 0': no port from 1 to 65535: wait NAME port N [TIME]"),
-    (
-        TWO + "link a b\nline a b pipe 3 config\n",
-        "line 4: 'pipe 3': a link has the pipes 1, from its first host, and 2",
-    ),
+    (TWO + "link a b\nline a b pipe 3 config\n", "line 4: 'pipe 3': a link has the pipes 1, from its first host, and 2"),
     (TWO + "link a b\nmap a b tcp => queue 1\n", "line 4: tcp => queue 1: queue 1 isn't configured"),
     (TWO + "main a true\nmain b true\nlink a b\n", "line 4: 'main': a second one; the first is of a"),
     (TWO + "link a b 10Mbit/s 20sm\n", "line 3: '20sm': "),
@@ -223,12 +211,10 @@ class OfPlans(OfFiles):
             if line.startswith("map")
         ]
         self.assertEqual(
-            [line for line in self.plan(net + "map a b up tcp src a dport 80 => queue 1\n") if line.startswith("map")],
-            both,
+            [line for line in self.plan(net + "map a b up tcp src a dport 80 => queue 1\n") if line.startswith("map")], both
         )
         self.assertEqual(
-            [line.split()[1] for line in self.plan(net + "map a b up udp => queue 1\n") if line.startswith("map")],
-            ["0"],
+            [line.split()[1] for line in self.plan(net + "map a b up udp => queue 1\n") if line.startswith("map")], ["0"]
         )
         self.assertIn("line 5: ", self.wrong(net + "map a b up src c => queue 1\n"))
 

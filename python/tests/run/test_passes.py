@@ -3,19 +3,25 @@
 from __future__ import annotations
 
 import argparse
+import shutil
+import tempfile
 import unittest
+from pathlib import Path
+from typing import Sequence
 
-from linked import SEEDS, Linked, audited_as_lawful, found, hinge, ip4, needs, needs_host, needs_rooms, run, until
+from linked import SEEDS, Ended, Linked, audited_as_lawful, found, hinge, ip4, needs, needs_host, needs_rooms, run, until
 from test_net import InAFolder
 
 from hinge.captures.random_words import word
 from hinge.run.options import add_link, add_run, plan_of
+from hinge.run.page import Way
 from hinge.run.settings import LiveOptions
 from hinge.run.words import Wrong, link_of
 from hingetulip_words.link import CERTAIN, Extra, Place
 
 OF_JITTER, OF_COPIES = 1 << 20, 2 << 20  # the streams of random words, as passes.c has them
 COUNT, FIRST, STEP = 40, 60000, 60  # packets; the first second pipe; ms between their delays
+PIPES = "".join(f"line pipe {FIRST + place} config delay {STEP * place}\n" for place in range(5))
 
 
 def plan_words(*words: str) -> list[str]:
@@ -32,22 +38,32 @@ def udp(number: int) -> bytes:
 
 @needs_host
 class OfPasses(unittest.TestCase):
-    def test_a_second_pass_is_drawn_for_each(self) -> None:
-        pipes = "".join(f"line pipe {FIRST + place} config delay {STEP * place}\n" for place in range(5))
-        link = Linked(f"{SEEDS}line pipe 1 config delay 3\n{pipes}jitter 0 {FIRST} 5 7\n")
+    def sent(self, plan: str, wanted: Sequence[int]) -> tuple[Ended, Way]:
+        """How a host ends that was sent COUNT packets, and what it counted up, where these came, in this order."""
+        link = Linked(SEEDS + plan)
         for number in range(COUNT):
             link.near.send(udp(number))
-        got = [link.far.recv(1000) for _ in range(COUNT)]
-        drawn = [word(7, number, 1 + OF_JITTER) % 5 for number in range(1, COUNT + 1)]
-        self.assertEqual(got, [udp(number) for number in sorted(range(COUNT), key=lambda number: drawn[number])])
+        self.assertEqual([link.far.recv(1000) for _ in wanted], [udp(number) for number in wanted])
         ended = link.end()
         audited_as_lawful(self, link.transcript)
+        return ended, ended.counts.ways[0]
+
+    def test_a_second_pass_is_drawn_for_each(self) -> None:
+        drawn = [word(7, number, 1 + OF_JITTER) % 5 for number in range(1, COUNT + 1)]
+        plan = f"line pipe 1 config delay 3\n{PIPES}jitter 0 {FIRST} 5 7\n"
+        ended, way = self.sent(plan, sorted(range(COUNT), key=lambda number: drawn[number]))
         self.assertEqual(
             found(r"^c,0,submit,pipe,(6\d{4}),10.8.0.1,10.8.0.2,17,1,(\d+),100,2147483647,", ended.history),
             [(str(FIRST + place), str(number)) for number, place in enumerate(drawn)],
         )
-        way = ended.counts.ways[0]
         self.assertEqual((way["came"], way["sent"], way["held"], way.underway), (COUNT, COUNT, 0, 0))
+
+    def test_faults_are_of_packets_by_their_numbers(self) -> None:
+        """The first comes twice, which counts once, the second is lost, and the fourth and the fifth are late."""
+        faults = f"list 0 2 7\nfault 0 1 1 1\nfault 0 1 7 1\nfault 0 2 4 {FIRST + 2}\nfault 0 2 5 {FIRST + 1}\n"
+        plan = f"line pipe 1 config delay 3 plr 0.5\n{PIPES}jitter 0 {FIRST} 1 7\n{faults}"
+        _, way = self.sent(plan, [0, 0, 2, 5, 6, *range(7, COUNT), 4, 3])
+        self.assertEqual((way["came"], way["lost"], way["sent"], way.underway), (COUNT + 2, 2, COUNT, 0))
 
     def test_a_way_without_jitter_has_one_pass(self) -> None:
         link = Linked(f"{SEEDS}line pipe 2 config\nline pipe {FIRST} config\njitter 0 {FIRST} 1 7\n")
@@ -56,15 +72,9 @@ class OfPasses(unittest.TestCase):
         self.assertEqual(found("^c,0,submit,pipe,(\\d+),", link.end().history), ["2"])
 
     def test_a_copy_is_a_second_submit(self) -> None:
-        link = Linked(f"{SEEDS}line pipe 1 config delay 3\ncopies 0 {CERTAIN // 4} 9\n")
-        for number in range(COUNT):
-            link.near.send(udp(number))
-        wanted = [udp(number) for number in range(COUNT) for _ in range(1 + (word(9, number + 1, 1 + OF_COPIES) < CERTAIN // 4))]
+        wanted = [number for number in range(COUNT) for _ in range(1 + (word(9, number + 1, 1 + OF_COPIES) < CERTAIN // 4))]
         self.assertTrue(COUNT < len(wanted) < 2 * COUNT)
-        self.assertEqual([link.far.recv(1000) for _ in wanted], wanted)
-        ended = link.end()
-        audited_as_lawful(self, link.transcript)
-        way = ended.counts.ways[0]
+        _, way = self.sent(f"line pipe 1 config delay 3\ncopies 0 {CERTAIN // 4} 9\n", wanted)
         self.assertEqual(
             (way["came"], way["came_bytes"], way["sent"], way.underway), (len(wanted), 100 * len(wanted), len(wanted), 0)
         )
@@ -88,7 +98,8 @@ class OfPasses(unittest.TestCase):
         self.assertEqual((ended.counts.ways[0].underway, ended.counts.ways[0]["held"]), (0, 0))
 
     def test_lines_that_are_none(self) -> None:
-        for line in ("jitter 0 1", "jitter 2 60000 5 7", "jitter 0 0 5 7", "jitter 0 65530 7 7", "copies 0 1", "copies 5 1 1"):
+        jitters = ("jitter 0 1", "jitter 2 60000 5 7", "jitter 0 0 5 7", "jitter 0 65530 7 7", "copies 0 1", "copies 5 1 1")
+        for line in (*jitters, "fault 0 1 1", "fault 2 1 1 1", "fault 0 3 1 1", "fault 0 2 1 0", "fault 0 2 1 65536"):
             ended = Linked(f"{SEEDS}{line}\n").ended()
             self.assertEqual((ended.status, ended.said), (3, f"hinge: {line}: no line of a plan\n"))
 
@@ -123,8 +134,26 @@ class OfWords(unittest.TestCase):
             [line for line in told if line.startswith(("jitter", "copies"))],
             ["jitter 0 65533 3 7", "jitter 1 65531 2 7", f"copies 1 {CERTAIN // 2} 7"],
         )
-        with self.assertRaisesRegex(Wrong, "jitter: pipe 65535 is needed for it, and is another's"):
+        with self.assertRaisesRegex(Wrong, "^pipe 65535 is needed for jitter or late packets, and is another's"):
             plan_words("--up", "jitter 2ms", "--line", "pipe 65535 config")
+
+    def test_a_plan_of_faults_has_no_other_losses(self) -> None:
+        path = Path(tempfile.mkdtemp()) / "faults"
+        self.addCleanup(shutil.rmtree, path.parent)
+        path.write_text("client > server packet 4 late 9ms\nclient > server packet 3 lost\nserver > client packet 1 twice\n")
+        told = plan_words("--up", "jitter 1ms loss 1%", "--loss", "gilbert:0.1,0.2", "--faults", str(path), "--seed", "7")
+        wanted = [
+            "line pipe 65533 config delay 9",
+            "list 0 3",
+            "fault 0 2 4 65533",
+            "list 1 ",
+            "fault 1 1 1 1",
+            "jitter 0 65534 2 7",
+        ]
+        self.assertEqual([line for line in wanted if line not in told], [])
+        path.write_text("a > b packet 3 lost\n")
+        with self.assertRaisesRegex(Wrong, "'a > b packet 3 lost': no such link; write client > server or server > client$"):
+            plan_words("--faults", str(path))
 
 
 @needs_rooms

@@ -93,10 +93,7 @@ class Traces(OfFiles):
         for words, wanted in (
             (("10\n", 10**8), "the bin is longer than the trace, which begins anew after 10 ms"),
             (("1\n4000000000\n", 10**6), "4000000000 bins; take a longer --bin"),
-            (
-                ("1\n1\n7\n", 10**6, 3600 * 10**9),
-                "would begin 514285 times; take a longer --bin, or a shorter --trace-for",
-            ),
+            (("1\n1\n7\n", 10**6, 3600 * 10**9), "would begin 514285 times; take a longer --bin, or a shorter --trace-for"),
             (("4294967296\n",), "up to 4294967295"),
         ):
             self.assertRaisesRegex(Wrong, wanted, self.plan, *words)
@@ -150,7 +147,7 @@ class Timelines(OfFiles):
     def test_a_link_names_its_own_pipes(self) -> None:
         for text, wanted in (
             ("pipe 1 config delay 1", "pipe 7 config delay 1"),
-            ("ipfw pipe delete 2", "ipfw pipe delete 8"),
+            ("ipfw pipe delete 2", "pipe delete 8"),
             ("pipe 2 delete", "pipe 8 delete"),
             ("queue 1 config pipe 2 weight 3", "queue 1 config pipe 8 weight 3"),
             ("pipe 9 config", "pipe 9 config"),

@@ -66,26 +66,8 @@ class OfTcp(Behind):
     def rate(self, control: str) -> float:
         """Through 10 Mbit/s and 2 x 20 ms: 34 packets are under way, and 100 may wait, so that the link is never
         idle."""
-        done = run_in_time(
-            self,
-            "--up",
-            "10Mbit/s 20ms queue 100",
-            "--down",
-            "20ms",
-            "--server",
-            "iperf3 -s -1 >/dev/null",
-            "--",
-            "iperf3",
-            "-c",
-            "server",
-            "-t",
-            "4",
-            "-O",
-            "1",
-            "-J",
-            "-C",
-            control,
-        )
+        words = ["--up", "10Mbit/s 20ms queue 100", "--down", "20ms", "--server", "iperf3 -s -1 >/dev/null"]
+        done = run_in_time(self, *words, "--", *"iperf3 -c server -t 4 -O 1 -J -C".split(), control)
         if "congestion control" in done.stdout or "Congestion" in done.stdout and "error" in done.stdout:
             self.skipTest(f"the system has no {control} for this user")
         self.assertEqual(done.returncode, 0, done.stdout + done.stderr)

@@ -72,10 +72,7 @@ class OfCommands(unittest.TestCase):
         ):
             got = run(option, value, "--", "echo", "started")
             self.assertEqual((got.returncode, got.stdout), (2, ""))
-            self.assertIn(
-                f"{option}: the words of a link are in --link; write --link '{words}'\n",
-                got.stderr,
-            )
+            self.assertIn(f"{option}: the words of a link are in --link; write --link '{words}'\n", got.stderr)
             self.assertIn("nothing came", run("--up", words, "--", "true").stderr)
 
     def test_a_transcript_that_is_a_file_to_be_read_is_refused(self) -> None:
@@ -160,10 +157,7 @@ class OfPings(unittest.TestCase):
     def test_late_makes_a_run_void(self) -> None:
         got = run("--late", "1ns", "--up", "1ms", "--", "ping", "-c", "2", "-i", "0.2", "server")
         self.assertEqual(
-            (
-                got.returncode,
-                "hinge run: void: up: of 100 packets more than one was late by over 1e-06 ms" in got.stderr,
-            ),
+            (got.returncode, "hinge run: void: up: of 100 packets more than one was late by over 1e-06 ms" in got.stderr),
             (75, True),
         )
 

@@ -162,10 +162,7 @@ class OfJoins(unittest.TestCase):
                 return build(first + at, ACK | PUSH * (end == len(data)), data[at:end], 2**16 - 2 + at // 1448)
 
             sent = [of_card(built(at, min(at + 1448, len(data)))) for at in range(0, len(data), 1448)]
-            for packets in (
-                sent,
-                [NOTE.pack(CHECKSUM, kind, start + 32, 1448, start, TCP_CHECKSUM) + built(0, len(data))],
-            ):
+            for packets in (sent, [NOTE.pack(CHECKSUM, kind, start + 32, 1448, start, TCP_CHECKSUM) + built(0, len(data))]):
                 at, joined = 0, 0
                 for one in self.writes(packets, len(data), len(sent)):
                     end = at + len(one) - 10 - start - 32

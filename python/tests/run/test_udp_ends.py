@@ -61,6 +61,7 @@ class OfHostileEnds(InAFolder):
             for _ in range(5):
                 client.sendto(b"some", ("127.0.0.1", path.port))
                 time.sleep(0.05)
+            time.sleep(1)  # a busy machine's path still has some of them
             with socket.socket(socket.AF_INET, socket.SOCK_DGRAM) as late:
                 late.bind(("127.0.0.1", port))
                 late.settimeout(5)

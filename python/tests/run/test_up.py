@@ -63,7 +63,7 @@ class OfNets(Named):
         self.assertEqual((summary["seed"], summary["status"], summary["ways"][0]["sent"]), (7, 143, 1))
         self.assertIn("end,", (self.folder / "x.session" / "net.history").read_text())
         gone = self.hinge("down", "x")
-        self.assertEqual((gone.returncode, gone.stderr), (2, "hinge down: x: No such file or directory\n"))
+        self.assertEqual((gone.returncode, gone.stderr), (2, "hinge down: x: no run has this name, from `hinge up` or --control\n"))
 
     def test_it_outlives_its_command_and_ends_what_it_started(self) -> None:
         mark = f"{7000 + os.getpid() % 1000}.61"

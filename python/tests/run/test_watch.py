@@ -29,7 +29,7 @@ class Watched(unittest.TestCase):
     def test_lines(self) -> None:
         got = run(*self.WORDS)
         self.assertRegex(
-            got.stderr, r"^   1\.0 s  \| up       0\.00\d Mbit/s      \d in link    \d\d\.\d+ ms     0 dropped  \| down"
+            got.stderr, r"^   1\.\d s  \| up       0\.00\d Mbit/s      \d in link    \d\d\.\d+ ms     0 dropped  \| down"
         )
 
     def test_a_terminal_is_given_back(self) -> None:

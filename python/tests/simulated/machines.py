@@ -61,11 +61,23 @@ class Simulated(unittest.TestCase):
         self.addCleanup(folder.cleanup)
         self.folder = Path(folder.name)
 
-    def started(self, *words: Word, **more: Any) -> "subprocess.CompletedProcess[str]":
-        """`hinge run --simulated` in the test's folder."""
+    def hinge(self, *words: Word, **more: Any) -> "subprocess.CompletedProcess[str]":
+        """A command of `hinge` in the test's folder."""
         streams = {"stdin": subprocess.DEVNULL, "stdout": subprocess.PIPE, "stderr": subprocess.PIPE}
         how: dict[str, Any] = {**streams, "text": True, "cwd": self.folder, **more}
-        return subprocess.run([*SIMULATED, "--real-limit", LIMIT, *map(str, words)], **how)
+        return subprocess.run([*HINGE, *map(str, words)], **how)
+
+    def started(self, *words: Word, **more: Any) -> "subprocess.CompletedProcess[str]":
+        """`hinge run --simulated` in the test's folder."""
+        return self.hinge("run", "--simulated", "--real-limit", LIMIT, *words, **more)
+
+    def net(self, text: str, seed: int, *words: Word) -> "subprocess.CompletedProcess[str]":
+        """`hinge net --simulated` of a net that ends well, with its history and its summary in `session`."""
+        (self.folder / "x.net").write_text(text)
+        how = ["--simulated", "--seed", str(seed), "--real-limit", LIMIT, "--transcripts", "session"]
+        done = self.hinge("net", "x.net", *how, *words)
+        self.assertEqual(done.returncode, 0, done.stdout + done.stderr)
+        return done
 
     def run_by(self, seed: int, *words: Word) -> Ran:
         """A run with a transcript and a summary, in a folder that is new each time and has the same name."""

@@ -47,31 +47,16 @@ NEVER = "import os\nwhile not os.path.exists('never'): os.sched_yield()"
 
 
 class OfAsking(Simulated):
-    def takes_a_second(self, *words: str) -> None:
-        (self.folder / "there").unlink(missing_ok=True)
-        ran = self.run_by(1, "--real-limit", LIMIT, "--", *words)
-        self.assertEqual(ran.status, 0, ran.err)
-        self.assertAlmostEqual(ran.summary["simulated"], 1, delta=0.3)
-        self.assertIs(ran.summary["repeatable"], True)
-
-    def test_of_a_child(self) -> None:
-        self.takes_a_second(sys.executable, "-c", POLLS)
-
-    def test_of_a_file(self) -> None:
-        self.takes_a_second(sys.executable, "-c", STATS)
-
-    def test_of_a_process(self) -> None:
-        self.takes_a_second(sys.executable, "-c", KILLS)
-
     @needs("bash")
-    def test_of_a_shell(self) -> None:
-        self.takes_a_second("bash", "-c", TESTS)
-
-    def test_of_several_that_spin_at_once(self) -> None:
-        self.takes_a_second(sys.executable, "-c", YIELDS)
-
-    def test_by_programs_that_it_starts(self) -> None:
-        self.takes_a_second("sh", "-c", STARTS)
+    def test_each_takes_a_second(self) -> None:
+        """They ask of a child, a file, a process, or shared memory, by programs that they start, and in a shell by itself."""
+        scripts = [(sys.executable, "-c", text) for text in (POLLS, STATS, KILLS, YIELDS)]
+        for words in (*scripts, ("sh", "-c", STARTS), ("bash", "-c", TESTS)):
+            with self.subTest(words[2]):
+                ran = self.run_by(1, "--real-limit", LIMIT, "--", *words)
+                self.assertEqual(ran.status, 0, ran.err)
+                self.assertAlmostEqual(ran.summary["simulated"], 1, delta=0.3)
+                self.assertIs(ran.summary["repeatable"], True)
 
     @needs("cc")
     def test_by_any_call(self) -> None:

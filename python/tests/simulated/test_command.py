@@ -10,6 +10,7 @@ import tempfile
 import time
 from pathlib import Path
 
+from hinge.simulated.build import NEEDED
 from hinge.simulated.interrupts import children
 from hinge.simulated.one_processor import OneProcessor
 from machines import HINGE, SIMULATED, Simulated, environment, left
@@ -28,6 +29,7 @@ print(socket.gethostbyname("server"))
 print(socket.create_connection(("server", 7000)).getpeername()[1])
 """
 GOES_ON = "echo begun; while :; do sleep 1; done"
+TAR = "#!/bin/bash\nfor i in {1..8}; do (for ((n = 0; n < 9999; n++)); do echo >$BASHPID-$n || exit; done) & done; wait\n"
 PIPE, NONE = subprocess.PIPE, subprocess.DEVNULL
 
 
@@ -239,6 +241,20 @@ class OfRefusals(Simulated):
         done = subprocess.run([*HINGE, "kernel", "--again"], env=environment(PATH=str(self.folder)), capture_output=True, text=True)
         self.assertEqual(done.returncode, 7)
         self.assertRegex(done.stderr, r"^hinge kernel: needs cc, make, .*, libc\.a.*: apt-get install gcc make .* libc6-dev.*\n$")
+
+    def test_a_build_that_is_ended_leaves_no_folder(self) -> None:
+        """What its tar has started goes on writing into the folder of the build until it is killed, too."""
+        for name in NEEDED:
+            (self.folder / name).write_text(TAR if name == "tar" else "#!/bin/sh\necho /libc.a\n")
+            (self.folder / name).chmod(0o755)
+        places = {"TMPDIR": str(self.folder), "XDG_CACHE_HOME": str(self.folder), "PATH": f"{self.folder}:{os.environ['PATH']}"}
+        with subprocess.Popen(
+            [*HINGE, "kernel", "--again", "--source", "tar"], env=environment(**places), cwd=self.folder, stderr=PIPE
+        ) as build:
+            while build.poll() is None and not list(self.folder.glob(".hinge-*/*-100")):
+                time.sleep(0.01)
+            build.terminate()
+        self.assertEqual((build.returncode, list(self.folder.rglob(".*"))), (-signal.SIGTERM, []))
 
     def test_a_wrong_word_before_the_machine_is_made(self) -> None:
         self.refused(2, "--map => pipe 3: pipe 3 isn't configured", "--map", "=> pipe 3", "--", "true")

@@ -8,7 +8,7 @@ import sys
 import unittest
 
 from hinge.net.disks import MAKER, MAKERS
-from machines import HINGE, LIMIT, Simulated
+from machines import LIMIT, Simulated
 
 NET = f"""
 host files {sys.executable} files.py
@@ -70,26 +70,25 @@ LEFT = ["delete extra 1 2", "delete full 1", "files new:new old:old records:1", 
 
 @unittest.skipIf(shutil.which(MAKER, path=MAKERS) is None, f"there is no {MAKER}")
 class OfCrashes(Simulated):
-    def net(self, text: str, *words: str) -> "subprocess.CompletedProcess[str]":
+    def crashed(self, text: str, *words: str) -> "subprocess.CompletedProcess[str]":
         for name, part in (("crash.net", text), ("files.py", FILES), ("rows.py", ROWS)):
             (self.folder / name).write_text(part)
-        words = ("net", "crash.net", *words)
-        return subprocess.run([*HINGE, *words], cwd=self.folder, stdin=subprocess.DEVNULL, capture_output=True, text=True)
+        return self.hinge("net", "crash.net", *words)
 
     def test_what_was_synced_is_there(self) -> None:
         """A rename without a sync of its folder is lost, and so is a commit of SQLite whose journal was removed without
         one, which it asks for by `extra` alone."""
-        done = self.net(NET, "--simulated", "--twice", "--seed", "1", "--real-limit", LIMIT)
+        done = self.crashed(NET, "--simulated", "--twice", "--seed", "1", "--real-limit", LIMIT)
         self.assertEqual((done.returncode, sorted(done.stdout.splitlines())), (0, LEFT), done.stderr)
         self.assertIn("hinge net: two runs by seed 1 are the same: ", done.stderr)
 
     def test_a_kill_loses_nothing(self) -> None:
-        done = self.net(NET.replace("crash files", "kill files 1s"), "--simulated", "--seed", "1", "--real-limit", LIMIT)
+        done = self.crashed(NET.replace("crash files", "kill files 1s"), "--simulated", "--seed", "1", "--real-limit", LIMIT)
         self.assertIn("files late:late old:new records:12", done.stdout.splitlines(), done.stderr)
 
     def test_a_nemesis_crashes_hosts_with_disks(self) -> None:
         net = NET.replace("disk quick disk\n", "").replace("at 2s crash quick\n", "nemesis crash-one every 1s for 1s until 50s\n")
-        done = self.net(net, "--dry-run", "--seed", "1")
+        done = self.crashed(net, "--dry-run", "--seed", "1")
         hosts = {line.split()[3] for line in done.stdout.splitlines() if line.startswith("at ")}
         self.assertEqual(hosts, {"files", "wal", "rollback", "extra"}, done.stderr)
 
@@ -100,5 +99,5 @@ class OfCrashes(Simulated):
             ("disk 16M", "disk 8M", "crash.net line 9: '8M': no size from 16M to 64G: disk HOST PATH [SIZE]\n"),
             ("crash wal", "crash c", "crash.net line 15: 'c': it has the main command, whose end is the end\n"),
         ):
-            done = self.net(NET.replace(old, new, 1))
+            done = self.crashed(NET.replace(old, new, 1))
             self.assertEqual((done.returncode, done.stderr), (2, f"hinge net: {fault}"))

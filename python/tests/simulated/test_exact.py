@@ -2,11 +2,16 @@
 
 from __future__ import annotations
 
+import asyncio
 import re
 from typing import Optional
 
 from machines import Ran, Simulated, needs
 from packets import idle, packets_of, served, shares_of
+from simulated_hosts import Ends
+
+from hinge.fault_lines import read_faults
+from hinge.faults import FaultyNetwork
 
 SECOND, MILLISECOND, MICROSECOND = 10**9, 10**6, 10**3
 TEN = 10**7  # bit/s
@@ -89,6 +94,27 @@ class OfDatagrams(Exact):
         told = [int(word) for word in ran.out.split()]
         gaps = [round((after - before) / MICROSECOND) for before, after in zip(told, told[1:])]
         self.assertEqual(gaps, [after - before for before, after in zip(ends, ends[1:])])
+
+    def test_faults_do_the_same_as_in_a_test(self) -> None:
+        """One file has the datagrams of a run and those of asyncio's simulated time come at the same moments, to the microsecond."""
+        link, path = "8Mbit/s 20ms queue 100", self.folder / "faults"
+        path.write_text("".join(f"client > server packet {it}\n" for it in ("1 twice", "2 lost", "4 late 15ms")))
+        ran = self.sent_at_once(1000, "--up", link, "--faults", str(path))
+        with FaultyNetwork(read_faults(path)) as net:
+            client, server = net.host("10.8.0.1", name="client"), net.host("10.8.0.2", name="server")
+            net.link(client, server, link)
+
+            async def main() -> list[int]:
+                _, ends = await server.endpoint(Ends, 7)
+                transport, _ = await client.endpoint(Ends, remote=("10.8.0.2", 7))
+                for _ in range(50):
+                    transport.sendto(bytes(1000 - 28))
+                await asyncio.sleep(1)
+                return [moment for _, _, moment in ends.got]
+
+            moments = [net.run(main()), [int(word) for word in ran.out.split()]]
+        one, other = ([round((moment - them[0]) / MICROSECOND) for moment in them] for them in moments)
+        self.assertEqual((len(one), one), (50, other))
 
     @needs("ping")
     def test_an_outage(self) -> None:

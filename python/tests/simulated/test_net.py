@@ -3,12 +3,11 @@
 from __future__ import annotations
 
 import json
-import subprocess
+import shutil
 import sys
 from pathlib import Path
 
-from hinge.program import dummynet
-from machines import HINGE, LIMIT, Simulated, needs
+from machines import Simulated, needs
 from packets import packets_of, served
 
 THREE = """
@@ -109,20 +108,11 @@ NET = Path(__file__).resolve().parents[3] / "examples" / "net" / "etcd.net"
 @needs("etcd")
 class OfEtcd(Simulated):
     def test_a_partition_is_the_same_twice(self) -> None:
-        words = ["--simulated", "--twice", "--seed", "1", "--late", "100us", "--real-limit", LIMIT]
-        done = subprocess.run(
-            [*HINGE, "net", str(NET), *words, "--transcripts", "session"],
-            cwd=self.folder,
-            stdin=subprocess.DEVNULL,
-            capture_output=True,
-            text=True,
-        )
-        self.assertEqual(done.returncode, 0, done.stdout + done.stderr)
+        shutil.copytree(NET.parent, self.folder, dirs_exist_ok=True)
+        done = self.net(NET.read_text(), 1, "--twice", "--late", "100us")
         self.assertEqual(done.stdout.splitlines()[-1], "consistent")
         self.assertIn("hinge net: two runs by seed 1 are the same: ", done.stderr)
-        words = [dummynet(), "audit", "session/net.history"]
-        audit = subprocess.run(words, cwd=self.folder, capture_output=True, text=True)
-        self.assertRegex(audit.stdout, r"^lawful \d+\n$")
+        self.assert_lawful((self.folder / "session" / "net.history").read_text())
 
 
 FAULTS = """
@@ -144,13 +134,7 @@ nemesis partition-one every 1s..2s for 500ms until 6s of a b
 class OfFaults(Simulated):
     def test_faults_of_links_and_hosts_are_the_same_twice(self) -> None:
         """Those of links to the nanosecond. Of the two cuts between c and a the second ends within the first."""
-        (self.folder / "faults.net").write_text(FAULTS)
-        words = ["--simulated", "--twice", "--seed", "3", "--real-limit", LIMIT, "--transcripts", "session"]
-        done = subprocess.run(
-            [*HINGE, "net", "faults.net", *words], cwd=self.folder, stdin=subprocess.DEVNULL, capture_output=True, text=True
-        )
-        self.assertEqual(done.returncode, 0, done.stdout + done.stderr)
-        self.assertIn("hinge net: two runs by seed 3 are the same: ", done.stderr)
+        self.assertIn("hinge net: two runs by seed 3 are the same: ", self.net(FAULTS, 3, "--twice").stderr)
         summary = json.loads((self.folder / "session" / "net.json").read_text())
         acts = [(one["words"].split()[0], one["moment"] - summary["main"], one["at"]) for one in summary["acts"]]
         self.assertEqual([word for word, *_ in acts if word != "cut"], ["stop", "cont", "kill", "restart"])
@@ -170,12 +154,7 @@ class OfTheLinks(Simulated):
         """b answers each of two connections, and what c sends to that is on the link at once. Linux has a server that
         lets others run before one with priority, for 50 ms of a second: iperf3 would spin for 5 ms before the link.
         """
-        (self.folder / "three.net").write_text(THREE)
-        words = ["--simulated", "--seed", "1", "--real-limit", LIMIT, "--transcripts", "session"]
-        done = subprocess.run(
-            [*HINGE, "net", "three.net", *words], cwd=self.folder, stdin=subprocess.DEVNULL, capture_output=True, text=True
-        )
-        self.assertEqual(done.returncode, 0, done.stdout + done.stderr)
+        self.net(THREE, 1)
         packets = packets_of((self.folder / "session" / "net.history").read_text())
         own = [packet.came for packet in packets if packet.target == ("pipe", 5)]
         answers = [packet.due for packet in served(packets, 6) if packet.size == 60]
@@ -188,13 +167,8 @@ class OfClocks(Simulated):
     def test_one_that_is_ahead_and_gains(self) -> None:
         """By it the program reads the time of day and stamps of packets, and waits for a moment in each way that a kernel
         has; the other host's clock is as before."""
-        (self.folder / "clocks.net").write_text(CLOCKS)
         (self.folder / "looks.py").write_text(LOOKS)
-        words = ["--simulated", "--seed", "1", "--real-limit", LIMIT, "--logs", "logs"]
-        done = subprocess.run(
-            [*HINGE, "net", "clocks.net", *words], cwd=self.folder, stdin=subprocess.DEVNULL, capture_output=True, text=True
-        )
-        self.assertEqual(done.returncode, 0, done.stdout + done.stderr)
+        done = self.net(CLOCKS, 1, "--logs", "logs")
         for name, first, length in (("m", "5.001 0.0", "1.998"), ("o", "0.0 0.0", "2.0")):
             before, *waits, behind = (self.folder / "logs" / f"{name}.log").read_text().splitlines()
             self.assertEqual((before, float(behind)), (first, 0.0), done.stderr)
@@ -202,6 +176,6 @@ class OfClocks(Simulated):
 
     def test_real_time_has_one_clock(self) -> None:
         (self.folder / "clocks.net").write_text(CLOCKS)
-        done = subprocess.run([*HINGE, "net", "clocks.net"], cwd=self.folder, capture_output=True, text=True)
+        done = self.hinge("net", "clocks.net")
         self.assertEqual(done.returncode, 2)
         self.assertIn("skew: hosts have clocks of their own in simulated time alone; add --simulated", done.stderr)

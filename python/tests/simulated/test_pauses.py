@@ -8,7 +8,7 @@ import sys
 import unittest
 from collections.abc import Iterable
 
-from hinge.simulated.pauses import Paused, longest_of, pauses_of, pauses_word
+from hinge.simulated.pauses import MOST_GIVEN, Paused, drawn, given, longest_of, pauses_of, pauses_word
 from machines import HERE, LINK, Simulated, needs
 from packets import packets_of
 
@@ -29,7 +29,6 @@ class OfWords(unittest.TestCase):
         pauses = pauses_of("20+1ms,9-5ns", 1)
         assert pauses
         self.assertEqual(list(pauses.lines())[1:], ["9 before 5", "20 behind 1000000"])
-        self.assertEqual(pauses_of(pauses.asked(), 2), pauses)
 
     def test_rare_pauses_may_be_long(self) -> None:
         calls = [(1, 1), (1, 20), (1, 200), (1, 2000), (3, 10000)]
@@ -38,7 +37,15 @@ class OfWords(unittest.TestCase):
     def test_what_is_drawn_is_the_seeds(self) -> None:
         self.assertIsNone(pauses_of(None, 1))
         self.assertEqual(pauses_of("drawn", 1), pauses_of("drawn", 1))
-        self.assertGreater(len({pauses_of("drawn", seed) for seed in SEEDS}), 15)
+        self.assertEqual(len({tuple(drawn(seed)) for seed in SEEDS}), len(SEEDS))
+
+    def test_drawn_pauses_are_for_programs_of_any_size(self) -> None:
+        """Some are among few calls, some seeds reach a million, and all can be given one by one."""
+        for pauses in map(tuple, map(drawn, SEEDS)):
+            self.assertEqual(given(",".join(one.word() for one in pauses)), pauses)
+            self.assertTrue(4 <= sum(one.call <= 100 for one in pauses) <= 20)
+            self.assertEqual(len(pauses), MOST_GIVEN)
+        self.assertGreater(max(max(drawn(seed)).call for seed in SEEDS), 10**6)
 
 
 START = """import json, os, sys
@@ -51,6 +58,13 @@ one = threading.Thread(target=lambda: None)
 one.start()
 one.join()
 for n in range(200): os.getpid()
+"""
+# Two threads look for a job and then take one.
+JOBS = """import os, threading
+threading.excepthook, jobs = lambda _: os._exit(1), [0] * 20
+def work():
+    while jobs: os.stat("."), jobs.pop()
+for _ in range(2): threading.Thread(target=work).start()
 """
 
 
@@ -72,6 +86,11 @@ class OfPauses(Simulated):
     def test_a_file_that_two_make(self) -> None:
         self.assertEqual({self.took(seed) for seed in SEEDS[:3]}, {"1"})
         self.assertEqual(first_two(self.took(seed, "--pauses", "1/5") for seed in SEEDS), {"1", "2"})
+
+    def test_drawn_pauses_find_a_lock_that_is_missing(self) -> None:
+        words = ("--", sys.executable, "-c", JOBS)
+        self.assertEqual(self.run_by(1, *words).status, 0)
+        self.assertEqual(first_two(self.run_by(seed, "--pauses", "drawn", *words).status for seed in SEEDS), {0, 1})
 
     def calls_of(self, program: str) -> int:
         """How many calls of a program of Python may pause."""

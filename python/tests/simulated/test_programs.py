@@ -35,12 +35,6 @@ SSH = (
     "server 'date +%N; head -c 9 /dev/urandom | od; sleep 1; head -c 100000 /dev/urandom' | cksum"
 )
 PAGE = """<p id="told"></p><script>document.getElementById("told").textContent = "a script was run"</script>"""
-# As the user postgres, since it doesn't run as root, and in the machine's own memory, where files keep their owners.
-POSTGRES = """[ $(id -u) != 0 ] || exec setpriv --reuid postgres --regid postgres --clear-groups sh "$0"
-              export PATH=$(echo /usr/lib/postgresql/*/bin):$PATH
-              mkdir /dev/shm/data && cd /dev/shm && initdb -A trust -U postgres data >/dev/null || exit
-              echo host all all 10.8.0.0/24 trust >> data/pg_hba.conf
-              exec postgres -D data -h 10.8.0.2 -k /dev/shm 2>/dev/null"""
 BENCHES = """bench="$(echo /usr/lib/postgresql/*/bin/pgbench) -h server -U postgres"
              $bench -i postgres 2>&1 && $bench -c 4 -t 25 --random-seed=rand postgres 2>&1 &&
              psql -h server -U postgres -c 'select now(), random(), gen_random_uuid(), txid_current()' &&
@@ -101,7 +95,7 @@ class OfServers(Repeated):
 
     @needs("psql", "setpriv")
     def test_postgres(self) -> None:
-        server = self.script("postgres.sh", POSTGRES)
+        server = self.script("postgres.sh", (PROGRAMS / "postgres.sh").read_text())
         os.chmod(self.folder, 0o755)
         self.twice("--scratch", "--server-wait", "600s", "--server", f"exec sh {server}", "--", "sh", "-c", BENCHES)
 

@@ -8,6 +8,7 @@ import subprocess
 import time
 import unittest
 from pathlib import Path
+from typing import Any
 
 from hinge.searches.case import KINDS, Case, Part, faults_of, lossless
 from hinge.searches.shrinking import least
@@ -65,7 +66,7 @@ class OfCases(unittest.TestCase):
 
 class OfSearches(Simulated):
     def searched(self, *words: str) -> "subprocess.CompletedProcess[str]":
-        return subprocess.run([*HINGE, "search", *words], cwd=self.folder, stdin=subprocess.DEVNULL, capture_output=True, text=True)
+        return self.hinge("search", *words)
 
     def test_a_kill_among_many(self) -> None:
         (self.folder / "three.net").write_text(THREE)
@@ -77,8 +78,7 @@ class OfSearches(Simulated):
         faults = [line.split(" ", 2)[2] for line in lines if line.startswith("at ")]
         self.assertEqual(faults, ["kill c 2s"])
         self.assertNotIn("--pauses", first)
-        again = subprocess.run([*HINGE, *shlex.split(first)[2:]], cwd=self.folder, capture_output=True, text=True)
-        self.assertEqual(again.returncode, 1, again.stderr)
+        self.assertEqual(self.hinge(*shlex.split(first)[2:]).returncode, 1)
         before = {path: path.stat().st_mtime_ns for path in Path(self.folder, "runs").iterdir()}
         self.assertEqual(len(before), 3)
         self.assertEqual(self.searched(*words).stdout, done.stdout)
@@ -86,25 +86,12 @@ class OfSearches(Simulated):
 
     def test_a_command(self) -> None:
         """It fails where its first packet is lost, which no pause and no option but the link's loss has to do with."""
-        words = [
-            "run",
-            "--seeds",
-            "1-6",
-            "--pauses",
-            "1/2",
-            "--link",
-            "1ms loss 50%",
-            "--memory",
-            "256M",
-            "--",
-            *"ping -q -c 1 -W 1 server".split(),
-        ]
-        done = self.searched(*words)
+        words = "run --seeds 1-6 --pauses 1/2 --link '1ms loss 50%' --memory 256M -- ping -q -c 1 -W 1 server"
+        done = self.searched(*shlex.split(words))
         self.assertEqual(done.returncode, 1, done.stdout + done.stderr)
         command = next(line.partition(": seed ")[0] for line in done.stdout.splitlines() if line.startswith("hinge run "))
         self.assertIn(" with 0 faults, 0 pauses, 1 loss, found in ", done.stdout)
-        again = subprocess.run([*HINGE, *shlex.split(command)[1:]], cwd=self.folder, capture_output=True, text=True)
-        self.assertEqual(again.returncode, 1, again.stderr)
+        self.assertEqual(self.hinge(*shlex.split(command)[1:]).returncode, 1)
 
     def test_an_interrupt_ends_it_with_a_table_and_nothing_left(self) -> None:
         """One run is there already. The others compute without end."""
@@ -112,15 +99,9 @@ class OfSearches(Simulated):
         temporary.mkdir(), runs.mkdir()
         (runs / "run-1.json").write_text('{"status": 1, "output": "it fails\\n", "record": {}}')
         words = [*HINGE, "search", "run", "--seeds", "1-6", "-P", "2", "--runs", runs, "--", "sh", "-c", "while :; do :; done"]
-        with subprocess.Popen(
-            words,
-            env=environment(TMPDIR=str(temporary)),
-            stdin=subprocess.DEVNULL,
-            text=True,
-            stdout=subprocess.PIPE,
-            stderr=subprocess.PIPE,
-            start_new_session=True,
-        ) as process:
+        streams = dict.fromkeys(("stdout", "stderr"), subprocess.PIPE)
+        how: dict[str, Any] = {"stdin": subprocess.DEVNULL, **streams, "text": True, "start_new_session": True}
+        with subprocess.Popen(words, env=environment(TMPDIR=str(temporary)), **how) as process:
             while len([one for one in left(temporary) if one.name == "kept"]) < 2:
                 self.assertIsNone(process.poll())
                 time.sleep(0.05)

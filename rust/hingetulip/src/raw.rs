@@ -107,6 +107,10 @@ extern "C" {
     pub fn dn_collect(handle: *mut Handle, moment: u64, list: *mut Delivery, room: usize, count: *mut u64) -> u32;
     pub fn dn_show(handle: *mut Handle, list: *mut Flow, room: usize, count: *mut u64) -> u32;
     pub fn dn_wake(handle: *mut Handle, moment: *mut u64) -> u32;
+    pub fn dn_configure_text(caller: u64, line: *const u8, size: usize, status: u32, fault: *mut Fault, text: *mut u8, room: usize, length: *mut u64) -> u32;
+    pub fn dn_submit_text(caller: u64, packet: *const Packet, fate: *const Fate, text: *mut u8, room: usize, length: *mut u64) -> u32;
+    pub fn dn_advance_text(caller: u64, moment: u64, at: u64, text: *mut u8, room: usize, length: *mut u64) -> u32;
+    pub fn dn_collect_text(caller: u64, moment: u64, at: u64, list: *const Delivery, count: usize, text: *mut u8, room: usize, length: *mut u64) -> u32;
     pub fn dn_audit_open_with_key(audit: *mut Audit, limit: usize, high: u64, low: u64) -> u32;
     pub fn dn_audit_feed(audit: *mut Audit, text: *const u8, length: usize) -> u32;
     pub fn dn_audit_finish(audit: *mut Audit, verdict: *mut Verdict, record: *mut u64) -> u32;

@@ -126,7 +126,8 @@ impl Shaper {
     /// Makes room for a packet to come, and returns whether it is there: it isn't before the first packet of a flow.
     ///
     /// The library then takes no memory for [`submit`](Self::submit) of a packet to the same pipe or queue with the same addresses,
-    /// ports and protocol, if at most `advance`, `collect`, `flows` and `wake` are called before it. The call changes nothing else.
+    /// ports and protocol, if at most `advance`, `collect`, `flows`, `wake`, `reserve` and, for packets of other flows, `submit` are
+    /// called before it. The call changes nothing else.
     ///
     /// ```
     /// use hingetulip::{Packet, Shaper, Target};

@@ -1,5 +1,5 @@
-ghost use Rattle.std.specs.Prelude.{◌≡◌, ℕ, ◌<◌, true, false, length, slice_get, Some, IfSome, IfNone};
-ghost use Rattle.dn_flows.specs.Table.{OnlyUnreserves, flow_at, is_at};
+ghost use Rattle.std.specs.Prelude.{◌≡◌, ℕ, ◌<◌, ◌≤◌, true, false, length, slice_get, Some, IfSome, IfNone};
+ghost use Rattle.dn_flows.specs.Table.{OnlyUnreserves, flow_at, is_at, places};
 ghost use Rattle.dn_types.specs.declared.flow_key.FlowKey.{FlowKey};
 
 use crate::flows::Flows;
@@ -15,6 +15,7 @@ impl Flows {
         ensures keys { self.new.keys ≡ self.old.keys }
         ensures many { length self.new.flows ≡ length self.old.flows }
         ensures flows { (flow : ℕ) → OnlyUnreserves (flow_at self.old.flows flow) (flow_at self.new.flows flow) }
+        ensures places { places self.new.flows ≤ places self.old.flows }
         ensures within { IfSome result (λ flow. flow < length self.new.flows) }
         ensures active { IfSome result (λ flow. (flow_at self.new.flows flow).active ≡ true) }
         ensures reached { IfSome result (λ flow. (key : FlowKey) × (slice_get self.new.keys flow ≡ Some key) × (is_at target key ≡ true)) }

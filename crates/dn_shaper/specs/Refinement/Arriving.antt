@@ -1,5 +1,5 @@
 -- What the arrival of one packet does to its link, the flow table and the counts.
-use Rattle.std.specs.Prelude.{◌≡◌, ◌&&◌, ℕ, ◌+◌, ◌<◌, ◌^◌, Bool, cond, List, [], None, Some, nat_eq, nat_le, slice_get, slice_set}
+use Rattle.std.specs.Prelude.{◌≡◌, ◌&&◌, ℕ, ◌+◌, ◌<◌, ◌≤◌, ◌^◌, Bool, cond, List, [], None, Some, nat_eq, nat_le, slice_get, slice_set}
 use Rattle.dn_types.specs.Calls.{accept, join}
 use Rattle.dn_types.specs.Configuration.{Settings}
 use Rattle.dn_types.specs.Flows.{Treatment}
@@ -35,6 +35,7 @@ pub record ArrivesInSchedule (slot len weight : ℕ) (idle : Bool) (old new : Sc
   pub virtual_time : new.virtual_time ≡ begun_time idle old
   pub one_more : waiting_of new.flows ≡ waiting_of (begun_flows idle old) + 1
   pub arrivals : new.arrivals ≡ old.arrivals + 1
+  pub room : (other : ℕ) → (other ≡ slot → ⊥) → room_at old.room other ≤ room_at new.room other
 
 -- Where the link is one flow's own, one packet more waits in that flow's queue.
 abbrev pub HasOneMore : (ℕ → ℕ) → (ℕ → ℕ) → Link → Type 0

@@ -6,14 +6,14 @@ use Rattle.dn_types.specs.Trace.{Link, shared}
 use Rattle.dn_types.specs.declared.flow_key.FlowKey.{FlowKey}
 use Rattle.dn_types.specs.declared.target.Target.{Target}
 use Rattle.dn_types.specs.declared.target.Target.TheVariants.{Pipe as ToPipe, Queue as ToQueue}
-use Rattle.dn_flows.specs.Table.{flow_at, with_place}
+use Rattle.dn_flows.specs.Table.{flow_at, places, with_place}
 use Rattle.dn_wf2q.specs.Schedule.{room_at}
 use Rattle.dn_shaper.specs.declared.links.next_start.NextStart.{NextStart}
 use Rattle.dn_shaper.specs.declared.links.home.Home.{Home}
 use Rattle.dn_shaper.specs.declared.links.link_parts.LinkParts.{LinkParts}
 use Rattle.dn_shaper.specs.declared.state.State.{State}
 use Rattle.dn_shaper.specs.Refinement.Agreement.{link_names}
-use Rattle.dn_shaper.specs.Refinement.Making.{HasSlotRoom, KeepsAt, KeepsCalls, OnlyRoom, OnlyMakesRoom}
+use Rattle.dn_shaper.specs.Refinement.Making.{HasSlotRoom, KeepsAt, KeepsCalls, KeepsPlaces, OnlyRoom, OnlyMakesRoom}
 use Rattle.dn_shaper.specs.Refinement.Views.{LinkView, no_schedule, view_of, views_of}
 use Rattle.dn_shaper.specs.Refinement.Settings.{Sets, at_number}
 
@@ -107,7 +107,7 @@ pub record GivesHome (key : FlowKey) (flow : ℕ) (old new : State) : Type 0 whe
   pub pending : new.parts.line.pending ≡ old.parts.line.pending
   pub pushed : new.parts.line.pushed ≡ old.parts.line.pushed
   pub room : old.parts.line.room ≤ new.parts.line.room
-  pub line : old.parts.waiting + 1 ≤ new.parts.line.room
+  pub line : old.parts.waiting + places new.parts.flows.flows ≤ new.parts.line.room
   pub heap : KeepsHeap old.heap new.heap
   pub keeps : KeepsCalls old new
 
@@ -124,9 +124,10 @@ without_last s =
       };
     }
 
--- Only room is made, in all that is kept.
+-- Only room is made, in all that is kept, and none is lost.
 pub record OnlyReserves (old new : State) : Type 0 where
   pub parts : OnlyMakesRoom old.parts new.parts
+  pub placed : KeepsPlaces old.parts.flows.flows new.parts.flows.flows
   pub heap : KeepsHeap old.heap new.heap
   pub shared : new.shared ≡ old.shared
   pub keeps : KeepsCalls old new

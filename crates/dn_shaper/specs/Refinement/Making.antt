@@ -1,11 +1,12 @@
 -- What is reserved and made for a packet before the call that sends it changes anything.
-use Rattle.std.specs.Prelude.{◌≡◌, ℕ, ◌<◌, ◌≤◌, List, [], length, Option, Some, None, slice_get}
+use Rattle.std.specs.Prelude.{◌≡◌, ℕ, ◌<◌, ◌≤◌, true, List, [], length, Option, Some, None, slice_get}
 use Rattle.dn_types.specs.Trace.{Link, own, shared, Event}
 use Rattle.dn_flows.specs.Table.{FlowState, flow_at}
 use Rattle.dn_wf2q.specs.Schedule.{Schedule, flow_at as slot_at, room_at}
 use Rattle.dn_shaper.specs.declared.links.parts.Parts.{Parts}
 use Rattle.dn_shaper.specs.declared.state.State.{State}
 use Rattle.dn_shaper.specs.Refinement.Agreement.{AgreesWith}
+use Rattle.dn_shaper.specs.Refinement.Starting.{HoldsPlaces}
 use Rattle.dn_shaper.specs.Refinement.Submitting.{IsMade}
 use Rattle.dn_shaper.specs.Refinement.Views.{LinkView, views_of}
 
@@ -38,6 +39,10 @@ pub record SameFlow (old new : FlowState) : Type 0 where
   pub discarded : new.discarded ≡ old.discarded
   pub active : new.active ≡ old.active
 
+-- Each flow that had a reserved place has it still.
+abbrev pub KeepsPlaces : List FlowState → List FlowState → Type 0
+KeepsPlaces old new = (flow : ℕ) → (flow_at old flow).reserved ≡ true → (flow_at new flow).reserved ≡ true
+
 -- The links at a place are the same but for room.
 abbrev pub KeepsAt : Option LinkView → Option LinkView → Type 0
 KeepsAt None None = Unit {0}
@@ -55,6 +60,7 @@ pub record OnlyMakesRoom (old new : Parts) : Type 0 where
   pub pending : new.line.pending ≡ old.line.pending
   pub pushed : new.line.pushed ≡ old.line.pushed
   pub room : old.line.room ≤ new.line.room
+  pub holds : HoldsPlaces old → HoldsPlaces new
   pub flows : (flow : ℕ) → SameFlow (flow_at old.flows.flows flow) (flow_at new.flows.flows flow)
   pub many : length new.flows.flows ≡ length old.flows.flows
   pub views : (place : ℕ) → KeepsAt (slice_get (views_of old) place) (slice_get (views_of new) place)

@@ -5,7 +5,7 @@ use Rattle.dn_types.specs.Links.{transmission_time, due_by}
 use Rattle.dn_types.specs.Trace.{shared}
 use Rattle.dn_types.specs.declared.delivery.Delivery.{Delivery}
 use Rattle.dn_types.specs.declared.rule.Rule.{Rule}
-use Rattle.dn_flows.specs.Table.{FlowState, flow_at, popped}
+use Rattle.dn_flows.specs.Table.{FlowState, flow_at, places, popped}
 use Rattle.dn_flows.specs.declared.waiting.Waiting.{Waiting}
 use Rattle.dn_wf2q.specs.Schedule.{room_at}
 use Rattle.dn_shaper.specs.declared.links.home.Home.{Home}
@@ -45,21 +45,32 @@ pub record KeepsSchedule (old new : LinkView) : Type 0 where
 abbrev pub AreCountsWithin : ℕ → FlowState → Type 0
 AreCountsWithin n s = (s.lost ≤ n) × (s.full ≤ n) × (s.started + s.discarded + length s.backlog ≤ n)
 
--- No count anywhere is above n. There is room in the delay line for each packet that waits.
+-- The delay line has room for each packet that waits and for a packet of each flow with a reserved place.
+abbrev pub HoldsPlaces : Parts → Type 0
+HoldsPlaces p = p.waiting + places p.flows.flows ≤ p.line.room
+
+-- No count anywhere is above n, and there is room in the delay line.
 pub record Within (n : ℕ) (p : Parts) : Type 0 where
   pub waiting_is : p.waiting ≡ waits_in_all (views_of p)
-  pub room : p.waiting ≤ p.line.room
+  pub room : p.waiting + places p.flows.flows ≤ p.line.room
   pub pushed : p.line.pushed + p.waiting ≤ n
   pub sums : length p.line.pending + p.waiting ≤ n
   pub flows_are : (flow : ℕ) → AreCountsWithin n (flow_at p.flows.flows flow)
   pub arrivals : (k : ℕ) (v : LinkView) → slice_get (views_of p) k ≡ Some v → v.schedule.arrivals ≤ n
   pub accepted : p.accepted ≤ n
 
--- Room is reserved for one more packet of the flow.
+-- Room is reserved for one more packet of the flow: a place in its queue, and with it one in the delay line (`HoldsPlaces`), and
+-- room at its slot if its link is shared.
 pub record IsReady (flow : ℕ) (p : Parts) : Type 0 where
   pub place : (flow_at p.flows.flows flow).reserved ≡ true
   pub slot : (h : Home) (v : LinkView) (pipe : ℕ) → slice_get p.homes.items flow ≡ Some h → slice_get (views_of p) h.place ≡ Some v → v.link ≡ shared pipe → 0 < room_at v.schedule.room h.slot
-  pub line : p.waiting + 1 ≤ p.line.room
+
+-- Each flow that had room has it still, or each flow but one.
+abbrev pub KeepsReady : Parts → Parts → Type 0
+KeepsReady old new = (flow : ℕ) → IsReady flow old → IsReady flow new
+
+abbrev pub KeepsOthersReady : ℕ → Parts → Parts → Type 0
+KeepsOthersReady flow old new = (other : ℕ) → (other ≡ flow → ⊥) → IsReady other old → IsReady other new
 
 -- A packet waits for the link at the place, which is free by the moment.
 pub record CanStart (p : Parts) (place moment : ℕ) : Type 0 where

@@ -1,5 +1,5 @@
 ghost use Rattle.std.specs.Prelude.{◌≡◌, ℕ, None, Some, ◌+◌, ◌<◌, ◌≤◌, ◌^◌, true, false, length, slice_get, IfOk, IfSome, IfNone, OnErr};
-ghost use Rattle.dn_flows.specs.Table.{OnlyUnreserves, flow_at};
+ghost use Rattle.dn_flows.specs.Table.{OnlyUnreserves, flow_at, places};
 ghost use Rattle.dn_types.specs.declared.flow_key.FlowKey.{FlowKey};
 ghost use Rattle.dn_shaper.specs.Refinement.Making.{OnlyMakesRoom};
 ghost use Rattle.dn_shaper.specs.Refinement.Reordering.{DiscardsSome, NoneActive, active_flows};
@@ -27,6 +27,7 @@ fn reached(flows: &mut Flows, command: &Command) -> Option<usize>
     ensures keys { flows.new.keys ≡ flows.old.keys }
     ensures many { length flows.new.flows ≡ length flows.old.flows }
     ensures flows { (flow : ℕ) → OnlyUnreserves (flow_at flows.old.flows flow) (flow_at flows.new.flows flow) }
+    ensures places { places flows.new.flows ≤ places flows.old.flows }
     ensures within { IfSome result (λ flow. flow < length flows.new.flows) }
     ensures active { IfSome result (λ flow. (flow_at flows.new.flows flow).active ≡ true) }
     ensures reached { IfSome result (λ flow. (key : FlowKey) × (slice_get flows.new.keys flow ≡ Some key) × (reaches command.now key ≡ true)) }

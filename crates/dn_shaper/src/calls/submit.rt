@@ -8,7 +8,7 @@ ghost use Rattle.dn_shaper.specs.Refinement.Agreement.{AgreesWith};
 ghost use Rattle.dn_shaper.specs.Refinement.Calls.{counted_at, Does, StillStands};
 ghost use Rattle.dn_shaper.specs.Refinement.Settings.{settings_of};
 ghost use Rattle.dn_shaper.specs.Refinement.Sound.{IsSound};
-ghost use Rattle.dn_shaper.specs.Room.{HasRoomBy};
+ghost use Rattle.dn_shaper.specs.Room.{HasRoomBy, KeepsOthersRoom};
 ghost use Rattle.dn_shaper.specs.Standing.{StandsAt};
 
 use crate::links::judge::judge;
@@ -40,6 +40,7 @@ fn send_packet(
     ensures still_sound { OnErr result (IsSound state.new) }
     ensures only_treated { OnErr result (is_some (treatment (settings_of state.old.configured target.now)) ≡ true) }
     ensures succeeds { HasRoomBy (treatment (settings_of state.old.configured target.now)) target.now packet.now.tuple state.old.parts → IsOk result }
+    ensures leaves { KeepsOthersRoom target.now packet.now.tuple state.old state.new }
 {
     match state.configured.treatment(*target) {
         None => {
@@ -80,6 +81,7 @@ pub fn submit(
     ensures err { OnErr result (StillStands state.old state.new) }
     ensures only_treated { OnErr result (is_some (treatment (settings_of state.old.configured target)) ≡ true) }
     ensures succeeds { HasRoomBy (treatment (settings_of state.old.configured target)) target packet.now.tuple state.old.parts → IsOk result }
+    ensures leaves { KeepsOthersRoom target packet.now.tuple state.old state.new }
 {
     let at = state.now.max(moment.get());
     let reply = send_packet(state, alloc, &target, packet, at)?;

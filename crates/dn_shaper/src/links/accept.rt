@@ -3,7 +3,7 @@ ghost use Rattle.dn_flows.specs.Table.{flow_at, lengths};
 ghost use Rattle.dn_shaper.specs.Refinement.Arriving.{Accepts, KeepsFlows};
 ghost use Rattle.dn_shaper.specs.Refinement.Settings.{settings_of};
 ghost use Rattle.dn_shaper.specs.Refinement.Settling.{AreInStep};
-ghost use Rattle.dn_shaper.specs.Refinement.Starting.{Within};
+ghost use Rattle.dn_shaper.specs.Refinement.Starting.{KeepsOthersReady, Within};
 ghost use Rattle.dn_shaper.specs.Refinement.Submitting.{GoesTo, MayAccept};
 
 use crate::links::arrive::{arrive, is_idle, join_queue};
@@ -38,6 +38,7 @@ pub fn accept(
     ensures within { (n : ℕ) → Within n parts.old → Within (n + 1) parts.new }
     ensures moves { heap.new.moves + parts.new.waiting ≤ heap.old.moves + parts.old.waiting + 2 }
     ensures keeps { KeepsFlows parts.old parts.new }
+    ensures leaves { KeepsOthersReady flow parts.old parts.new }
 {
     let number = parts.accepted;
     if let Target::Pipe(_) = how.target

@@ -3,7 +3,7 @@ ghost use Rattle.dn_types.specs.Trace.{lost, refused};
 ghost use Rattle.dn_shaper.specs.Refinement.Arriving.{KeepsFlows};
 ghost use Rattle.dn_shaper.specs.Refinement.Settings.{settings_of};
 ghost use Rattle.dn_shaper.specs.Refinement.Settling.{AreInStep};
-ghost use Rattle.dn_shaper.specs.Refinement.Starting.{IsReady, Within};
+ghost use Rattle.dn_shaper.specs.Refinement.Starting.{IsReady, KeepsOthersReady, KeepsReady, Within};
 ghost use Rattle.dn_shaper.specs.Refinement.Submitting.{CanSee, GoesTo, Sees, Answers, treatment_of};
 ghost use Rattle.dn_heap.specs.Heap.{Heap as HeapValue};
 ghost use Rattle.dn_shaper.specs.declared.links.next_start.NextStart.{NextStart as NextStartValue};
@@ -27,6 +27,7 @@ fn note_lost(parts: &mut Parts, flow: usize)
     ensures within { (n : ℕ) → Within n parts.old → Within (n + 1) parts.new }
     ensures keeps { KeepsFlows parts.old parts.new }
     ensures waiting { parts.new.waiting ≡ parts.old.waiting }
+    ensures leaves { KeepsReady parts.old parts.new }
 {
     parts.flows.note_lost(flow);
 }
@@ -41,6 +42,7 @@ fn note_full(parts: &mut Parts, flow: usize)
     ensures within { (n : ℕ) → Within n parts.old → Within (n + 1) parts.new }
     ensures keeps { KeepsFlows parts.old parts.new }
     ensures waiting { parts.new.waiting ≡ parts.old.waiting }
+    ensures leaves { KeepsReady parts.old parts.new }
 {
     parts.flows.note_full(flow);
 }
@@ -68,6 +70,7 @@ pub fn judge(
     ensures within { (n : ℕ) → Within n parts.old → Within (n + 1) parts.new }
     ensures moves { heap.new.moves + parts.new.waiting ≤ heap.old.moves + parts.old.waiting + 2 }
     ensures keeps { KeepsFlows parts.old parts.new }
+    ensures leaves { KeepsOthersReady flow parts.old parts.new }
 {
     settle(parts, heap, configured, at);
     match parts.flows.verdict(flow, packet, &how.drops) {

@@ -53,7 +53,7 @@ pub fn send(
     let transmission = tx_time(packet.len, rates.bandwidth);
     link.begin(moment, transmission);
     let due = link.deliver(moment, transmission, rates.delay, rule);
-    // There is room for each packet that waits (`Within`), and reserve.rt made it for the one that arrives (`IsReady`).
+    // There is room for each packet that waits and for each flow with a reserved place (`Within`). reserve.rt made it.
     line.push_reserved(Delivery {
         due,
         packet: packet.packet,

@@ -1,5 +1,5 @@
 //! The making of a flow's home. All growths come before the first change.
-ghost use Rattle.std.specs.Prelude.{◌≡◌, ℕ, ◌+◌, ◌-◌, ◌<◌, ◌^◌, Some, length, map, slice_get, IfOk, OnErr, OnOk};
+ghost use Rattle.std.specs.Prelude.{◌≡◌, ℕ, ◌+◌, ◌-◌, ◌<◌, ◌^◌, false, Some, length, map, slice_get, IfOk, OnErr, OnOk};
 ghost use Rattle.dn_types.specs.Calls.{link_of};
 ghost use Rattle.dn_types.specs.Trace.{shared as shared_link};
 ghost use Rattle.dn_flows.specs.Table.{flow_at, IsUnused};
@@ -119,7 +119,8 @@ fn make_home(state: &mut State, alloc: Global, key: &FlowKey, flow: usize) -> Re
     ensures gives { OnOk result (GivesHome key.now flow state.old state.new) }
     ensures err { OnErr result (OnlyReserves state.old state.new) }
 {
-    state.parts.line.reserve(state.parts.waiting + 1)?;
+    let places = state.parts.flows.places_with(flow);
+    state.parts.line.reserve(state.parts.waiting + places)?;
     state.parts.flows.reserve_place(flow)?;
     state.parts.homes.reserve(1)?;
     let home = find_home(
@@ -145,6 +146,7 @@ pub fn house_last(
 ) -> Result<(), AllocError>
     requires last { flow + 1 ≡ length state.old.parts.flows.flows }
     requires unused { IsUnused (flow_at state.old.parts.flows.flows (length state.old.parts.flows.flows - 1)) }
+    requires placeless { (flow_at state.old.parts.flows.flows (length state.old.parts.flows.flows - 1)).reserved ≡ false }
     requires few { state.old.parts.waiting < 2 ^ 62 }
     requires noted { IsNotedAmong key.now state.old.shared (views_of state.old.parts) }
     ensures gives { OnOk result (GivesHome key.now flow state.old state.new) }

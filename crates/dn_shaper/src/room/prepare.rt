@@ -4,7 +4,7 @@ ghost use Rattle.dn_types.specs.Trace.{Event};
 ghost use Rattle.dn_shaper.specs.Refinement.Agreement.{AgreesWith};
 ghost use Rattle.dn_shaper.specs.Refinement.Making.{KeepsCalls, Prepares, OnlyMakesRoom};
 ghost use Rattle.dn_shaper.specs.Refinement.Sound.{IsSound};
-ghost use Rattle.dn_shaper.specs.Refinement.Starting.{IsReady};
+ghost use Rattle.dn_shaper.specs.Refinement.Starting.{IsReady, KeepsReady};
 ghost use Rattle.dn_shaper.specs.Refinement.Submitting.{GoesTo};
 ghost use Rattle.dn_shaper.specs.Room.{HasRoomOf};
 
@@ -29,6 +29,7 @@ pub fn prepare(state: &mut State, alloc: Global, key: FlowKey) -> Result<usize, 
     ensures prepares { IfOk result (λ flow. Prepares flow state.old.parts state.new.parts) }
     ensures err { OnErr result (OnlyMakesRoom state.old.parts state.new.parts) }
     ensures succeeds { HasRoomOf key state.old.parts → IsOk result }
+    ensures leaves { KeepsReady state.old.parts state.new.parts }
     ensures sound { IsSound state.new }
     ensures keeps { KeepsCalls state.old state.new }
 {

@@ -5,7 +5,7 @@ ghost use Rattle.dn_types.specs.declared.rule.Rule.{Rule as RuleValue};
 ghost use Rattle.dn_shaper.specs.Refinement.Calls.{StillStands};
 ghost use Rattle.dn_shaper.specs.Refinement.Settings.{settings_of};
 ghost use Rattle.dn_shaper.specs.Refinement.Sound.{IsSound};
-ghost use Rattle.dn_shaper.specs.Room.{HasRoomBy, IsNewBy};
+ghost use Rattle.dn_shaper.specs.Room.{HasRoomBy, IsNewBy, KeepsRoom};
 
 use crate::room::reserve::reserve_for;
 use crate::state::State;
@@ -25,6 +25,7 @@ pub fn reserve_packet(
     ensures room { IfOk result (λ there. there ≡ true → HasRoomBy (treatment (settings_of state.new.configured target)) target packet.now.tuple state.new.parts) }
     ensures succeeds { HasRoomBy (treatment (settings_of state.old.configured target)) target packet.now.tuple state.old.parts → IsOk result }
     ensures known { IfOk result (λ there. there ≡ false → IsNewBy (treatment (settings_of state.old.configured target)) target packet.now.tuple state.old.parts.flows.keys) }
+    ensures leaves { KeepsRoom state.old state.new }
     ensures still { StillStands state.old state.new }
     ensures sound { IsSound state.new }
 {

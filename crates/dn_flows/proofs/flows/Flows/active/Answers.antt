@@ -1,7 +1,8 @@
 -- The flows that were let go keep all but their places.
-use Rattle.std.proofs.Common.{◌≡◌, ◌∙◌, ◌<◌, ℕ, List, length, Option, Some, None, sym, arith}
-use Rattle.std.specs.Prelude.{IfSome, IfNone, slice_get}
+use Rattle.std.proofs.Common.{◌∙◌, Option, Some, None, sym, arith}
+use Rattle.std.specs.Prelude.{IfSome, IfNone}
 use Rattle.dn_flows.proofs.Places.{get-below, get-some}
+use Rattle.dn_flows.proofs.Reservations.{places-are}
 use Rattle.dn_flows.proofs.Tables.{as-many-flows}
 use Rattle.dn_flows.proofs.Unreserved.{active-read, still-stored, unreserves}
 use Rattle.dn_flows.proofs.flows.Flows.active.Goals as goal
@@ -42,6 +43,15 @@ returns-clause-many c =
 pub returns-clause-flows : goal.returns-clause-flows
 returns-clause-flows c =
     rw (← c.self.view_is) (unreserves c.self.inside.packets c.self.inside.queues.items c.last_active.new.queues.items c.self.inside.unsent.items c.last_active.ensures.keeps)
+
+pub returns-clause-places : goal.returns-clause-places
+returns-clause-places c =
+    let before = places-are c.self.inside.packets c.self.inside.queues.items c.self.inside.unsent.items in
+    let after = places-are c.self.inside.packets c.last_active.new.queues.items c.self.inside.unsent.items in
+    let was = c.self.invariant.1.0 in
+    let now = c.last_active.ensures.counted in
+    let fewer = c.last_active.ensures.fewer in
+    rw (← c.self.view_is) (omega arith)
 
 pub returns-clause-within : goal.returns-clause-within
 returns-clause-within c =

@@ -3,7 +3,7 @@ use Rattle.std.proofs.Common.{◌∙◌, ◌++◌, ◌+◌, List, ap, max, refl,
 use Rattle.std.specs.Prelude.{nat_le}
 use Rattle.std.specs.List.{filter}
 use Rattle.dn_types.specs.declared.delivery.Delivery.{Delivery}
-use Rattle.dn_shaper.proofs.Rooms.{keeps-room, wider}
+use Rattle.dn_shaper.proofs.Rooms.{keeps-room, with-line}
 use Rattle.dn_shaper.proofs.Standing.{collects, collects-sound}
 use Rattle.dn_shaper.proofs.calls.collect.gather.Goals as goal
 
@@ -39,4 +39,4 @@ returns-clause-leaves c =
       now = c.max-at.result;
       calls = c.args.state.now.calls + 1;
     })
-    refl c.settle.ensures.only.keys (λ flow ready. wider p c.give.new.line flow c.give.ensures.keeps_room (c.settle.ensures.only.ready flow ready))
+    refl c.settle.ensures.only.keys (λ flow ready. with-line p c.give.new.line flow (c.settle.ensures.only.ready flow ready))

@@ -23,6 +23,7 @@ returns-clause-only c =
       pending = refl;
       pushed = refl;
       room = omega arith;
+      holds = λ h. let fewer = c.reached.ensures.places in omega arith;
       flows = λ f. let s = c.reached.ensures.flows f in record { backlog = s.backlog; lost = s.lost; full = s.full; started = s.started; discarded = s.discarded; active = s.active };
       many = c.reached.ensures.many;
       views = λ place. subst (λ (vs : List LinkView). KeepsAt (slice_get (views_of old) place) (slice_get vs place)) (sym seen) (same-at (slice_get (views_of old) place));

@@ -7,6 +7,7 @@ use Rattle.dn_wf2q.proofs.Reserved.{on_err_always}
 use Rattle.dn_shaper.specs.declared.state.State.{State}
 use Rattle.dn_shaper.specs.Refinement.Settings.{settings_of}
 use Rattle.dn_shaper.specs.Refinement.Submitting.{treatment_of}
+use Rattle.dn_shaper.proofs.Rooms.{keeps-room, others-all, others-some}
 use Rattle.dn_shaper.proofs.Sending.{submits-does, submits-none, submits-some, sound-settled, sound-then, still-stands}
 use Rattle.dn_shaper.proofs.calls.submit.send_packet.Goals as goal
 
@@ -43,6 +44,32 @@ returns-in_ok-flow-in-Some-clause-does c =
     (made.keys ∙ ap (λ k. with_key k c.args.state.now.parts.flows.keys) key_is)
     made.prepares c.prepare.ensures.keeps c.judge-reply.ensures.keeps c.judge-reply.ensures.answers
     (treatment (settings_of c.args.state.now.configured c.args.target.now)) c.in-Some.ensures.value)
+
+-- ---- Room that was made for other flows
+
+pub returns-in_ok-flow-in-Some-clause-leaves : goal.returns-in_ok-flow-in-Some-clause-leaves
+returns-in_ok-flow-in-Some-clause-leaves c =
+    let old = c.args.state.now in
+    let mid = c.prepare.new.state in
+    let new : State = record { parts = c.judge-reply.new.parts; heap = c.judge-reply.new.heap; shared = mid.shared; configured = mid.configured; now = mid.now; calls = mid.calls } in
+    let made = c.in_ok-flow-in-Some.ensures in
+    let key_is = c.key.ensures ∙ ap (λ (t : Target). key_of t c.args.packet.now.tuple (treatment_of c.in-Some.how)) c.in-Some.ensures.target in
+    let number_is = made.number ∙ ap (flow_number old.parts.flows.keys) key_is in
+    others-some old new c.args.target.now c.args.packet.now.tuple (treatment_of c.in-Some.how) c.in-Some.ensures.value c.prepare.ensures.keeps.configured
+    (c.judge-reply.ensures.keeps.keys ∙ made.keys ∙ ap (λ k. with_key k old.parts.flows.keys) key_is)
+    (λ other ne ready. c.judge-reply.ensures.leaves other (λ same. ne (same ∙ number_is)) (c.prepare.ensures.leaves other ready))
+
+pub returns-in_err-flow-in-Some-clause-leaves : goal.returns-in_err-flow-in-Some-clause-leaves
+returns-in_err-flow-in-Some-clause-leaves c =
+    let old = c.args.state.now in
+    let new = c.prepare.new.state in
+    others-all old new c.args.target.now c.args.packet.now.tuple (keeps-room old new c.prepare.ensures.keeps.configured c.in_err-flow-in-Some.ensures.err.keys c.prepare.ensures.leaves)
+
+pub returns-in-None-clause-leaves : goal.returns-in-None-clause-leaves
+returns-in-None-clause-leaves c =
+    let old = c.args.state.now in
+    let new : State = record { parts = c.settle.new.parts; heap = c.settle.new.heap; shared = old.shared; configured = old.configured; now = old.now; calls = old.calls } in
+    others-all old new c.args.target.now c.args.packet.now.tuple (keeps-room old new refl c.settle.ensures.only.keys c.settle.ensures.only.ready)
 
 pub returns-in_ok-flow-in-Some-clause-sound : goal.returns-in_ok-flow-in-Some-clause-sound
 returns-in_ok-flow-in-Some-clause-sound c =

@@ -14,6 +14,7 @@ use Rattle.dn_shaper.proofs.Accepting.{can-join, few-accepted, few-waiting, home
 use Rattle.dn_shaper.proofs.Alone.{goes-own}
 use Rattle.dn_shaper.proofs.Behind.{joins-behind, others-wait}
 use Rattle.dn_shaper.proofs.HomeRead.{home-alone, home-below, home-there, in-table, place-below}
+use Rattle.dn_shaper.proofs.OthersReady.{arrives-leaves, passes-leaves}
 use Rattle.dn_shaper.proofs.links.accept.accept.Goals.{After-arrive}
 use Rattle.dn_shaper.proofs.links.accept.accept.Goals as goal
 
@@ -86,6 +87,9 @@ returns-then-idle-clause-within c = idle-within c.requires.may (home-passed c) c
 pub returns-then-idle-clause-keeps : goal.returns-then-idle-clause-keeps
 returns-then-idle-clause-keeps c = idle-keeps c.requires.may (home-passed c) c.pass.ensures.arrives refl c.pass.ensures.starts (rates c)
 
+pub returns-then-idle-clause-leaves : goal.returns-then-idle-clause-leaves
+returns-then-idle-clause-leaves c = passes-leaves c.requires.may (home-passed c) c.pass.ensures.arrives c.pass.ensures.starts
+
 -- ---- The link still sends, and the packet arrives there
 
 module _ (c : After-arrive) where
@@ -138,6 +142,11 @@ returns-then-not-waited-clause-keeps c =
     let w = (goal.at.returns-then-not-waited-clause-keeps c).After-arrive in
     mid-keeps c.requires.may (home-read w) (came w)
 
+pub returns-then-not-waited-clause-leaves : goal.returns-then-not-waited-clause-leaves
+returns-then-not-waited-clause-leaves c =
+    let w = (goal.at.returns-then-not-waited-clause-leaves c).After-arrive in
+    arrives-leaves c.requires.may (home-read w) (came w)
+
 -- ---- Others wait for the link
 
 pub returns-else-not-waited-clause-accepts : goal.returns-else-not-waited-clause-accepts
@@ -164,6 +173,11 @@ pub returns-else-not-waited-clause-keeps : goal.returns-else-not-waited-clause-k
 returns-else-not-waited-clause-keeps c =
     let w = (goal.at.returns-else-not-waited-clause-keeps c).After-arrive in
     mid-keeps c.requires.may (home-read w) (came w)
+
+pub returns-else-not-waited-clause-leaves : goal.returns-else-not-waited-clause-leaves
+returns-else-not-waited-clause-leaves c =
+    let w = (goal.at.returns-else-not-waited-clause-leaves c).After-arrive in
+    arrives-leaves c.requires.may (home-read w) (came w)
 
 -- ---- The packet joins others on its flow's own link
 
@@ -208,3 +222,6 @@ returns-clause-within c = mid-within c.requires.may (there c).1 (behind c)
 
 pub returns-clause-keeps : goal.returns-clause-keeps
 returns-clause-keeps c = mid-keeps c.requires.may (there c).1 (behind c)
+
+pub returns-clause-leaves : goal.returns-clause-leaves
+returns-clause-leaves c = arrives-leaves c.requires.may (there c).1 (behind c)

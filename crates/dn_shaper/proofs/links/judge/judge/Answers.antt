@@ -40,6 +40,9 @@ returns-in-Lost-clause-kept c = c.note_lost.ensures.kept c.settle.new.heap c.set
 pub returns-in-Lost-clause-within : goal.returns-in-Lost-clause-within
 returns-in-Lost-clause-within c = λ n w. c.note_lost.ensures.within n (c.settle.ensures.only.within n w)
 
+pub returns-in-Lost-clause-leaves : goal.returns-in-Lost-clause-leaves
+returns-in-Lost-clause-leaves c = λ other ne ready. c.note_lost.ensures.leaves other (c.settle.ensures.only.ready other ready)
+
 -- ---- Its queue is full
 
 pub returns-in-Full-clause-answers : goal.returns-in-Full-clause-answers
@@ -52,6 +55,9 @@ returns-in-Full-clause-kept c = c.note_full.ensures.kept c.settle.new.heap c.set
 pub returns-in-Full-clause-within : goal.returns-in-Full-clause-within
 returns-in-Full-clause-within c = λ n w. c.note_full.ensures.within n (c.settle.ensures.only.within n w)
 
+pub returns-in-Full-clause-leaves : goal.returns-in-Full-clause-leaves
+returns-in-Full-clause-leaves c = λ other ne ready. c.note_full.ensures.leaves other (c.settle.ensures.only.ready other ready)
+
 -- ---- It is accepted
 
 pub returns-in-Take-clause-answers : goal.returns-in-Take-clause-answers
@@ -60,3 +66,6 @@ returns-in-Take-clause-answers c = answers-taken c.args.flow c.settle.ensures.on
 
 pub returns-in-Take-clause-within : goal.returns-in-Take-clause-within
 returns-in-Take-clause-within c = λ n w. c.accept-packet.ensures.within n (c.settle.ensures.only.within n w)
+
+pub returns-in-Take-clause-leaves : goal.returns-in-Take-clause-leaves
+returns-in-Take-clause-leaves c = λ other ne ready. c.accept-packet.ensures.leaves other ne (c.settle.ensures.only.ready other ready)

@@ -3,7 +3,7 @@ use Rattle.std.proofs.Common.{refl, arith}
 use Rattle.dn_types.specs.Trace.{lost}
 use Rattle.dn_flows.specs.Table.{flow_at, one_lost}
 use Rattle.dn_shaper.specs.Refinement.Views.{views_of}
-use Rattle.dn_shaper.proofs.Noting.{IsNoted, noted-counts, noted-in-step, noted-sees}
+use Rattle.dn_shaper.proofs.Noting.{IsNoted, noted-counts, noted-in-step, noted-ready, noted-sees}
 use Rattle.dn_shaper.proofs.Quiet.{lost-agrees}
 use Rattle.dn_shaper.proofs.links.judge.note_lost.Goals as goal
 
@@ -15,6 +15,7 @@ noted c =
       seen = c.requires.seen;
       keys = c.note_lost.ensures.keys;
       flows = c.note_lost.ensures.flows;
+      placed = refl;
       same = refl;
       few = λ n few. let lost = few.0 in let full = few.1 in let packets = few.2 in (omega arith, omega arith, omega arith);
       agrees = λ more trace a made.
@@ -26,6 +27,9 @@ returns-clause-sees c = noted-sees (noted c)
 
 pub returns-clause-within : goal.returns-clause-within
 returns-clause-within c = noted-counts (noted c)
+
+pub returns-clause-leaves : goal.returns-clause-leaves
+returns-clause-leaves c = noted-ready (noted c)
 
 pub returns-clause-kept : goal.returns-clause-kept
 returns-clause-kept c = noted-in-step (noted c) c.requires.few

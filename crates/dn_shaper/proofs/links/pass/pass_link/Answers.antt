@@ -1,7 +1,7 @@
 -- An own link is left as it is, and the block of a shared one holds the scheduler after its step.
 use Rattle.std.proofs.Common.{◌<◌, ◌^◌, ap, subst, sym}
 use Rattle.std.specs.Box.{with_value}
-use Rattle.dn_wf2q.specs.Schedule.{IsIdle, Passes, room_at}
+use Rattle.dn_wf2q.specs.Schedule.{IsIdle, KeepsRoom, Passes, room_at}
 use Rattle.dn_shaper.specs.declared.links.shared_link.SharedLink.{SharedLink}
 use Rattle.dn_shaper.proofs.Passing.{can-shared, own-passes, shared-passes}
 use Rattle.dn_shaper.proofs.links.pass.pass_link.Goals as goal
@@ -23,4 +23,5 @@ pub returns-in-Shared : goal.returns-in-Shared
 returns-in-Shared c =
     shared-passes c.args.link.now c.in-Shared.is c.args.slot (with_value c.in-Shared.shared (record { sched = c.pass.new.self; flows = c.deref_mut.result.now.flows }))
     (subst (λ (x : SharedLink). Passes c.args.slot c.args.len c.args.weight x.sched c.pass.new.self) c.deref_mut.ensures.value c.pass.ensures.passes)
+    (subst (λ (x : SharedLink). KeepsRoom x.sched c.pass.new.self) c.deref_mut.ensures.value c.pass.ensures.keeps_room)
     (ap (λ (x : SharedLink). x.flows) c.deref_mut.ensures.value)

@@ -1,14 +1,14 @@
 -- The flow's place is reserved, which leaves all queues as long as they were, and then its home is made.
-use Rattle.std.proofs.Common.{◌≡◌, ◌∙◌, ◌++◌, ◌∷◌, [], List, length, map, ap, refl, subst, sym, arith}
+use Rattle.std.proofs.Common.{◌≡◌, ◌∙◌, ◌++◌, ◌∷◌, [], ℕ, List, length, map, ap, refl, subst, sym, arith}
 use Rattle.std.specs.Prelude.{slice_get}
-use Rattle.dn_flows.specs.Table.{FlowState, flow_at, with_place}
+use Rattle.dn_flows.specs.Table.{FlowState, flow_at, places, with_place}
 use Rattle.dn_shaper.specs.declared.links.home.Home.{Home}
 use Rattle.dn_shaper.specs.Refinement.Homing.{Houses, place_for}
 use Rattle.dn_shaper.specs.Refinement.Making.{KeepsAt, SameFlow}
 use Rattle.dn_shaper.specs.Refinement.Views.{LinkView, queue_lengths, view_of, views_of}
 use Rattle.dn_shaper.proofs.Alone.{all-seen-same, lengths-same}
 use Rattle.std.proofs.lemmas.List.{length-set}
-use Rattle.dn_shaper.proofs.Reserving.{place-reserved}
+use Rattle.dn_shaper.proofs.Reserving.{place-reserved, placed-keeps}
 use Rattle.dn_shaper.proofs.Sharing.{on-err}
 use Rattle.dn_shaper.proofs.room.make.make_home.Goals.{After-find_home}
 use Rattle.dn_shaper.proofs.room.make.make_home.Goals as goal
@@ -39,11 +39,13 @@ returns-in_err-home-clause-err c =
         pending = c.reserve.ensures.pending;
         pushed = c.reserve.ensures.pushed;
         room = omega (arith, c.in_ok-reserve.ensures.room);
+        holds = λ h. let is = ap {B = ℕ} places reserved in omega (arith, c.in_ok-reserve.ensures.room, c.places_with-places.ensures.value, is);
         flows = λ g. subst (λ (fs : List FlowState). SameFlow (flow_at flows g) (flow_at fs g)) (sym reserved) (place-reserved flows c.args.flow g c.requires.within);
         many = ap (λ (fs : List FlowState). length fs) reserved ∙ length-set flows c.args.flow (with_place (flow_at flows c.args.flow));
         views = λ place.
             subst (λ (vs : List LinkView). KeepsAt (slice_get (views_of c.args.state.now.parts) place) (slice_get vs place)) (sym same) (c.in_err-home.ensures.err (queue_lengths flows) place);
       };
+      placed = placed-keeps flows c.requires.within reserved;
       heap = c.find_home.ensures.heap;
       shared = c.in_err-home.ensures.unnoted;
       keeps = record { rule = refl; configured = refl; now = refl; calls = refl };
@@ -66,7 +68,7 @@ returns-clause-gives c =
       pending = c.reserve.ensures.pending;
       pushed = c.reserve.ensures.pushed;
       room = omega (arith, c.in_ok-reserve.ensures.room);
-      line = omega (arith, c.in_ok-reserve.ensures.room);
+      line = let is = ap {B = ℕ} places c.in_ok-reserve_place.ensures.reserved in omega (arith, c.in_ok-reserve.ensures.room, c.places_with-places.ensures.value, is);
       heap = c.find_home.ensures.heap;
       keeps = record { rule = refl; configured = refl; now = refl; calls = refl };
     }

@@ -5,12 +5,14 @@ use Rattle.std.specs.Prelude.{slice_get}
 use Rattle.dn_types.specs.Flows.{flow_number}
 use Rattle.dn_flows.specs.Table.{Table}
 use Rattle.dn_shaper.specs.Refinement.Agreement.{AgreesWith, link_names}
-use Rattle.dn_shaper.specs.Refinement.Making.{OnlyMakesRoom}
+use Rattle.dn_shaper.specs.Refinement.Making.{KeepsPlaces, OnlyMakesRoom}
+use Rattle.dn_shaper.specs.Refinement.Starting.{HoldsPlaces}
 use Rattle.dn_shaper.specs.Refinement.Views.{LinkView, queue_lengths, views_of}
 use Rattle.dn_shaper.proofs.Alone.{all-seen-same}
-use Rattle.dn_shaper.proofs.Given.{given-ready, given-prepares, given-sound}
+use Rattle.dn_shaper.proofs.Given.{given-leaves, given-ready, given-prepares, given-sound}
 use Rattle.dn_shaper.proofs.Indexed.{noted-found}
-use Rattle.dn_shaper.proofs.Preparing.{IsOneMore, known-reserves, known-table, lengths-more, new-table, parts-sound, reserves-sound, reserves-prepares, with_table, without-new}
+use Rattle.dn_shaper.proofs.Preparing.{IsOneMore, known-reserves, known-table, lengths-more, new-table, last-placeless, parts-sound, reserves-sound, reserves-prepares, table-ready, with_table, without-new}
+use Rattle.dn_shaper.proofs.Reserved.{reserves-ready}
 use Rattle.dn_shaper.proofs.Sending.{goes-there}
 use Rattle.dn_shaper.proofs.Sharing.{on-err}
 use Rattle.dn_shaper.proofs.room.prepare.prepare.Goals.{After-reserve_known, In_ok-flow}
@@ -45,10 +47,39 @@ returns-in_err-reserve_known-clause-err c =
     let w = goal.at.returns-in_err-reserve_known-clause-err c in
     on-err c.from_residual-in_err-reserve_known.result (room w.After-reserve_known (is-known w.In_ok-flow c.if-flow-known.true))
 
+-- Its places are kept, as they were before it was looked for.
+placed : (c : After-reserve_known) → flow_number c.args.state.now.parts.flows.keys c.args.key < length c.args.state.now.parts.flows.keys
+    → KeepsPlaces c.args.state.now.parts.flows.flows c.reserve_known.new.parts.flows.flows
+placed c below =
+    let same = known-table c.args.state.now.parts.flows c.find_or_make.new.self c.args.key below c.find_or_make.ensures.known in
+    subst (λ (t : Table). KeepsPlaces t.flows c.reserve_known.new.parts.flows.flows) same c.reserve_known.ensures.placed
+
+pub returns-in_err-reserve_known-clause-leaves : goal.returns-in_err-reserve_known-clause-leaves
+returns-in_err-reserve_known-clause-leaves c =
+    let w = goal.at.returns-in_err-reserve_known-clause-leaves c in
+    let below = is-known w.In_ok-flow c.if-flow-known.true in
+    reserves-ready c.args.state.now.parts c.reserve_known.new.parts (room w.After-reserve_known below) (placed w.After-reserve_known below)
+
+pub returns-in_ok-reserve_known-clause-leaves : goal.returns-in_ok-reserve_known-clause-leaves
+returns-in_ok-reserve_known-clause-leaves c =
+    let w = goal.at.returns-in_ok-reserve_known-clause-leaves c in
+    let below = is-known w.In_ok-flow c.if-flow-known.true in
+    reserves-ready c.args.state.now.parts c.reserve_known.new.parts (room w.After-reserve_known below) (placed w.After-reserve_known below)
+
+pub returns-in_err-flow-clause-leaves : goal.returns-in_err-flow-clause-leaves
+returns-in_err-flow-clause-leaves c = table-ready c.args.state.now.parts c.find_or_make.new.self c.in_err-flow.ensures.err.1
+
+pub reserve_known-requires-clause-holds : goal.reserve_known-requires-clause-holds
+reserve_known-requires-clause-holds c =
+    let below = is-known (goal.at.reserve_known-requires-clause-holds c).In_ok-flow c.if-flow-known.true in
+    let same = known-table c.args.state.now.parts.flows c.find_or_make.new.self c.args.key below c.find_or_make.ensures.known in
+    subst (λ (t : Table). HoldsPlaces (with_table c.args.state.now.parts t)) (sym same) c.requires.sound.within.room
+
 pub returns-in_err-reserve_known-clause-sound : goal.returns-in_err-reserve_known-clause-sound
 returns-in_err-reserve_known-clause-sound c =
     let w = goal.at.returns-in_err-reserve_known-clause-sound c in
-    parts-sound c.args.state.now c.reserve_known.new.parts (room w.After-reserve_known (is-known w.In_ok-flow c.if-flow-known.true)) c.requires.sound
+    parts-sound c.args.state.now c.reserve_known.new.parts (room w.After-reserve_known (is-known w.In_ok-flow c.if-flow-known.true))
+    (placed w.After-reserve_known (is-known w.In_ok-flow c.if-flow-known.true)) c.requires.sound
 
 pub returns-in_ok-reserve_known-clause-prepares : goal.returns-in_ok-reserve_known-clause-prepares
 returns-in_ok-reserve_known-clause-prepares c =
@@ -60,7 +91,8 @@ returns-in_ok-reserve_known-clause-prepares c =
 pub returns-in_ok-reserve_known-clause-sound : goal.returns-in_ok-reserve_known-clause-sound
 returns-in_ok-reserve_known-clause-sound c =
     let w = goal.at.returns-in_ok-reserve_known-clause-sound c in
-    parts-sound c.args.state.now c.reserve_known.new.parts (room w.After-reserve_known (is-known w.In_ok-flow c.if-flow-known.true)) c.requires.sound
+    parts-sound c.args.state.now c.reserve_known.new.parts (room w.After-reserve_known (is-known w.In_ok-flow c.if-flow-known.true))
+    (placed w.After-reserve_known (is-known w.In_ok-flow c.if-flow-known.true)) c.requires.sound
 
 -- ---- A new flow is the last of the table
 
@@ -69,6 +101,17 @@ returns-in_err-house_last-clause-sound c =
     let one = one-more (goal.at.returns-in_err-house_last-clause-sound c).In_ok-flow c.if-flow-known.false in
     reserves-sound c.args.state.now c.house_last.new.state
     (without-new c.args.state.now c.find_or_make.new.self c.args.key one c.house_last.new.state c.in_err-house_last.ensures.err) c.requires.sound
+
+pub returns-in_err-house_last-clause-leaves : goal.returns-in_err-house_last-clause-leaves
+returns-in_err-house_last-clause-leaves c =
+    let one = one-more (goal.at.returns-in_err-house_last-clause-leaves c).In_ok-flow c.if-flow-known.false in
+    let only = without-new c.args.state.now c.find_or_make.new.self c.args.key one c.house_last.new.state c.in_err-house_last.ensures.err in
+    reserves-ready c.args.state.now.parts c.house_last.new.state.parts only.parts only.placed
+
+pub returns-in_ok-house_last-clause-leaves : goal.returns-in_ok-house_last-clause-leaves
+returns-in_ok-house_last-clause-leaves c =
+    let one = one-more (goal.at.returns-in_ok-house_last-clause-leaves c).In_ok-flow c.if-flow-known.false in
+    given-leaves c.house_last.new.state c.requires.sound one c.requires.seen.1 c.in_ok-flow.flow (c.in_ok-flow.ensures.number ∙ one.number) c.in_ok-house_last.ensures.gives
 
 pub returns-in_ok-house_last-clause-ready : goal.returns-in_ok-house_last-clause-ready
 returns-in_ok-house_last-clause-ready c =
@@ -108,6 +151,11 @@ house_last-requires-clause-noted c place there =
     ∙ (noted-found c.args.state.now (link_names (views_of old)) c.requires.sound.indexed c.args.key.target c.in_ok-flow.flow c.args.key.pipe place there).0
 
 -- ---- What the counts of keys and flows give
+
+pub house_last-requires-clause-placeless : goal.house_last-requires-clause-placeless
+house_last-requires-clause-placeless c =
+    let one = one-more (goal.at.house_last-requires-clause-placeless c).In_ok-flow c.if-flow-known.false in
+    last-placeless c.args.state.now.parts.flows.flows c.find_or_make.new.self.flows one.flows
 
 pub reserve_known-requires-clause-within : goal.reserve_known-requires-clause-within
 reserve_known-requires-clause-within c = grind (arith, common_steps)

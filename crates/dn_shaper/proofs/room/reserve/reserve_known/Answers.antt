@@ -1,9 +1,9 @@
 -- The flow's home has room, and only room was made.
-use Rattle.std.proofs.Common.{◌≡◌, ◌∙◌, ◌<◌, List, length, map, set, refl, ap, sym, subst, arith}
+use Rattle.std.proofs.Common.{◌≡◌, ◌∙◌, ◌<◌, ℕ, List, length, map, set, refl, ap, sym, subst, arith}
 use Rattle.std.specs.Prelude.{Some, slice_get}
 use Rattle.std.proofs.lemmas.Grind.{common_steps}
 use Rattle.dn_types.specs.Trace.{own, shared}
-use Rattle.dn_flows.specs.Table.{flow_at, with_place}
+use Rattle.dn_flows.specs.Table.{flow_at, places, with_place}
 use Rattle.dn_wf2q.specs.Schedule.{room_at}
 use Rattle.dn_flows.proofs.Places.{map-set}
 use Rattle.dn_shaper.specs.declared.links.home.Home.{Home}
@@ -12,7 +12,7 @@ use Rattle.dn_shaper.specs.Refinement.Making.{KeepsAt}
 use Rattle.dn_shaper.specs.Refinement.Views.{LinkView, queue_lengths, view_of, views_of}
 use Rattle.dn_shaper.proofs.Alone.{all-seen-same, goes-own}
 use Rattle.dn_shaper.proofs.HomeRead.{at-home, in-table, link-there, place-below}
-use Rattle.dn_shaper.proofs.Reserving.{flows-placed, lengths-placed, link-reserved, many-placed, on-ok, place-ready, same-at, slot-has, slot-ready}
+use Rattle.dn_shaper.proofs.Reserving.{flows-placed, lengths-placed, link-reserved, many-placed, on-ok, place-ready, placed-keeps, same-at, slot-has, slot-ready}
 use Rattle.dn_shaper.proofs.room.reserve.reserve_known.Goals.{After-index_mut, After-reserve_at, After-reserve_place}
 use Rattle.dn_shaper.proofs.room.reserve.reserve_known.Goals as goal
 
@@ -49,6 +49,7 @@ returns-in-Pipe-clause-only c =
       pending = c.reserve.ensures.pending;
       pushed = c.reserve.ensures.pushed;
       room = omega (arith, c.in_ok-reserve.ensures.room);
+      holds = λ h. let is = ap {B = ℕ} places placed in omega (arith, c.in_ok-reserve.ensures.room, c.places_with-places.ensures.value, is);
       flows = flows-placed old.flows.flows (inside w) placed;
       many = many-placed old.flows.flows (inside w) placed;
       views = λ place. subst (λ (vs : List LinkView). KeepsAt (slice_get (views_of old) place) (slice_get vs place)) (sym (seen w placed old.links.items)) (same-at (slice_get (views_of old) place));
@@ -70,8 +71,11 @@ returns-in-Pipe-clause-ready c =
           let v_is : t.2.view ≡ v = cc in
           let wrong : own its.0 flow ≡ shared pipe = sym its.1 ∙ sym t.2.link_is ∙ ap (λ (x : LinkView). x.link) v_is ∙ is_shared in
           absurd cc;
-      line = omega (arith, c.in_ok-reserve.ensures.room);
     }
+
+pub returns-in-Pipe-clause-placed : goal.returns-in-Pipe-clause-placed
+returns-in-Pipe-clause-placed c =
+    placed-keeps c.args.parts.now.flows.flows (inside (goal.at.returns-in-Pipe-clause-placed c).After-reserve_place) c.in_ok-reserve_place.ensures.reserved
 
 -- ---- On a shared link its slot gets room too
 
@@ -103,6 +107,7 @@ returns-in-Queue-clause-only c =
       pending = c.reserve.ensures.pending;
       pushed = c.reserve.ensures.pushed;
       room = omega (arith, c.in_ok-reserve.ensures.room);
+      holds = λ h. let is = ap {B = ℕ} places c.in_ok-reserve_place.ensures.reserved in omega (arith, c.in_ok-reserve.ensures.room, c.places_with-places.ensures.value, is);
       flows = flows-placed flows (inside w.After-reserve_place) c.in_ok-reserve_place.ensures.reserved;
       many = many-placed flows (inside w.After-reserve_place) c.in_ok-reserve_place.ensures.reserved;
       views = λ k.
@@ -110,6 +115,10 @@ returns-in-Queue-clause-only c =
           (link-reserved (views_of c.args.parts.now) place (view_of before c.index_mut.result.now) (view_of before c.reserve_at.new.link)
           (link-read w.After-index_mut) (c.reserve_at.ensures.keeps before) k);
     }
+
+pub returns-in-Queue-clause-placed : goal.returns-in-Queue-clause-placed
+returns-in-Queue-clause-placed c =
+    placed-keeps c.args.parts.now.flows.flows (inside (goal.at.returns-in-Queue-clause-placed c).After-reserve_place) c.in_ok-reserve_place.ensures.reserved
 
 pub returns-in-Queue-clause-ready : goal.returns-in-Queue-clause-ready
 returns-in-Queue-clause-ready c =
@@ -128,7 +137,6 @@ returns-in-Queue-clause-ready c =
           subst (λ (x : Home). 0 < room_at v.schedule.room x.slot) h_is
           (slot-ready (views_of c.args.parts.now) its.place its.slot (view_of before c.index_mut.result.now) (view_of before c.reserve_at.new.link)
           (link-read w.After-index_mut) has v pipe read is_shared);
-      line = omega (arith, c.in_ok-reserve.ensures.room);
     }) (c.reserve_at.ensures.ok before)
 
 -- The slot has room where the flow is ready.

@@ -92,6 +92,10 @@ returns-in-Collect-clause-needs c = needs
 pub returns-in-Show-clause-needs : goal.returns-in-Show-clause-needs
 returns-in-Show-clause-needs c = needs Show c.args.call.now c.self.inside.state c.args.self.now c.show.result c.in-Show.is c.self.view_is (on_err_always c.show.result _ (λ rule calls stands. tt))
 
+pub returns-in-Submit-clause-leaves : goal.returns-in-Submit-clause-leaves
+returns-in-Submit-clause-leaves c = leaves-of (Submit c.in-Submit.target c.in-Submit.packet c.in-Submit.moment) c.args.call.now c.self.inside.state c.args.self.now c.submit.new.state
+    c.in-Submit.is c.self.view_is c.submit.ensures.leaves
+
 pub returns-in-Advance-clause-leaves : goal.returns-in-Advance-clause-leaves
 returns-in-Advance-clause-leaves c = leaves-of (Advance c.in-Advance.moment) c.args.call.now c.self.inside.state c.args.self.now c.advance.new.state
     c.in-Advance.is c.self.view_is c.advance.ensures.leaves

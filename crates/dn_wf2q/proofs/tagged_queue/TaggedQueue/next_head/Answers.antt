@@ -14,7 +14,7 @@ returns-in_err-next-clause-packets c =
 
 pub returns-in_err-next-clause-kept : goal.returns-in_err-next-clause-kept
 returns-in_err-next-clause-kept c =
-    λ b _ _. (
-      none_chained c.pop_behind-self.new.self.finish_tag _ _ _ c.pop_behind-self.ensures.packets c.in_err-next.was c.pop_behind-self.ensures.none b _ _,
+    λ b _. (
+      none_chained c.pop_behind-self.new.self.finish_tag _ _ _ c.pop_behind-self.ensures.packets c.in_err-next.was c.pop_behind-self.ensures.none b _,
       c.pop_behind-self.ensures.alone,
     )

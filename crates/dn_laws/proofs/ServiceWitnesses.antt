@@ -1,0 +1,71 @@
+-- The laws of closed services at a service of one caller, who sent two packets at 0 and collected both at 2 ms.
+use Rattle.std.proofs.Common.{◌≡◌, ◌≤◌, ◌<◌, refl, inl, inr, ℕ, zero, suc, true, List, [], ◌∷◌, drop, arith}
+use Rattle.std.specs.Prelude.{Some, slice_get}
+use Rattle.std.specs.List.{All}
+use Rattle.std.proofs.lemmas.List.Elements.{All-nil, All-cons}
+use Rattle.dn_types.specs.declared.call.Call.{Call}
+use Rattle.dn_types.specs.declared.call.Call.TheVariants.{Collect}
+use Rattle.dn_types.specs.declared.entry.Entry.{Entry}
+use Rattle.dn_types.specs.declared.reply.Reply.{Reply}
+use Rattle.dn_types.specs.declared.reply.Reply.TheVariants.{Configured, Queued, Delivered}
+use Rattle.dn_types.proofs.ExampleWords.{pipe, to_pipe, delivery}
+use Rattle.dn_service.specs.Callers.{ServiceView, CallerView, IsAccountedFor, IsFaced, Closes, has_number}
+use Rattle.dn_laws.proofs.ServiceLawsHold.{callers-are-left, none-is-foreign, none-is-overtaken}
+
+abbrev entry : Call → Reply → Entry
+entry c r = record { caller = 0; call = c; reply = r }
+
+abbrev history : List Entry
+history = entry (pipe 1 8000000 0) Configured ∷ entry (to_pipe 1 0) (Queued 0 0 0) ∷ entry (to_pipe 1 0) (Queued 0 0 1)
+    ∷ entry (Collect 2000000) (Delivered 2000000 (delivery 0 0 0 1000000 ∷ delivery 1 0 1000000 2000000 ∷ [])) ∷ []
+
+module _ (any : ServiceView) where
+  abbrev service : ServiceView
+  service = record { table = any.table; callers = 1 }
+
+  abbrev caller : CallerView
+  caller = record { service = service; number = 0; front = history; own = history; lost = []; faced = 0 }
+
+  all-first : All (λ e. e.caller < 1) history
+  all-first = All-cons (λ e. e.caller < 1) _ (drop 1 history) (omega arith) (All-cons (λ e. e.caller < 1) _ (drop 2 history) (omega arith)
+      (All-cons (λ e. e.caller < 1) _ (drop 3 history) (omega arith) (All-cons (λ e. e.caller < 1) _ [] (omega arith) (All-nil (λ e. e.caller < 1)))))
+
+  closes : Closes service (caller ∷ []) history
+  closes = record {
+    lawful = (refl, (refl, (refl, (refl, tt))));
+    below = all-first;
+    accounts = All-cons (IsAccountedFor history) caller [] (record { front = ([], refl); own = refl }) (All-nil (IsAccountedFor history));
+    faced = All-cons (IsFaced (caller ∷ [])) caller [] refl (All-nil (IsFaced (caller ∷ [])));
+    whole = one;
+  }
+    where
+      one : (k : ℕ) → k < 1 → has_number k (caller ∷ []) ≡ true
+      one zero l = refl
+      one (suc k) l = absurd (omega arith)
+
+  sees-the-second : slice_get history 1 ≡ Some (entry (to_pipe 1 0) (Queued 0 0 0))
+  sees-the-second = (callers-are-left service (caller ∷ []) history caller closes (inl refl)).seen 1 (entry (to_pipe 1 0) (Queued 0 0 0)) refl
+
+  whose-is-it : (none-is-foreign service (caller ∷ []) history (entry (pipe 1 8000000 0) Configured) closes (inl refl)).0.number ≡ 0
+  whose-is-it = (none-is-foreign service (caller ∷ []) history (entry (pipe 1 8000000 0) Configured) closes (inl refl)).2
+
+  in-order : 1000000 ≤ 2000000
+  in-order = none-is-overtaken service (caller ∷ []) history (delivery 0 0 0 1000000) (delivery 1 0 1000000 2000000) closes (
+    entry (Collect 2000000) (Delivered 2000000 (delivery 0 0 0 1000000 ∷ delivery 1 0 1000000 2000000 ∷ [])),
+    2000000,
+    2000000,
+    (delivery 0 0 0 1000000 ∷ delivery 1 0 1000000 2000000 ∷ []),
+    inr (inr (inr (inl refl))),
+    refl,
+    refl,
+    inl refl,
+  ) (
+    entry (Collect 2000000) (Delivered 2000000 (delivery 0 0 0 1000000 ∷ delivery 1 0 1000000 2000000 ∷ [])),
+    2000000,
+    2000000,
+    (delivery 0 0 0 1000000 ∷ delivery 1 0 1000000 2000000 ∷ []),
+    inr (inr (inr (inl refl))),
+    refl,
+    refl,
+    inr (inl refl),
+  ) refl (omega arith)

@@ -1,0 +1,39 @@
+-- The laws of a closed service: what its history is to its callers and to what they were told.
+use Rattle.std.specs.Prelude.{ℕ, ◌≡◌, ◌≤◌, ◌<◌, List, [], ◌∷◌, map, reverse, sum, nat_eq, Some, slice_get}
+use Rattle.std.specs.List.{count_by, filter}
+use Rattle.dn_laws.specs.Determined.Emulators.{Has}
+use Rattle.dn_service.specs.Callers.{ServiceView, CallerView, Answered, new_caller, Closes}
+use Rattle.dn_types.specs.declared.call.Call.{Call}
+use Rattle.dn_types.specs.declared.call.Call.TheVariants.{Collect}
+use Rattle.dn_types.specs.declared.delivery.Delivery.{Delivery}
+use Rattle.dn_types.specs.declared.entry.Entry.{Entry}
+use Rattle.dn_types.specs.declared.reply.Reply.{Reply}
+use Rattle.dn_types.specs.declared.reply.Reply.TheVariants.{Delivered}
+
+-- Since its opening the caller made these calls, newest first, and was told these replies.
+abbrev pub WasTold : ServiceView → ℕ → List (Call × Reply) → CallerView → Type 0
+WasTold service k [] c = (c.number ≡ k) × (c.own ≡ (new_caller service k).own)
+WasTold service k (t ∷ told) c = (before : CallerView) × (after : CallerView) × WasTold service k told before × Answered before t.0 t.1 after × (c.number ≡ k) × (c.own ≡ after.own)
+
+-- A caller's entries are its calls, each with its reply. What it has seen is the front of the history. As many tries found it in a
+-- call as the callers noted.
+pub record IsLeft (history : List Entry) (callers : List CallerView) (c : CallerView) : Type 0 where
+  pub own : (service : ServiceView) (told : List (Call × Reply)) → WasTold service c.number told c → filter (λ e. nat_eq e.caller c.number) history ≡ reverse (map (λ t. record { caller = c.number; call = t.0; reply = t.1 }) told)
+  pub seen : (i : ℕ) (entry : Entry) → slice_get c.front i ≡ Some entry → slice_get history i ≡ Some entry
+  pub faced : c.faced ≡ sum (map (λ other. count_by (λ k. nat_eq k c.number) other.lost) callers)
+
+abbrev pub CallersAreLeft : Type 0
+CallersAreLeft = (service : ServiceView) (callers : List CallerView) (history : List Entry) (c : CallerView) → Closes service callers history → Has callers c → IsLeft history callers c
+
+-- Each entry is of a caller that was handed in.
+abbrev pub NoneIsForeign : Type 0
+NoneIsForeign = (service : ServiceView) (callers : List CallerView) (history : List Entry) (entry : Entry) → Closes service callers history → Has history entry →
+    (c : CallerView) × Has callers c × (c.number ≡ entry.caller)
+
+-- A Collect of the history was told the delivery. Of two on one link, as those of a flow are, the later start isn't due sooner.
+abbrev pub IsDelivered : List Entry → Delivery → Type 0
+IsDelivered history d = (entry : Entry) × (moment : ℕ) × (at : ℕ) × (list : List Delivery) × Has history entry × (entry.call ≡ Collect moment) × (entry.reply ≡ Delivered at list) × Has list d
+
+abbrev pub NoneIsOvertaken : Type 0
+NoneIsOvertaken = (service : ServiceView) (callers : List CallerView) (history : List Entry) (d e : Delivery) → Closes service callers history →
+    IsDelivered history d → IsDelivered history e → d.flow ≡ e.flow → d.start < e.start → d.due ≤ e.due

@@ -1,0 +1,10 @@
+//! The laws of configuration lines.
+
+ghost use Rattle.dn_laws.specs.LineLaws.{DefaultsAreKnown, PipesAreSet, QueuesAreSet};
+
+/// A line says what its options say, each in its units, and the default of each option that it lacks.
+pub fn laws_of_lines()
+    ensures defaults { DefaultsAreKnown }
+    ensures pipes { PipesAreSet }
+    ensures queues { QueuesAreSet }
+{}

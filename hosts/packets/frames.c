@@ -1,0 +1,122 @@
+#include "frames.h"
+
+#include <stdio.h>
+#include <stdlib.h>
+#include <string.h>
+#include <sys/random.h>
+
+#include "dissect.h"
+
+enum { LONGEST_SEGMENT = 8 * 65535 }; /* bytes that Linux gives a card to cut; none takes more */
+enum { LONGEST = 1500 };              /* bytes of a packet on most links */
+
+enum { WORD = sizeof(uint64_t), LEAST_ROOM = 256 };
+#define MOST_ITEMS (UINT32_C(1) << 30)
+
+static struct table empty_table(size_t bytes) {
+    struct table made = {.words = bytes / WORD};
+    /* Without secrets a capture could be made so that its addresses meet in a slot. */
+    if (getrandom(made.secrets, sizeof made.secrets, 0) < 0) refused(UNREAD);
+    return made;
+}
+
+static uint64_t folded(uint64_t one, uint64_t other) {
+    unsigned __int128 product = (unsigned __int128)one * other;
+    return (uint64_t)product ^ (uint64_t)(product >> 64);
+}
+
+static uint64_t hash(const struct table *table, const uint64_t *item) {
+    uint64_t made = table->secrets[1];
+    /* An item has as many words as its table says. NOLINTNEXTLINE(clang-analyzer-core.UndefinedBinaryOperatorResult) */
+    for (size_t i = 0; i < table->words; i++) made = folded(item[i] ^ made, table->secrets[0] | 1);
+    return folded(made, table->secrets[1] | 1);
+}
+
+/* The slot of an item, or the empty one in which it is to be. */
+static uint32_t *slot_of(const struct table *table, const uint64_t *item) {
+    uint32_t mask = 2 * table->room - 1, at = (uint32_t)hash(table, item) & mask;
+    while (table->slots[at] && memcmp(table->items + (table->slots[at] - 1) * table->words, item, table->words * WORD) != 0) at = (at + 1) & mask;
+    return &table->slots[at];
+}
+
+static void make_room(struct table *table) {
+    if (table->room >= MOST_ITEMS) refuse("it takes more memory than there is");
+    table->room = table->room ? 2 * table->room : LEAST_ROOM;
+    table->items = grown(table->items, table->room * table->words * WORD);
+    free(table->slots);
+    table->slots = zeroed(2 * (size_t)table->room, sizeof *table->slots);
+    for (uint32_t i = 0; i < table->count; i++) *slot_of(table, table->items + i * table->words) = i + 1;
+}
+
+static uint32_t number_of(struct table *table, const void *item) {
+    if (table->count == table->room) make_room(table);
+    uint32_t *slot = slot_of(table, item);
+    if (!*slot) {
+        memcpy(table->items + table->count * table->words, item, table->words * WORD);
+        *slot = ++table->count;
+    }
+    return *slot - 1;
+}
+
+const void *item_of(const struct table *table, uint32_t number) { return table->items + number * table->words; }
+
+static void refuse_length(uint64_t number, uint32_t length) {
+    if (length <= LONGEST_SEGMENT) return;
+    char text[32];
+    snprintf(text, sizeof text, "%s", grouped(length));
+    refuse("frame %llu is an IP packet of %s bytes, and a card is given at most %s to cut", (unsigned long long)number, text,
+           grouped(LONGEST_SEGMENT));
+}
+
+static void add(struct frames *frames, const struct frame *frame) {
+    if (frames->count == frames->room) {
+        frames->room = frames->room ? 2 * frames->room : 1024;
+        frames->items = grown(frames->items, frames->room * sizeof *frames->items);
+    }
+    frames->items[frames->count++] = *frame;
+}
+
+static void take(struct frames *frames, const struct raw *raw) {
+    uint64_t number = ++frames->captured;
+    struct packet packet;
+    int found = dissect(raw->link, raw->bytes, &packet);
+    if (found < 0) refuse("frame %llu has the link type %u, and none is known of these: " KNOWN_LINKS, (unsigned long long)number, raw->link);
+    if (!found) return;
+    if (!raw->has_time) refuse("frame %llu of the capture has no time", (unsigned long long)number);
+    /* of more than 65,535 bytes, or one that the card was still to cut */
+    if (!packet.length && raw->length > packet.begin) packet.length = raw->length - (uint32_t)packet.begin;
+    refuse_length(number, packet.length);
+    frames->long_ones += packet.length > LONGEST;
+    struct flow flow = {.sport = packet.sport, .dport = packet.dport, .proto = packet.proto, .dscp = packet.dscp};
+    flow.src = number_of(&frames->addresses, &packet.src);
+    flow.dst = number_of(&frames->addresses, &packet.dst);
+    add(frames, &(struct frame){raw->time, number, packet.headers, number_of(&frames->flows, &flow), packet.length});
+}
+
+static int by_time(const void *one, const void *other) {
+    const struct frame *a = one, *b = other;
+    return a->time != b->time ? (a->time > b->time) - (a->time < b->time) : (a->number > b->number) - (a->number < b->number);
+}
+
+/* Flows are numbered by their first packets in order of time, too. */
+static void sort(struct frames *frames) {
+    struct table flows = empty_table(sizeof(struct flow));
+    qsort(frames->items, frames->count, sizeof *frames->items, by_time);
+    for (size_t i = 0; i < frames->count; i++) {
+        uint32_t *flow = &frames->items[i].flow;
+        *flow = number_of(&flows, item_of(&frames->flows, *flow));
+    }
+    free(frames->flows.items);
+    free(frames->flows.slots);
+    frames->flows = flows;
+}
+
+void read_frames(struct capture *capture, struct frames *frames) {
+    struct raw raw;
+    bool is_in_order = true;
+    *frames = (struct frames){.addresses = empty_table(sizeof(struct address)), .flows = empty_table(sizeof(struct flow))};
+    begin_capture(capture);
+    while (next_frame(capture, &raw)) take(frames, &raw);
+    for (size_t i = 1; i < frames->count; i++) is_in_order = is_in_order && frames->items[i - 1].time <= frames->items[i].time;
+    if (!is_in_order) sort(frames);
+}
