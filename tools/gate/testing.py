@@ -24,6 +24,10 @@ EXAMPLES = TOP / "examples" / "tests"
 PAGE = TOP / "docs" / "TESTING.md"
 MOST_LINES = 59  # of an example
 OUTCOME = re.compile(r"^(?P<test>\S*::.+?) (?P<outcome>PASSED|FAILED|ERROR|SKIPPED|XFAIL|XPASS)\b", re.M)
+SURE = """from hypothesis import settings
+settings.register_profile("gate", derandomize=True, max_examples=1000)
+settings.load_profile("gate")
+"""  # since of sixty runs with other seeds and a hundred examples one finds nothing
 REAL_TIME = ("test_own_protocol", "test_store")  # whose histories have the moments of this machine
 IN_ROOMS = "test_store"  # which needs namespaces
 
@@ -115,7 +119,7 @@ def of_page(tally: Tally, pytest: Pytest) -> None:
     printed = re.search(r"^-+ emulated link -+\n(.*?)^```$", text, re.M | re.S)
     file, more = pytest.place / "test_sync.py", pytest.place / "test_faults.py"
     file.write_text(body)
-    more.write_text(f"{body}\n{faults}")
+    more.write_text(f"{SURE}{body}\n{faults}")
     told = pytest.run("page", file, "--link-shrink")
     section = re.search(r"^-+ emulated link -+\n(.*?hinge look )", told, re.M | re.S)
     wanted = printed[1].partition("hinge look ")[0] + "hinge look " if printed else "no report"
