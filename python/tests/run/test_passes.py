@@ -200,7 +200,8 @@ class OfRuns(InAFolder):
 
     def test_second_passes_have_no_part_in_a_caution(self) -> None:
         done = run("--up", "500ms jitter 1ms", "--", "ping", "-c", "1", "-q", "server")
-        self.assertNotIn("CAUTION", done.stderr)
+        limits = found("--late (.*)ms makes", done.stderr)  # one only where this machine was late
+        self.assertLessEqual(set(limits), {"50"}, done.stderr)
 
 
 if __name__ == "__main__":
