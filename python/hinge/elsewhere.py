@@ -5,7 +5,7 @@ from __future__ import annotations
 import shlex
 from typing import Callable, NamedTuple, Optional, Sequence
 
-from hingetulip_words.elsewhere import PART, Netem, comcast, options_of, pumba, tbf, toxic, whole_ms
+from hingetulip_words.elsewhere import NEVER, PART, Netem, comcast, options_of, pumba, tbf, toxic, whole_ms
 from hingetulip_words.presets import PRESETS
 
 RUN = "hinge run --preset lte -- COMMAND"
@@ -83,14 +83,17 @@ def of_link(words: Sequence[str], more: str = "", command: Sequence[str] = ()) -
     return Answer(f"hinge run{link}{more} -- {shlex.join(command) or 'COMMAND'}", "LINKS")
 
 
+def without(answer: Answer, kinds: Sequence[str]) -> Answer:
+    """The answer to words of which a link can't do these."""
+    return answer._replace(write=f"{answer.write}; a link has no {', '.join(kinds)}")
+
+
 def of_tc(words: Sequence[str]) -> Optional[Answer]:
     """A line of tc that adds, changes, shows or deletes a qdisc."""
     if "netem" in words:
         netem = Netem(words[list(words).index("netem") + 1 :]).read()
         answer = of_link(netem.link, f" --loss {netem.model}" if netem.model else "")
-        if answer is not None and netem.lacking:
-            return answer._replace(write=f"{answer.write}; a link has no {', '.join(netem.lacking)}")
-        return answer
+        return without(answer or WORDS["tc"], netem.lacking) if netem.lacking else answer
     kind = next((word for word in words if word in ("tbf", "htb", "show", "ls", "del")), "")
     if kind in ("tbf", "htb"):
         return of_link(tbf(words[list(words).index(kind) + 1 :]))
@@ -145,6 +148,8 @@ def of_pumba(words: Sequence[str]) -> Optional[Answer]:
         return Answer(f"{run} --loss gilbert:{','.join(parts)}", "LIVE")
     if link:
         return Answer(f"{run} --link {shlex.quote(' '.join(link))}", "LIVE")
+    if lacking := [kind for kind in NEVER if kind in words]:
+        return without(WORDS["pumba"], lacking)
     act = next((act for word, act in (("kill", "kill"), ("stop", "kill"), ("pause", "stop")) if word in words), None)
     return Answer(f"hinge change NAME {act} HOST {given.get('duration', '')}".rstrip(), "NET") if act else None
 

@@ -103,6 +103,9 @@ class Lines(unittest.TestCase):
     def test_what_a_link_does_not_do_is_named(self) -> None:
         answer = answer_of("tc qdisc add dev eth0 root netem delay 10ms reorder 25% 50% corrupt 0.1%".split())
         self.assertEqual(answer and answer.write, "hinge run --link 10ms -- COMMAND; a link has no reorder, corrupt")
+        for line in ("tc qdisc add dev eth0 root netem corrupt 5%", "pumba netem corrupt --percent 5 mydb"):
+            alone = answer_of(line.split())
+            self.assertTrue(alone and alone.write.endswith("; a link has no corrupt"), alone)
 
     def test_words_are_answered_by_commands_that_are_there(self) -> None:
         for word, answer in WORDS.items():
