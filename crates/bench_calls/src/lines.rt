@@ -1,5 +1,4 @@
-//! Measures `parse_line`: what was parsed goes to standard output, and the times to standard error.
-#![tactic(auto)]
+//! Measures `parse_line`.
 
 use dn_config::parse_line;
 use std::io;
@@ -23,22 +22,12 @@ fn commands(rounds: u64) -> u64 {
     commands
 }
 
-/// The count of lines that the program is asked for.
-fn rounds(rt: &HostRuntime) -> io::Result<u64> {
-    let mut args = std::env::args(rt)?;
-    let _program = args.next();
-    match args.next() {
-        Some(text) => Ok(text.as_str().parse::<u64>().unwrap_or(1_000)),
-        None => Ok(1_000),
-    }
-}
-
-fn main(rt: HostRuntime) -> io::Result<()> {
+/// Parses so many lines of ten words, and two lines of 1,048,576 bytes.
+pub fn measure_lines(rt: &HostRuntime, rounds: u64) -> io::Result<()> {
     let alloc = rt.alloc();
-    let rounds = rounds(&rt)?;
-    let start = Instant::now(&rt)?;
+    let start = Instant::now(rt)?;
     let commands = commands(rounds);
-    let nanos = start.elapsed(&rt)?.as_nanos();
+    let nanos = start.elapsed(rt)?.as_nanos();
     println!(rt; "{commands} commands")?;
     eprintln!(rt; "{nanos} ns for {rounds} lines of ten words")?;
 
@@ -53,9 +42,9 @@ fn main(rt: HostRuntime) -> io::Result<()> {
         ("a comment", comment.as_str()),
         ("blanks and a comment", blank.as_str()),
     ] {
-        let start = Instant::now(&rt)?;
+        let start = Instant::now(rt)?;
         let none = parse_line(line) == Ok(None);
-        let nanos = start.elapsed(&rt)?.as_nanos();
+        let nanos = start.elapsed(rt)?.as_nanos();
         println!(rt; "{name}: no command {none}")?;
         eprintln!(rt; "{nanos} ns for {name} of 1,048,576 bytes")?;
     }

@@ -1,16 +1,10 @@
-//! Measures calls of sequential dummynet: what was answered goes to standard output, and the times to standard error.
-#![tactic(auto)]
+//! Measures calls of sequential dummynet, and a Submit's parts.
 
-mod load;
-mod lookups;
-mod parts;
-mod run;
-
+use crate::load::{Load, delete};
+use crate::lookups::measure_lookups;
+use crate::parts::measure_parts;
+use crate::run::{Run, apply, collect, configure, submit};
 use dn_shaper::Shaper;
-use load::{Load, delete};
-use lookups::measure_lookups;
-use parts::measure_parts;
-use run::{Run, apply, collect, configure, submit};
 use std::io;
 use std::time::Instant;
 
@@ -247,21 +241,6 @@ const PARTS: usize = LOADS.len();
 /// The look-ups of flows follow the parts.
 const LOOKUPS: usize = LOADS.len() + 1;
 
-/// What the program is asked for: the count of rounds, and the place of the one load to measure.
-fn arguments(rt: &HostRuntime) -> io::Result<(u64, Option<usize>)> {
-    let mut args = std::env::args(rt)?;
-    let _program = args.next();
-    let rounds = match args.next() {
-        Some(text) => text.as_str().parse::<u64>().unwrap_or(2),
-        None => 2,
-    };
-    let load = match args.next() {
-        Some(text) => text.as_str().parse::<usize>().ok(),
-        None => None,
-    };
-    Ok((rounds, load))
-}
-
 /// Measures the two deletes of so many flows, in one round each.
 fn measure_deletes(rt: &HostRuntime, flows: u32) -> io::Result<()> {
     measure(rt, Measured::Delete, &deleted("links", 0, flows), 1)?;
@@ -286,15 +265,15 @@ fn measure_all(rt: &HostRuntime, rounds: u64) -> io::Result<()> {
     measure_lookups(rt, rounds.saturating_mul(1_000))
 }
 
-fn main(rt: HostRuntime) -> io::Result<()> {
-    let (rounds, load) = arguments(&rt)?;
+/// Measures the load, the parts or the look-ups at a place, or all of them and more if there is no place.
+pub fn measure_shaper(rt: &HostRuntime, rounds: u64, load: Option<usize>) -> io::Result<()> {
     match load {
-        Some(PARTS) => measure_parts(&rt, rounds.saturating_mul(1_000)),
-        Some(LOOKUPS) => measure_lookups(&rt, rounds.saturating_mul(1_000)),
+        Some(PARTS) => measure_parts(rt, rounds.saturating_mul(1_000)),
+        Some(LOOKUPS) => measure_lookups(rt, rounds.saturating_mul(1_000)),
         Some(load) => match LOADS.get(load) {
-            Some(load) => measure(&rt, Measured::Rounds, load, rounds),
+            Some(load) => measure(rt, Measured::Rounds, load, rounds),
             None => Ok(()),
         },
-        None => measure_all(&rt, rounds),
+        None => measure_all(rt, rounds),
     }
 }

@@ -150,7 +150,7 @@ fn measure_taking<R: Wait + Clock>(
 }
 
 /// Measures so many calls of each kind, and tells what was answered and in what time.
-pub fn measure_all<R: Wait + Threads + Clock + Sync + AllocGlobal + Print + Eprint>(
+pub fn measure_callers<R: Wait + Threads + Clock + Sync + AllocGlobal + Print + Eprint>(
     rt: &R,
     calls: u64,
 ) -> io::Result<()> {
