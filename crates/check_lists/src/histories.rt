@@ -16,7 +16,7 @@ struct Answered {
 
 /// The histories so far.
 #[derive(Drop)]
-pub struct Cases {
+pub struct Histories {
     alloc: Global,
     shaper: Shaper,
     histories: u64,
@@ -27,10 +27,10 @@ pub struct Cases {
     first: Option<Answered>,
 }
 
-impl Cases {
+impl Histories {
     /// No history.
-    pub fn new(alloc: Global) -> Cases {
-        Cases {
+    pub fn new(alloc: Global) -> Histories {
+        Histories {
             alloc,
             shaper: Shaper::new(alloc),
             histories: 0,
@@ -39,6 +39,11 @@ impl Cases {
             last: None,
             first: None,
         }
+    }
+
+    /// Whether a history has begun.
+    pub fn have_begun(&self) -> bool {
+        self.histories > 0
     }
 
     // A history begins. The shaper of the one before is dropped by a call, whose proof has one step and not
@@ -98,8 +103,13 @@ impl Cases {
     }
 
     /// Writes how many histories and calls there were and how many replies differ, and the first one that does.
+    ///
+    /// Without a history it writes nothing.
     pub fn report(&self, rt: &impl Print) -> io::Result<()> {
         let (histories, calls, differ) = (self.histories, self.calls, self.differ);
+        if histories == 0 {
+            return Ok(());
+        }
         println!(rt; "{histories} histories, {calls} calls, {differ} differ")?;
         if let Some(first) = &self.first {
             let Answered {
