@@ -50,8 +50,7 @@ MINUTES = {
     "dn_live": 2.0,
     "dn_audit": 1.5,
     "dn_replay": 3.2,
-    "dn_command": 1.0,
-    PROGRAM: 2.5,
+    PROGRAM: 3.5,
     LIBRARY: 2.0,
 }
 

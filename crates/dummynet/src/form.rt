@@ -1,6 +1,6 @@
 ghost use Rattle.std.specs.Prelude.{◌≡◌, IfOk, false};
 ghost use Rattle.clap.specs.Words.{rule_of};
-ghost use Rattle.dn_command.specs.Program.{IsForm, audit_form, bare_form, callers_rule, file_rule, history_rule, live_form, most_rule, program, replay_form, unlimited_form};
+ghost use Rattle.dummynet.specs.Program.{IsForm, audit_form, bare_form, callers_rule, file_rule, history_rule, live_form, most_rule, program, replay_form, unlimited_form};
 
 use clap::builder::ValueParser;
 use clap::{Arg, Command};

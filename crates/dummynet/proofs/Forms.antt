@@ -2,7 +2,7 @@
 use Rattle.std.proofs.Common.{◌≡◌, ◌∙◌, ◌||◌, true, ap, ap₂, refl}
 use Rattle.clap.specs.Words.{AddsSubcommand, App, is_simple, is_simple_and_free, with_subcommand}
 use Rattle.clap.specs.declared.builder.command.Command.{Command}
-use Rattle.dn_command.specs.Program.{IsForm, program}
+use Rattle.dummynet.specs.Program.{IsForm, program}
 
 -- a command with one more below it
 pub adds_form : (old sub new : Command) (a b : App) → IsForm a old → IsForm b sub → AddsSubcommand old sub new → IsForm (with_subcommand a b.top) new

@@ -1,8 +1,8 @@
 use Rattle.std.proofs.Common.{codes, rules}
 use Rattle.std.specs.Str.Parse.{ExplainsUnsignedError, HasUnsignedDigitsIfOk, ParsesUnsigned}
 use Rattle.clap.specs.Words.{found_of}
-use Rattle.dn_command.proofs.Readings.{count_read}
-use Rattle.dn_command.proofs.asked.audit.Goals as goal
+use Rattle.dummynet.proofs.Readings.{count_read}
+use Rattle.dummynet.proofs.asked.audit.Goals as goal
 
 pub returns : goal.returns
 returns c = record {

@@ -1,8 +1,8 @@
 use Rattle.std.proofs.lemmas.Result.{IfOk-weaker}
 use Rattle.clap.specs.Words.{with_subcommand}
-use Rattle.dn_command.proofs.Forms.{adds_form}
-use Rattle.dn_command.specs.Program.{audit_form, bare_form, live_form, replay_form}
-use Rattle.dn_command.proofs.form.form.Goals as goal
+use Rattle.dummynet.proofs.Forms.{adds_form}
+use Rattle.dummynet.specs.Program.{audit_form, bare_form, live_form, replay_form}
+use Rattle.dummynet.proofs.form.form.Goals as goal
 
 pub returns : goal.returns
 returns c =

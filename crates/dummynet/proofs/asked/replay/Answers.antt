@@ -2,8 +2,8 @@ use Rattle.std.proofs.Common.{◌∙◌, codes, rules}
 use Rattle.std.specs.Str.Parse.{ExplainsUnsignedError, HasUnsignedDigitsIfOk, ParsesUnsigned}
 use Rattle.clap.specs.Words.{found_of}
 use Rattle.clap.proofs.WalkLemmas.{first_value-rows}
-use Rattle.dn_command.proofs.Readings.{count_read}
-use Rattle.dn_command.proofs.asked.replay.Goals as goal
+use Rattle.dummynet.proofs.Readings.{count_read}
+use Rattle.dummynet.proofs.asked.replay.Goals as goal
 
 pub returns : goal.returns
 returns c = record {

@@ -3,11 +3,11 @@ use Rattle.std.proofs.Common.{◌≡◌, ◌∙◌, List, ap, inl, inr, subst, s
 use Rattle.clap.specs.Words.{HasKind, IsAmong, Text, fault_of, kind_of, subcommand_of}
 use Rattle.clap.specs.declared.error.Error.{Error}
 use Rattle.clap.specs.declared.error.kind.ErrorKind.TheVariants.{ArgumentConflict}
-use Rattle.dn_command.specs.Program.{program}
-use Rattle.dn_command.specs.Requests.{AsksFor, Conflicts, IsRefusedFor, IsToldAs}
-use Rattle.dn_command.specs.declared.refusal.Refusal.{Refusal}
-use Rattle.dn_command.specs.declared.refusal.Refusal.TheVariants.{NotUtf8, OutOfMemory, Told}
-use Rattle.dn_command.specs.declared.request.Request.{Request}
+use Rattle.dummynet.specs.Program.{program}
+use Rattle.dummynet.specs.Requests.{AsksFor, Conflicts, IsRefusedFor, IsToldAs}
+use Rattle.dummynet.specs.declared.refusal.Refusal.{Refusal}
+use Rattle.dummynet.specs.declared.refusal.Refusal.TheVariants.{NotUtf8, OutOfMemory, Told}
+use Rattle.dummynet.specs.declared.request.Request.{Request}
 
 -- clap's error, of a kind that the words have
 pub told_refused : (words : List Text) (e : Error) (r : Refusal) → IsToldAs e r → HasKind (fault_of program words) e → IsRefusedFor words r

@@ -6,13 +6,13 @@ use Rattle.clap.specs.Words.{IsAmong, Row, Text, fault_of, first_of, kind_of, on
 use Rattle.clap.specs.declared.error.Error.{Error}
 use Rattle.clap.specs.declared.error.kind.ErrorKind.{ErrorKind}
 use Rattle.clap.specs.declared.error.kind.ErrorKind.TheVariants as kind
-use Rattle.dn_command.specs.Program.{program}
-use Rattle.dn_command.specs.declared.refusal.Refusal.{Refusal}
-use Rattle.dn_command.specs.declared.refusal.Refusal.TheVariants as refusal
-use Rattle.dn_command.specs.declared.request.Audit.{Audit}
-use Rattle.dn_command.specs.declared.request.Replay.{Replay}
-use Rattle.dn_command.specs.declared.request.Request.{Request}
-use Rattle.dn_command.specs.declared.request.Request.TheVariants as request
+use Rattle.dummynet.specs.Program.{program}
+use Rattle.dummynet.specs.declared.refusal.Refusal.{Refusal}
+use Rattle.dummynet.specs.declared.refusal.Refusal.TheVariants as refusal
+use Rattle.dummynet.specs.declared.request.Audit.{Audit}
+use Rattle.dummynet.specs.declared.request.Replay.{Replay}
+use Rattle.dummynet.specs.declared.request.Request.{Request}
+use Rattle.dummynet.specs.declared.request.Request.TheVariants as request
 
 -- The value of an argument, and the empty text where it has none.
 abbrev pub value_of : Text → List Row → Text

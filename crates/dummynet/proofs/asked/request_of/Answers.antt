@@ -1,11 +1,11 @@
 use Rattle.std.proofs.Common.{◌≡◌, ◌∙◌, List, ap, inl, inr, map, string_bytes, subst, sym}
 use Rattle.std.proofs.lemmas.Result.{err_from_is_err_and}
 use Rattle.clap.specs.Words.{App, HasKind, Text, app_of, fault_of, is_simple, is_simple_and_free, subcommand_of}
-use Rattle.dn_command.proofs.Forms.{program_is_free, program_is_simple}
-use Rattle.dn_command.proofs.Refusals.{conflict_refused, told_refused}
-use Rattle.dn_command.specs.Program.{program}
-use Rattle.dn_command.specs.Requests.{AsksFor}
-use Rattle.dn_command.proofs.asked.request_of.Goals as goal
+use Rattle.dummynet.proofs.Forms.{program_is_free, program_is_simple}
+use Rattle.dummynet.proofs.Refusals.{conflict_refused, told_refused}
+use Rattle.dummynet.specs.Program.{program}
+use Rattle.dummynet.specs.Requests.{AsksFor}
+use Rattle.dummynet.proofs.asked.request_of.Goals as goal
 
 pub returns-in_err-matches-clause-err : goal.returns-in_err-matches-clause-err
 returns-in_err-matches-clause-err c =

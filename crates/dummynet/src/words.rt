@@ -1,5 +1,5 @@
 ghost use Rattle.std.specs.Prelude.{IfErr};
-ghost use Rattle.dn_command.specs.Requests.{IsUnread};
+ghost use Rattle.dummynet.specs.Requests.{IsUnread};
 
 use crate::refusal::Refusal;
 use std::rt::Env;

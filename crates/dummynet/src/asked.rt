@@ -1,6 +1,6 @@
 ghost use Rattle.std.specs.Prelude.{◌≡◌, ◌↔◌, IfErr, IfOk, IsTrue, MatchOption, map, string_bytes};
 ghost use Rattle.clap.specs.Words.{found_of, rows_of, subcommand_rows_of};
-ghost use Rattle.dn_command.specs.Requests.{Asks, AsksFor, Conflicts, IsAuditOf, IsRefusedFor, IsReplayOf, LimitsCallers, Overwrites, value_of};
+ghost use Rattle.dummynet.specs.Requests.{Asks, AsksFor, Conflicts, IsAuditOf, IsRefusedFor, IsReplayOf, LimitsCallers, Overwrites, value_of};
 
 use crate::form::{called_replay, form};
 use crate::refusal::Refusal;

@@ -1,6 +1,6 @@
 ghost use Rattle.std.specs.Prelude.{◌≡◌};
-ghost use Rattle.dn_command.specs.declared.refusal.Refusal.TheVariants as refused;
-ghost use Rattle.dn_command.specs.Requests.{IsToldAs, refusal_status};
+ghost use Rattle.dummynet.specs.declared.refusal.Refusal.TheVariants as refused;
+ghost use Rattle.dummynet.specs.Requests.{IsToldAs, refusal_status};
 
 use clap::Error;
 use clap::error::ErrorKind;

@@ -6,7 +6,7 @@ use Rattle.std.specs.Str.Parse.{ParsesUnsigned}
 use Rattle.clap.specs.Words.{ReadsOne, Text, first_value, one_of, one_text, rows_of}
 use Rattle.clap.specs.declared.parser.matches.Found.{Found}
 use Rattle.clap.proofs.WalkLemmas.{first_value-rows, one_text-rows}
-use Rattle.dn_command.specs.Requests.{IsCountOf, value_of}
+use Rattle.dummynet.specs.Requests.{IsCountOf, value_of}
 
 -- a value, or the empty text in its place
 pub value_read : (o : Option (Bor Text)) (d : Bor Text) (f : Found) (id : Text) → option_map (λ s. s.now) o ≡ first_value f id → d.now ≡ []
