@@ -75,7 +75,7 @@ def growths() -> list[Part]:
     """Tests with each growth refused, once and twice in a row: a list that is refused room for more asks again for just
     enough, which hides one refusal."""
     tests = [
-        *[f"test_{crate} memory::" for crate in ("histories", "replay", "live")],
+        *[f"test_{crate} memory::" for crate in ("files", "replay", "live")],
         "test_replay callers_memory::",
         *[f"test_shaper {part}::" for part in ("refused_growths", "reserve")],
         "test_parts scheduler::",
