@@ -1,6 +1,6 @@
 use crate::histories::{entry, moment, number, one_caller, submit};
-use dn_audit::{Verdict, audit, audit_with_key};
 use dn_config::parse_line;
+use dn_history::{Verdict, audit, audit_with_key};
 use dn_shaper::HashKey;
 use dn_types::{Call, Deliveries, Delivery, Entry, Reply, Rule, Target};
 use std::alloc::Global;

@@ -1,6 +1,6 @@
 use crate::history::ONE_CALLER;
-use dn_audit::{FileAudit, Verdict, audit_file_within};
 use dn_files::{ReplayFault, Source};
+use dn_history::{FileAudit, Verdict, audit_file_within};
 use dn_records::{FromReader, FromWriter};
 use dn_shaper::HashKey;
 use std::alloc::Global;

@@ -1,6 +1,6 @@
 use crate::history::ONE_CALLER;
-use dn_audit::{FileAudit, Verdict, audit_file_with_key};
 use dn_files::ReplayFault;
+use dn_history::{FileAudit, Verdict, audit_file_with_key};
 use dn_records::{FromReader, FromWriter};
 use dn_shaper::HashKey;
 use std::alloc::Global;
@@ -12,7 +12,7 @@ const STEPS: [usize; 6] = [1, 2, 3, 7, 64, 65_536];
 
 // What the audit of a file finds that is fed in such parts.
 fn fed(alloc: Global, file: &str, step: usize) -> Result<Verdict, ReplayFault> {
-    // In the README of dn_audit, 2:
+    // In the README of dn_history, 5:
     let mut audit = FileAudit::new(alloc, HashKey(7));
     for part in file.as_bytes().chunks(step.max(1)) {
         audit.feed(part)?;

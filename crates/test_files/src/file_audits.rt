@@ -1,7 +1,7 @@
 use crate::history::ONE_CALLER;
 use crate::history_files::text_with;
-use dn_audit::{Verdict, audit_file, audit_file_with_key};
 use dn_files::{ReplayFault, Source};
+use dn_history::{Verdict, audit_file, audit_file_with_key};
 use dn_records::{FromReader, FromWriter, Inlet, Outlet};
 use dn_shaper::HashKey;
 use std::alloc::Global;

@@ -1,9 +1,8 @@
 use crate::histories::one_caller;
 use crate::history::ONE_CALLER;
 use crate::history_files::is_read_as;
-use dn_audit::{Verdict, audit_file_with_key, audit_with_key};
 use dn_files::ReplayFault;
-use dn_history::write_history;
+use dn_history::{Verdict, audit_file_with_key, audit_with_key, write_history};
 use dn_records::{FromReader, FromWriter};
 use dn_shaper::HashKey;
 use dn_types::{Entry, Rule};
