@@ -35,8 +35,7 @@ LANES = max(1, min(4, len(os.sched_getaffinity(0))))
 # About the minutes that a crate's first check takes on four cores, by which the time that is left is told.
 MINUTES = {
     "dn_types": 2.3,
-    "dn_text": 0.6,
-    "dn_config": 2.0,
+    "dn_config": 2.5,
     "dn_records": 1.5,
     "dn_heap": 1.3,
     "dn_flows": 1.7,

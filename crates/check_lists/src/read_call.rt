@@ -1,5 +1,4 @@
-use dn_config::parse_line;
-use dn_text::{read_address, read_number};
+use dn_config::{parse_line, read_address, read_number};
 use dn_types::{Call, FiveTuple, Len, Moment, Number, Packet, Target};
 
 /// The fields of a record that are left. No field of a call has a comma or a quote in it.

@@ -1,8 +1,10 @@
 //! Samples of the READMEs, each run: their lines stand between marks, and tools/gate/samples.py compares them with the pages.
 use crate::given::{at_most, key, packet};
-use dn_config::{LineFault, parse_line, print_command};
+use dn_config::{
+    LineFault, NumberFault, Words, number_until, parse_line, print_command, read_address,
+    read_number, split_joined,
+};
 use dn_flows::{DropRule, Flows, HashKey, Verdict, Waiting};
-use dn_text::{NumberFault, Words, number_until, read_address, read_number, split_joined};
 use dn_types::{Call, FiveTuple, FlowKey, Len, Limit, Moment, Number, Packet, Target, Weight};
 use dn_wf2q::Sched;
 use std::alloc::{AllocError, Global};
@@ -45,7 +47,7 @@ fn the_types(rt: HostRuntime) -> Result<(), Fail> {
 fn numbers_words_and_joined_inputs(rt: HostRuntime) {
     let line = b"pipe 1 config".as_slice();
     let input = b"pipe 1 config\n--\nmoment\n".as_slice();
-    // In the README of dn_text, 1:
+    // In the README of dn_config, 2:
     let port = read_number(b"2000", 0, 65_535);
     let none = read_number(b"02000", 0, 65_535);
     let high = read_number(b"70000", 0, 65_535);
