@@ -1,3 +1,3 @@
 #!/bin/sh
 # The times of parse_line, on standard error. The argument is the count of lines of ten words.
-cd "$(dirname "$0")/../crates/bench_config" && exec rt run -- "${1:-5000000}"
+cd "$(dirname "$0")/../crates/bench_calls" && exec rt run -- lines "${1:-5000000}"

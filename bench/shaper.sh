@@ -1,3 +1,3 @@
 #!/bin/sh
 # The times of calls of sequential dummynet, on standard error. The argument is the count of rounds of 1,000 packets.
-cd "$(dirname "$0")/../crates/bench_shaper" && exec rt run -- "${1:-1000}"
+cd "$(dirname "$0")/../crates/bench_calls" && exec rt run -- shaper "${1:-1000}"

@@ -12,7 +12,7 @@ import os
 import subprocess
 import tempfile
 
-PROGRAM = os.path.join(os.path.dirname(__file__), "..", "crates", "bench_shaper", "out", "bench_shaper")
+PROGRAM = os.path.join(os.path.dirname(__file__), "..", "crates", "bench_calls", "out", "bench_calls")
 LOADS = ["one flow of a pipe", "100 queues on a pipe", "1,000 links", "16,384 links", "40,000 flows over 10 queues"]
 CACHES = ["--I1=32768,8,64", "--D1=32768,8,64", "--LL=1048576,16,64"]
 ROUNDS = (150, 650)
@@ -28,6 +28,7 @@ def start(load, rounds, path):
             *CACHES,
             f"--cachegrind-out-file={path}",
             PROGRAM,
+            "shaper",
             str(rounds),
             str(load),
         ],

@@ -1,5 +1,5 @@
 #!/usr/bin/env python3
-"""Runs the built bench_shaper again and again, and tells for each load the least and the median of a Submit and of its
+"""Runs the built bench_calls again and again, and tells for each load the least and the median of a Submit and of its
 share of the Collects, in ns a packet, and how many times one link's cost a packet at 16,384 links has.
 
 A run stays on one processor, the next run on the next one, and takes the cost at one link just before and after that at 16,384 links:
@@ -19,7 +19,7 @@ import subprocess
 import sys
 import time
 
-PROGRAM = os.path.join(os.path.dirname(__file__), "..", "crates", "bench_shaper", "out", "bench_shaper")
+PROGRAM = os.path.join(os.path.dirname(__file__), "..", "crates", "bench_calls", "out", "bench_calls")
 LINE = re.compile(r"(.*): (\d+) ns and (\d+) ns for the Collects of \d+ rounds")
 ONE, MANY = "one flow of a pipe", "16,384 links"
 OTHER_LOADS = [1, 2, 4]
@@ -27,7 +27,7 @@ OTHER_LOADS = [1, 2, 4]
 
 def cost(rounds, load):
     """The name of a load, and what a packet costs: a Submit, and its share of the Collects."""
-    done = subprocess.run([PROGRAM, str(rounds), str(load)], capture_output=True, text=True, check=True)
+    done = subprocess.run([PROGRAM, "shaper", str(rounds), str(load)], capture_output=True, text=True, check=True)
     name, submits, collects = LINE.match(done.stderr).groups()
     packets = 1000 * rounds
     return name, (int(submits) / packets, int(collects) / packets)

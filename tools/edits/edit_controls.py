@@ -132,7 +132,7 @@ CONTROLS = {
         ("Prelude.{⊤, OnErr};", "Prelude.{OnErr}; ghost use Rattle.dn_service.specs.Callers.{Answered};"),
         ("(λ reply. ⊤)", "(λ reply. Answered self.old call reply self.new)"),
     ],
-    "dn_audit/without_the_replies_of_the_shaper": [
+    "dn_history/without_the_replies_of_the_shaper": [
         (
             "ghost use Rattle.dn_types.specs.Clock",
             "ghost use Rattle.dn_types.specs.Replies.{reply}; ghost use Rattle.dn_types.specs.Clock",

@@ -1,9 +1,9 @@
-"""Lists of the reference, over the programs that compare: histories with the shaper, and configuration lines with their reader.
+"""Lists of the reference, over the program that compares: histories with the shaper, and configuration lines with their reader.
 
     python3 tools/gate/lists.py SEED
 
-The lists of the seeds that the READMEs of these programs name are tried, and those of SEED. `rt ci` has built the programs, and has
-tried the short lists that are kept beside them.
+The lists of the seeds that the README of crates/check_lists names are tried, and those of SEED. `rt ci` has built the program, and
+has tried the short lists that are kept beside it.
 """
 
 from __future__ import annotations
@@ -15,28 +15,28 @@ from pathlib import Path
 from tally import Tally
 
 TOP = Path(__file__).resolve().parent.parent.parent
+PROGRAM = TOP / "crates" / "check_lists" / "out" / "check_lists"
 LISTS = {
-    "check_histories": ("shaper_cases.py", "10", ("100", "45"), " 0 differ"),
-    "check_lines": ("config_line_cases.py", "1", ("3000",), " 0 answers differ"),
+    "histories": ("shaper_cases.py", "10", ("100", "45"), " 0 differ"),
+    "configuration lines": ("config_line_cases.py", "1", ("3000",), " 0 answers differ"),
 }
 
 
-def faults(crate: str, writer: str, seed: str, counts: tuple[str, ...], same: str) -> str:
-    """What the program of the crate says of the list of a seed, unless all is the same."""
-    program = TOP / "crates" / crate / "out" / crate
+def faults(writer: str, seed: str, counts: tuple[str, ...], same: str) -> str:
+    """What the program says of the list of a seed, unless all is the same."""
     made = subprocess.run([sys.executable, TOP / "tools/reference" / writer, seed, *counts], capture_output=True)
     if made.returncode:
         return made.stderr.decode()
-    told = subprocess.run([program], input=made.stdout, capture_output=True)
+    told = subprocess.run([PROGRAM], input=made.stdout, capture_output=True)
     text = told.stdout.decode()
     return "" if told.returncode == 0 and text.count("\n") == 1 and text.endswith(f"{same}\n") else text or told.stderr.decode()
 
 
 def main(seed: str) -> int:
     tally = Tally()
-    for crate, (writer, kept, counts, same) in LISTS.items():
+    for name, (writer, kept, counts, same) in LISTS.items():
         for one in (kept, seed):
-            tally.note(f"{crate}, seed {one}", faults(crate, writer, one, counts, same))
+            tally.note(f"{name}, seed {one}", faults(writer, one, counts, same))
     return tally.end()
 
 

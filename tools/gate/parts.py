@@ -75,13 +75,13 @@ def growths() -> list[Part]:
     """Tests with each growth refused, once and twice in a row: a list that is refused room for more asks again for just
     enough, which hides one refusal."""
     tests = [
-        *[f"test_{crate} memory::" for crate in ("histories", "replay", "live")],
+        *[f"test_{crate} memory::" for crate in ("files", "replay", "live")],
         "test_replay callers_memory::",
         *[f"test_shaper {part}::" for part in ("refused_growths", "reserve")],
-        "test_flows scheduler::",
+        "test_parts scheduler::",
         "test_parts heap::",
         "test_parts placed_heap::",
-        *[f"test_flows {part}::a_refused_growth_changes_nothing" for part in ("link", "flows")],
+        *[f"test_parts {part}::a_refused_growth_changes_nothing" for part in ("link", "flows")],
         *[f"test_service one_caller::a_{call}_that_memory_refuses_leaves_no_trace" for call in ("call", "try")],
     ]
     words, script = [f"{test} {row}" for test in tests for row in (2, 1)], [sys.executable, "tools/gate/growths.py"]

@@ -114,7 +114,7 @@ def main(program: str) -> int:
         print(f"the release was built by another kit than {kit}, so its bytes aren't compared")
         return tally.end()
     version = subprocess.run([program, "--version"], capture_output=True, text=True).stdout
-    tally.note("version", "" if kit in version else f"{version.strip()} doesn't name {kit}: crates/dn_command/src/form.rt")
+    tally.note("version", "" if kit in version else f"{version.strip()} doesn't name {kit}: crates/dummynet/src/form.rt")
     same = stripped(RELEASE / "dummynet") == stripped(Path(program))
     tally.note("bytes", "" if same else f"the release isn't what was built here; {anew}")
     if is_same:

@@ -33,7 +33,7 @@ def spelled(number: int) -> str:
 def in_sources(tally: Tally, program: str) -> None:
     tally.note("the form of VERSION", "" if re.fullmatch(r"\d+\.\d+\.\d+", VERSION) else VERSION)
     told = subprocess.run([program, "--version"], capture_output=True, text=True).stdout
-    tally.equal("the program (crates/dn_command/src/form.rt)", ["dummynet", VERSION], told.split()[:2])
+    tally.equal("the program (crates/dummynet/src/form.rt)", ["dummynet", VERSION], told.split()[:2])
     header = found(TOP / "crates" / "hingetulip_c" / "include" / "hingetulip.h", r"^#define DN_VERSION (\d+)u$")
     tally.equal("hingetulip.h", VERSION, spelled(int(header)) if header.isdigit() else header)
     for crate in ("hingetulip", "hingetulip-tokio"):

@@ -29,8 +29,8 @@ HEADLINES = [
     ("replay", "dn_replay"),
     ("replay_callers", "dn_replay"),
     ("live", "dn_live"),
-    ("audit", "dn_audit"),
-    ("audit_file", "dn_audit"),
+    ("audit", "dn_history"),
+    ("audit_file", "dn_history"),
     ("parse_line", "dn_config"),
 ]
 # What the definitions of a crate are of. Those of the others are of formats.

@@ -3,8 +3,9 @@
     python3 tools/laws/public_clauses.py BASE [NEW]
 
 NEW is the working tree if it isn't given. A clause is `requires`, `ensures` or `succeeds` with its name and its text, spaces
-folded. Printed are the functions that went, those that came, and of each function the clauses that went and came. "Inside" is
-said of a function that its crate's lib.rt doesn't export. The last lines count them. The status is 1 if an exported function
+folded. Printed are the functions that went, those that came, and of each function the clauses that went and came. A function
+that went from a crate and came in one other, in an impl of the same head, has moved, and its clauses are compared too. "Inside"
+is said of a function that its crate's lib.rt doesn't export. The last lines count them. The status is 1 if an exported function
 that was there before has a new condition (`requires`), or has lost a clause and got none.
 """
 
@@ -136,9 +137,18 @@ def told(one: Function, went: set[str], came: set[str]) -> bool:
     return one.exported and (asks_more or bool(went and not came))
 
 
+def moved(before: dict[Function, set[str]], after: dict[Function, set[str]]) -> dict[Function, set[str]]:
+    """The clauses before, those of a function that moved under the crate in which it is now."""
+    came = {one: [new for new in after.keys() - before.keys() if new[1:3] == one[1:3]] for one in before.keys() - after.keys()}
+    for one, places in sorted(came.items()):
+        if len(places) == 1:
+            print(f"moved: {one} to {places[0].crate}")
+    return {came[one][0] if len(came.get(one, [])) == 1 else one: told for one, told in before.items()}
+
+
 def main(words: list[str]) -> int:
-    before = contracts(sources(words[0]))
     after = contracts(sources(words[1] if len(words) > 1 else None))
+    before = moved(contracts(sources(words[0])), after)
     went, came = sorted(before.keys() - after.keys()), sorted(after.keys() - before.keys())
     for one in went:
         print(f"went: {one}")

@@ -412,7 +412,7 @@ class Base(NamedTuple):
 
 DEFINITIONS = Base("dn_types", (), "")
 BASES = {
-    "laws_of_lines": Base("dn_config", ("dn_types", "dn_text"), "line"),
+    "laws_of_lines": Base("dn_config", ("dn_types",), "line"),
     "laws_of_services": Base(
         "dn_service", ("dn_types",), "service", ("close_fault", "open_fault", "try_fault", "Accounts", "Callers", "Histories")
     ),

@@ -1,6 +1,6 @@
-"""Writes configuration lines with the answers of an independent reader, for crates/check_lines.
+"""Writes configuration lines with the answers of an independent reader, for crates/check_lists.
 
-    python3 tools/reference/config_line_cases.py SEED COUNT      (those kept in crates/check_lines/stdin: 1 100)
+    python3 tools/reference/config_line_cases.py SEED COUNT      (the first that crates/check_lists/stdin keeps: 1 100)
 
 Each case is two lines: the answer, as `ok` and the line that is printed for the command, `none`, or a fault and its
 position, and then the configuration line. COUNT cases are random: good lines with a few words changed, options with

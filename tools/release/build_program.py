@@ -35,8 +35,7 @@ LANES = max(1, min(4, len(os.sched_getaffinity(0))))
 # About the minutes that a crate's first check takes on four cores, by which the time that is left is told.
 MINUTES = {
     "dn_types": 2.3,
-    "dn_text": 0.6,
-    "dn_config": 2.0,
+    "dn_config": 2.5,
     "dn_records": 1.5,
     "dn_heap": 1.3,
     "dn_flows": 1.7,
@@ -46,12 +45,10 @@ MINUTES = {
     "dn_laws": 2.0,
     "dn_service": 2.2,
     "dn_files": 2.6,
-    "dn_history": 2.5,
+    "dn_history": 3.5,
     "dn_live": 2.0,
-    "dn_audit": 1.5,
     "dn_replay": 3.2,
-    "dn_command": 1.0,
-    PROGRAM: 2.5,
+    PROGRAM: 3.5,
     LIBRARY: 2.0,
 }
 

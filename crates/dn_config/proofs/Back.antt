@@ -3,7 +3,7 @@ use Rattle.std.proofs.Common.{◌≡◌, refl, ◌∙◌, ap, ℕ, Bool, true, f
 use Rattle.std.specs.Prelude.{◌&&◌, nat_lt, not}
 use Rattle.std.specs.List.{slice_split, onto_first, before_first, list_all}
 use Rattle.std.proofs.lemmas.Bool.{and_parts}
-use Rattle.dn_text.specs.Words.{is_separator, is_nonempty, words_of}
+use Rattle.dn_config.specs.Tokens.Words.{is_separator, is_nonempty, words_of}
 use Rattle.dn_config.specs.Words.{is_hash, words}
 use Rattle.dn_config.specs.Text.{behind_spaces, spaced}
 

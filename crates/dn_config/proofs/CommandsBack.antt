@@ -26,7 +26,7 @@ use Rattle.dn_config.proofs.MaskBack.{mask_back}
 use Rattle.dn_config.proofs.OptionsBack.{gives_limit, gives_loss, gives_buckets, gives_link, gives_share}
 use Rattle.dn_config.proofs.Plain.{text_plain}
 use Rattle.dn_config.proofs.ValuesBack.{number_value_back}
-use Rattle.dn_text.proofs.NumbersBack.{ascii_digits}
+use Rattle.dn_config.proofs.NumbersBack.{ascii_digits}
 
 -- all that the options of a line say
 abbrev said : ℕ → ℕ → Option ℕ → ℕ → Limit → ℕ → Option ℕ → Mask → Options

@@ -12,3 +12,14 @@ pub mod CommandsBack
 pub mod TextBytes
 pub mod LineExamples
 pub mod TextExamples
+pub mod Capping
+pub mod NumbersBack
+pub mod Prefixes
+pub mod WordCuts
+pub mod LineCuts
+pub mod Points
+pub mod LongDigits
+mod Marks
+pub mod Shorts
+pub mod UntilBack
+pub mod UntilParts

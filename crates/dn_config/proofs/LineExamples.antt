@@ -1,8 +1,8 @@
 -- Lines and their answers, computed from the definition.
 use Rattle.std.proofs.Common.{◌≡◌, refl}
 use Rattle.std.specs.Prelude.{ℕ, Option, Some, None, Result, Ok, Err, codes}
-use Rattle.dn_text.specs.Numbers.{within, number_of, numeral_of}
-use Rattle.dn_text.specs.Words.{words_of}
+use Rattle.dn_config.specs.Tokens.Numbers.{within, number_of, numeral_of}
+use Rattle.dn_config.specs.Tokens.Words.{words_of}
 use Rattle.dn_types.specs.declared.limit.Limit.TheVariants.{Kbytes}
 use Rattle.dn_types.specs.declared.command.Command.{Command}
 use Rattle.dn_types.specs.declared.command.Command.TheVariants as c

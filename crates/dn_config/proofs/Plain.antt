@@ -16,9 +16,9 @@ use Rattle.dn_config.specs.Masks.{has_no_bits, has_all_bits}
 use Rattle.dn_config.specs.Commands.{IsTyped, AreShared, IsLimit, IsBuckets}
 use Rattle.dn_config.specs.Text.{zero_padded, rate_up, loss_text, number_words, limit_words, loss_words, buckets_words}
 use Rattle.dn_config.specs.Text.{field_words, fields_words, mask_words, both_words, link_words, share_words, text_words}
-use Rattle.dn_text.specs.Words.{is_nonempty}
+use Rattle.dn_config.specs.Tokens.Words.{is_nonempty}
 use Rattle.dn_config.proofs.Back.{is_plain_byte, is_plain, all_plain}
-use Rattle.dn_text.proofs.NumbersBack.{ascii_digits}
+use Rattle.dn_config.proofs.NumbersBack.{ascii_digits}
 
 pub all_append : (xs ys : List ℕ) → list_all is_plain_byte xs ≡ true → list_all is_plain_byte ys ≡ true → list_all is_plain_byte (xs ++ ys) ≡ true
 all_append [] ys h e = e

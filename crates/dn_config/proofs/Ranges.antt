@@ -6,9 +6,9 @@ use Rattle.std.specs.Char.{digit_value}
 use Rattle.std.proofs.lemmas.Bool.{cases_lt, lt-ltb, ltb-true, and_parts}
 use Rattle.std.proofs.lemmas.Str.Parse.{digits_value_short, numerals_by_value, tells_digits}
 use Rattle.std.proofs.Math.Nat.{div-le_of_le-mul}
-use Rattle.dn_text.specs.Numbers.{all_digits, numeral_of, within}
-use Rattle.dn_text.specs.declared.number_fault.NumberFault.{NumberFault}
-use Rattle.dn_text.proofs.Capping.{grows, within_ok, ok_within, above_within}
+use Rattle.dn_config.specs.Tokens.Numbers.{all_digits, numeral_of, within}
+use Rattle.dn_config.specs.declared.tokens.number_fault.NumberFault.{NumberFault}
+use Rattle.dn_config.proofs.Capping.{grows, within_ok, ok_within, above_within}
 use Rattle.dn_config.specs.Values.{placed, times, kept}
 use Rattle.dn_config.specs.declared.fault.LineFault.{LineFault}
 use Rattle.dn_config.specs.declared.fault.LineFault.TheVariants.{BadNumber, OutOfRange}

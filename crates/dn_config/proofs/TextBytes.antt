@@ -7,7 +7,7 @@ use Rattle.std.proofs.lemmas.Bool.{and_parts, ltb-true}
 use Rattle.std.proofs.lemmas.Str.{IsAscii-append, IsUtf8-from_ascii}
 use Rattle.std.proofs.lemmas.Str.Ascii.{IsAscii-cons, IsAscii-nil}
 use Rattle.dn_types.specs.declared.command.Command.{Command}
-use Rattle.dn_text.specs.Words.{is_nonempty, is_separator}
+use Rattle.dn_config.specs.Tokens.Words.{is_nonempty, is_separator}
 use Rattle.dn_config.specs.Commands.{IsTyped}
 use Rattle.dn_config.specs.Text.{behind_spaces, spaced, text, text_words}
 use Rattle.dn_config.specs.Words.{is_hash}

@@ -9,13 +9,13 @@ use Rattle.std.proofs.lemmas.Int.Digits.{digits_value_push}
 use Rattle.std.proofs.lemmas.Str.{digit_value-digit_char}
 use Rattle.std.proofs.lemmas.Bool.{eqb-true, eqb-false, lt-ltb, and_parts}
 use Rattle.std.proofs.lemmas.Bool.Decides.{nat_tests}
-use Rattle.dn_text.specs.Numbers.{numeral_of, number_within, within, all_digits, digits, unit}
+use Rattle.dn_config.specs.Tokens.Numbers.{numeral_of, number_within, within, all_digits, digits, unit}
 use Rattle.dn_config.specs.Values.{placed, pipe_or_queue_at, weight_at, buckets_at, delay_at, bandwidth_at, rate_of, limit_at, limited, loss_at, bits_of, bits_at, kept, behind_point, rate_parts_of}
 use Rattle.dn_types.specs.declared.limit.Limit.{Limit}
 use Rattle.dn_types.specs.declared.limit.Limit.TheVariants.{Slots, Kbytes}
 use Rattle.dn_config.specs.Commands.{IsLimit}
-use Rattle.dn_text.proofs.Capping.{ok_within}
-use Rattle.dn_text.proofs.NumbersBack.{ascii_digits, number_back}
+use Rattle.dn_config.proofs.Capping.{ok_within}
+use Rattle.dn_config.proofs.NumbersBack.{ascii_digits, number_back}
 use Rattle.std.specs.Char.{is_ascii_alphabetic}
 use Rattle.std.proofs.lemmas.Fmt.{decimal_is_IsNumeral}
 use Rattle.std.proofs.Math.Nat.{div-lt_iff_lt-mul, pow-suc, pow-zero, mod-lt}

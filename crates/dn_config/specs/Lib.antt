@@ -1,3 +1,4 @@
+pub mod Tokens
 pub mod Words
 pub mod Keywords
 pub mod Positions

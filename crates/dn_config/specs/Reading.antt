@@ -1,13 +1,13 @@
 -- What is read from a position on: the value, and then the position and the words behind it.
 use Rattle.std.specs.Prelude.{◌≡◌, ℕ, Bool, ◌+◌, ◌≤◌, List, [], ◌∷◌, take, drop, length, MatchResult, Option, Result, Ok, Err}
 use Rattle.dn_types.specs.declared.mask.Mask.{Mask}
-use Rattle.dn_text.specs.Words.{words_of}
+use Rattle.dn_config.specs.Tokens.Words.{words_of}
 use Rattle.dn_config.specs.Values.{bits_at}
 use Rattle.dn_config.specs.Settings.{filled}
 use Rattle.dn_config.specs.Masks.{set_field, all_bits, greatest_of, with_fields}
 use Rattle.dn_config.specs.Groups.{◌>>=◌, mask_len, group_len, groups, fields_at, mask_at, group_settings, option_at}
 use Rattle.dn_config.specs.declared.option_group.OptionWord.{OptionWord}
-use Rattle.dn_text.specs.declared.words.Words.{Words}
+use Rattle.dn_config.specs.declared.tokens.words.Words.{Words}
 use Rattle.dn_config.specs.declared.fault.LineFault.{LineFault}
 use Rattle.dn_config.specs.declared.fault.LineFault.TheVariants.{MissingValue}
 use Rattle.dn_config.specs.declared.mask_field.MaskWord.{MaskWord}

@@ -4,9 +4,9 @@ use Rattle.std.specs.Char.{is_ascii_alphabetic, to_ascii_lowercase}
 use Rattle.std.specs.Str.Parse.{digits_value}
 use Rattle.dn_types.specs.declared.limit.Limit.{Limit}
 use Rattle.dn_types.specs.declared.limit.Limit.TheVariants.{Slots, Kbytes}
-use Rattle.dn_text.specs.Numbers.{numeral_of, number_of, within, number_within, digits, unit}
-use Rattle.dn_text.specs.declared.number_fault.NumberFault.{NumberFault}
-use Rattle.dn_text.specs.declared.number_fault.NumberFault.TheVariants.{Shape, Range}
+use Rattle.dn_config.specs.Tokens.Numbers.{numeral_of, number_of, within, number_within, digits, unit}
+use Rattle.dn_config.specs.declared.tokens.number_fault.NumberFault.{NumberFault}
+use Rattle.dn_config.specs.declared.tokens.number_fault.NumberFault.TheVariants.{Shape, Range}
 use Rattle.dn_config.specs.Keywords.{is_among}
 use Rattle.dn_config.specs.declared.fault.LineFault.{LineFault}
 use Rattle.dn_config.specs.declared.fault.LineFault.TheVariants.{BadNumber, OutOfRange, LeftOut}

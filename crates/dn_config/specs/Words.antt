@@ -1,7 +1,7 @@
 -- The words of a configuration line. A line is the list of its bytes.
 use Rattle.std.specs.Prelude.{ℕ, Bool, ◌==◌, List}
 use Rattle.std.specs.List.{before_first}
-use Rattle.dn_text.specs.Words.{words_of}
+use Rattle.dn_config.specs.Tokens.Words.{words_of}
 
 -- The byte that begins a comment.
 abbrev pub is_hash : ℕ → Bool

@@ -1,12 +1,12 @@
 ghost use Rattle.std.specs.Prelude.{◌≡◌, ◌≤◌, ◌*◌, IfSome, slice_index};
 ghost use Rattle.std.specs.Char.{is_ascii_alphabetic};
-ghost use Rattle.dn_text.specs.Numbers.{number_of, within};
+ghost use Rattle.dn_config.specs.Tokens.Numbers.{number_of, within};
 ghost use Rattle.dn_config.specs.Values.{placed, times, bandwidth_at, lower, scaled_unit, unit_bits, rate_of};
 
 use crate::fault::LineFault;
 use crate::keywords::is_in_any_case;
 use crate::numbers::number_between;
-use dn_text::split_digits;
+use crate::tokens::split_digits;
 use dn_types::Bandwidth;
 
 /// What the letter before a unit multiplies by, and the unit.

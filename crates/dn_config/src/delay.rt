@@ -1,11 +1,11 @@
 ghost use Rattle.std.specs.Prelude.{◌≡◌};
-ghost use Rattle.dn_text.specs.Numbers.{number_within};
+ghost use Rattle.dn_config.specs.Tokens.Numbers.{number_within};
 ghost use Rattle.dn_config.specs.Values.{placed, delay_at};
 
 use crate::fault::LineFault;
 use crate::keywords::is;
 use crate::numbers::number_between;
-use dn_text::split_digits;
+use crate::tokens::split_digits;
 use dn_types::Delay;
 
 /// A number of milliseconds.

@@ -18,8 +18,13 @@ mod pieces;
 mod print;
 mod print_options;
 mod read_back;
+mod tokens;
 
 pub use fault::LineFault;
 pub use line::parse_line;
 pub use print::print_command;
 pub use read_back::{each_text_reads_back, print_and_parse};
+pub use tokens::{
+    Lines, NumberFault, Words, address_until, number_until, read_address, read_number,
+    read_numeral, split_digits, split_joined,
+};

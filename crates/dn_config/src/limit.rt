@@ -1,12 +1,12 @@
 ghost use Rattle.std.specs.Prelude.{◌≡◌};
 ghost use Rattle.dn_types.specs.declared.limit.Limit.TheVariants.{Slots, Kbytes};
-ghost use Rattle.dn_text.specs.Numbers.{number_within};
+ghost use Rattle.dn_config.specs.Tokens.Numbers.{number_within};
 ghost use Rattle.dn_config.specs.Values.{placed, limited, limit_at};
 
 use crate::fault::LineFault;
 use crate::keywords::{is, is_in_any_case};
 use crate::numbers::number_between;
-use dn_text::split_digits;
+use crate::tokens::split_digits;
 use dn_types::Limit;
 
 /// A number of packets.

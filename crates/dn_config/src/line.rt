@@ -10,7 +10,7 @@ use crate::keywords::{asks, is};
 use crate::kind::Kind;
 use crate::numbers::number_value;
 use crate::options::{Options, read_options};
-use dn_text::Words;
+use crate::tokens::Words;
 use dn_types::{Command, Number};
 
 /// The command that the options of a `config` line make.

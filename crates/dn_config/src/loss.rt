@@ -1,10 +1,10 @@
 ghost use Rattle.std.specs.Prelude.{◌≡◌, ◌≤◌, ◌<◌, ◌^◌, true, Some, None, MatchOption, IfSome, length};
 ghost use Rattle.std.specs.Str.Parse.{digits_value};
-ghost use Rattle.dn_text.specs.Numbers.{all_digits, within};
+ghost use Rattle.dn_config.specs.Tokens.Numbers.{all_digits, within};
 ghost use Rattle.dn_config.specs.Values.{placed, kept, behind_point, rate_parts_of, loss_at};
 
 use crate::fault::LineFault;
-use dn_text::{read_numeral, split_digits};
+use crate::tokens::{read_numeral, split_digits};
 use dn_types::Loss;
 
 /// The rate 1, in units of 10^-18.

@@ -7,7 +7,7 @@ ghost use Rattle.dn_config.specs.declared.mask_field.MaskWord.TheVariants.{Value
 use crate::fault::LineFault;
 use crate::keywords::{field_named, is_left_out};
 use crate::mask_field::{MaskField, MaskWord, bits_value};
-use dn_text::Words;
+use crate::tokens::Words;
 use dn_types::Mask;
 
 /// The mask with no bits.

@@ -1,11 +1,11 @@
 ghost use Rattle.std.specs.Prelude.{◌≡◌, ◌≤◌, ◌<◌, ◌==◌, ◌&&◌, ◌||◌, IfOk, IsTrue, slice_index, length};
-ghost use Rattle.dn_text.specs.Numbers.{within};
+ghost use Rattle.dn_config.specs.Tokens.Numbers.{within};
 ghost use Rattle.dn_config.specs.Masks.{greatest_of};
 ghost use Rattle.dn_config.specs.Values.{placed, bits_of, bits_at};
 
 use crate::fault::LineFault;
 use crate::numbers::number_fault;
-use dn_text::{NumberFault, read_number, read_numeral};
+use crate::tokens::{NumberFault, read_number, read_numeral};
 
 /// A field of a mask.
 #[derive(Clone, Copy, Debug, PartialEq, Eq)]

@@ -1,9 +1,9 @@
 ghost use Rattle.std.specs.Prelude.{◌≡◌, ◌≤◌, IfOk};
-ghost use Rattle.dn_text.specs.Numbers.{number_within};
+ghost use Rattle.dn_config.specs.Tokens.Numbers.{number_within};
 ghost use Rattle.dn_config.specs.Values.{number_fault, placed, pipe_or_queue_at, weight_at, buckets_at};
 
 use crate::fault::LineFault;
-use dn_text::{NumberFault, read_number};
+use crate::tokens::{NumberFault, read_number};
 use dn_types::{Buckets, Number, Weight};
 
 /// The fault of a line whose number at this position has this fault.

@@ -10,7 +10,7 @@ use crate::limit::limit_value;
 use crate::loss::loss_value;
 use crate::mask::read_mask;
 use crate::numbers::{buckets_value, number_value, weight_value};
-use dn_text::Words;
+use crate::tokens::Words;
 use dn_types::{Bandwidth, Buckets, Delay, Limit, Loss, Mask, Number, Weight};
 
 /// An option with one value.

@@ -7,7 +7,7 @@ use crate::keywords::{is_left_out, option_named};
 use crate::kind::Kind;
 use crate::mask::NO_BITS;
 use crate::option_group::{Setting, option};
-use dn_text::Words;
+use crate::tokens::Words;
 use dn_types::{Bandwidth, Buckets, Delay, Limit, Loss, Mask, Number, Weight};
 
 /// What the options of a line say together.

@@ -6,7 +6,7 @@ use Rattle.std.specs.Option.{option_or}
 use Rattle.csv.specs.Reading.{default_config, records, strip_bom}
 use Rattle.csv.specs.Writing.{fields_text, is_blank}
 use Rattle.csv.specs.declared.parser.State.TheVariants as st
-use Rattle.dn_text.proofs.UntilParts.{bound}
+use Rattle.dn_config.proofs.UntilParts.{bound}
 use Rattle.dn_records.specs.Reading.{records_after}
 use Rattle.dn_records.specs.Records.{Fields, line_of, records_of}
 use Rattle.dn_records.proofs.LineEnds.{BeginsFields, feed-line, line-reads, plain-writes, quoted-writes, return-line}

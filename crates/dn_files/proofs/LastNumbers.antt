@@ -6,10 +6,10 @@ use Rattle.std.specs.Result.{result_ok}
 use Rattle.std.proofs.lemmas.Bool.{cases_Bool, eqb-true}
 use Rattle.std.proofs.lemmas.List.{take-append-drop}
 use Rattle.std.proofs.lemmas.Slice.Eq.{bytes_eq-Decides}
-use Rattle.dn_text.specs.Addresses.{◌>>=◌}
-use Rattle.dn_text.specs.Numbers.{digits, number_within, unit}
-use Rattle.dn_text.specs.Until.{behind_byte, number_until}
-use Rattle.dn_text.proofs.UntilParts.{bound, number_parts, some_is}
+use Rattle.dn_config.specs.Tokens.Addresses.{◌>>=◌}
+use Rattle.dn_config.specs.Tokens.Numbers.{digits, number_within, unit}
+use Rattle.dn_config.specs.Tokens.Until.{behind_byte, number_until}
+use Rattle.dn_config.proofs.UntilParts.{bound, number_parts, some_is}
 use Rattle.dn_files.specs.LineEnd.{behind_end, behind_word, number_at_end, number_before_return}
 use Rattle.dn_files.proofs.PlainFields.{EndsIn}
 

@@ -2,7 +2,7 @@
 use Rattle.std.proofs.Common.{◌≡◌, ◌∙◌, refl, sym, ap, subst, ℕ, zero, suc, ◌+◌, ◌-◌, ◌<◌, ◌≤◌, ◌^◌, List, ◌∷◌, ◌++◌, length, length-append, drop, Option, Some, None, arith}
 use Rattle.std.specs.Prelude.{max}
 use Rattle.std.proofs.lemmas.List.{length-drop}
-use Rattle.dn_text.proofs.UntilParts.{some_is}
+use Rattle.dn_config.proofs.UntilParts.{some_is}
 use Rattle.dn_records.specs.Records.{line_of}
 use Rattle.dn_files.specs.PacketParts.{BeginsNext, BeginsRow, header}
 use Rattle.dn_files.specs.QuotedRow.{header_until, row_at_front}

@@ -3,8 +3,8 @@ use Rattle.std.proofs.Common.{◌≡◌, ℕ, List, [], ◌∷◌, ◌++◌, ◌
 use Rattle.csv.specs.Writing.{default_writer, field_text}
 use Rattle.dn_types.specs.declared.five_tuple.FiveTuple.{FiveTuple}
 use Rattle.dn_types.specs.declared.target.Target.{Target}
-use Rattle.dn_text.specs.Addresses.{address_of}
-use Rattle.dn_text.specs.Numbers.{number_within}
+use Rattle.dn_config.specs.Tokens.Addresses.{address_of}
+use Rattle.dn_config.specs.Tokens.Numbers.{number_within}
 use Rattle.dn_records.specs.Records.{Fields}
 use Rattle.dn_records.proofs.LineEnds.{BeginsFields, Opens, Writes}
 use Rattle.dn_files.specs.Fields.{target_at, tuple_at}

@@ -10,11 +10,11 @@ use Rattle.dn_types.specs.declared.five_tuple.FiveTuple.{FiveTuple}
 use Rattle.dn_types.specs.declared.packet.Packet.{Packet}
 use Rattle.dn_types.specs.declared.target.Target.{Target}
 use Rattle.dn_types.specs.declared.target.Target.TheVariants.{Pipe, Queue}
-use Rattle.dn_text.specs.Addresses.{address_of}
-use Rattle.dn_text.specs.Numbers.{number_within}
-use Rattle.dn_text.specs.declared.number_fault.NumberFault.{NumberFault}
-use Rattle.dn_text.proofs.UntilBack.{address_back, number_back, number_digits}
-use Rattle.dn_text.proofs.UntilParts.{is_address_byte}
+use Rattle.dn_config.specs.Tokens.Addresses.{address_of}
+use Rattle.dn_config.specs.Tokens.Numbers.{number_within}
+use Rattle.dn_config.specs.declared.tokens.number_fault.NumberFault.{NumberFault}
+use Rattle.dn_config.proofs.UntilBack.{address_back, number_back, number_digits}
+use Rattle.dn_config.proofs.UntilParts.{is_address_byte}
 use Rattle.dn_records.specs.Records.{Fields, line_of}
 use Rattle.dn_files.specs.Fields.{or_place, packet_at, target_at, tuple_at}
 use Rattle.dn_files.specs.PacketFile.{row_of}

@@ -8,10 +8,10 @@ use Rattle.csv.specs.Writing.{default_writer, needs_byte}
 use Rattle.dn_types.specs.declared.five_tuple.FiveTuple.{FiveTuple}
 use Rattle.dn_types.specs.declared.target.Target.{Target}
 use Rattle.dn_types.specs.declared.target.Target.TheVariants.{Pipe, Queue}
-use Rattle.dn_text.specs.Numbers.{digits}
-use Rattle.dn_text.specs.Until.{address_until, number_until}
-use Rattle.dn_text.proofs.Capping.{digits_are_digits}
-use Rattle.dn_text.proofs.UntilParts.{address_parts, bound, is_address_byte, number_parts, some_is}
+use Rattle.dn_config.specs.Tokens.Numbers.{digits}
+use Rattle.dn_config.specs.Tokens.Until.{address_until, number_until}
+use Rattle.dn_config.proofs.Capping.{digits_are_digits}
+use Rattle.dn_config.proofs.UntilParts.{address_parts, bound, is_address_byte, number_parts, some_is}
 use Rattle.dn_records.proofs.LineEnds.{BeginsFields, Opens, Writes, field-begins, quoted-writes}
 use Rattle.dn_files.specs.LineEnd.{behind_end, behind_word, number_at_end}
 use Rattle.dn_files.specs.PlainRow.{row_until}

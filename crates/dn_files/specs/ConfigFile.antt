@@ -5,7 +5,7 @@ use Rattle.dn_types.specs.declared.command.Command.{Command}
 use Rattle.dn_config.specs.Line.{answer}
 use Rattle.dn_config.specs.Positions.{position_of}
 use Rattle.dn_config.specs.declared.fault.LineFault.{LineFault}
-use Rattle.dn_text.specs.Lines.{lines_of}
+use Rattle.dn_config.specs.Tokens.Lines.{lines_of}
 use Rattle.dn_files.specs.Reading.{◌>>=◌, within_limit}
 use Rattle.dn_files.specs.declared.replay_fault.ReplayFault.{ReplayFault}
 use Rattle.dn_files.specs.declared.replay_fault.ReplayFault.TheVariants.{Config, ConfigText, OutOfMemory}

@@ -6,8 +6,8 @@ use Rattle.dn_types.specs.declared.five_tuple.FiveTuple.{FiveTuple}
 use Rattle.dn_types.specs.declared.packet.Packet.{Packet}
 use Rattle.dn_types.specs.declared.target.Target.{Target}
 use Rattle.dn_types.specs.declared.target.Target.TheVariants.{Pipe, Queue}
-use Rattle.dn_text.specs.Addresses.{address_of}
-use Rattle.dn_text.specs.Numbers.{number_within}
+use Rattle.dn_config.specs.Tokens.Addresses.{address_of}
+use Rattle.dn_config.specs.Tokens.Numbers.{number_within}
 use Rattle.dn_records.specs.Records.{Fields}
 use Rattle.dn_files.specs.Reading.{◌>>=◌}
 

@@ -2,8 +2,8 @@
 -- return and a line feed.
 use Rattle.std.specs.Prelude.{ℕ, List, [], ◌∷◌, length, take, drop, Option, Some, None, bytes_eq, if◌then◌else◌, unwrap_or}
 use Rattle.std.specs.Option.{option_or}
-use Rattle.dn_text.specs.Addresses.{◌>>=◌}
-use Rattle.dn_text.specs.Until.{number_until}
+use Rattle.dn_config.specs.Tokens.Addresses.{◌>>=◌}
+use Rattle.dn_config.specs.Tokens.Until.{number_until}
 
 -- What stands behind a word at the front of a text.
 abbrev pub behind_word : List ℕ → List ℕ → Option (List ℕ)

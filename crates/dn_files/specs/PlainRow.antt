@@ -4,8 +4,8 @@ use Rattle.std.specs.Option.{option_or}
 use Rattle.dn_types.specs.declared.five_tuple.FiveTuple.{FiveTuple}
 use Rattle.dn_types.specs.declared.target.Target.{Target}
 use Rattle.dn_types.specs.declared.target.Target.TheVariants.{Pipe, Queue}
-use Rattle.dn_text.specs.Addresses.{◌>>=◌}
-use Rattle.dn_text.specs.Until.{address_until, number_until}
+use Rattle.dn_config.specs.Tokens.Addresses.{◌>>=◌}
+use Rattle.dn_config.specs.Tokens.Until.{address_until, number_until}
 use Rattle.dn_files.specs.LineEnd.{behind_word, number_at_end}
 use Rattle.dn_files.specs.declared.row.Row.{Row}
 

@@ -1,10 +1,10 @@
 ghost use Rattle.std.specs.Prelude.{◌≡◌, ◌≤◌, ◌<◌, IfOk};
 ghost use Rattle.csv.specs.Records.{fields_of};
-ghost use Rattle.dn_text.specs.Addresses.{address_of};
+ghost use Rattle.dn_config.specs.Tokens.Addresses.{address_of};
 ghost use Rattle.dn_files.specs.Fields.{or_place, column, is_form, is_name, number_at};
 
 use csv::ByteRecord;
-use dn_text::{read_address, read_number};
+use dn_config::{read_address, read_number};
 
 /// The field of a record at a place, from 1, empty where the record is shorter.
 pub fn column(fields: &ByteRecord, place: usize) -> &[u8]

@@ -1,7 +1,7 @@
 ghost use Rattle.std.specs.Prelude.{◌≡◌, ◌≤◌, IfSome, option_map};
 ghost use Rattle.dn_files.specs.LineEnd.{behind_end, behind_first, number_at_end, number_before_return, past_mark};
 
-use dn_text::number_until;
+use dn_config::number_until;
 
 // What follows a byte order mark at the front of a text, and else the text.
 #[tactic(auto, unfolding(crate::specs::LineEnd::past_mark))]

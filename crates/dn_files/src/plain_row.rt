@@ -4,7 +4,7 @@ ghost use Rattle.dn_files.specs.PlainRow.{kind_until, row_until, target_until, t
 
 use crate::line_end::number_at_end;
 use crate::row::Row;
-use dn_text::{address_until, number_until};
+use dn_config::{address_until, number_until};
 use dn_types::{FiveTuple, Len, Moment, Number, Packet, Target};
 
 /// The pipe at the front of a text, and what stands behind the comma after its number.

@@ -4,7 +4,7 @@ ghost use Rattle.dn_files.specs.QuotedRow.{address_field, behind_name, header_un
 use crate::line_end::{behind_end, behind_first, number_at_end};
 use crate::plain_row::plain_row;
 use crate::row::Row;
-use dn_text::{address_until, number_until};
+use dn_config::{address_until, number_until};
 use dn_types::{FiveTuple, Len, Moment, Number, Packet, Target};
 
 /// What follows the header at the front of a text, if its names are written plainly or all in quotes.

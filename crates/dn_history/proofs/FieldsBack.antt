@@ -10,8 +10,8 @@ use Rattle.dn_types.specs.declared.five_tuple.FiveTuple.{FiveTuple}
 use Rattle.dn_types.specs.declared.packet.Packet.{Packet}
 use Rattle.dn_types.specs.declared.target.Target.{Target}
 use Rattle.dn_types.specs.declared.target.Target.TheVariants.{Pipe, Queue}
-use Rattle.dn_text.specs.Addresses.{address_of, at_point, octet_of}
-use Rattle.dn_text.proofs.NumbersBack.{ascii_digits, ranged_back}
+use Rattle.dn_config.specs.Tokens.Addresses.{address_of, at_point, octet_of}
+use Rattle.dn_config.proofs.NumbersBack.{ascii_digits, ranged_back}
 use Rattle.dn_records.specs.Records.{Fields}
 use Rattle.dn_records.specs.Writing.{address_text}
 use Rattle.dn_history.specs.EntryRecords.{target_name, target_number}

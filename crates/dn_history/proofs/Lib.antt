@@ -1,8 +1,11 @@
+pub mod AuditSteps
 pub mod CallsBack
 pub mod EntriesBack
 pub mod EntriesBehind
 pub mod EntryTurns
 pub mod FieldsBack
+pub mod FileAuditSteps
+pub mod Found
 pub mod HistoryBack
 pub mod HistoryExample
 pub mod HistoryFaults
@@ -16,4 +19,5 @@ pub mod PartsRead
 pub mod PlainForms
 pub mod Remarks
 pub mod RepliesBack
+pub mod SameReplies
 pub mod VersionLines

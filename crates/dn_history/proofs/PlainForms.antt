@@ -12,10 +12,10 @@ use Rattle.dn_types.specs.declared.five_tuple.FiveTuple.{FiveTuple}
 use Rattle.dn_types.specs.declared.reply.Reply.{Reply}
 use Rattle.dn_types.specs.declared.reply.Reply.TheVariants.{Queued}
 use Rattle.dn_types.specs.declared.target.Target.{Target}
-use Rattle.dn_text.specs.Addresses.{address_of}
-use Rattle.dn_text.specs.Numbers.{digits, number_within}
-use Rattle.dn_text.specs.Until.{number_until}
-use Rattle.dn_text.proofs.UntilParts.{number_parts}
+use Rattle.dn_config.specs.Tokens.Addresses.{address_of}
+use Rattle.dn_config.specs.Tokens.Numbers.{digits, number_within}
+use Rattle.dn_config.specs.Tokens.Until.{number_until}
+use Rattle.dn_config.proofs.UntilParts.{number_parts}
 use Rattle.dn_records.specs.Reading.{BeginsLine, records_after}
 use Rattle.dn_records.specs.Records.{Fields}
 use Rattle.dn_records.proofs.LineEnds.{BeginsFields, Opens, field-begins, fields-then, line-reads, plain-writes}

@@ -1,5 +1,7 @@
+pub mod Audit
 pub mod EntriesLeft
 pub mod EntryRecords
+pub mod FileAudit
 pub mod HistoryFaults
 pub mod HistoryFile
 pub mod HistoryItems

@@ -11,9 +11,9 @@ use Rattle.dn_types.specs.declared.command.Command.TheVariants.{Pipe, Queue}
 use Rattle.dn_types.specs.declared.limit.Limit.{Limit}
 use Rattle.dn_types.specs.declared.mask.Mask.{Mask}
 use Rattle.dn_types.specs.declared.limit.Limit.TheVariants.{Slots}
-use Rattle.dn_text.specs.Numbers.{within, numeral_of}
-use Rattle.dn_text.proofs.Capping.{ok_within}
-use Rattle.dn_text.proofs.NumbersBack.{ascii_digits, number_back, ranged_back}
+use Rattle.dn_config.specs.Tokens.Numbers.{within, numeral_of}
+use Rattle.dn_config.proofs.Capping.{ok_within}
+use Rattle.dn_config.proofs.NumbersBack.{ascii_digits, number_back, ranged_back}
 use Rattle.dn_config.specs.Groups.{◌>>=◌, belongs, value_of}
 use Rattle.dn_config.specs.Keywords.{option_of, field_of, is_left_out_word}
 use Rattle.dn_config.specs.Line.{command_of, config_at, behind_kind, command_with}

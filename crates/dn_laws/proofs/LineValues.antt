@@ -14,9 +14,9 @@ use Rattle.std.proofs.lemmas.List.Folds.{list_all-append}
 use Rattle.std.proofs.lemmas.Nat.{pow-add}
 use Rattle.dn_types.specs.declared.limit.Limit.{Limit}
 use Rattle.dn_types.specs.declared.limit.Limit.TheVariants.{Slots, Kbytes}
-use Rattle.dn_text.specs.Numbers.{within}
-use Rattle.dn_text.proofs.Capping.{ok_within}
-use Rattle.dn_text.proofs.NumbersBack.{ascii_digits, number_back, ranged_back}
+use Rattle.dn_config.specs.Tokens.Numbers.{within}
+use Rattle.dn_config.proofs.Capping.{ok_within}
+use Rattle.dn_config.proofs.NumbersBack.{ascii_digits, number_back, ranged_back}
 use Rattle.dn_config.specs.Keywords.{is_among}
 use Rattle.dn_config.specs.Values.{placed, delay_at, limit_at, limited, rate_of, bandwidth_at, rate_parts_of, kept, loss_at}
 use Rattle.dn_config.proofs.ValuesBack.{digits_front, digits_of}

@@ -6,8 +6,8 @@ use Rattle.std.proofs.lemmas.Bool.{and_parts}
 use Rattle.std.proofs.lemmas.Bool.Decides.{nat_tests}
 use Rattle.dn_types.specs.declared.call.Call.{Call}
 use Rattle.dn_types.specs.declared.command.Command.{Command}
-use Rattle.dn_text.specs.Numbers.{number_of, within}
-use Rattle.dn_text.specs.declared.number_fault.NumberFault.{NumberFault}
+use Rattle.dn_config.specs.Tokens.Numbers.{number_of, within}
+use Rattle.dn_config.specs.declared.tokens.number_fault.NumberFault.{NumberFault}
 use Rattle.dn_records.specs.Records.{Fields}
 use Rattle.dn_files.specs.Fields.{column, is_form, is_name, or_place}
 use Rattle.dn_history.specs.HistoryRecords.{caller_of, is_call, plain_call}

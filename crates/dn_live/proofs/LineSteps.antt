@@ -7,7 +7,7 @@ use Rattle.std.specs.Io.KnownBytes.{Consumes, Keeps, prepend_known}
 use Rattle.std.proofs.lemmas.List.Elements.{All-append}
 use Rattle.std.proofs.lemmas.List.Sums.{fails_before_first, passes_at_first}
 use Rattle.std.proofs.lemmas.List.{get_or-take}
-use Rattle.dn_text.specs.Lines.{is_line_feed}
+use Rattle.dn_config.specs.Tokens.Lines.{is_line_feed}
 use Rattle.dn_live.specs.LinesTaken.{HasFront, IsOneLine, IsTooLong, TakesPiece, line_limit}
 
 -- The bytes before the first line feed have none.

@@ -1,7 +1,7 @@
 ghost use Rattle.std.specs.Prelude.{◌≡◌, ◌≤◌, ◌<◌, ◌++◌, ℕ, List, [], length, false, IfOk, IfErr};
 ghost use Rattle.std.specs.List.{position_or_len};
 ghost use Rattle.std.specs.Io.KnownBytes.{prepend_known};
-ghost use Rattle.dn_text.specs.Lines.{is_line_feed};
+ghost use Rattle.dn_config.specs.Tokens.Lines.{is_line_feed};
 ghost use Rattle.dn_live.specs.LinesTaken.{IsFilled, IsLine, IsNotRead, IsNotTaken, IsOneLine, TakesLine, TakesPiece};
 
 use dn_files::{ReplayFault, Source};

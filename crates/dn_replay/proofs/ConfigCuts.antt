@@ -6,7 +6,7 @@ use Rattle.std.proofs.lemmas.Bool.{cases_Bool}
 use Rattle.std.proofs.lemmas.List.{take_more}
 use Rattle.std.proofs.lemmas.List.Elements.{All-head, All-tail}
 use Rattle.std.proofs.lemmas.Slice.Eq.{bytes_eq-Decides}
-use Rattle.dn_text.specs.Joined.{after_end, after_mark, joined_parts, parts_from}
+use Rattle.dn_config.specs.Tokens.Joined.{after_end, after_mark, joined_parts, parts_from}
 use Rattle.dn_replay.specs.OnePass.{behind, is_mark, IsConfigSoFar, IsLine}
 use Rattle.dn_replay.specs.declared.config.config_part.ConfigPart.{ConfigPart}
 

@@ -10,9 +10,9 @@ use Rattle.dn_types.specs.declared.call.Call.{Call}
 use Rattle.dn_types.specs.declared.call.Call.TheVariants.{Configure}
 use Rattle.dn_types.specs.declared.command.Command.{Command}
 use Rattle.dn_types.specs.declared.rule.Rule.TheVariants.{Ordered}
-use Rattle.dn_text.specs.Joined.{after_mark, joined_parts, parts_from}
-use Rattle.dn_text.specs.Lines.{is_line_feed, lines_of, without_empty_end}
-use Rattle.dn_text.specs.Words.{is_nonempty}
+use Rattle.dn_config.specs.Tokens.Joined.{after_mark, joined_parts, parts_from}
+use Rattle.dn_config.specs.Tokens.Lines.{is_line_feed, lines_of, without_empty_end}
+use Rattle.dn_config.specs.Tokens.Words.{is_nonempty}
 use Rattle.dn_records.specs.Records.{Fields, records_of}
 use Rattle.dn_files.specs.ConfigFile.{command_at, config_limit}
 use Rattle.dn_files.specs.PacketFile.{is_header, row_at, row_of, rows_below, rows_from, rows_of}

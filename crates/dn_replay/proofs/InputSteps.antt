@@ -6,7 +6,7 @@ use Rattle.dn_types.specs.History.{IsLawful}
 use Rattle.dn_types.specs.declared.call.Call.{Call}
 use Rattle.dn_types.specs.declared.entry.Entry.{Entry}
 use Rattle.dn_types.specs.declared.rule.Rule.TheVariants.{Ordered}
-use Rattle.dn_text.specs.Joined.{joined_parts}
+use Rattle.dn_config.specs.Tokens.Joined.{joined_parts}
 use Rattle.dn_files.specs.PacketFile.{rows_of}
 use Rattle.dn_files.specs.Reading.{◌>>=◌, IsFaultOf, IsTextOf, within_limit}
 use Rattle.dn_files.specs.declared.replay_fault.ReplayFault.{ReplayFault}

@@ -5,7 +5,7 @@ use Rattle.dn_types.specs.declared.call.Call.{Call}
 use Rattle.dn_types.specs.declared.call.Call.TheVariants.{Configure}
 use Rattle.dn_types.specs.declared.command.Command.{Command}
 use Rattle.dn_types.specs.declared.rule.Rule.TheVariants.{Ordered}
-use Rattle.dn_text.specs.Lines.{lines_of}
+use Rattle.dn_config.specs.Tokens.Lines.{lines_of}
 use Rattle.dn_files.specs.ConfigFile.{command_at}
 use Rattle.dn_files.specs.Reading.{◌>>=◌}
 use Rattle.dn_files.specs.declared.replay_fault.ReplayFault.{ReplayFault}

@@ -13,7 +13,7 @@ use Rattle.dn_config.specs.Line.{answer}
 use Rattle.dn_config.specs.Positions.{position_of}
 use Rattle.dn_config.specs.declared.fault.LineFault.{LineFault}
 use Rattle.dn_records.specs.Records.{Fields, records_of}
-use Rattle.dn_text.specs.Lines.{lines_of}
+use Rattle.dn_config.specs.Tokens.Lines.{lines_of}
 use Rattle.dn_files.specs.ConfigFile.{command_at, config_limit, fault_at, said_at}
 use Rattle.dn_replay.specs.Configuring.{applied, configured_by, configured_from, refusal, unless}
 use Rattle.dn_files.specs.PacketFile.{is_header, packet_file, packet_limit, row_at, row_of, rows_below, rows_from, rows_of}

@@ -1,7 +1,7 @@
 -- Which text has come of a replay, step by step.
 use Rattle.std.proofs.Common.{◌≡◌, refl, subst, sym, ℕ, ◌+◌, ◌-◌, ◌≤◌, Bool, List, [], ◌++◌, length, length-append, Option, Some, None, Result, Ok, arith}
 use Rattle.dn_types.specs.declared.call.Call.{Call}
-use Rattle.dn_text.specs.Joined.{joined_parts}
+use Rattle.dn_config.specs.Tokens.Joined.{joined_parts}
 use Rattle.dn_files.specs.declared.replay_fault.ReplayFault.{ReplayFault}
 use Rattle.dn_files.specs.declared.source.Source.TheVariants.{Input, Packets}
 use Rattle.dn_replay.specs.Held.{has_entries}

@@ -2,7 +2,7 @@
 use Rattle.std.specs.Prelude.{◌≡◌, ℕ, Bool, List, [], ◌++◌, Option, Result, Ok}
 use Rattle.dn_types.specs.declared.call.Call.{Call}
 use Rattle.dn_types.specs.declared.entry.Entry.{Entry}
-use Rattle.dn_text.specs.Joined.{joined_parts}
+use Rattle.dn_config.specs.Tokens.Joined.{joined_parts}
 use Rattle.dn_files.specs.declared.replay_fault.ReplayFault.{ReplayFault}
 use Rattle.dn_files.specs.declared.row.Row.{Row}
 use Rattle.dn_replay.specs.Rows.{submitted}

@@ -5,7 +5,7 @@ use Rattle.dn_types.specs.History.{IsLawful}
 use Rattle.dn_types.specs.declared.call.Call.{Call}
 use Rattle.dn_types.specs.declared.entry.Entry.{Entry}
 use Rattle.dn_types.specs.declared.rule.Rule.TheVariants.{Ordered}
-use Rattle.dn_text.specs.Joined.{joined_parts, parts_from}
+use Rattle.dn_config.specs.Tokens.Joined.{joined_parts, parts_from}
 use Rattle.dn_files.specs.PacketFile.{rows_of}
 use Rattle.dn_files.specs.PacketParts.{HasRead}
 use Rattle.dn_files.specs.Reading.{◌>>=◌, IsFaultOf}

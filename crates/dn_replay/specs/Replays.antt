@@ -3,7 +3,7 @@ use Rattle.std.specs.Prelude.{◌≡◌, ℕ, Bool, true, false, List, Option, N
 use Rattle.std.specs.Io.KnownBytes.{Appends}
 use Rattle.dn_types.specs.declared.call.Call.{Call}
 use Rattle.dn_types.specs.declared.entry.Entry.{Entry}
-use Rattle.dn_text.specs.Joined.{joined_parts}
+use Rattle.dn_config.specs.Tokens.Joined.{joined_parts}
 use Rattle.dn_files.specs.ConfigFile.{config_limit}
 use Rattle.dn_replay.specs.Configuring.{configured_by}
 use Rattle.dn_files.specs.PacketFile.{packet_limit, rows_of}

@@ -7,11 +7,11 @@ mod replays;
 mod report;
 
 pub use callers::{Gate, NoGate, replay_callers, replay_callers_with_key};
-pub use dn_audit::{
-    FileAudit, Verdict, audit, audit_file, audit_file_with_key, audit_file_within, audit_with_key,
-};
 pub use dn_files::{PACKET_LIMIT, ReplayFault, Row, Source, read_config, read_packets};
-pub use dn_history::{HISTORY_LIMIT, read_history, write_history};
+pub use dn_history::{
+    FileAudit, HISTORY_LIMIT, Verdict, audit, audit_file, audit_file_with_key, audit_file_within,
+    audit_with_key, read_history, write_history,
+};
 pub use dn_records::{FromReader, FromWriter, Inlet, Outlet};
 pub use dn_shaper::HashKey;
 pub use replays::{FileReplay, Manner, replay, replay_files, replay_input, replay_joined};

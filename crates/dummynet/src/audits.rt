@@ -1,4 +1,4 @@
-use dn_command::Audit;
+use crate::request::Audit;
 use dn_records::{FromReader, FromWriter};
 use dn_replay::{HISTORY_LIMIT, HashKey, ReplayFault, Source, audit_file_within};
 use std::rt::Files;

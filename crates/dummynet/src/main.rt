@@ -1,24 +1,32 @@
 //! The program: opens what the command line names, replays, audits or serves, and ends with the status of what came of it.
 #![tactic(auto)]
 
+mod asked;
 mod audits;
 mod fault;
+mod form;
 mod history_file;
+mod refusal;
 mod replays;
+mod request;
+mod words;
 
+use asked::request_of;
 use audits::audit;
-use dn_command::{Refusal, Request, request_of, words_of};
 use dn_live::live;
 use dn_records::{FromReader, FromWriter};
 use dn_replay::{HashKey, ReplayFault};
 use fault::Fault;
+use refusal::Refusal;
 use replays::{replay_files, replay_input};
+use request::Request;
 use std::io;
 use std::process::ExitCode;
 use std::random::RandomSource;
 use std::rt::{Env, Files};
 use std::sync::Wait;
 use std::thread::Threads;
+use words::words_of;
 
 // The status of a replay that was made.
 const DONE: u8 = 0;
@@ -78,10 +86,8 @@ fn status_of<R>(rt: &R) -> Result<u8, Refusal>
 where
     R: Env + Input + Files + Print + Eprint + AllocGlobal + Threads + Wait + Sync + RandomSource,
 {
-    // In the README of dn_command, 1:
     let words = words_of(rt)?;
     let request = request_of(rt.alloc(), words.as_slice())?;
-    // Up to here.
     Ok(done(rt, &request))
 }
 

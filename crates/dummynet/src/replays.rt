@@ -1,6 +1,6 @@
 use crate::fault::Fault;
 use crate::history_file::{HistoryFile, may_take_history};
-use dn_command::Replay;
+use crate::request::Replay;
 use dn_records::{FromReader, FromWriter};
 use dn_replay::{
     HashKey, Manner, NoGate, PACKET_LIMIT, ReplayFault, Source, replay_callers_with_key,

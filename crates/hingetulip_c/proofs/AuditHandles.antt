@@ -13,7 +13,7 @@ use denote.Steps.{nothing}
 use denote.Struct.Struct.{within}
 use denote.Struct.Owning.{shape}
 use Rattle.std_alloc.specs.Box.Ownership.{box_owns}
-use Rattle.dn_audit.specs.contracts.file_audit.file_audit.FileAudit as file_audit
+use Rattle.dn_history.specs.contracts.file_audit.file_audit.FileAudit as file_audit
 use Rattle.hingetulip_c.specs.contracts.audit_handle.AuditHandle as handle
 use Rattle.hingetulip_c.specs.Handles.{freed, owned_by}
 use Rattle.hingetulip_c.proofs.RawBoxes.{two}

@@ -1,8 +1,8 @@
 -- What comes to the audit that a handle holds, and what that finds.
 use Rattle.std.proofs.Common.{◌≡◌, ◌≢◌, ◌∙◌, ◌≤◌, ◌<◌, ℕ, List, [], ◌∷◌, ◌++◌, Err, length, subst, sym, arith}
-use Rattle.dn_audit.specs.FileAudit.{HasCome, HasVerdict, IsUnfed}
-use Rattle.dn_audit.specs.declared.file_audit.file_audit.FileAudit.{FileAudit}
-use Rattle.dn_audit.specs.declared.verdict.Verdict.{Verdict}
+use Rattle.dn_history.specs.FileAudit.{HasCome, HasVerdict, IsUnfed}
+use Rattle.dn_history.specs.declared.file_audit.file_audit.FileAudit.{FileAudit}
+use Rattle.dn_history.specs.declared.verdict.Verdict.{Verdict}
 use Rattle.dn_files.specs.declared.replay_fault.ReplayFault.{ReplayFault}
 use Rattle.dn_files.specs.declared.replay_fault.ReplayFault.TheVariants.{BadRecord, OutOfMemory, TooLong}
 use Rattle.dn_history.specs.HistoryFile.{history_in}

@@ -1,9 +1,9 @@
 -- An audit that C holds: the part of a history file that has come to it, and the verdict on a whole file in C's words.
 use Rattle.std.specs.Prelude.{◌≡◌, ℕ, List}
-use Rattle.dn_audit.specs.FileAudit.{HasCome, HasVerdict}
-use Rattle.dn_audit.specs.declared.file_audit.file_audit.FileAudit.{FileAudit}
-use Rattle.dn_audit.specs.declared.verdict.Verdict.{Verdict}
-use Rattle.dn_audit.specs.declared.verdict.Verdict.TheVariants.{Lawful, Differs}
+use Rattle.dn_history.specs.FileAudit.{HasCome, HasVerdict}
+use Rattle.dn_history.specs.declared.file_audit.file_audit.FileAudit.{FileAudit}
+use Rattle.dn_history.specs.declared.verdict.Verdict.{Verdict}
+use Rattle.dn_history.specs.declared.verdict.Verdict.TheVariants.{Lawful, Differs}
 use Rattle.dn_files.specs.declared.replay_fault.ReplayFault.{ReplayFault}
 use Rattle.dn_files.specs.declared.replay_fault.ReplayFault.TheVariants.{TooLong}
 use Rattle.hingetulip_c.specs.Handles.{Holds}

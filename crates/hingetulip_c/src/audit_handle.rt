@@ -1,13 +1,13 @@
 ghost use Rattle.std.specs.Prelude.{◌≡◌, List, [], ◌∷◌};
 ghost use Rattle.std.specs.Option.{MatchOption};
 ghost use Rattle.std_alloc.specs.Box.Ownership.{box_owns};
-ghost use Rattle.dn_audit.specs.contracts.file_audit.file_audit.FileAudit.{the_row};
-ghost use Rattle.dn_audit.specs.declared.file_audit.file_audit.FileAudit.{FileAudit as FileAuditValue};
+ghost use Rattle.dn_history.specs.contracts.file_audit.file_audit.FileAudit.{the_row};
+ghost use Rattle.dn_history.specs.declared.file_audit.file_audit.FileAudit.{FileAudit as FileAuditValue};
 ghost use Rattle.hingetulip_c.specs.Handles.{freed, owned_by};
 ghost use base.Stored.{coded_list};
 
 use crate::raw_box::RawBox;
-use dn_audit::FileAudit;
+use dn_history::FileAudit;
 use std::alloc::Global;
 use std::marker::Model;
 

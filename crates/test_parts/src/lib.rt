@@ -2,13 +2,27 @@
 #![tactic(auto)]
 
 #[cfg(test)]
+mod active;
+#[cfg(test)]
 mod beside;
 #[cfg(test)]
 mod config;
 #[cfg(test)]
+mod discards;
+#[cfg(test)]
+mod flows;
+#[cfg(test)]
+mod flows_in_room;
+#[cfg(test)]
+mod given;
+#[cfg(test)]
 mod heap;
 #[cfg(test)]
 mod keys;
+#[cfg(test)]
+mod link;
+#[cfg(test)]
+mod passing;
 #[cfg(test)]
 mod placed_heap;
 #[cfg(test)]
@@ -19,6 +33,8 @@ mod pushes;
 mod readme;
 #[cfg(test)]
 mod replies;
+#[cfg(test)]
+mod scheduler;
 #[cfg(test)]
 mod text;
 #[cfg(test)]

@@ -1,8 +1,13 @@
 //! Samples of the READMEs, each run: their lines stand between marks, and tools/gate/samples.py compares them with the pages.
-use dn_config::{LineFault, parse_line, print_command};
-use dn_text::{NumberFault, Words, number_until, read_address, read_number, split_joined};
-use dn_types::{Call, FiveTuple, Len, Moment, Number, Packet, Target};
-use std::alloc::AllocError;
+use crate::given::{at_most, key, packet};
+use dn_config::{
+    LineFault, NumberFault, Words, number_until, parse_line, print_command, read_address,
+    read_number, split_joined,
+};
+use dn_flows::{DropRule, Flows, HashKey, Verdict, Waiting};
+use dn_types::{Call, FiveTuple, FlowKey, Len, Limit, Moment, Number, Packet, Target, Weight};
+use dn_wf2q::Sched;
+use std::alloc::{AllocError, Global};
 use std::test::Fail;
 
 fn packet_to_pipe() -> Result<Call, &'static str> {
@@ -42,7 +47,7 @@ fn the_types(rt: HostRuntime) -> Result<(), Fail> {
 fn numbers_words_and_joined_inputs(rt: HostRuntime) {
     let line = b"pipe 1 config".as_slice();
     let input = b"pipe 1 config\n--\nmoment\n".as_slice();
-    // In the README of dn_text, 1:
+    // In the README of dn_config, 2:
     let port = read_number(b"2000", 0, 65_535);
     let none = read_number(b"02000", 0, 65_535);
     let high = read_number(b"70000", 0, 65_535);
@@ -77,4 +82,73 @@ fn lines_of_a_configuration(rt: HostRuntime) -> Result<(), AllocError> {
     }
     // Up to here.
     panic!(rt; "no command")
+}
+
+fn slot_picked(alloc: Global, len: Len, weight: Weight) -> Result<Option<usize>, AllocError> {
+    // In the README of dn_wf2q, 1:
+    let mut sched = Sched::new(alloc);
+    sched.begin_busy();
+    sched.reserve_flow(0)?;
+    sched.arrive(0, len, weight);
+    let sent = sched.pick();
+    // Up to here.
+    Ok(sent)
+}
+
+#[test]
+fn the_scheduler(rt: HostRuntime) {
+    let len = Len::new(1000).unwrap();
+    let weight = Weight::new(1).unwrap();
+    let mut sent = slot_picked(rt.alloc(), len, weight);
+    if sent.is_err() {
+        sent = slot_picked(rt.alloc(), len, weight);
+    }
+    assert!(rt; sent == Ok(Some(0)));
+}
+
+#[test]
+fn the_flow_table(rt: HostRuntime) -> Result<(), AllocError> {
+    let (alloc, hash_key) = (rt.alloc(), HashKey(7));
+    // In the README of dn_flows, 1:
+    let mut flows = Flows::with_key(alloc, hash_key);
+    // Up to here.
+    let len = Len::new(1_000).unwrap();
+    let rule = at_most(Limit::slots(1).unwrap());
+    let outcome = first_of_flow(&mut flows, key(1), &packet(len, 0), &rule);
+    drop(flows);
+    assert!(rt; outcome? == Some(Waiting { packet: 7, len }));
+    Ok(())
+}
+
+/// Makes the flow and judges the packet, and then the flow's first packet starts.
+fn first_of_flow(
+    flows: &mut Flows,
+    flow_key: FlowKey,
+    packet: &Packet,
+    rule: &DropRule,
+) -> Result<Option<Waiting>, AllocError> {
+    // In the README of dn_flows, 1:
+    let flow = flows.find_or_make(flow_key)?;
+    flows.reserve_place(flow)?;
+    // Up to here.
+    let counts = flows.status(flow);
+    if counts.lost > 100 || counts.full > 100 || counts.started > 100 {
+        return Ok(None);
+    }
+    let number = 7;
+    // In the README of dn_flows, 1:
+    match flows.verdict(flow, packet, rule) {
+        Verdict::Take => flows.push_reserved(
+            flow,
+            Waiting {
+                packet: number,
+                len: packet.len,
+            },
+        ),
+        Verdict::Lost => flows.note_lost(flow),
+        Verdict::Full => flows.note_full(flow),
+    }
+    let next = flows.pop_front(flow);
+    // Up to here.
+    Ok(next)
 }

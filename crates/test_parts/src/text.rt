@@ -1,4 +1,4 @@
-use dn_text::{
+use dn_config::{
     Lines, NumberFault, Words, address_until, number_until, read_address, read_number,
     read_numeral, split_digits, split_joined,
 };

@@ -36,11 +36,11 @@ fn the_example_of_the_readme(rt: HostRuntime) -> Result<(), Fail> {
     write_history(alloc, &history, &mut FromWriter::new(&mut file))?;
     // Up to here.
     assert!(rt; !outcome.untargeted);
-    // In the README of dn_replay, 1, and of dn_audit, 1:
+    // In the README of dn_replay, 1, and of dn_history, 4:
     let verdict = audit_with_key(alloc, key, Rule::Ordered, &history)?;
     // Up to here.
     assert!(rt; verdict == Verdict::Lawful);
-    // In the README of dn_replay, 1, and of dn_audit, 1:
+    // In the README of dn_replay, 1, and of dn_history, 4:
     let same = audit_file_with_key(alloc, key, &mut FromReader::new(file.as_slice()), &mut out)?;
     // Up to here.
     assert!(rt; same == verdict);

@@ -1,8 +1,8 @@
 use crate::broken::{FULL_QUEUE, REPORT};
 use crate::headers::PACKET_HEADER;
+use dn_config::split_joined;
 use dn_records::FromWriter;
 use dn_replay::{FileReplay, HashKey, Manner, PACKET_LIMIT, ReplayFault, Source};
-use dn_text::split_joined;
 use std::alloc::{AllocError, Global};
 
 // How long the parts of a text are.

@@ -1,7 +1,7 @@
 use crate::broken::{FULL_QUEUE, REPORT};
+use dn_config::split_joined;
 use dn_records::{FromReader, FromWriter};
 use dn_replay::{FileReplay, HashKey, Manner, ReplayFault, Source, replay_files};
-use dn_text::split_joined;
 use std::alloc::Global;
 
 // What a replay of the worked example of a full queue answers whose packets have at most so many bytes.

@@ -1,7 +1,7 @@
 use crate::broken::{FULL_QUEUE, REPORT};
+use dn_config::split_joined;
 use dn_records::{FromReader, FromWriter};
 use dn_replay::{HashKey, Manner, PACKET_LIMIT, ReplayFault, replay_files, replay_input};
-use dn_text::split_joined;
 use std::alloc::Global;
 use std::process::Abort;
 use std::test::Fail;

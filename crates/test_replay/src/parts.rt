@@ -1,8 +1,8 @@
 use crate::broken::{FULL_QUEUE, REPORT};
 use crate::headers::PACKET_HEADER;
+use dn_config::split_joined;
 use dn_records::{FromReader, FromWriter};
 use dn_replay::{HashKey, Manner, PACKET_LIMIT, ReplayFault, Source, replay_files, replay_input};
-use dn_text::split_joined;
 use std::alloc::{AllocError, Global};
 use std::test::Fail;
 use test_devices::Parts;

@@ -2,8 +2,7 @@
 ghost use Rattle.std.specs.Prelude.{◌≡◌};
 
 use crate::calls::{advance, made};
-use dn_audit::audit_file;
-use dn_history::{write_history_end, write_history_front, write_history_part};
+use dn_history::{audit_file, write_history_end, write_history_front, write_history_part};
 use dn_records::{FromReader, FromWriter};
 use dn_service::{AfterFault, Service, Taker, TryAfterFault};
 use std::sync::Mutex;

@@ -3,7 +3,7 @@ ghost use Rattle.std.specs.Prelude.{◌≡◌, All, IfOk};
 ghost use Rattle.dn_service.specs.Callers.{IsOf, IsSameCaller};
 
 use crate::calls::{history_of, made, packet, pipe};
-use dn_audit::{Verdict, audit_with_key};
+use dn_history::{Verdict, audit_with_key};
 use dn_service::{Caller, CloseFault, OpenFault, Service, TryFault};
 use dn_shaper::HashKey;
 use dn_types::{Call, Entry, Reply, Rule};

@@ -3,8 +3,8 @@
 ghost use Rattle.std.specs.Prelude.{IfSome};
 ghost use Rattle.dn_history.specs.PlainRecords.{BeginsCall, BeginsDelivery, BeginsReply};
 
+use dn_config::number_until;
 use dn_files::{number_at_end, target_at_front, tuple_at_front};
-use dn_text::number_until;
 use dn_types::{Call, Delivery, Len, Moment, Packet, Reply};
 
 /// The caller and the call of the plain line of a Submit that a text begins with, and what follows the line.

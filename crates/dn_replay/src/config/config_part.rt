@@ -1,5 +1,5 @@
 ghost use Rattle.std.specs.Prelude.{◌≡◌, ◌∷◌, ◌++◌, ℕ, List, [], true, false, IfOk, OnOk, MatchOption};
-ghost use Rattle.dn_text.specs.Joined.{joined_parts};
+ghost use Rattle.dn_config.specs.Tokens.Joined.{joined_parts};
 ghost use Rattle.dn_replay.specs.OnePass.{IsConfigSoFar, is_mark};
 ghost use Rattle.dn_replay.specs.Feeding.{IsCutIn, TakesLines};
 

@@ -6,9 +6,9 @@ ghost use Rattle.dn_replay.specs.Configuring.{applied, configured_by, refusal};
 ghost use Rattle.dn_files.specs.Reading.{IsFaultOf};
 ghost use Rattle.dn_replay.specs.Runs.{HasMade, AddsEntry};
 
+use dn_config::Lines;
 use dn_files::{ReplayFault, Row, command_at};
 use dn_shaper::{HashKey, Shaper};
-use dn_text::Lines;
 use dn_types::{Call, Command, Entry, Reply, Rule};
 use std::alloc::{AllocError, Global};
 use std::mem;

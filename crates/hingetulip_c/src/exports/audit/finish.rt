@@ -6,8 +6,8 @@ ghost use Rattle.hingetulip_c.specs.Audits.{HoldsText, IsFound, c_verdict};
 use crate::audit_handle::AuditHandle;
 use crate::records::CVerdict;
 use crate::status::{BAD_RECORD, CLOSED, MEMORY, OK};
-use dn_audit::Verdict;
 use dn_files::ReplayFault;
+use dn_history::Verdict;
 use std::alloc::Global;
 
 /// The verdict, with the numbers of the header.

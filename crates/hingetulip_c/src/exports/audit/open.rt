@@ -3,7 +3,7 @@ ghost use Rattle.hingetulip_c.specs.Audits.{HoldsText};
 
 use crate::audit_handle::AuditHandle;
 use crate::status::{MEMORY, OK};
-use dn_audit::FileAudit;
+use dn_history::FileAudit;
 use dn_shaper::HashKey;
 use std::alloc::Global;
 

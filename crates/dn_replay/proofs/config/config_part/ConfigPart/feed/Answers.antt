@@ -1,7 +1,7 @@
 use Rattle.std.proofs.Common.{◌∙◌, ◌+◌, ◌++◌, List, ℕ, ap, drop, subst, take}
 use Rattle.std.proofs.lemmas.List.{take_rest}
 use Rattle.std.proofs.lemmas.List as L
-use Rattle.dn_text.specs.Joined.{joined_parts}
+use Rattle.dn_config.specs.Tokens.Joined.{joined_parts}
 use Rattle.dn_replay.specs.OnePass.{IsConfigSoFar}
 use Rattle.dn_replay.proofs.ConfigCuts.{at_byte, byte_more}
 use Rattle.dn_replay.proofs.config.config_part.ConfigPart.feed.Goals as goal

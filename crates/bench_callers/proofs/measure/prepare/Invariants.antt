@@ -1,5 +1,0 @@
-use Rattle.dn_service.specs.Callers.{IsSameCaller}
-use Rattle.bench_callers.proofs.measure.prepare.Given as goal
-
-abbrev pub invariant-loop-place : goal.invariant-loop-place
-invariant-loop-place g l = IsSameCaller l.initial.caller l.caller

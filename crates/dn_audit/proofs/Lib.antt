@@ -1,4 +1,0 @@
-pub mod AuditSteps
-pub mod FileAuditSteps
-pub mod Found
-pub mod SameReplies

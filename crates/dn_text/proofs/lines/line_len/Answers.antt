@@ -1,6 +1,0 @@
-use Rattle.dn_text.specs.Lines.{is_line_feed}
-use Rattle.dn_text.proofs.Prefixes.{no_position}
-use Rattle.dn_text.proofs.lines.line_len.Goals as goal
-
-pub returns-clause-value : goal.returns-clause-value
-returns-clause-value c = no_position is_line_feed _ _ c.loop-i-test.false c.loop-i.auto.i-end c.loop-i.invariant

@@ -1,8 +1,0 @@
-use Rattle.std.proofs.Common.{◌≡◌, ℕ, ◌<◌, ◌^◌, true, get_or, take}
-use Rattle.std.specs.Char.{is_ascii_digit}
-use Rattle.std.specs.Str.Parse.{digits_value}
-use Rattle.dn_text.proofs.until.short_digits.Given as goal
-
-abbrev pub invariant-loop-i : goal.invariant-loop-i
-invariant-loop-i l =
-    ((k : ℕ) → k < l.i → is_ascii_digit (get_or l.front k 0) ≡ true) × (l.value ≡ digits_value 10 (take l.i l.front)) × (l.value < 10 ^ l.i)
