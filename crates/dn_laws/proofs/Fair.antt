@@ -4,12 +4,10 @@ use Rattle.std.specs.Prelude.{Option, Some, None, nat_eq, slice_get, option_and_
 use Rattle.std.specs.List.{All}
 use Rattle.std.proofs.lemmas.Bool.{eqb-true}
 use Rattle.std.proofs.lemmas.List.Elements.{All-map}
-use Rattle.dn_types.specs.Calls.{trace_of}
-use Rattle.dn_laws.specs.FairShare.{WaitsThroughout, EachThatWaits, CostsAtMost, share}
+use Rattle.dn_laws.specs.FairShare.{CostsAtMost, EachThatWaits, share, SharesFairly, WaitsThroughout}
 use Rattle.dn_types.specs.SharedLinks.{next_packet, virtual_time, link_heads, last_finish_tag}
 use Rattle.dn_types.specs.Trace.{Link, shared, link_eq, Accepted, Start, Event, arrived, started, discarded, is_of, backlog, flow_bound}
 use Rattle.dn_types.specs.Wf2q.{Stamped, heads, pick}
-use Rattle.dn_types.specs.declared.call.Call.{Call}
 use Rattle.dn_laws.proofs.EachHead.{at-head, all-heads}
 use Rattle.dn_types.proofs.Firsts.{heads-same, stamped_of, stamped-first, next-picked}
 use Rattle.dn_types.proofs.Settled.{and-left, link_eq-true}
@@ -212,13 +210,7 @@ module _ (pipe : ℕ) where
         by x' y' (inl none) (inl still) moved later more = inl (omega arith)
         by x' y' (inr near) (inl still) moved later more = inr (omega arith)
 
-pub shares-fairly : (calls : List Call) (pipe one other most_one most_other : ℕ) (later stretch earlier : List Event) (r : Start) →
-    trace_of calls ≡ later ++ (stretch ++ (started r ∷ earlier)) →
-    is_of (shared pipe) one r.packet ≡ true → WaitsThroughout (shared pipe) one (stretch ++ (started r ∷ [])) earlier →
-    WaitsThroughout (shared pipe) other (stretch ++ (started r ∷ [])) earlier →
-    EachThatWaits (CostsAtMost most_one) (shared pipe) one (stretch ++ (started r ∷ [])) earlier →
-    EachThatWaits (CostsAtMost most_other) (shared pipe) other (stretch ++ (started r ∷ [])) earlier →
-    share (shared pipe) other (stretch ++ (started r ∷ [])) ≤ share (shared pipe) one (stretch ++ (started r ∷ [])) + most_other + most_other + most_one
+pub shares-fairly : SharesFairly
 shares-fairly calls pipe one other most_one most_other later stretch earlier r e is w v cheap_one cheap_other =
     let all = stretch ++ (started r ∷ []) in
     let whole = shape stretch in

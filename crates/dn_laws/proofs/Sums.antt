@@ -7,7 +7,7 @@ use Rattle.dn_types.specs.Deliveries.{undelivered, AreInOrder}
 use Rattle.dn_laws.specs.Explained.{IsDueBy, IsDeliveryOf}
 use Rattle.dn_types.specs.Links.{last_due}
 use Rattle.dn_types.specs.Replies.{reply}
-use Rattle.dn_laws.specs.TimeLaws.{IsLack, IsDelayed}
+use Rattle.dn_laws.specs.TimeLaws.{DelaysAddUp, IsDelayed, IsLack}
 use Rattle.dn_types.specs.Trace.{Start}
 use Rattle.dn_types.specs.declared.call.Call.{Call}
 use Rattle.dn_types.specs.declared.call.Call.TheVariants.{Submit, Collect}
@@ -57,9 +57,7 @@ module _ (rule : Rule) (after calls : List Call) (target : Target) (packet : Pac
         sum = omega (arith, early, same, whole);
       }
 
-pub delays-add-up : (rule : Rule) (after calls : List Call) (target : Target) (packet : Packet) (moment at flow number : ℕ) →
-    reply rule calls (Submit target packet moment) ≡ Queued at flow number →
-    All (λ d. d.packet ≡ number → IsDelayed rule (after ++ Submit target packet moment ∷ calls) at d) (undelivered rule (trace_of (after ++ Submit target packet moment ∷ calls)))
+pub delays-add-up : DelaysAddUp
 delays-add-up rule after calls target packet moment at flow number told = λ k x lt.
     let t = trace_of (after ++ Submit target packet moment ∷ calls) in
     one rule after calls target packet moment at flow number told (get_or (undelivered rule t) k x) ((delays-are-explained rule 0 t).0 k x lt)
