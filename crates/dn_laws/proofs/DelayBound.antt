@@ -4,7 +4,7 @@ use Rattle.std.specs.Prelude.{◌^◌, ◌-◌, Option, Some, nat_eq, get_or, �
 use Rattle.std.specs.List.{All}
 use Rattle.std.proofs.lemmas.Bool.{eq-eqb, and_from}
 use Rattle.std.proofs.lemmas.List.{append_cancel_right, append_assoc}
-use Rattle.std.proofs.lemmas.List.Elements.{All-nil, All-push, All-drop, All-head, All-tail, All-cons}
+use Rattle.std.proofs.lemmas.List.Elements.{All-nil, All-head, All-tail, All-cons}
 use Rattle.dn_types.specs.Deliveries.{AreInOrder}
 use Rattle.dn_types.specs.Calls.{trace_of}
 use Rattle.dn_types.specs.Clock.{call_limit, effective_moment}
@@ -36,6 +36,7 @@ use Rattle.dn_types.proofs.Bounded.{first-all}
 use Rattle.dn_laws.proofs.ConfiguredRate.{now}
 use Rattle.dn_types.proofs.Fifo.{IsProper, own-first}
 use Rattle.dn_types.proofs.Ordered.{IsHome, trace-proper, suffix-proper}
+use Rattle.dn_laws.proofs.EachWaiting.{each-pushed, each-left, each-cleared}
 use Rattle.dn_laws.proofs.Rates.{shape}
 use Rattle.dn_types.proofs.Settled.{and-left, link_eq-true, link_eq-refl}
 use Rattle.dn_laws.proofs.Timely.{queued, clock-later}
@@ -76,24 +77,12 @@ module _ (pipe most : ℕ) where
     abbrev IsShort : Accepted → Type 0
     IsShort q = q.stamped.len ≤ most
 
-    push-short : (b : Bool) (qs : List Accepted) (q : Accepted) → (b ≡ true → IsShort q) → All IsShort qs → All IsShort (cond b (qs ++ q ∷ []) qs)
-    push-short true qs q one h = All-push IsShort qs q h (one refl)
-    push-short false qs q one h = h
-
-    drop-short : (b : Bool) (qs : List Accepted) → All IsShort qs → All IsShort (cond b (drop 1 qs) qs)
-    drop-short true qs h = All-drop IsShort 1 qs h
-    drop-short false qs h = h
-
-    clear-short : (b : Bool) (qs : List Accepted) → All IsShort qs → All IsShort (cond b [] qs)
-    clear-short true qs h = All-nil IsShort
-    clear-short false qs h = h
-
     queue-short : (t : List Event) → AreShort t → All (λ q. q.stamped.len ≤ most) (backlog (own pipe flow) flow t)
     queue-short [] h = All-nil IsShort
-    queue-short (arrived p ∷ t) h = push-short (is_of (own pipe flow) flow p) (backlog (own pipe flow) flow t) p
+    queue-short (arrived p ∷ t) h = each-pushed IsShort (is_of (own pipe flow) flow p) (backlog (own pipe flow) flow t) p
         (λ mine. h.0 flow (link_eq-true p.link (own pipe flow) (and-left (link_eq p.link (own pipe flow)) (nat_eq p.stamped.flow flow) mine))) (queue-short t h.1)
-    queue-short (started s ∷ t) h = drop-short (is_of (own pipe flow) flow s.packet) (backlog (own pipe flow) flow t) (queue-short t h)
-    queue-short (discarded n ∷ t) h = clear-short (nat_eq n flow) (backlog (own pipe flow) flow t) (queue-short t h)
+    queue-short (started s ∷ t) h = each-left IsShort (is_of (own pipe flow) flow s.packet) (backlog (own pipe flow) flow t) (queue-short t h)
+    queue-short (discarded n ∷ t) h = each-cleared IsShort (nat_eq n flow) (backlog (own pipe flow) flow t) (queue-short t h)
     queue-short (_ ∷ t) h = queue-short t h
 
     start-short : (s : Start) (t : List Event) → IsProper (started s ∷ t) → IsPrompt (started s ∷ t) → AreShort t → link_eq s.packet.link (own pipe flow) ≡ true → s.packet.stamped.len ≤ most
