@@ -66,22 +66,10 @@ verdict-takes known target packet (Some h) trace link flow how e =
     by true c e = absurd cc
     by false true e = absurd cc
     by false false e =
-        let l : link_of target (flow_number known (key_of target packet.tuple h)) h.pipe ≡ link = ap (link-or link) e in
-        let n : flow_number known (key_of target packet.tuple h) ≡ flow = ap (flow-or flow) e in
-        let t : h ≡ how = ap (how-or how) e in
+        let l : link_of target (flow_number known (key_of target packet.tuple h)) h.pipe ≡ link = cc in
+        let n : flow_number known (key_of target packet.tuple h) ≡ flow = cc in
+        let t : h ≡ how = cc in
         taken l n t
-      where
-        link-or : Link → Verdict → Link
-        link-or d (takes l n t) = l
-        link-or d _ = d
-
-        flow-or : ℕ → Verdict → ℕ
-        flow-or d (takes l n t) = n
-        flow-or d _ = d
-
-        how-or : Treatment → Verdict → Treatment
-        how-or d (takes l n t) = t
-        how-or d _ = d
 
 pub taken-as : (calls : List Call) (target : Target) (packet : Packet) (moment : ℕ) (p : Accepted) (now : List Event) → Arrives calls (Submit target packet moment) p now →
     IsTakenAs calls target packet moment p
@@ -168,15 +156,7 @@ find-arrival (discarded n ∷ f) old more = further f old (discarded n) (find-ar
 find-arrival (collected m ∷ f) old more = further f old (collected m) (find-arrival f old (omega (arith, more, count-event is_arrival (collected m) (f ++ old))))
 
 queued-once : (r : Reply) (at a flow f number n : ℕ) → r ≡ Queued at flow number → r ≡ Queued a f n → (n ≡ number) × (f ≡ flow)
-queued-once r at a flow f number n e h = (ap (number-or 0) (sym h ∙ e), ap (flow-or 0) (sym h ∙ e))
-  where
-    number-or : ℕ → Reply → ℕ
-    number-or d (Queued at flow number) = number
-    number-or d _ = d
-
-    flow-or : ℕ → Reply → ℕ
-    flow-or d (Queued at flow number) = flow
-    flow-or d _ = d
+queued-once r at a flow f number n e h = ((cc), (cc))
 
 pub queued-packets-arrive : QueuedPacketsArrive
 queued-packets-arrive rule calls target packet moment at flow number e =

@@ -25,7 +25,6 @@ use Rattle.dn_types.specs.declared.limit.Limit.{Limit}
 use Rattle.dn_types.specs.declared.limit.Limit.TheVariants.{Slots, Kbytes}
 use Rattle.dn_types.specs.declared.mask.Mask.{Mask}
 use Rattle.dn_types.specs.declared.packet.Packet.{Packet}
-use Rattle.dn_types.specs.declared.reply.Reply.{Reply}
 use Rattle.dn_types.specs.declared.reply.Reply.TheVariants.{Queued, Delivered, Exhausted}
 use Rattle.dn_types.specs.declared.rule.Rule.{Rule}
 use Rattle.dn_types.specs.declared.rule.Rule.TheVariants.{Free, Ordered}
@@ -325,12 +324,8 @@ module _ (rule : Rule) (after since older : List Call) (pipe bw delay : ℕ) (li
       × AreInOrder ds
   deliveries = collects-are-told rule (after ++ Submit (ToPipe pipe) packet moment ∷ (since ++ older)) collect few
 
-  abbrev list-or : List Delivery → Reply → List Delivery
-  list-or d (Delivered n ds) = ds
-  list-or d _ = d
-
   same : list ≡ deliveries.0
-  same = ap (list-or []) (sym given ∙ deliveries.1)
+  same = cc (sym given ∙ deliveries.1)
 
   one : (d : Delivery) → IsDeliveryOf rule (trace_of (Collect collect ∷ after ++ Submit (ToPipe pipe) packet moment ∷ (since ++ older))) d → d.packet ≡ number →
       (d.start ≤ at + transmission_time bw most + time_ahead bw pipe flow moment (since ++ older)) × (d.due ≤ d.start + transmission_time bw most + delay * 10 ^ 6)

@@ -1,5 +1,5 @@
 -- The time from a packet's Submit to its due moment is the sum of its parts.
-use Rattle.std.proofs.Common.{◌≡◌, ◌∙◌, ◌≤◌, ℕ, ◌+◌, ◌-◌, List, [], ◌∷◌, ◌++◌, refl, ap, sym, subst, get_or, arith}
+use Rattle.std.proofs.Common.{◌≡◌, ◌∙◌, ◌≤◌, ℕ, ◌+◌, ◌-◌, List, ◌∷◌, ◌++◌, refl, sym, subst, get_or, arith}
 use Rattle.std.specs.List.{All}
 use Rattle.dn_types.specs.Calls.{trace_of}
 use Rattle.dn_types.specs.Clock.{effective_moment}
@@ -13,7 +13,6 @@ use Rattle.dn_types.specs.declared.call.Call.{Call}
 use Rattle.dn_types.specs.declared.call.Call.TheVariants.{Submit, Collect}
 use Rattle.dn_types.specs.declared.delivery.Delivery.{Delivery}
 use Rattle.dn_types.specs.declared.packet.Packet.{Packet}
-use Rattle.dn_types.specs.declared.reply.Reply.{Reply}
 use Rattle.dn_types.specs.declared.reply.Reply.TheVariants.{Queued, Delivered, Exhausted}
 use Rattle.dn_types.specs.declared.rule.Rule.{Rule}
 use Rattle.dn_types.specs.declared.rule.Rule.TheVariants.{Free, Ordered}
@@ -78,9 +77,5 @@ delivered-delays-add-up rule after calls target packet moment at flow number col
     deliveries = collects-are-told rule (after ++ Submit target packet moment ∷ calls) collect
         (told-few rule (after ++ Submit target packet moment ∷ calls) (Collect collect) (λ none. let t : Exhausted ≡ Delivered now' list = sym none ∙ given in cc))
 
-    list-or : List Delivery → Reply → List Delivery
-    list-or d (Delivered n ds) = ds
-    list-or d _ = d
-
     same : list ≡ deliveries.0
-    same = ap (list-or []) (sym given ∙ deliveries.1)
+    same = cc (sym given ∙ deliveries.1)
