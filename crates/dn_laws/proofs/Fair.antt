@@ -12,6 +12,7 @@ use Rattle.dn_laws.proofs.EachHead.{at-head, all-heads}
 use Rattle.dn_types.proofs.Firsts.{heads-same, stamped_of, stamped-first, next-picked}
 use Rattle.dn_types.proofs.Settled.{and-left, link_eq-true}
 use Rattle.dn_types.proofs.Settling.{and-right, first-own, backlog-own, is_below}
+use Rattle.dn_laws.proofs.Rates.{shape}
 use Rattle.dn_laws.proofs.Shares.{pick-is-fair}
 use Rattle.dn_laws.proofs.Steady.{IsSteady, IsChain, steady, suffix-steady, chain, all-put, waits-before, waits-after, waits-sooner}
 
@@ -213,7 +214,7 @@ module _ (pipe : ℕ) where
 pub shares-fairly : SharesFairly
 shares-fairly calls pipe one other most_one most_other later stretch earlier r e is w v cheap_one cheap_other =
     let all = stretch ++ (started r ∷ []) in
-    let whole = shape stretch in
+    let whole = shape stretch [] (started r) earlier in
     let h : IsSteady (all ++ earlier) = subst IsSteady (sym whole) (suffix-steady later (stretch ++ (started r ∷ earlier)) (subst IsSteady e (steady calls))) in
     let start : IsSteady (started r ∷ earlier) = suffix-steady stretch (started r ∷ earlier) (subst IsSteady whole h) in
     let po = some-first pipe (backlog (shared pipe) other earlier) (waits-first pipe other all earlier v) in
@@ -229,10 +230,6 @@ shares-fairly calls pipe one other most_one most_other later stretch earlier r e
     y.0.stamped.finish_tag po.0.stamped.start_tag po.0.stamped.finish_tag r.packet.stamped.start_tag go gone fair first_cost last_cost
     (close pipe one other most_other all earlier x.0 y.0 h cheap_other w v x.1 y.1)
   where
-    shape : (xs : List Event) → (xs ++ (started r ∷ [])) ++ earlier ≡ xs ++ (started r ∷ earlier)
-    shape [] = refl
-    shape (z ∷ xs) = ap (λ (l : List Event). z ∷ l) (shape xs)
-
     by : (so s1 x y yf po pof r1 : ℕ) → x ≡ po + so → y ≡ r1 + s1 → r1 ≤ pof → pof ≤ po + most_other → yf ≤ y + most_one → (so ≡ 0) ⊎ (x ≤ yf + most_other) →
         so ≤ s1 + most_other + most_other + most_one
     by so s1 x y yf po pof r1 go gone fair first last (inl none) = omega arith
