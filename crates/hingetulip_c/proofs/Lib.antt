@@ -11,4 +11,3 @@ pub mod RawBoxes
 pub mod Rooms
 pub mod ServiceHandles
 pub mod Serving
-pub mod Texts
