@@ -11,3 +11,4 @@ pub mod RawBoxes
 pub mod Rooms
 pub mod ServiceHandles
 pub mod Serving
+pub mod Walks
