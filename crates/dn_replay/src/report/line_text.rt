@@ -106,6 +106,34 @@ fn append_from(text: &mut Vec<u8>, bytes: &[u8], start: usize)
     append(text, &bytes[start..]);
 }
 
+/// Puts the end of a line without a start and a due moment, and before that end the Submit's moment.
+fn put_submitted(bytes: &mut [u8], at: u64) -> usize
+    requires { length bytes.old ≡ 160 }
+    ensures below { result ≤ 157 }
+    ensures start { 136 ≤ result }
+    ensures written { drop result bytes.new ≡ 44 ∷ (decimal at ++ 44 ∷ 44 ∷ 10 ∷ []) }
+    ensures len { length bytes.new ≡ 160 }
+{
+    let end = put_line_feed(bytes);
+    let end = put_byte(bytes, end, b',');
+    let end = put_byte(bytes, end, b',');
+    put_number(bytes, end, at)
+}
+
+/// Adds a line: its first word, the row, and its bytes from `end` on.
+fn add_row(text: &mut Vec<u8>, event: &[u8], row: u128, bytes: &mut [u8], end: usize)
+    requires room { length text.old.items + 160 ≤ vec_capacity text.old }
+    requires word { length event.now ≡ 4 }
+    requires end { (44 ≤ end) × (end ≤ 160) }
+    requires line { length bytes.old ≡ 160 }
+    ensures items { text.new.items ≡ text.old.items ++ (event.now ++ 44 ∷ (decimal row ++ drop end bytes.old)) }
+    ensures capacity { vec_capacity text.old ≤ vec_capacity text.new }
+{
+    let start = put_row(bytes, end, row);
+    append(text, event);
+    append_from(text, bytes, start);
+}
+
 /// Adds the line of names.
 pub(crate) fn add_header(text: &mut Vec<u8>)
     requires { length text.old.items + 160 ≤ vec_capacity text.old }
@@ -150,15 +178,10 @@ pub(crate) fn add_held(text: &mut Vec<u8>, row: u128, flow: usize, packet: u64, 
     ensures capacity { vec_capacity text.old ≤ vec_capacity text.new }
 {
     let mut bytes = [0u8; LINE];
-    let end = put_line_feed(&mut bytes);
-    let end = put_byte(&mut bytes, end, b',');
-    let end = put_byte(&mut bytes, end, b',');
-    let end = put_number(&mut bytes, end, at);
+    let end = put_submitted(&mut bytes, at);
     let end = put_number(&mut bytes, end, packet);
     let end = put_number(&mut bytes, end, flow as u64);
-    let end = put_row(&mut bytes, end, row);
-    append(text, b"held");
-    append_from(text, &bytes, end);
+    add_row(text, b"held", row, &mut bytes, end);
 }
 
 /// Adds the line of a packet that has a flow and was not accepted.
@@ -170,15 +193,10 @@ pub(crate) fn add_refused(text: &mut Vec<u8>, event: &[u8], row: u128, flow: usi
     ensures capacity { vec_capacity text.old ≤ vec_capacity text.new }
 {
     let mut bytes = [0u8; LINE];
-    let end = put_line_feed(&mut bytes);
-    let end = put_byte(&mut bytes, end, b',');
-    let end = put_byte(&mut bytes, end, b',');
-    let end = put_number(&mut bytes, end, at);
+    let end = put_submitted(&mut bytes, at);
     let end = put_byte(&mut bytes, end, b',');
     let end = put_number(&mut bytes, end, flow as u64);
-    let end = put_row(&mut bytes, end, row);
-    append(text, event);
-    append_from(text, &bytes, end);
+    add_row(text, event, row, &mut bytes, end);
 }
 
 /// Adds the line of a packet without a target, which has neither a flow nor a number.
@@ -188,15 +206,10 @@ pub(crate) fn add_no_target(text: &mut Vec<u8>, row: u128, at: u64)
     ensures capacity { vec_capacity text.old ≤ vec_capacity text.new }
 {
     let mut bytes = [0u8; LINE];
-    let end = put_line_feed(&mut bytes);
+    let end = put_submitted(&mut bytes, at);
     let end = put_byte(&mut bytes, end, b',');
     let end = put_byte(&mut bytes, end, b',');
-    let end = put_number(&mut bytes, end, at);
-    let end = put_byte(&mut bytes, end, b',');
-    let end = put_byte(&mut bytes, end, b',');
-    let end = put_row(&mut bytes, end, row);
-    append(text, b"none");
-    append_from(text, &bytes, end);
+    add_row(text, b"none", row, &mut bytes, end);
 }
 
 /// Adds a line.
