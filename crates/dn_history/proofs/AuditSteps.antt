@@ -1,6 +1,6 @@
 -- An audit, one entry at a time.
 use Rattle.std.proofs.Common.{◌≡◌, ◌≢◌, ◌∙◌, true, ℕ, ◌+◌, ◌<◌, ◌≤◌, Result, Ok, Err, List, [], ◌∷◌, ◌++◌, take, drop, length, length-append, get_or, refl, sym, ap, subst, arith, append_assoc}
-use Rattle.std.specs.Prelude.{OnErr, OnOk}
+use Rattle.std.specs.Prelude.{OnOk}
 use Rattle.std.specs.Result.{is_ok}
 use Rattle.std.proofs.Math.ListN.{get_or-append}
 use Rattle.std.proofs.Math.Seq.{get_or-append_seam, take-append_seam}
@@ -98,10 +98,6 @@ module _ (rule : Rule) (front next : List Entry) (i : ℕ) (e : Entry) (below : 
 -- No entry is left.
 pub all-audited : (rule : Rule) (front next : List Entry) (i : ℕ) (audit : RunningAudit) → length next ≤ i → HasAudited rule audit (front ++ take i next) → HasAudited rule audit (front ++ next)
 all-audited rule front next i audit none audited = subst (λ (es : List Entry). HasAudited rule audit (front ++ es)) (take_all i next none) audited
-
-pub on_err : {T E P : Type 0} (r : Result T E) → P → OnErr r P
-on_err (Ok x) p = tt
-on_err (Err e) p = p
 
 pub when_ok : {T E P : Type 0} (r : Result T E) → is_ok r ≡ true → OnOk r P → P
 when_ok (Ok x) good p = p

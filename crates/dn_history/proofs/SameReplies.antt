@@ -31,23 +31,19 @@ same-delivery a b e =
     let start : a.start ≡ b.start = grind (arith, nat_tests) in
     λ i. record { due = due i; packet = packet i; flow = flow i; start = start i }
 
+five : (a b c d e a' b' c' d' e' : ℕ) → (nat_eq a a' && (nat_eq b b' && (nat_eq c c' && (nat_eq d d' && nat_eq e e')))) ≡ true
+    → (a ≡ a') × (b ≡ b') × (c ≡ c') × (d ≡ d') × (e ≡ e')
+five a b c d e a' b' c' d' e' all = (grind (arith, nat_tests), grind (arith, nat_tests), grind (arith, nat_tests), grind (arith, nat_tests), grind (arith, nat_tests))
+
 same-mask : (a b : Mask) → mask.eq-value.it a b ≡ true → a ≡ b
 same-mask a b e =
-    let src : a.src ≡ b.src = grind (arith, nat_tests) in
-    let dst : a.dst ≡ b.dst = grind (arith, nat_tests) in
-    let proto : a.proto ≡ b.proto = grind (arith, nat_tests) in
-    let sport : a.sport ≡ b.sport = grind (arith, nat_tests) in
-    let dport : a.dport ≡ b.dport = grind (arith, nat_tests) in
-    λ i. record { src = src i; dst = dst i; proto = proto i; sport = sport i; dport = dport i }
+    let k = five a.src a.dst a.proto a.sport a.dport b.src b.dst b.proto b.sport b.dport e in
+    λ i. record { src = k.0 i; dst = k.1.0 i; proto = k.1.1.0 i; sport = k.1.1.1.0 i; dport = k.1.1.1.1 i }
 
 same-tuple : (a b : FiveTuple) → tuple.eq-value.it a b ≡ true → a ≡ b
 same-tuple a b e =
-    let src : a.src ≡ b.src = grind (arith, nat_tests) in
-    let dst : a.dst ≡ b.dst = grind (arith, nat_tests) in
-    let proto : a.proto ≡ b.proto = grind (arith, nat_tests) in
-    let sport : a.sport ≡ b.sport = grind (arith, nat_tests) in
-    let dport : a.dport ≡ b.dport = grind (arith, nat_tests) in
-    λ i. record { src = src i; dst = dst i; proto = proto i; sport = sport i; dport = dport i }
+    let k = five a.src a.dst a.proto a.sport a.dport b.src b.dst b.proto b.sport b.dport e in
+    λ i. record { src = k.0 i; dst = k.1.0 i; proto = k.1.1.0 i; sport = k.1.1.1.0 i; dport = k.1.1.1.1 i }
 
 same-target : (a b : Target) → target.eq-value.it a b ≡ true → a ≡ b
 same-target (Pipe m) (Pipe n) e = ap Pipe (eqb-true m n e)

@@ -2,11 +2,11 @@
 use Rattle.std.proofs.Common.{◌≡◌, ◌∙◌, ◌<◌, ℕ, max, Bool, true, false, cond, List, [], ◌∷◌, ◌++◌, map, refl, ap, sym, subst, length, arith}
 use Rattle.std.specs.Prelude.{Option, Some, None}
 use Rattle.dn_types.specs.Calls.{link_of, Verdict, no_target, loses, refuses, takes, verdict_by, verdict, trace_of}
-use Rattle.dn_types.specs.Clock.{call_limit, effective_moment}
+use Rattle.dn_types.specs.Clock.{effective_moment}
 use Rattle.dn_types.specs.Configuration.{settings}
 use Rattle.dn_types.specs.Drops.{is_lost, is_full}
 use Rattle.dn_types.specs.Flows.{Treatment, treatment, keys, key_of, flow_number}
-use Rattle.dn_laws.specs.PacketLaws.{IsAccepted}
+use Rattle.dn_laws.specs.PacketLaws.{ArrivalsAreTold, IsAccepted, QueuedPacketsArrive}
 use Rattle.dn_types.specs.Replies.{reply, counted_reply, reply_to_verdict}
 use Rattle.dn_laws.specs.Told.{is_queued, IsCarriedBy}
 use Rattle.dn_types.specs.Trace.{Link, own, shared, Accepted, Event, opened, arrived, started, lost, refused, discarded, collected, backlog, is_arrival, accepted_count}
@@ -18,7 +18,6 @@ use Rattle.dn_types.specs.declared.flow_key.FlowKey.{FlowKey}
 use Rattle.dn_types.specs.declared.packet.Packet.{Packet}
 use Rattle.dn_types.specs.declared.reply.Reply.{Reply}
 use Rattle.dn_types.specs.declared.reply.Reply.TheVariants.{Queued, Exhausted}
-use Rattle.dn_types.specs.declared.rule.Rule.{Rule}
 use Rattle.dn_types.specs.declared.target.Target.{Target}
 use Rattle.dn_types.specs.declared.target.Target.TheVariants.{Pipe as ToPipe, Queue as ToQueue}
 use Rattle.dn_laws.proofs.Begun.{adds-among}
@@ -67,22 +66,10 @@ verdict-takes known target packet (Some h) trace link flow how e =
     by true c e = absurd cc
     by false true e = absurd cc
     by false false e =
-        let l : link_of target (flow_number known (key_of target packet.tuple h)) h.pipe ≡ link = ap (link-or link) e in
-        let n : flow_number known (key_of target packet.tuple h) ≡ flow = ap (flow-or flow) e in
-        let t : h ≡ how = ap (how-or how) e in
+        let l : link_of target (flow_number known (key_of target packet.tuple h)) h.pipe ≡ link = cc in
+        let n : flow_number known (key_of target packet.tuple h) ≡ flow = cc in
+        let t : h ≡ how = cc in
         taken l n t
-      where
-        link-or : Link → Verdict → Link
-        link-or d (takes l n t) = l
-        link-or d _ = d
-
-        flow-or : ℕ → Verdict → ℕ
-        flow-or d (takes l n t) = n
-        flow-or d _ = d
-
-        how-or : Treatment → Verdict → Treatment
-        how-or d (takes l n t) = t
-        how-or d _ = d
 
 pub taken-as : (calls : List Call) (target : Target) (packet : Packet) (moment : ℕ) (p : Accepted) (now : List Event) → Arrives calls (Submit target packet moment) p now →
     IsTakenAs calls target packet moment p
@@ -127,8 +114,7 @@ carried-by (ToPipe n) _ kept how e flow = absurd kept
 carried-by (ToQueue n) _ kept how e flow = absurd kept
 
 -- Each arrival is of a packet that was told to be queued.
-pub arrivals-are-told : (rule : Rule) (calls : List Call) (c : Call) (later between : List Event) (p : Accepted) → length calls < call_limit →
-    trace_of (c ∷ calls) ≡ later ++ arrived p ∷ between ++ trace_of calls → IsAccepted rule calls c p
+pub arrivals-are-told : ArrivalsAreTold
 arrivals-are-told rule calls c later between p few e =
     by c (adds-among (Comes calls c) (trace_of calls) (trace_of (c ∷ calls)) later between (arrived p) (call-comes calls c) e)
   where
@@ -170,20 +156,9 @@ find-arrival (discarded n ∷ f) old more = further f old (discarded n) (find-ar
 find-arrival (collected m ∷ f) old more = further f old (collected m) (find-arrival f old (omega (arith, more, count-event is_arrival (collected m) (f ++ old))))
 
 queued-once : (r : Reply) (at a flow f number n : ℕ) → r ≡ Queued at flow number → r ≡ Queued a f n → (n ≡ number) × (f ≡ flow)
-queued-once r at a flow f number n e h = (ap (number-or 0) (sym h ∙ e), ap (flow-or 0) (sym h ∙ e))
-  where
-    number-or : ℕ → Reply → ℕ
-    number-or d (Queued at flow number) = number
-    number-or d _ = d
+queued-once r at a flow f number n e h = ((cc), (cc))
 
-    flow-or : ℕ → Reply → ℕ
-    flow-or d (Queued at flow number) = flow
-    flow-or d _ = d
-
-pub queued-packets-arrive : (rule : Rule) (calls : List Call) (target : Target) (packet : Packet) (moment at flow number : ℕ) →
-    reply rule calls (Submit target packet moment) ≡ Queued at flow number → (later between : List Event) × ((p : Accepted)
-    × (trace_of (Submit target packet moment ∷ calls) ≡ later ++ arrived p ∷ between ++ trace_of calls)
-    × (p.packet ≡ number) × (p.stamped.flow ≡ flow))
+pub queued-packets-arrive : QueuedPacketsArrive
 queued-packets-arrive rule calls target packet moment at flow number e =
     let c = Submit target packet moment in
     let few = told-few rule calls c (λ none. let t : Exhausted ≡ Queued at flow number = sym none ∙ e in cc) in

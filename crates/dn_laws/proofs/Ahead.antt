@@ -3,7 +3,7 @@ use Rattle.std.proofs.Common.{◌≡◌, ◌∙◌, ◌<◌, ◌≢◌, ◌⊎�
 use Rattle.std.specs.Prelude.{Some, nat_eq, slice_get, ⊤}
 use Rattle.std.specs.List.{All}
 use Rattle.std.proofs.lemmas.Bool.{eq-eqb, and_from}
-use Rattle.std.proofs.lemmas.List.Elements.{All-nil, All-push, All-drop, All-head, All-tail}
+use Rattle.std.proofs.lemmas.List.Elements.{All-nil, All-push, All-head, All-tail}
 use Rattle.std.proofs.lemmas.List.{append_assoc}
 use Rattle.dn_types.specs.Links.{free}
 use Rattle.dn_types.specs.Trace.{Link, own, link_eq, Accepted, Start, Event, opened, arrived, started, lost, refused, discarded, collected, is_of, backlog, is_arrival, accepted_count}
@@ -14,6 +14,7 @@ use Rattle.dn_types.proofs.Ordered.{IsHome, suffix-proper}
 use Rattle.dn_types.proofs.PacketCounts.{waiting-below}
 use Rattle.dn_types.proofs.Bounded.{first-all}
 use Rattle.dn_types.proofs.Settled.{link_eq-true, link_eq-refl}
+use Rattle.dn_laws.proofs.EachWaiting.{each-pushed, each-left, each-cleared}
 use Rattle.dn_laws.proofs.Timely.{count-later}
 
 -- Each start is when its link is free, or of the packet that has just arrived, and on a link of its flow.
@@ -27,31 +28,19 @@ module _ (p : Accepted) (before : List Event) where
   abbrev pub IsIt : Accepted → Type 0
   IsIt q = q.packet ≡ p.packet → q ≡ p
 
-  push-it : (b : Bool) (qs : List Accepted) (q : Accepted) → IsIt q → All IsIt qs → All IsIt (cond b (qs ++ q ∷ []) qs)
-  push-it true qs q one h = All-push IsIt qs q h one
-  push-it false qs q one h = h
-
-  drop-it : (b : Bool) (qs : List Accepted) → All IsIt qs → All IsIt (cond b (drop 1 qs) qs)
-  drop-it true qs h = All-drop IsIt 1 qs h
-  drop-it false qs h = h
-
-  clear-it : (b : Bool) (qs : List Accepted) → All IsIt qs → All IsIt (cond b [] qs)
-  clear-it true qs h = All-nil IsIt
-  clear-it false qs h = h
-
   -- What waits later with the number of an arrival is that packet.
   pub one-of-number : (link : Link) (flow : ℕ) (g : List Event) → IsProper (g ++ (arrived p ∷ before)) → All IsIt (backlog link flow (g ++ (arrived p ∷ before)))
-  one-of-number link flow [] h = push-it (is_of link flow p) (backlog link flow before) p (λ e. refl) old
+  one-of-number link flow [] h = each-pushed IsIt (is_of link flow p) (backlog link flow before) p (λ _ e. refl) old
     where
       old : All IsIt (backlog link flow before)
       old = λ k x lt same. let low = waiting-below (accepted_count before) link flow before h.1 (omega arith) k x lt in absurd (omega (arith, low, h.0, same))
-  one-of-number link flow (arrived q ∷ g) h = push-it (is_of link flow q) (backlog link flow (g ++ (arrived p ∷ before))) q other (one-of-number link flow g h.1)
+  one-of-number link flow (arrived q ∷ g) h = each-pushed IsIt (is_of link flow q) (backlog link flow (g ++ (arrived p ∷ before))) q (λ _. other) (one-of-number link flow g h.1)
     where
       other : q.packet ≡ p.packet → q ≡ p
       other same =
           absurd (omega (arith, same, h.0, (suffix-proper g (arrived p ∷ before) h.1).0, count-later g (arrived p ∷ before), count-event is_arrival (arrived p) before))
-  one-of-number link flow (started s ∷ g) h = drop-it (is_of link flow s.packet) (backlog link flow (g ++ (arrived p ∷ before))) (one-of-number link flow g h.2)
-  one-of-number link flow (discarded f ∷ g) h = clear-it (nat_eq f flow) (backlog link flow (g ++ (arrived p ∷ before))) (one-of-number link flow g h)
+  one-of-number link flow (started s ∷ g) h = each-left IsIt (is_of link flow s.packet) (backlog link flow (g ++ (arrived p ∷ before))) (one-of-number link flow g h.2)
+  one-of-number link flow (discarded f ∷ g) h = each-cleared IsIt (nat_eq f flow) (backlog link flow (g ++ (arrived p ∷ before))) (one-of-number link flow g h)
   one-of-number link flow (_ ∷ g) h = one-of-number link flow g h
 
 middle : (P : Accepted → Type 0) (xs : List Accepted) (q : Accepted) (rest : List Accepted) → All P (xs ++ q ∷ rest) → P q
@@ -78,21 +67,9 @@ module _ (pipe flow : ℕ) (p : Accepted) (before : List Event) (on : p.link ≡
   abbrev Stands : List Event → Type 0
   Stands g = StillWaits g ⊎ IsGone g
 
-  push-other : (b : Bool) (qs : List Accepted) (q : Accepted) → IsOther q → All IsOther qs → All IsOther (cond b (qs ++ q ∷ []) qs)
-  push-other true qs q one h = All-push IsOther qs q h one
-  push-other false qs q one h = h
-
-  drop-other : (b : Bool) (qs : List Accepted) → All IsOther qs → All IsOther (cond b (drop 1 qs) qs)
-  drop-other true qs h = All-drop IsOther 1 qs h
-  drop-other false qs h = h
-
-  clear-other : (b : Bool) (qs : List Accepted) → All IsOther qs → All IsOther (cond b [] qs)
-  clear-other true qs h = All-nil IsOther
-  clear-other false qs h = h
-
   arrive : (q : Accepted) (g : List Event) → IsProper (arrived q ∷ (g ++ (arrived p ∷ before))) → Stands g → Stands (arrived q ∷ g)
   arrive q g h stands = ⊎_elim (λ w. inl (more (is_of (own pipe flow) flow q) refl w))
-      (λ gone. inr (push-other (is_of (own pipe flow) flow q) (backlog (own pipe flow) flow (g ++ (arrived p ∷ before))) q other gone)) stands
+      (λ gone. inr (each-pushed IsOther (is_of (own pipe flow) flow q) (backlog (own pipe flow) flow (g ++ (arrived p ∷ before))) q (λ _. other) gone)) stands
     where
       other : q.packet ≢ p.packet
       other same =
@@ -119,7 +96,7 @@ module _ (pipe flow : ℕ) (p : Accepted) (before : List Event) (on : p.link ≡
       }
 
   discard : (f : ℕ) (g : List Event) → Stands g → Stands (discarded f ∷ g)
-  discard f g stands = ⊎_elim (λ w. by (nat_eq f flow) refl w) (λ gone. inr (clear-other (nat_eq f flow) (backlog (own pipe flow) flow (g ++ (arrived p ∷ before))) gone)) stands
+  discard f g stands = ⊎_elim (λ w. by (nat_eq f flow) refl w) (λ gone. inr (each-cleared IsOther (nat_eq f flow) (backlog (own pipe flow) flow (g ++ (arrived p ∷ before))) gone)) stands
     where
       by : (b : Bool) → nat_eq f flow ≡ b → StillWaits g → Stands (discarded f ∷ g)
       by true e w = inr (subst (λ b. All IsOther (cond b [] (backlog (own pipe flow) flow (g ++ (arrived p ∷ before))))) (sym e) (All-nil IsOther))
@@ -146,7 +123,7 @@ module _ (pipe flow : ℕ) (p : Accepted) (before : List Event) (on : p.link ≡
 
   start : (s : Start) (g : List Event) → IsProper (started s ∷ (g ++ (arrived p ∷ before))) → IsPrompt (started s ∷ (g ++ (arrived p ∷ before))) → Stands g → Stands (started s ∷ g)
   start s g h prompt stands = ⊎_elim (λ w. by (link_eq s.packet.link (own pipe flow)) refl w)
-      (λ gone. inr (drop-other (is_of (own pipe flow) flow s.packet) (backlog (own pipe flow) flow (g ++ (arrived p ∷ before))) gone)) stands
+      (λ gone. inr (each-left IsOther (is_of (own pipe flow) flow s.packet) (backlog (own pipe flow) flow (g ++ (arrived p ∷ before))) gone)) stands
     where
       by : (b : Bool) → link_eq s.packet.link (own pipe flow) ≡ b → StillWaits g → Stands (started s ∷ g)
       by false e w = quiet (started s) g (ap (λ b. cond (b && nat_eq s.packet.stamped.flow flow) (drop 1 (backlog (own pipe flow) flow (g ++ (arrived p ∷ before))))

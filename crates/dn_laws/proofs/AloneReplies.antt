@@ -4,7 +4,7 @@ use Rattle.std.specs.Prelude.{is_some}
 use Rattle.dn_types.specs.Calls.{Verdict, no_target, loses, refuses, takes, verdict_by, trace_of}
 use Rattle.dn_types.specs.Clock.{effective_moment, call_limit}
 use Rattle.dn_types.specs.Configuration.{Settings, settings, queue_numbers, has_queues, command_reply}
-use Rattle.dn_laws.specs.Divided.{links_of, own_of, AreDivided, own_reply_by, own_reply_on}
+use Rattle.dn_laws.specs.Divided.{AreDivided, links_of, own_of, own_reply_by, PartsAreAlone}
 use Rattle.dn_types.specs.Flows.{treatment, keys}
 use Rattle.dn_laws.specs.Parts.{Choice, is_flow_on, is_packet_on, is_carried}
 use Rattle.dn_types.specs.Replies.{reply_to_verdict, counted_reply, reply, replies}
@@ -143,8 +143,7 @@ module _ (rule : Rule) (mine : Target → Bool) (is_own : ℕ → Bool) (flows p
           λ i. one i ∷ rest i
       by false other rest = rest
 
-pub parts-are-alone : (rule : Rule) (mine : Target → Bool) (is_own : ℕ → Bool) (calls : List Call) → AreDivided mine is_own calls → length calls ≤ call_limit →
-    replies rule (own_of is_own calls) ≡ map (own_reply_on (links_of mine) calls) (own_of is_own (replies rule calls))
+pub parts-are-alone : PartsAreAlone
 parts-are-alone rule mine is_own calls d few =
     let is_flow = is_flow_on (links_of mine) (keys calls) in
     replies-alone rule mine is_own is_flow (is_packet_on (links_of mine) is_flow (trace_of calls)) calls d few (keyed-all (links_of mine) (keys calls))

@@ -7,16 +7,14 @@ use Rattle.std.proofs.lemmas.List.{length-map}
 use Rattle.dn_types.specs.Calls.{link_of, trace_of}
 use Rattle.dn_types.specs.Clock.{call_limit}
 use Rattle.dn_types.specs.Flows.{Treatment, keys, keys_with, key_of, flow_number}
-use Rattle.dn_types.specs.Replies.{reply, status_of, statuses_from}
-use Rattle.dn_laws.specs.ReplyLaws.{IsStateOf}
+use Rattle.dn_types.specs.Replies.{status_of, statuses_from}
+use Rattle.dn_laws.specs.ReplyLaws.{IsStateOf, ShowsAreTold}
 use Rattle.dn_laws.specs.Told.{is_arrival_of}
+use Rattle.dn_laws.specs.PacketLaws.{PacketsAddUp}
 use Rattle.dn_types.specs.Trace.{Link, link_eq, Accepted, Start, Event, arrived, started, discarded, is_of, backlog, is_start_of, discarded_count}
 use Rattle.dn_types.specs.declared.call.Call.{Call}
 use Rattle.dn_types.specs.declared.call.Call.TheVariants.{Submit, Show}
 use Rattle.dn_types.specs.declared.flow_key.FlowKey.{FlowKey}
-use Rattle.dn_types.specs.declared.flow_status.FlowStatus.{FlowStatus}
-use Rattle.dn_types.specs.declared.reply.Reply.TheVariants.{Status}
-use Rattle.dn_types.specs.declared.rule.Rule.{Rule}
 use Rattle.dn_laws.proofs.Acceptance.{IsTakenAs, taken-as}
 use Rattle.dn_laws.proofs.Begun.{AllEvents}
 use Rattle.dn_laws.proofs.Comes.{Comes, Arrives, call-comes}
@@ -149,10 +147,7 @@ module _ (known : List FlowKey) (flow : ℕ) (key : FlowKey) (at : slice_get kno
   adds-up (e ∷ t) proper h = omega (arith, adds-up t proper h, count-event (is_arrival_of flow) e t, count-event (is_start_of flow) e t)
 
 -- Of the accepted packets of a flow each has started, waits or was discarded.
-pub packets-add-up : (calls : List Call) (flow : ℕ) (key : FlowKey) → slice_get (keys calls) flow ≡ Some key →
-    let trace = trace_of calls in
-    let link = link_of key.target flow key.pipe in
-    count_by (is_arrival_of flow) trace ≡ count_by (is_start_of flow) trace + length (backlog link flow trace) + discarded_count link flow trace
+pub packets-add-up : PacketsAddUp
 packets-add-up calls flow key at = adds-up (keys calls) flow key at (trace_of calls) (trace-proper calls) (have-homes calls)
 
 many-states : (from : ℕ) (known : List FlowKey) (trace : List Event) → length (statuses_from from known trace) ≡ length known
@@ -170,10 +165,7 @@ one-state from (k ∷ known) trace (suc n) key e =
     let place : n + (from + 1) ≡ suc n + from = omega arith in
     one-state (from + 1) known trace n key e ∙ ap (λ (m : ℕ). Some (status_of m key trace)) place
 
-pub shows-are-told : (rule : Rule) (calls : List Call) → length calls < call_limit → (list : List FlowStatus) × (reply rule calls Show ≡ Status list)
-    × (length list ≡ length (keys calls))
-    × ((flow : ℕ) (key : FlowKey) → slice_get (keys calls) flow ≡ Some key →
-    (s : FlowStatus) × (slice_get list flow ≡ Some s) × IsStateOf rule calls flow key s)
+pub shows-are-told : ShowsAreTold
 shows-are-told rule calls few = (
   statuses_from 0 (keys calls) (trace_of calls),
   not-exhausted rule calls Show few,

@@ -3,11 +3,10 @@ use Rattle.std.proofs.Common.{◌≡◌, ◌≤◌, ◌<◌, ℕ, ◌+◌, ◌-�
 use Rattle.std.specs.Prelude.{◌/◌, Some, slice_get}
 use Rattle.std.specs.List.{All}
 use Rattle.std.proofs.Math.Nat.{mul-le-mul_right, lt-div-mul-add, div-mul-le_self, div-lt_iff_lt-mul}
-use Rattle.dn_laws.specs.FairShare.{IsWeighted, bytes_sent, packets_sent, WaitsThroughout, EachThatWaits, CostsAtMost, share}
-use Rattle.dn_types.specs.Calls.{trace_of}
+use Rattle.dn_laws.specs.FairShare.{bytes_sent, CostsAtMost, EachThatWaits, IsWeighted, packets_sent, share, SharesByWeight}
 use Rattle.dn_types.specs.Trace.{shared, Accepted, Start, Event, arrived, started, is_of, backlog}
-use Rattle.dn_types.specs.declared.call.Call.{Call}
 use Rattle.dn_laws.proofs.Fair.{start-first, shares-fairly}
+use Rattle.dn_laws.proofs.Rates.{shape}
 use Rattle.dn_laws.proofs.Steady.{IsSteady, Arrive, all-waiting, waits-after, steady, suffix-steady}
 
 -- A length over a weight, times the weight, is the length but for what was rounded off.
@@ -111,17 +110,10 @@ by-weights so si mo mi bo bi count wo wi lo li fair other one cost_other cost_on
     let e = mul-le-mul_right (wo * wi) fair in
     omega (arith, a, b, c, d, e)
 
-pub shares-by-weight : (calls : List Call) (pipe one other weight_one weight_other longest_one longest_other : ℕ) (later stretch earlier : List Event) (r : Start) →
-    trace_of calls ≡ later ++ (stretch ++ (started r ∷ earlier)) → is_of (shared pipe) one r.packet ≡ true →
-    WaitsThroughout (shared pipe) one (stretch ++ (started r ∷ [])) earlier → WaitsThroughout (shared pipe) other (stretch ++ (started r ∷ [])) earlier →
-    0 < weight_one → EachThatWaits (IsWeighted weight_one longest_one) (shared pipe) one (stretch ++ (started r ∷ [])) earlier →
-    0 < weight_other → EachThatWaits (IsWeighted weight_other longest_other) (shared pipe) other (stretch ++ (started r ∷ [])) earlier →
-    bytes_sent (shared pipe) other (stretch ++ (started r ∷ [])) * weight_one * 65536
-    ≤ (bytes_sent (shared pipe) one (stretch ++ (started r ∷ [])) * weight_other + 2 * longest_other * weight_one + longest_one * weight_other) * 65536
-    + packets_sent (shared pipe) other (stretch ++ (started r ∷ [])) * weight_one * weight_other
+pub shares-by-weight : SharesByWeight
 shares-by-weight calls pipe one other weight_one weight_other longest_one longest_other later stretch earlier r e is w v some_one by_one some_other by_other =
     let all = stretch ++ (started r ∷ []) in
-    let h : IsSteady (all ++ earlier) = subst IsSteady (sym (shape stretch)) (suffix-steady later (stretch ++ (started r ∷ earlier)) (subst IsSteady e (steady calls))) in
+    let h : IsSteady (all ++ earlier) = subst IsSteady (sym (shape stretch [] (started r) earlier)) (suffix-steady later (stretch ++ (started r ∷ earlier)) (subst IsSteady e (steady calls))) in
     let w1 = tagged-by pipe one weight_one longest_one some_one all earlier h by_one in
     let w2 = tagged-by pipe other weight_other longest_other some_other all earlier h by_other in
     let fair = shares-fairly calls pipe one other (longest_one * 65536 / weight_one) (longest_other * 65536 / weight_other) later stretch earlier r e is w v
@@ -130,7 +122,3 @@ shares-by-weight calls pipe one other weight_one weight_other longest_one longes
     (bytes_sent (shared pipe) other all) (bytes_sent (shared pipe) one all) (packets_sent (shared pipe) other all) weight_other weight_one longest_other longest_one
     fair (in-bytes pipe other weight_other longest_other some_other all earlier h w2).1 (in-bytes pipe one weight_one longest_one some_one all earlier h w1).0
     (rounded longest_other weight_other some_other).0 (rounded longest_one weight_one some_one).0
-  where
-    shape : (xs : List Event) → (xs ++ (started r ∷ [])) ++ earlier ≡ xs ++ (started r ∷ earlier)
-    shape [] = refl
-    shape (z ∷ xs) = ap (λ (l : List Event). z ∷ l) (shape xs)

@@ -1,14 +1,14 @@
 -- What a call adds to the trace: an arrival is of the packet that it submits, and a discard of a flow that it deletes.
-use Rattle.std.proofs.Common.{◌≡◌, ◌∙◌, ◌≤◌, ◌<◌, ℕ, suc, ◌+◌, max, Bool, true, false, cond, ◌&&◌, List, [], ◌∷◌, ◌++◌, refl, ap, sym, subst, length, arith}
+use Rattle.std.proofs.Common.{◌≡◌, ◌∙◌, ◌≤◌, ℕ, suc, ◌+◌, max, Bool, true, false, cond, ◌&&◌, List, [], ◌∷◌, ◌++◌, refl, ap, sym, subst, arith}
 use Rattle.std.specs.Prelude.{Some, nat_eq, nat_le, slice_get, ⊤}
 use Rattle.std.proofs.lemmas.Bool.{eqb-true}
 use Rattle.std.proofs.lemmas.Bool.Decides.{nat_tests}
 use Rattle.dn_types.specs.Calls.{Verdict, no_target, loses, refuses, takes, verdict, accept, join, after_verdict, reaches, discard_reached, after_command, trace_of}
-use Rattle.dn_types.specs.Clock.{call_limit, effective_moment}
+use Rattle.dn_types.specs.Clock.{effective_moment}
 use Rattle.dn_types.specs.Configuration.{Settings, settings, reply_to_command}
 use Rattle.dn_types.specs.Flows.{keys}
 use Rattle.dn_types.specs.Links.{free}
-use Rattle.dn_laws.specs.PacketLaws.{IsDelete}
+use Rattle.dn_laws.specs.PacketLaws.{DiscardsAreDeletes, IsDelete}
 use Rattle.dn_types.specs.SharedLinks.{waiting, opening}
 use Rattle.dn_types.specs.Starts.{settled, start_at, waiting_all}
 use Rattle.dn_laws.specs.Told.{IsReached}
@@ -21,7 +21,6 @@ use Rattle.dn_types.specs.declared.flow_key.FlowKey.{FlowKey}
 use Rattle.dn_types.specs.declared.packet.Packet.{Packet}
 use Rattle.dn_types.specs.declared.reply.Reply.{Reply}
 use Rattle.dn_types.specs.declared.reply.Reply.TheVariants.{Deleted}
-use Rattle.dn_types.specs.declared.rule.Rule.{Rule}
 use Rattle.dn_types.specs.declared.target.Target.{Target}
 use Rattle.dn_types.specs.declared.target.Target.TheVariants.{Queue as ToQueue}
 use Rattle.dn_laws.proofs.Begun.{Adds, adds-settle, adds-among}
@@ -165,8 +164,7 @@ call-comes calls (Collect moment) =
 call-comes calls Show = ([], refl, tt)
 
 -- A queue is emptied by a delete alone.
-pub discards-are-deletes : (rule : Rule) (calls : List Call) (c : Call) (later between : List Event) (flow : ℕ) → length calls < call_limit →
-    trace_of (c ∷ calls) ≡ later ++ discarded flow ∷ between ++ trace_of calls → IsDelete rule calls c flow
+pub discards-are-deletes : DiscardsAreDeletes
 discards-are-deletes rule calls c later between flow few e =
     by c (adds-among (Comes calls c) (trace_of calls) (trace_of (c ∷ calls)) later between (discarded flow) (call-comes calls c) e)
   where

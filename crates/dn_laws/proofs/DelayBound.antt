@@ -4,7 +4,7 @@ use Rattle.std.specs.Prelude.{◌^◌, ◌-◌, Option, Some, nat_eq, get_or, �
 use Rattle.std.specs.List.{All}
 use Rattle.std.proofs.lemmas.Bool.{eq-eqb, and_from}
 use Rattle.std.proofs.lemmas.List.{append_cancel_right, append_assoc}
-use Rattle.std.proofs.lemmas.List.Elements.{All-nil, All-push, All-drop, All-head, All-tail, All-cons}
+use Rattle.std.proofs.lemmas.List.Elements.{All-nil, All-head, All-tail, All-cons}
 use Rattle.dn_types.specs.Deliveries.{AreInOrder}
 use Rattle.dn_types.specs.Calls.{trace_of}
 use Rattle.dn_types.specs.Clock.{call_limit, effective_moment}
@@ -25,7 +25,6 @@ use Rattle.dn_types.specs.declared.limit.Limit.{Limit}
 use Rattle.dn_types.specs.declared.limit.Limit.TheVariants.{Slots, Kbytes}
 use Rattle.dn_types.specs.declared.mask.Mask.{Mask}
 use Rattle.dn_types.specs.declared.packet.Packet.{Packet}
-use Rattle.dn_types.specs.declared.reply.Reply.{Reply}
 use Rattle.dn_types.specs.declared.reply.Reply.TheVariants.{Queued, Delivered, Exhausted}
 use Rattle.dn_types.specs.declared.rule.Rule.{Rule}
 use Rattle.dn_types.specs.declared.rule.Rule.TheVariants.{Free, Ordered}
@@ -36,6 +35,7 @@ use Rattle.dn_types.proofs.Bounded.{first-all}
 use Rattle.dn_laws.proofs.ConfiguredRate.{now}
 use Rattle.dn_types.proofs.Fifo.{IsProper, own-first}
 use Rattle.dn_types.proofs.Ordered.{IsHome, trace-proper, suffix-proper}
+use Rattle.dn_laws.proofs.EachWaiting.{each-pushed, each-left, each-cleared}
 use Rattle.dn_laws.proofs.Rates.{shape}
 use Rattle.dn_types.proofs.Settled.{and-left, link_eq-true, link_eq-refl}
 use Rattle.dn_laws.proofs.Timely.{queued, clock-later}
@@ -76,24 +76,12 @@ module _ (pipe most : ℕ) where
     abbrev IsShort : Accepted → Type 0
     IsShort q = q.stamped.len ≤ most
 
-    push-short : (b : Bool) (qs : List Accepted) (q : Accepted) → (b ≡ true → IsShort q) → All IsShort qs → All IsShort (cond b (qs ++ q ∷ []) qs)
-    push-short true qs q one h = All-push IsShort qs q h (one refl)
-    push-short false qs q one h = h
-
-    drop-short : (b : Bool) (qs : List Accepted) → All IsShort qs → All IsShort (cond b (drop 1 qs) qs)
-    drop-short true qs h = All-drop IsShort 1 qs h
-    drop-short false qs h = h
-
-    clear-short : (b : Bool) (qs : List Accepted) → All IsShort qs → All IsShort (cond b [] qs)
-    clear-short true qs h = All-nil IsShort
-    clear-short false qs h = h
-
     queue-short : (t : List Event) → AreShort t → All (λ q. q.stamped.len ≤ most) (backlog (own pipe flow) flow t)
     queue-short [] h = All-nil IsShort
-    queue-short (arrived p ∷ t) h = push-short (is_of (own pipe flow) flow p) (backlog (own pipe flow) flow t) p
+    queue-short (arrived p ∷ t) h = each-pushed IsShort (is_of (own pipe flow) flow p) (backlog (own pipe flow) flow t) p
         (λ mine. h.0 flow (link_eq-true p.link (own pipe flow) (and-left (link_eq p.link (own pipe flow)) (nat_eq p.stamped.flow flow) mine))) (queue-short t h.1)
-    queue-short (started s ∷ t) h = drop-short (is_of (own pipe flow) flow s.packet) (backlog (own pipe flow) flow t) (queue-short t h)
-    queue-short (discarded n ∷ t) h = clear-short (nat_eq n flow) (backlog (own pipe flow) flow t) (queue-short t h)
+    queue-short (started s ∷ t) h = each-left IsShort (is_of (own pipe flow) flow s.packet) (backlog (own pipe flow) flow t) (queue-short t h)
+    queue-short (discarded n ∷ t) h = each-cleared IsShort (nat_eq n flow) (backlog (own pipe flow) flow t) (queue-short t h)
     queue-short (_ ∷ t) h = queue-short t h
 
     start-short : (s : Start) (t : List Event) → IsProper (started s ∷ t) → IsPrompt (started s ∷ t) → AreShort t → link_eq s.packet.link (own pipe flow) ≡ true → s.packet.stamped.len ≤ most
@@ -336,12 +324,8 @@ module _ (rule : Rule) (after since older : List Call) (pipe bw delay : ℕ) (li
       × AreInOrder ds
   deliveries = collects-are-told rule (after ++ Submit (ToPipe pipe) packet moment ∷ (since ++ older)) collect few
 
-  abbrev list-or : List Delivery → Reply → List Delivery
-  list-or d (Delivered n ds) = ds
-  list-or d _ = d
-
   same : list ≡ deliveries.0
-  same = ap (list-or []) (sym given ∙ deliveries.1)
+  same = cc (sym given ∙ deliveries.1)
 
   one : (d : Delivery) → IsDeliveryOf rule (trace_of (Collect collect ∷ after ++ Submit (ToPipe pipe) packet moment ∷ (since ++ older))) d → d.packet ≡ number →
       (d.start ≤ at + transmission_time bw most + time_ahead bw pipe flow moment (since ++ older)) × (d.due ≤ d.start + transmission_time bw most + delay * 10 ^ 6)

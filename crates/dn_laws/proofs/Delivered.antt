@@ -4,17 +4,14 @@ use Rattle.dn_types.specs.Calls.{trace_of}
 use Rattle.dn_types.specs.Clock.{call_limit}
 use Rattle.dn_laws.specs.Explained.{IsDueBy}
 use Rattle.dn_types.specs.Links.{arrival_time, due_by, last_due}
-use Rattle.dn_types.specs.Replies.{reply, replies}
-use Rattle.dn_laws.specs.ReplyLaws.{Waits, WasDiscarded, HasStarted, IsDelivered}
+use Rattle.dn_types.specs.Replies.{replies}
+use Rattle.dn_laws.specs.ReplyLaws.{HasStarted, IsDelivered, QueuedPacketsAreDelivered}
 use Rattle.dn_laws.specs.Told.{times_told}
 use Rattle.dn_types.specs.Trace.{Start}
 use Rattle.dn_types.specs.declared.call.Call.{Call}
 use Rattle.dn_types.specs.declared.call.Call.TheVariants.{Submit, Collect}
-use Rattle.dn_types.specs.declared.packet.Packet.{Packet}
-use Rattle.dn_types.specs.declared.reply.Reply.TheVariants.{Queued}
 use Rattle.dn_types.specs.declared.rule.Rule.{Rule}
 use Rattle.dn_types.specs.declared.rule.Rule.TheVariants.{Free, Ordered}
-use Rattle.dn_types.specs.declared.target.Target.{Target}
 use Rattle.dn_laws.proofs.Fates.{queued-packets-stay}
 use Rattle.dn_laws.proofs.ToldDeliveries.{told-when-due}
 
@@ -45,10 +42,7 @@ by-start rule calls collect flow number few h =
       ),
     )
 
-pub queued-packets-are-delivered : (rule : Rule) (after calls : List Call) (target : Target) (packet : Packet) (moment at flow number collect : ℕ) →
-    reply rule calls (Submit target packet moment) ≡ Queued at flow number → length (after ++ Submit target packet moment ∷ calls) < call_limit →
-    let all = Collect collect ∷ after ++ Submit target packet moment ∷ calls in
-    Waits number flow (trace_of all) ⊎ (WasDiscarded number flow (trace_of all) ⊎ IsDelivered rule number flow all)
+pub queued-packets-are-delivered : QueuedPacketsAreDelivered
 queued-packets-are-delivered rule after calls target packet moment at flow number collect e few =
     ⊎_elim (λ waits. inl waits)
     (λ ended. ⊎_elim (λ gone. inr (inl gone)) (λ begun. inr (inr (by-start rule (after ++ Submit target packet moment ∷ calls) collect flow number few begun))) ended)

@@ -1,18 +1,19 @@
 -- Loss and limit explain each drop.
-use Rattle.std.proofs.Common.{◌≡◌, ◌∙◌, ◌≤◌, ◌<◌, ℕ, max, Bool, true, false, cond, List, ◌∷◌, map, refl, ap, sym, subst, length, arith}
-use Rattle.std.specs.Prelude.{◌%◌, ◌^◌, Option, Some, None, nat_le, nat_lt}
+use Rattle.std.proofs.Common.{◌≡◌, ◌∙◌, ◌≤◌, ◌<◌, ℕ, max, Bool, true, false, cond, List, map, refl, ap, sym, subst, length, arith}
+use Rattle.std.specs.Prelude.{◌%◌, ◌^◌, Option, Some, nat_le, nat_lt}
 use Rattle.std.proofs.lemmas.Bool.Decides.{nat_tests}
 use Rattle.dn_types.specs.Calls.{trace_of, link_of, loses, refuses, takes, verdict_by}
 use Rattle.dn_types.specs.Clock.{call_limit, effective_moment}
 use Rattle.dn_types.specs.Configuration.{settings}
 use Rattle.dn_types.specs.Drops.{is_lost, is_full}
 use Rattle.dn_laws.specs.Explained.{IsJudgedBy, IsAtLimit, IsExplained}
+use Rattle.dn_laws.specs.ConfiguredLaws.{DropsAreExplained, NoneUnconfigured}
 use Rattle.dn_types.specs.Flows.{Treatment, treatment, keys, key_of, flow_number}
 use Rattle.dn_types.specs.Replies.{reply, reply_to_verdict, counted_reply}
 use Rattle.dn_types.specs.Starts.{settled}
 use Rattle.dn_types.specs.Trace.{Link, Event, backlog}
 use Rattle.dn_types.specs.declared.call.Call.{Call}
-use Rattle.dn_types.specs.declared.call.Call.TheVariants.{Submit, Advance}
+use Rattle.dn_types.specs.declared.call.Call.TheVariants.{Submit}
 use Rattle.dn_types.specs.declared.command.Command.{Command}
 use Rattle.dn_types.specs.declared.command.Command.TheVariants.{Pipe, Queue, DeletePipe, DeleteQueue}
 use Rattle.dn_types.specs.declared.flow_key.FlowKey.{FlowKey}
@@ -20,7 +21,7 @@ use Rattle.dn_types.specs.declared.limit.Limit.{Limit}
 use Rattle.dn_types.specs.declared.limit.Limit.TheVariants.{Slots, Kbytes}
 use Rattle.dn_types.specs.declared.packet.Packet.{Packet}
 use Rattle.dn_types.specs.declared.reply.Reply.{Reply}
-use Rattle.dn_types.specs.declared.reply.Reply.TheVariants.{NoTarget, Exhausted}
+use Rattle.dn_types.specs.declared.reply.Reply.TheVariants.{Exhausted}
 use Rattle.dn_types.specs.declared.rule.Rule.{Rule}
 use Rattle.dn_types.specs.declared.target.Target.{Target}
 
@@ -82,11 +83,7 @@ module _ (known : List FlowKey) (target : Target) (packet : Packet) (at : ℕ) (
 pub not-exhausted : (rule : Rule) (calls : List Call) (c : Call) → length calls < call_limit → reply rule calls c ≡ counted_reply rule calls c
 not-exhausted rule calls c h = let e : nat_le call_limit (length calls) ≡ false = grind (arith, nat_tests) in ap (λ b. cond b Exhausted (counted_reply rule calls c)) e
 
-pub drops-are-explained : (rule : Rule) (calls : List Call) (target : Target) (packet : Packet) (moment : ℕ) (command : Command) (rate : ℕ) (most : Limit) (carrier : ℕ) →
-    length calls < call_limit → settings calls target ≡ Some command → IsJudgedBy command rate most carrier →
-    IsExplained rate most (packet.word % 2 ^ 31)
-    (λ flow. map (λ p. p.stamped.len) (backlog (link_of target flow carrier) flow (trace_of (Advance moment ∷ calls))))
-    (reply rule calls (Submit target packet moment))
+pub drops-are-explained : DropsAreExplained
 drops-are-explained rule calls target packet moment command rate most carrier few set judged =
     let at = max (effective_moment calls) moment in
     let before = settled (settings calls) at (trace_of calls) in
@@ -95,8 +92,7 @@ drops-are-explained rule calls target packet moment command rate most carrier fe
     subst (λ (r : Reply). IsExplained rate most (packet.word % 2 ^ 31) (lengths_on (keys calls) target packet at before carrier) r) (sym answered)
     (by-command (keys calls) target packet at before command rate most carrier judged)
 
-pub none-unconfigured : (rule : Rule) (calls : List Call) (target : Target) (packet : Packet) (moment : ℕ) → length calls < call_limit → settings calls target ≡ None →
-    reply rule calls (Submit target packet moment) ≡ NoTarget (effective_moment (Advance moment ∷ calls))
+pub none-unconfigured : NoneUnconfigured
 none-unconfigured rule calls target packet moment few set =
     let at = max (effective_moment calls) moment in
     not-exhausted rule calls (Submit target packet moment) few ∙ ap (λ (o : Option Command). answer (keys calls) target packet at (settled (settings calls) at (trace_of calls)) (treatment o)) set

@@ -1,6 +1,6 @@
 -- While calls are about other pipes, the links of a pipe go by the clock alone.
 use Rattle.std.proofs.Common.{◌≡◌, ◌∙◌, ◌≤◌, ◌<◌, ⊎_elim, ℕ, max, Bool, true, false, cond, List, [], ◌∷◌, ◌++◌, refl, ap, sym, subst, length, arith}
-use Rattle.std.specs.Prelude.{Option, Some, None, nat_le, nat_eq, slice_get, option_map}
+use Rattle.std.specs.Prelude.{Option, Some, None, nat_le, nat_eq, option_map}
 use Rattle.std.proofs.lemmas.Bool.{eqb-true}
 use Rattle.std.proofs.lemmas.Bool.Decides.{nat_tests, leb_tells}
 use Rattle.std.proofs.lemmas.Option.{slice_get_within}
@@ -8,16 +8,15 @@ use Rattle.dn_types.specs.Calls.{verdict_by, after_verdict, reaches, after_comma
 use Rattle.dn_types.specs.Clock.{effective_moment}
 use Rattle.dn_types.specs.Configuration.{settings, subject, target_eq, setting_after, reply_to_command}
 use Rattle.dn_types.specs.Flows.{treatment, keys}
-use Rattle.dn_types.specs.Links.{free, last_due}
-use Rattle.dn_laws.specs.OtherPipes.{IsCommandElsewhere, IsElsewhere, AreElsewhere}
-use Rattle.dn_types.specs.SharedLinks.{virtual_time, last_finish_tag, next_packet}
+use Rattle.dn_types.specs.Links.{free}
+use Rattle.dn_laws.specs.OtherPipes.{AreElsewhere, IsCommandElsewhere, IsElsewhere, OtherPipesChangeNothing}
+use Rattle.dn_types.specs.SharedLinks.{next_packet}
 use Rattle.dn_types.specs.Starts.{start_at, next_start, settled}
 use Rattle.dn_types.specs.Trace.{Link, pipe_of, Accepted, Event, backlog}
 use Rattle.dn_types.specs.declared.call.Call.{Call}
 use Rattle.dn_types.specs.declared.call.Call.TheVariants.{Configure, Submit, Advance, Collect, Show}
 use Rattle.dn_types.specs.declared.command.Command.{Command}
 use Rattle.dn_types.specs.declared.command.Command.TheVariants.{Pipe, Queue, DeletePipe, DeleteQueue}
-use Rattle.dn_types.specs.declared.flow_key.FlowKey.{FlowKey}
 use Rattle.dn_types.specs.declared.packet.Packet.{Packet}
 use Rattle.dn_types.specs.declared.reply.Reply.{Reply}
 use Rattle.dn_types.specs.declared.reply.Reply.TheVariants.{Deleted}
@@ -153,13 +152,7 @@ module _ (rule : Rule) (link : Link) where
   )
   all-followed (c ∷ after) calls h = let rest = all-followed after calls h.1 in (setting-stays (after ++ calls) c h.0 ∙ rest.0, followed (after ++ calls) calls c h.0 rest)
 
-pub other-pipes-change-nothing : (rule : Rule) (after calls : List Call) (link : Link) → AreElsewhere (pipe_of link) after calls →
-    let with_them = trace_of (after ++ calls) in
-    let without = trace_of (Advance (effective_moment (after ++ calls)) ∷ calls) in
-    ((flow : ℕ) → backlog link flow with_them ≡ backlog link flow without) × (free link with_them ≡ free link without)
-    × (last_due rule link with_them ≡ last_due rule link without) × (virtual_time link with_them ≡ virtual_time link without)
-    × ((flow : ℕ) (key : FlowKey) → slice_get (keys (after ++ calls)) flow ≡ Some key → key.pipe ≡ pipe_of link →
-    last_finish_tag link flow with_them ≡ last_finish_tag link flow without)
+pub other-pipes-change-nothing : OtherPipesChangeNothing
 other-pipes-change-nothing rule after calls link h =
     let rises = clock-later after calls in
     let same : effective_moment (after ++ calls) ≡ max (effective_moment calls) (effective_moment (after ++ calls)) = omega (arith, rises) in

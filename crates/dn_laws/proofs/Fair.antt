@@ -4,16 +4,15 @@ use Rattle.std.specs.Prelude.{Option, Some, None, nat_eq, slice_get, option_and_
 use Rattle.std.specs.List.{All}
 use Rattle.std.proofs.lemmas.Bool.{eqb-true}
 use Rattle.std.proofs.lemmas.List.Elements.{All-map}
-use Rattle.dn_types.specs.Calls.{trace_of}
-use Rattle.dn_laws.specs.FairShare.{WaitsThroughout, EachThatWaits, CostsAtMost, share}
+use Rattle.dn_laws.specs.FairShare.{CostsAtMost, EachThatWaits, share, SharesFairly, WaitsThroughout}
 use Rattle.dn_types.specs.SharedLinks.{next_packet, virtual_time, link_heads, last_finish_tag}
 use Rattle.dn_types.specs.Trace.{Link, shared, link_eq, Accepted, Start, Event, arrived, started, discarded, is_of, backlog, flow_bound}
 use Rattle.dn_types.specs.Wf2q.{Stamped, heads, pick}
-use Rattle.dn_types.specs.declared.call.Call.{Call}
 use Rattle.dn_laws.proofs.EachHead.{at-head, all-heads}
 use Rattle.dn_types.proofs.Firsts.{heads-same, stamped_of, stamped-first, next-picked}
 use Rattle.dn_types.proofs.Settled.{and-left, link_eq-true}
 use Rattle.dn_types.proofs.Settling.{and-right, first-own, backlog-own, is_below}
+use Rattle.dn_laws.proofs.Rates.{shape}
 use Rattle.dn_laws.proofs.Shares.{pick-is-fair}
 use Rattle.dn_laws.proofs.Steady.{IsSteady, IsChain, steady, suffix-steady, chain, all-put, waits-before, waits-after, waits-sooner}
 
@@ -212,16 +211,10 @@ module _ (pipe : ℕ) where
         by x' y' (inl none) (inl still) moved later more = inl (omega arith)
         by x' y' (inr near) (inl still) moved later more = inr (omega arith)
 
-pub shares-fairly : (calls : List Call) (pipe one other most_one most_other : ℕ) (later stretch earlier : List Event) (r : Start) →
-    trace_of calls ≡ later ++ (stretch ++ (started r ∷ earlier)) →
-    is_of (shared pipe) one r.packet ≡ true → WaitsThroughout (shared pipe) one (stretch ++ (started r ∷ [])) earlier →
-    WaitsThroughout (shared pipe) other (stretch ++ (started r ∷ [])) earlier →
-    EachThatWaits (CostsAtMost most_one) (shared pipe) one (stretch ++ (started r ∷ [])) earlier →
-    EachThatWaits (CostsAtMost most_other) (shared pipe) other (stretch ++ (started r ∷ [])) earlier →
-    share (shared pipe) other (stretch ++ (started r ∷ [])) ≤ share (shared pipe) one (stretch ++ (started r ∷ [])) + most_other + most_other + most_one
+pub shares-fairly : SharesFairly
 shares-fairly calls pipe one other most_one most_other later stretch earlier r e is w v cheap_one cheap_other =
     let all = stretch ++ (started r ∷ []) in
-    let whole = shape stretch in
+    let whole = shape stretch [] (started r) earlier in
     let h : IsSteady (all ++ earlier) = subst IsSteady (sym whole) (suffix-steady later (stretch ++ (started r ∷ earlier)) (subst IsSteady e (steady calls))) in
     let start : IsSteady (started r ∷ earlier) = suffix-steady stretch (started r ∷ earlier) (subst IsSteady whole h) in
     let po = some-first pipe (backlog (shared pipe) other earlier) (waits-first pipe other all earlier v) in
@@ -237,10 +230,6 @@ shares-fairly calls pipe one other most_one most_other later stretch earlier r e
     y.0.stamped.finish_tag po.0.stamped.start_tag po.0.stamped.finish_tag r.packet.stamped.start_tag go gone fair first_cost last_cost
     (close pipe one other most_other all earlier x.0 y.0 h cheap_other w v x.1 y.1)
   where
-    shape : (xs : List Event) → (xs ++ (started r ∷ [])) ++ earlier ≡ xs ++ (started r ∷ earlier)
-    shape [] = refl
-    shape (z ∷ xs) = ap (λ (l : List Event). z ∷ l) (shape xs)
-
     by : (so s1 x y yf po pof r1 : ℕ) → x ≡ po + so → y ≡ r1 + s1 → r1 ≤ pof → pof ≤ po + most_other → yf ≤ y + most_one → (so ≡ 0) ⊎ (x ≤ yf + most_other) →
         so ≤ s1 + most_other + most_other + most_one
     by so s1 x y yf po pof r1 go gone fair first last (inl none) = omega arith

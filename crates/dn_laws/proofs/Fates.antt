@@ -6,15 +6,10 @@ use Rattle.std.proofs.lemmas.Bool.{eqb-true, eq-eqb}
 use Rattle.std.proofs.lemmas.List.Sums.{sum_by-cons}
 use Rattle.std.proofs.lemmas.List.{append_assoc}
 use Rattle.dn_types.specs.Calls.{trace_of}
-use Rattle.dn_types.specs.Replies.{reply}
-use Rattle.dn_laws.specs.ReplyLaws.{Waits, WasDiscarded, HasStarted}
+use Rattle.dn_laws.specs.ReplyLaws.{HasStarted, QueuedPacketsStay, Waits, WasDiscarded}
 use Rattle.dn_types.specs.Trace.{Accepted, Event, arrived, started, discarded, is_of, backlog}
 use Rattle.dn_types.specs.declared.call.Call.{Call}
 use Rattle.dn_types.specs.declared.call.Call.TheVariants.{Submit}
-use Rattle.dn_types.specs.declared.packet.Packet.{Packet}
-use Rattle.dn_types.specs.declared.reply.Reply.TheVariants.{Queued}
-use Rattle.dn_types.specs.declared.rule.Rule.{Rule}
-use Rattle.dn_types.specs.declared.target.Target.{Target}
 use Rattle.dn_laws.proofs.Acceptance.{queued-packets-arrive}
 use Rattle.dn_types.proofs.Fifo.{IsProper, own-first}
 use Rattle.dn_types.proofs.Ordered.{trace-proper, of-own}
@@ -122,10 +117,7 @@ stay-from after calls p newer older here =
     parts : trace_of (after ++ calls) ≡ ((all-stay after calls).0 ++ newer) ++ (arrived p ∷ older)
     parts = more.1 ∙ ap (λ (t : List Event). more.0 ++ t) here ∙ sym (append_assoc more.0 newer (arrived p ∷ older))
 
-pub queued-packets-stay : (rule : Rule) (after calls : List Call) (target : Target) (packet : Packet) (moment at flow number : ℕ) →
-    reply rule calls (Submit target packet moment) ≡ Queued at flow number →
-    let trace = trace_of (after ++ Submit target packet moment ∷ calls) in
-    Waits number flow trace ⊎ (WasDiscarded number flow trace ⊎ HasStarted number flow trace)
+pub queued-packets-stay : QueuedPacketsStay
 queued-packets-stay rule after calls target packet moment at flow number e =
     let here = queued-packets-arrive rule calls target packet moment at flow number e in
     let fate = stay-from after (Submit target packet moment ∷ calls) here.2.0 here.0 (here.1 ++ trace_of calls) (here.2.1 ∙ append_assoc here.0 (arrived here.2.0 ∷ here.1) (trace_of calls)) in

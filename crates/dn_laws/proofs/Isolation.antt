@@ -1,6 +1,6 @@
 -- What a delete and what a packet reaches, and what they leave.
 use Rattle.std.proofs.Common.{◌≡◌, ◌∙◌, ◌≢◌, ◌<◌, ⊎_elim, ℕ, ◌+◌, max, Bool, true, false, cond, ◌&&◌, List, [], ◌∷◌, ◌++◌, map, refl, ap, sym, length, arith}
-use Rattle.std.specs.Prelude.{Option, Some, None, is_some, nat_le, nat_eq, ⊤}
+use Rattle.std.specs.Prelude.{Option, Some, None, nat_le, nat_eq, ⊤}
 use Rattle.std.proofs.lemmas.Bool.{eq-eqb, eqb-true}
 use Rattle.std.proofs.lemmas.Bool.Decides.{nat_tests}
 use Rattle.dn_types.specs.Calls.{link_of, Verdict, no_target, loses, refuses, takes, accept, join, after_verdict, verdict_by, verdict, reaches, discard_reached, after_command, trace_of}
@@ -9,24 +9,25 @@ use Rattle.dn_types.specs.Configuration.{Settings, settings, target_eq, subject,
 use Rattle.dn_types.specs.Deliveries.{undelivered}
 use Rattle.dn_types.specs.Drops.{is_lost, is_full}
 use Rattle.dn_laws.specs.Explained.{IsJudgedBy}
+use Rattle.dn_laws.specs.SharingLaws.{CommandsMoveNothing, PacketsKeepApart, PipeDeleteEmpties, PipeDeleteSpares, QueueDeleteEmpties, QueueDeleteSpares}
+use Rattle.dn_laws.specs.ConfiguredLaws.{CommandsCount, QueuesHavePipes}
 use Rattle.dn_types.specs.Flows.{Treatment, treatment, keys, key_of, flow_number}
 use Rattle.dn_types.specs.Links.{free, last_due}
 use Rattle.dn_types.specs.SharedLinks.{waiting, opening, virtual_time}
 use Rattle.dn_types.specs.Starts.{settled, start_at}
 use Rattle.dn_types.specs.Trace.{Link, link_eq, pipe_of, Accepted, Event, opened, arrived, started, discarded, backlog}
 use Rattle.dn_types.specs.declared.call.Call.{Call}
-use Rattle.dn_types.specs.declared.call.Call.TheVariants.{Configure, Submit, Advance}
+use Rattle.dn_types.specs.declared.call.Call.TheVariants.{Configure}
 use Rattle.dn_types.specs.declared.command.Command.{Command}
 use Rattle.dn_types.specs.declared.command.Command.TheVariants.{Pipe, Queue, DeletePipe, DeleteQueue}
 use Rattle.dn_types.specs.declared.flow_key.FlowKey.{FlowKey}
 use Rattle.dn_types.specs.declared.limit.Limit.{Limit}
-use Rattle.dn_types.specs.declared.mask.Mask.{Mask}
 use Rattle.dn_types.specs.declared.packet.Packet.{Packet}
 use Rattle.dn_types.specs.declared.reply.Reply.{Reply}
 use Rattle.dn_types.specs.declared.reply.Reply.TheVariants.{Configured, Deleted}
 use Rattle.dn_types.specs.declared.rule.Rule.{Rule}
 use Rattle.dn_types.specs.declared.target.Target.{Target}
-use Rattle.dn_types.specs.declared.target.Target.TheVariants.{Pipe as ToPipe, Queue as ToQueue}
+use Rattle.dn_types.specs.declared.target.Target.TheVariants.{Queue as ToQueue}
 use Rattle.dn_types.proofs.InForce.{target_eq-true, pipe-there}
 use Rattle.dn_types.proofs.Keys.{target_eq-refl}
 use Rattle.dn_types.proofs.Known.{all-known, reached-emptied, fewer-discarded, pipe_of-link}
@@ -40,8 +41,7 @@ pub none-left : (q : List Accepted) → (0 < length q → ⊥) → q ≡ []
 none-left [] h = refl
 none-left (p ∷ q) h = absurd (h (omega arith))
 
-pub pipe-delete-empties : (calls : List Call) (number : ℕ) (link : Link) (flow : ℕ) → reply_to_command calls (DeletePipe number) ≡ Deleted → pipe_of link ≡ number →
-    backlog link flow (trace_of (Configure (DeletePipe number) ∷ calls)) ≡ []
+pub pipe-delete-empties : PipeDeleteEmpties
 pipe-delete-empties calls number link flow e of_pipe =
     let after = discard_reached (DeletePipe number) 0 (keys calls) (trace_of calls) in
     ap (backlog link flow) (after-deleted calls (DeletePipe number) e) ∙
@@ -51,8 +51,7 @@ pipe-delete-empties calls number link flow e of_pipe =
     let none = ap (λ (q : List Accepted). length q) (reached-emptied link flow (DeletePipe number) (keys calls) (trace_of calls) k.key k.at (eq-eqb k.key.pipe number pipe)) in
     omega arith)
 
-pub queue-delete-empties : (calls : List Call) (number : ℕ) (link : Link) (before behind : List FlowKey) (key : FlowKey) → reply_to_command calls (DeleteQueue number) ≡ Deleted →
-    keys calls ≡ before ++ key ∷ behind → key.target ≡ ToQueue number → backlog link (length before) (trace_of (Configure (DeleteQueue number) ∷ calls)) ≡ []
+pub queue-delete-empties : QueueDeleteEmpties
 queue-delete-empties calls number link before behind key e parts mine =
     ap (backlog link (length before)) (after-deleted calls (DeleteQueue number) e) ∙
     reached-emptied link (length before) (DeleteQueue number)
@@ -93,15 +92,13 @@ pub only-commands-count : (calls : List Call) (c : Call) (target : Target) → (
 only-commands-count calls (Configure command) target other = absurd (other command refl)
 only-commands-count calls _ target other = refl
 
-pub queue-delete-spares : (calls : List Call) (number : ℕ) (link : Link) (before behind : List FlowKey) (key : FlowKey) → keys calls ≡ before ++ key ∷ behind →
-    key.target ≢ ToQueue number → backlog link (length before) (trace_of (Configure (DeleteQueue number) ∷ calls)) ≡ backlog link (length before) (trace_of calls)
+pub queue-delete-spares : QueueDeleteSpares
 queue-delete-spares calls number link before behind key parts other =
     spared-by calls (DeleteQueue number) link before behind key parts
     (false-if (target_eq key.target (ToQueue number)) (λ same. other (target_eq-true key.target (ToQueue number) same)))
     (reply_to_command calls (DeleteQueue number))
 
-pub pipe-delete-spares : (calls : List Call) (number : ℕ) (link : Link) (before behind : List FlowKey) (key : FlowKey) → keys calls ≡ before ++ key ∷ behind → key.pipe ≢ number →
-    backlog link (length before) (trace_of (Configure (DeletePipe number) ∷ calls)) ≡ backlog link (length before) (trace_of calls)
+pub pipe-delete-spares : PipeDeleteSpares
 pipe-delete-spares calls number link before behind key parts other =
     spared-by calls (DeletePipe number) link before behind key parts (false-if (nat_eq key.pipe number) (λ same. other (eqb-true key.pipe number same))) (reply_to_command calls (DeletePipe number))
 
@@ -123,10 +120,7 @@ module _ (rule : Rule) (link : Link) where
   same-command Deleted command known trace = same-discard command 0 known trace
   same-command _ command known trace = (refl, refl, refl, refl)
 
-pub commands-move-nothing : (rule : Rule) (calls : List Call) (command : Command) (link : Link) →
-    (free link (trace_of (Configure command ∷ calls)) ≡ free link (trace_of calls)) × (last_due rule link (trace_of (Configure command ∷ calls)) ≡ last_due rule link (trace_of calls))
-    × (virtual_time link (trace_of (Configure command ∷ calls)) ≡ virtual_time link (trace_of calls))
-    × (undelivered rule (trace_of (Configure command ∷ calls)) ≡ undelivered rule (trace_of calls))
+pub commands-move-nothing : CommandsMoveNothing
 commands-move-nothing rule calls command link = same-command rule link (reply_to_command calls command) command (keys calls) (trace_of calls)
 
 module _ (rule : Rule) (link : Link) where
@@ -197,23 +191,14 @@ carried-by (Queue number pipe weight limit loss buckets mask) rate most carrier 
 carried-by (DeletePipe number) rate most carrier h how e = absurd h
 carried-by (DeleteQueue number) rate most carrier h how e = absurd h
 
-pub packets-keep-apart : (rule : Rule) (calls : List Call) (target : Target) (packet : Packet) (moment : ℕ) (command : Command) (rate : ℕ) (most : Limit) (carrier : ℕ) (link : Link) →
-    settings calls target ≡ Some command → IsJudgedBy command rate most carrier → pipe_of link ≢ carrier →
-    let with_it = trace_of (Submit target packet moment ∷ calls) in
-    let without = trace_of (Advance moment ∷ calls) in
-    ((flow : ℕ) → backlog link flow with_it ≡ backlog link flow without) × (free link with_it ≡ free link without) × (last_due rule link with_it ≡ last_due rule link without)
-    × (virtual_time link with_it ≡ virtual_time link without)
+pub packets-keep-apart : PacketsKeepApart
 packets-keep-apart rule calls target packet moment command rate most carrier link set judged other =
     let at = max (effective_moment calls) moment in
     let before = settled (settings calls) at (trace_of calls) in
     untouched-verdict rule link (settings calls) at packet (verdict calls target packet before) before
     (elsewhere-by rule link (keys calls) target packet (treatment (settings calls target)) before carrier (λ how e. carried-by command rate most carrier judged how (sym (ap treatment set) ∙ e)) other)
 
-pub commands-count : (calls : List Call) (command : Command) →
-    (reply_to_command calls command ≡ Configured → settings (Configure command ∷ calls) (subject command) ≡ Some command)
-    × (reply_to_command calls command ≡ Deleted → settings (Configure command ∷ calls) (subject command) ≡ None)
-    × (reply_to_command calls command ≢ Configured → reply_to_command calls command ≢ Deleted → settings (Configure command ∷ calls) (subject command) ≡ settings calls (subject command))
-    × ((target : Target) → target ≢ subject command → settings (Configure command ∷ calls) target ≡ settings calls target)
+pub commands-count : CommandsCount
 commands-count calls command = (
   (λ e. own' ∙ ap (λ (r : Reply). setting_after r command (settings calls (subject command))) e),
   (λ e. own' ∙ ap (λ (r : Reply). setting_after r command (settings calls (subject command))) e),
@@ -232,7 +217,6 @@ commands-count calls command = (
     apart : (target : Target) → target ≢ subject command → target_eq (subject command) target ≡ false
     apart target other = ⊎_elim (λ same. absurd (other (sym (target_eq-true (subject command) target same)))) (λ no'. no') (true_or_false (target_eq (subject command) target))
 
-pub queues-have-pipes : (calls : List Call) (target : Target) (number pipe weight : ℕ) (limit : Limit) (loss : ℕ) (buckets : Option ℕ) (mask : Mask) →
-    settings calls target ≡ Some (Queue number pipe weight limit loss buckets mask) → is_some (settings calls (ToPipe pipe)) ≡ true
+pub queues-have-pipes : QueuesHavePipes
 queues-have-pipes calls target number pipe weight limit loss buckets mask set =
     pipe-there calls target (record { pipe = pipe; weight = weight; mask = mask; loss = loss; limit = limit }) (ap treatment set)

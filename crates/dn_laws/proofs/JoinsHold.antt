@@ -22,7 +22,6 @@ use Rattle.dn_types.specs.declared.call.Call.TheVariants.{Submit, Advance}
 use Rattle.dn_types.specs.declared.command.Command.{Command}
 use Rattle.dn_types.specs.declared.command.Command.TheVariants.{Pipe, Queue, DeletePipe, DeleteQueue}
 use Rattle.dn_types.specs.declared.packet.Packet.{Packet}
-use Rattle.dn_types.specs.declared.reply.Reply.{Reply}
 use Rattle.dn_types.specs.declared.reply.Reply.TheVariants.{Queued}
 use Rattle.dn_types.specs.declared.rule.Rule.{Rule}
 use Rattle.dn_types.specs.declared.target.Target.{Target}
@@ -223,18 +222,6 @@ pub record IsTakenSo (calls : List Call) (target : Target) (packet : Packet) (mo
       ≡ join (settings calls) (max (effective_moment calls) moment) (accept link packet flow how (opening link (max (effective_moment calls) moment) (trace_of (Advance moment ∷ calls))))
       (opening link (max (effective_moment calls) moment) (trace_of (Advance moment ∷ calls)))
 
-abbrev at-or : Reply → ℕ
-at-or (Queued at flow number) = at
-at-or _ = 0
-
-abbrev flow-or : Reply → ℕ
-flow-or (Queued at flow number) = flow
-flow-or _ = 0
-
-abbrev number-or : Reply → ℕ
-number-or (Queued at flow number) = number
-number-or _ = 0
-
 module _ (rule : Rule) (calls : List Call) (lt : length calls < call_limit) (target : Target) (packet : Packet) (moment : ℕ) where
   told-by : reply rule calls (Submit target packet moment)
       ≡ reply_to_verdict (max (effective_moment calls) moment) (verdict calls target packet (trace_of (Advance moment ∷ calls))) (trace_of (Advance moment ∷ calls))
@@ -250,14 +237,14 @@ module _ (rule : Rule) (calls : List Call) (lt : length calls < call_limit) (tar
       by (refuses l f) is e = absurd cc
       by (takes l f how) is e =
           let v = verdict-takes (keys calls) target packet (treatment (settings calls target)) (trace_of (Advance moment ∷ calls)) l f how is in
-          let same : f ≡ flow = ap flow-or e in
+          let same : f ≡ flow = cc in
           record {
             link = l;
             how = how;
             treats = v.0;
             link_is = v.1 ∙ ap (λ (n : ℕ). link_of target n how.pipe) same;
-            at_now = ap at-or e;
-            counted = ap number-or e;
+            at_now = cc;
+            counted = cc;
             makes = ap (λ (x : Verdict). after_verdict (settings calls) (max (effective_moment calls) moment) packet x (trace_of (Advance moment ∷ calls))) is
                 ∙ ap (λ (n : ℕ). join (settings calls) (max (effective_moment calls) moment) (accept l packet n how (opening l (max (effective_moment calls) moment) (trace_of (Advance moment ∷ calls))))
                 (opening l (max (effective_moment calls) moment) (trace_of (Advance moment ∷ calls)))) same;

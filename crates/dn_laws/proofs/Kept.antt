@@ -3,7 +3,7 @@ use Rattle.std.proofs.Common.{◌≡◌, ◌∙◌, ℕ, ◌+◌, true, false, c
 use Rattle.std.specs.List.{All}
 use Rattle.std.proofs.lemmas.List.Elements.{All-head, All-tail}
 use Rattle.dn_laws.specs.Explained.{IsDueBy}
-use Rattle.dn_laws.specs.KeptLaws.{IsNoStart, IsNoOpening}
+use Rattle.dn_laws.specs.KeptLaws.{IsNoOpening, IsNoStart, LinksAreKept, VirtualTimeIsKept}
 use Rattle.dn_types.specs.Links.{free, last_due, arrival_time, due_by}
 use Rattle.dn_types.specs.SharedLinks.{virtual_time, link_heads}
 use Rattle.dn_types.specs.Trace.{Link, link_eq, Start, Event, opened, started}
@@ -56,10 +56,7 @@ module _ (rule : Rule) (link : Link) where
   due-is Free s last = refl
   due-is Ordered s last = refl
 
-pub links-are-kept : (rule : Rule) (link : Link) (later earlier : List Event) → All (IsNoStart link) later →
-    ((s : Start) → s.packet.link ≡ link → (free link (later ++ (started s ∷ earlier)) ≡ s.moment + s.transmission)
-    × IsDueBy rule s (last_due rule link earlier) (last_due rule link (later ++ (started s ∷ earlier))))
-    × (free link later ≡ 0) × (last_due rule link later ≡ 0)
+pub links-are-kept : LinksAreKept
 links-are-kept rule link later earlier h = (
   λ s same. (
     free-kept rule link later (started s ∷ earlier) h ∙ ap {B = ℕ} (λ b. cond b (s.moment + s.transmission) (free link earlier)) (here rule link s same),
@@ -72,8 +69,6 @@ links-are-kept rule link later earlier h = (
   ap (last_due rule link) (sym (none-after rule link later)) ∙ due-kept rule link later [] h,
 )
 
-pub virtual-time-is-kept : (link : Link) (later earlier : List Event) → All (IsNoStart link) later → All (IsNoOpening link) later →
-    (virtual_time link (later ++ earlier) ≡ virtual_time link earlier) × (virtual_time link (opened link ∷ earlier) ≡ 0)
-    × (virtual_time link [] ≡ 0)
+pub virtual-time-is-kept : VirtualTimeIsKept
 virtual-time-is-kept link later earlier h k =
     (virtual-kept Free link later earlier h k, ap {B = ℕ} (λ b. cond b 0 (virtual_time link earlier)) (link_eq-refl link), refl)

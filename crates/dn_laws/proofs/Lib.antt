@@ -17,6 +17,7 @@ pub mod Divided
 mod DividedWitnesses
 pub mod DropLaws
 pub mod EachHead
+pub mod EachWaiting
 pub mod Elsewhere
 pub mod Exactly
 pub mod Fair

@@ -5,7 +5,7 @@ use Rattle.dn_types.specs.Calls.{link_of, loses, refuses, takes, verdict_by, tra
 use Rattle.dn_types.specs.Clock.{call_limit, effective_moment}
 use Rattle.dn_types.specs.Configuration.{settings}
 use Rattle.dn_types.specs.Drops.{is_lost, is_full}
-use Rattle.dn_laws.specs.FlowLaws.{flow_told, IsMaskedBy, kept_by, AgreeUnder}
+use Rattle.dn_laws.specs.FlowLaws.{AgreeUnder, flow_told, FlowsAreByMask, FlowsHaveTheirKeys, IsMaskedBy, kept_by}
 use Rattle.dn_types.specs.Flows.{Treatment, treatment, keys, keys_with, key_of, flow_number}
 use Rattle.dn_types.specs.Replies.{reply, counted_reply, reply_to_verdict}
 use Rattle.dn_types.specs.Starts.{settled}
@@ -68,9 +68,7 @@ keyed target tuple (Queue number pipe weight limit loss buckets own') mask carri
 keyed target tuple (DeletePipe number) mask carrier h = absurd h
 keyed target tuple (DeleteQueue number) mask carrier h = absurd h
 
-pub flows-have-their-keys : (rule : Rule) (calls : List Call) (target : Target) (packet : Packet) (moment : ℕ) (command : Command) (mask : Mask) (carrier flow : ℕ) →
-    settings calls target ≡ Some command → IsMaskedBy command mask carrier → flow_told (reply rule calls (Submit target packet moment)) ≡ Some flow →
-    slice_get (keys (Submit target packet moment ∷ calls)) flow ≡ Some (record { target = target; pipe = carrier; mask = mask; tuple = kept_by mask packet.tuple })
+pub flows-have-their-keys : FlowsHaveTheirKeys
 flows-have-their-keys rule calls target packet moment command mask carrier flow set by_mask e =
     let k = keyed target packet.tuple command mask carrier by_mask in
     let how : Treatment = k.0 in
@@ -86,10 +84,7 @@ stay : (between calls : List Call) (flow : ℕ) (key : FlowKey) → slice_get (k
 stay [] calls flow key e = e
 stay (c ∷ between) calls flow key e = keys-stay (between ++ calls) c flow key (stay between calls flow key e)
 
-pub flows-are-by-mask : (rule : Rule) (calls between : List Call) (target : Target) (a b : Packet) (m n : ℕ) (first second : Command) (mask : Mask) (carrier f g : ℕ) →
-    settings calls target ≡ Some first → IsMaskedBy first mask carrier → settings (between ++ Submit target a m ∷ calls) target ≡ Some second → IsMaskedBy second mask carrier →
-    flow_told (reply rule calls (Submit target a m)) ≡ Some f → flow_told (reply rule (between ++ Submit target a m ∷ calls) (Submit target b n)) ≡ Some g →
-    (AgreeUnder mask a.tuple b.tuple → f ≡ g) × (f ≡ g → AgreeUnder mask a.tuple b.tuple)
+pub flows-are-by-mask : FlowsAreByMask
 flows-are-by-mask rule calls between target a b m n first second mask carrier f g set by_first then by_second told_a told_b = (λ agree. same agree, λ is. fields (equal is))
   where
     later : List Call

@@ -7,7 +7,7 @@ use Rattle.std.specs.declared.cmp.Ordering.TheVariants.{Less, Equal, Greater}
 use Rattle.std.specs.Cmp.{IsTotalOrder, nat_cmp_is, ranks}
 use Rattle.std.specs.Ordering.{is_lt, nat_cmp, ordering_then, ordering_reverse, MatchOrdering}
 use Rattle.std.proofs.lemmas.Cmp.{then_total, on_total, nat_cmp_total}
-use Rattle.std.proofs.lemmas.List.Elements.{All-push, All-drop, All-filter, All-nil, All-cons}
+use Rattle.std.proofs.lemmas.List.Elements.{All-filter, All-nil, All-cons}
 use Rattle.dn_types.specs.Deliveries.{delivery_cmp, is_given_before, in_order, delivery_of, undelivered, given}
 use Rattle.dn_types.specs.Links.{last_due, due_by, arrival_time}
 use Rattle.dn_laws.specs.Parts.{Choice, place, is_link_on, part}
@@ -17,6 +17,7 @@ use Rattle.dn_types.specs.declared.delivery.Delivery.{Delivery}
 use Rattle.dn_types.specs.declared.rule.Rule.{Rule}
 use Rattle.dn_types.proofs.BoundedReplies.{in_order-all}
 use Rattle.dn_types.proofs.Fifo.{IsProper}
+use Rattle.dn_laws.proofs.EachWaiting.{each-pushed, each-left, each-cleared}
 use Rattle.dn_laws.proofs.PartCalls.{AreTaken}
 use Rattle.dn_laws.proofs.Parts.{skip, IsFit, AreFit, link', accepted', start', last_due-part}
 use Rattle.dn_laws.proofs.Places.{place-lt}
@@ -182,23 +183,11 @@ module _ (chosen : Choice) (mine taken : ℕ → Bool) where
   abbrev IsNumbered : Accepted → Type 0
   IsNumbered p = taken p.packet ≡ is_link_on chosen mine p.link
 
-  push-numbered : (b : Bool) (ps : List Accepted) (q : Accepted) → IsNumbered q → All IsNumbered ps → All IsNumbered (cond b (ps ++ q ∷ []) ps)
-  push-numbered true ps q one h = All-push IsNumbered ps q h one
-  push-numbered false ps q one h = h
-
-  drop-numbered : (b : Bool) (ps : List Accepted) → All IsNumbered ps → All IsNumbered (cond b (drop 1 ps) ps)
-  drop-numbered true ps h = All-drop IsNumbered 1 ps h
-  drop-numbered false ps h = h
-
-  clear-numbered : (b : Bool) (ps : List Accepted) → All IsNumbered ps → All IsNumbered (cond b [] ps)
-  clear-numbered true ps h = All-nil IsNumbered
-  clear-numbered false ps h = h
-
   backlog-numbered : (l : Link) (f : ℕ) (t : List Event) → AreTaken chosen mine taken t → All IsNumbered (backlog l f t)
   backlog-numbered l f [] h = All-nil IsNumbered
-  backlog-numbered l f (arrived q ∷ t) h = push-numbered (is_of l f q) (backlog l f t) q h.0 (backlog-numbered l f t h.1)
-  backlog-numbered l f (started s ∷ t) h = drop-numbered (is_of l f s.packet) (backlog l f t) (backlog-numbered l f t h)
-  backlog-numbered l f (discarded g ∷ t) h = clear-numbered (nat_eq g f) (backlog l f t) (backlog-numbered l f t h)
+  backlog-numbered l f (arrived q ∷ t) h = each-pushed IsNumbered (is_of l f q) (backlog l f t) q (λ _. h.0) (backlog-numbered l f t h.1)
+  backlog-numbered l f (started s ∷ t) h = each-left IsNumbered (is_of l f s.packet) (backlog l f t) (backlog-numbered l f t h)
+  backlog-numbered l f (discarded g ∷ t) h = each-cleared IsNumbered (nat_eq g f) (backlog l f t) (backlog-numbered l f t h)
   backlog-numbered l f (_ ∷ t) h = backlog-numbered l f t h
 
   first-numbered : (p : Accepted) (ps : List Accepted) → slice_get ps 0 ≡ Some p → All IsNumbered ps → IsNumbered p

@@ -1,5 +1,5 @@
 -- A replay falls apart by links.
-use Rattle.std.proofs.Common.{◌≡◌, ◌∙◌, ◌≤◌, ◌<◌, ℕ, max, Bool, true, false, cond, List, [], ◌∷◌, map, refl, ap, sym, length, arith}
+use Rattle.std.proofs.Common.{◌≡◌, ◌∙◌, ◌≤◌, ◌<◌, ℕ, max, Bool, true, false, cond, List, [], ◌∷◌, refl, ap, sym, length, arith}
 use Rattle.std.specs.Prelude.{is_some, nat_le}
 use Rattle.std.specs.List.{filter}
 use Rattle.std.proofs.lemmas.Bool.Decides.{nat_tests}
@@ -8,10 +8,11 @@ use Rattle.dn_types.specs.Clock.{effective_moment, call_limit}
 use Rattle.dn_types.specs.Configuration.{Settings, settings, queue_numbers, has_queues, command_reply}
 use Rattle.dn_types.specs.Deliveries.{given}
 use Rattle.dn_types.specs.Flows.{treatment, keys, keys_with}
-use Rattle.dn_laws.specs.Parts.{Choice, is_carried, calls_on, part_of}
+use Rattle.dn_laws.specs.Parts.{Choice, is_carried, calls_on}
 use Rattle.dn_laws.specs.Replays.{AreCommands, ArePackets, IsReplay, own_calls}
 use Rattle.dn_types.specs.Replies.{reply_to_verdict, counted_reply, reply, replies}
-use Rattle.dn_laws.specs.ReplyParts.{reply_on, is_told}
+use Rattle.dn_laws.specs.ReplyParts.{is_told}
+use Rattle.dn_laws.specs.PartLaws.{AgreeingCallsAgree, ReplaysFallApart}
 use Rattle.dn_types.specs.Starts.{settled}
 use Rattle.dn_types.specs.Trace.{Event}
 use Rattle.dn_types.specs.declared.call.Call.{Call}
@@ -28,8 +29,7 @@ use Rattle.dn_laws.proofs.Advances.{settled-again}
 use Rattle.dn_laws.proofs.PartCalls.{moment-on, length-on, other-links-change-nothing}
 use Rattle.dn_laws.proofs.PartReplies.{other-links-change-no-reply}
 
-pub agreeing-calls-agree : (rule : Rule) (chosen : Choice) (calls others : List Call) → calls_on chosen calls ≡ calls_on chosen others →
-    (part_of chosen calls ≡ part_of chosen others) × (map (reply_on chosen calls) (replies rule calls) ≡ map (reply_on chosen others) (replies rule others))
+pub agreeing-calls-agree : AgreeingCallsAgree
 agreeing-calls-agree rule chosen calls others same = (
   sym (other-links-change-nothing chosen calls) ∙ ap trace_of same ∙ other-links-change-nothing chosen others,
   sym (other-links-change-no-reply rule chosen calls) ∙ ap (replies rule) same ∙ other-links-change-no-reply rule chosen others,
@@ -226,6 +226,5 @@ module _ (rule : Rule) (chosen : Choice) where
       collect-told (own calls) (less calls) (effective_moment calls) moment (packets-behind calls h (omega (arith, few))) (let n = length-on chosen calls in omega (arith, n, few))
   replay-told (Show ∷ calls) h few = absurd h
 
-pub replays-fall-apart : (rule : Rule) (chosen : Choice) (calls : List Call) → IsReplay calls → length calls ≤ call_limit →
-    replies rule (own_calls chosen calls) ≡ filter is_told (map (reply_on chosen calls) (replies rule calls))
+pub replays-fall-apart : ReplaysFallApart
 replays-fall-apart rule chosen calls h few = replay-told rule chosen calls h few ∙ ap (filter is_told) (other-links-change-no-reply rule chosen calls)

@@ -6,8 +6,8 @@ use Rattle.dn_types.specs.Clock.{effective_moment, call_limit}
 use Rattle.dn_types.specs.Configuration.{Settings, settings, reply_to_command}
 use Rattle.dn_types.specs.Deliveries.{given}
 use Rattle.dn_types.specs.Flows.{Treatment, treatment, keys, keys_with}
-use Rattle.dn_laws.specs.PartLaws.{AreAlike, emptied, IsUntimed, AreMatched}
-use Rattle.dn_laws.specs.Parts.{of_pipe, calls_on, part_of}
+use Rattle.dn_laws.specs.PartLaws.{AreAlike, AreMatched, CommandsActByForce, emptied, IsUntimed, PartsRestOnTheirPipe}
+use Rattle.dn_laws.specs.Parts.{of_pipe, calls_on}
 use Rattle.dn_laws.specs.Replays.{AreCommands}
 use Rattle.dn_types.specs.Replies.{reply_to_verdict, counted_reply, reply, replies}
 use Rattle.dn_types.specs.Starts.{settled}
@@ -160,8 +160,7 @@ module _ (rule : Rule) (pipe : ℕ) where
   matched-same (Submit target packet moment ∷ mine) [] h = absurd h
   matched-same (_ ∷ mine) [] h = absurd h
 
-pub commands-act-by-force : (pipe : ℕ) (calls others : List Call) → AreMatched pipe (calls_on (of_pipe pipe) calls) (calls_on (of_pipe pipe) others)
-    → part_of (of_pipe pipe) calls ≡ part_of (of_pipe pipe) others
+pub commands-act-by-force : CommandsActByForce
 commands-act-by-force pipe calls others h =
     let same = matched-same Ordered pipe (calls_on (of_pipe pipe) calls) (calls_on (of_pipe pipe) others) h in
     sym (other-links-change-nothing (of_pipe pipe) calls) ∙ same.trace_is ∙ other-links-change-nothing (of_pipe pipe) others
@@ -215,8 +214,5 @@ module _ (rule : Rule) (pipe : ℕ) (commands others : List Call) (commands_are 
       (one.0, (λ i. told i ∷ rest.1 i))
   all-same (_ ∷ packets) h few less = absurd h
 
-pub parts-rest-on-their-pipe : (rule : Rule) (pipe : ℕ) (commands others packets : List Call) → AreCommands commands → AreCommands others →
-    settings commands (ToPipe pipe) ≡ settings others (ToPipe pipe) → AreAlike pipe (settings commands) (settings others) packets →
-    length (packets ++ commands) ≤ call_limit → length (packets ++ others) ≤ call_limit →
-    take (length packets) (replies rule (packets ++ commands)) ≡ take (length packets) (replies rule (packets ++ others))
+pub parts-rest-on-their-pipe : PartsRestOnTheirPipe
 parts-rest-on-their-pipe rule pipe commands others packets c o same h few less = (all-same rule pipe commands others c o same packets h few less).1

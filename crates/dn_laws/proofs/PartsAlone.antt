@@ -5,9 +5,9 @@ use Rattle.dn_types.specs.Calls.{verdict_by, after_verdict, after_command, trace
 use Rattle.dn_types.specs.Clock.{effective_moment}
 use Rattle.dn_types.specs.Configuration.{Settings, settings, subject, target_eq, queue_numbers, command_reply, setting_after, reply_to_command}
 use Rattle.dn_types.specs.Deliveries.{given}
-use Rattle.dn_laws.specs.Divided.{links_of, own_of, IsOfOnePart, AreDivided}
+use Rattle.dn_laws.specs.Divided.{AreDivided, IsOfOnePart, links_of, own_of, PartsHappenAlone}
 use Rattle.dn_types.specs.Flows.{Treatment, treatment, keys, keys_with}
-use Rattle.dn_laws.specs.Parts.{calls_on, is_carried, part_of}
+use Rattle.dn_laws.specs.Parts.{calls_on, is_carried}
 use Rattle.dn_types.specs.Replies.{reply_to_verdict, counted_reply, statuses_from}
 use Rattle.dn_types.specs.Starts.{first_start, settle, settled, waiting_all}
 use Rattle.dn_types.specs.Trace.{Start, Event, started, collected, links}
@@ -326,8 +326,7 @@ module _ (mine : Target → Bool) where
         by true h = own-show (alone-of calls) (less calls) h (less-on calls)
         by false h = other-show (alone-of calls) (less calls) h (less-on calls)
 
-pub parts-happen-alone : (mine : Target → Bool) (is_own : ℕ → Bool) (calls : List Call) → AreDivided mine is_own calls →
-    trace_of (Advance (effective_moment calls) ∷ own_of is_own calls) ≡ part_of (links_of mine) calls
+pub parts-happen-alone : PartsHappenAlone
 parts-happen-alone mine is_own calls d =
     let h = behind mine is_own calls d in
     let e = moment-on (links_of mine) calls in

@@ -11,7 +11,8 @@ use Rattle.dn_types.specs.Deliveries.{delivery_of, undelivered, given}
 use Rattle.dn_types.specs.Drops.{is_lost, is_full}
 use Rattle.dn_types.specs.Flows.{Treatment, treatment, key_of, keys, keys_with, flow_number, with_key}
 use Rattle.dn_types.specs.Links.{free, last_due}
-use Rattle.dn_laws.specs.Parts.{of_pipe, is_flow_of, is_key_on, is_some_key_on, is_flow_on}
+use Rattle.dn_laws.specs.Parts.{of_pipe, is_flow_of, is_key_on, is_some_key_on}
+use Rattle.dn_laws.specs.PartLaws.{PartsAreWhole}
 use Rattle.dn_types.specs.SharedLinks.{waiting, opening}
 use Rattle.dn_types.specs.Starts.{start_at, first_start, settle, settled, waiting_all}
 use Rattle.dn_types.specs.Trace.{Link, shared, Accepted, Start, Event, opened, arrived, started, backlog, links}
@@ -126,8 +127,7 @@ on-its-pipe key pipe = by key.target
     by (ToPipe n) = refl
     by (ToQueue n) = refl
 
-pub parts-are-whole : (rule : Rule) (calls : List Call) (at : ℕ) →
-    All (λ d. (key : FlowKey) × (slice_get (keys calls) d.flow ≡ Some key) × ((pipe : ℕ) → is_flow_on (of_pipe pipe) (keys calls) d.flow ≡ nat_eq key.pipe pipe)) (given rule at (trace_of calls))
+pub parts-are-whole : PartsAreWhole
 parts-are-whole rule calls at = λ k d lt.
     let had = All-filter (λ d. nat_le d.due at) (HasKey rule (keys calls)) (undelivered rule (trace_of calls)) (all-keyed rule calls) k d lt in
     (had.0, had.1, λ pipe. ap (is_some_key_on (of_pipe pipe)) had.1 ∙ on-its-pipe had.0 pipe)

@@ -5,7 +5,7 @@ use Rattle.std.specs.List.{All}
 use Rattle.std.proofs.lemmas.Bool.Decides.{nat_tests}
 use Rattle.std.proofs.lemmas.Bool.{eq-eqb}
 use Rattle.std.proofs.lemmas.List.{append_cancel_right, length-append, append_assoc}
-use Rattle.std.proofs.lemmas.List.Elements.{All-nil, All-push, All-drop}
+use Rattle.std.proofs.lemmas.List.Elements.{All-nil, All-push}
 use Rattle.dn_types.specs.Calls.{link_of, Verdict, no_target, loses, refuses, takes, verdict, accept, join, after_verdict, trace_of}
 use Rattle.dn_types.specs.Clock.{effective_moment}
 use Rattle.dn_types.specs.Configuration.{settings}
@@ -28,6 +28,7 @@ use Rattle.dn_laws.proofs.Begun.{IsCaused, IsTaken, AllEvents, call-causes}
 use Rattle.dn_types.proofs.Bounded.{first-all}
 use Rattle.dn_types.proofs.Conserving.{busy-link}
 use Rattle.dn_laws.proofs.DropLaws.{not-exhausted}
+use Rattle.dn_laws.proofs.EachWaiting.{each-pushed, each-left, each-cleared}
 use Rattle.dn_laws.proofs.Exactly.{waits-for-its-link}
 use Rattle.dn_laws.proofs.Fates.{all-stay}
 use Rattle.dn_types.proofs.Fifo.{IsProper, own-first}
@@ -123,20 +124,8 @@ module _ (p : Accepted) (before : List Event) where
   abbrev Stands : List Event → Type 0
   Stands g = StillWaits g ⊎ IsGone g
 
-  push-other : (b : Bool) (qs : List Accepted) (q : Accepted) → IsOther q → All IsOther qs → All IsOther (cond b (qs ++ q ∷ []) qs)
-  push-other true qs q one h = All-push IsOther qs q h one
-  push-other false qs q one h = h
-
-  drop-other : (b : Bool) (qs : List Accepted) → All IsOther qs → All IsOther (cond b (drop 1 qs) qs)
-  drop-other true qs h = All-drop IsOther 1 qs h
-  drop-other false qs h = h
-
-  clear-other : (b : Bool) (qs : List Accepted) → All IsOther qs → All IsOther (cond b [] qs)
-  clear-other true qs h = All-nil IsOther
-  clear-other false qs h = h
-
   arrive : (q : Accepted) (g : List Event) → IsProper (arrived q ∷ (g ++ (arrived p ∷ before))) → Stands g → Stands (arrived q ∷ g)
-  arrive q g h stands = ⊎_elim (λ w. inl (more (is_of p.link p.stamped.flow q) refl w)) (λ gone. inr (push-other (is_of p.link p.stamped.flow q) (queue g) q other gone)) stands
+  arrive q g h stands = ⊎_elim (λ w. inl (more (is_of p.link p.stamped.flow q) refl w)) (λ gone. inr (each-pushed IsOther (is_of p.link p.stamped.flow q) (queue g) q (λ _. other) gone)) stands
     where
       other : q.packet ≢ p.packet
       other same =
@@ -159,14 +148,14 @@ module _ (p : Accepted) (before : List Event) where
       }
 
   discard : (f : ℕ) (g : List Event) → Stands g → Stands (discarded f ∷ g)
-  discard f g stands = ⊎_elim (λ w. by (nat_eq f p.stamped.flow) refl w) (λ gone. inr (clear-other (nat_eq f p.stamped.flow) (queue g) gone)) stands
+  discard f g stands = ⊎_elim (λ w. by (nat_eq f p.stamped.flow) refl w) (λ gone. inr (each-cleared IsOther (nat_eq f p.stamped.flow) (queue g) gone)) stands
     where
       by : (b : Bool) → nat_eq f p.stamped.flow ≡ b → StillWaits g → Stands (discarded f ∷ g)
       by true e w = inr (subst (λ b. All IsOther (cond b [] (queue g))) (sym e) (All-nil IsOther))
       by false e w = inl record { rest = w.rest; behind = w.behind; stands = ap (λ b. cond b [] (queue g)) e ∙ w.stands; busy = w.busy; others = w.others }
 
   start : (s : Start) (g : List Event) → IsProper (started s ∷ (g ++ (arrived p ∷ before))) → IsUnpaused (started s ∷ (g ++ (arrived p ∷ before))) → Stands g → Stands (started s ∷ g)
-  start s g h unpaused stands = ⊎_elim (λ w. by (link_eq s.packet.link p.link) refl w) (λ gone. inr (drop-other (is_of p.link p.stamped.flow s.packet) (queue g) gone)) stands
+  start s g h unpaused stands = ⊎_elim (λ w. by (link_eq s.packet.link p.link) refl w) (λ gone. inr (each-left IsOther (is_of p.link p.stamped.flow s.packet) (queue g) gone)) stands
     where
       by : (b : Bool) → link_eq s.packet.link p.link ≡ b → StillWaits g → Stands (started s ∷ g)
       by false e w = inl record {

@@ -21,7 +21,7 @@ use Rattle.dn_types.proofs.Fifo.{IsProper}
 use Rattle.dn_types.proofs.Ordered.{suffix-proper, trace-proper}
 use Rattle.dn_types.proofs.Settled.{link_eq-true}
 
-suffix-homes : (known : List FlowKey) (later earlier : List Event) → HaveHomes known (later ++ earlier) → HaveHomes known earlier
+pub suffix-homes : (known : List FlowKey) (later earlier : List Event) → HaveHomes known (later ++ earlier) → HaveHomes known earlier
 suffix-homes known [] earlier h = h
 suffix-homes known (arrived p ∷ later) earlier h = suffix-homes known later earlier h.1
 suffix-homes known (_ ∷ later) earlier h = suffix-homes known later earlier h

@@ -2,11 +2,10 @@
 use Rattle.std.proofs.Common.{◌≡◌, ◌∙◌, ◌≤◌, ◌<◌, ℕ, ◌+◌, ◌*◌, Bool, true, false, cond, List, [], ◌∷◌, ◌++◌, refl, ap, sym, subst, arith}
 use Rattle.std.specs.Prelude.{◌^◌}
 use Rattle.std.proofs.Math.Nat.{add-mul, mul-le-mul_right}
-use Rattle.dn_types.specs.Calls.{trace_of}
 use Rattle.dn_laws.specs.Explained.{sent, IsAtBandwidth}
+use Rattle.dn_laws.specs.ConfiguredLaws.{KeepsTheRate, StartsApart}
 use Rattle.dn_types.specs.Links.{free, transmission_time}
 use Rattle.dn_types.specs.Trace.{Link, link_eq, Start, Event, arrived, started}
-use Rattle.dn_types.specs.declared.call.Call.{Call}
 use Rattle.dn_types.proofs.Fifo.{IsProper}
 use Rattle.dn_types.proofs.Ordered.{trace-proper, suffix-proper}
 use Rattle.dn_types.proofs.Settled.{link_eq-true, link_eq-refl}
@@ -31,8 +30,7 @@ pub shape : (later between : List Event) (e : Event) (earlier : List Event) → 
 shape [] between e earlier = refl
 shape (x ∷ later) between e earlier = ap (λ (r : List Event). x ∷ r) (shape later between e earlier)
 
-pub starts-apart : (calls : List Call) (later between earlier : List Event) (s r : Start) → trace_of calls ≡ later ++ started s ∷ between ++ started r ∷ earlier →
-    s.packet.link ≡ r.packet.link → r.moment + r.transmission ≤ s.moment
+pub starts-apart : StartsApart
 starts-apart calls later between earlier s r e same =
     let h = suffix-proper later (started s ∷ (between ++ started r ∷ earlier)) (subst IsProper (e ∙ shape later between (started s) (started r ∷ earlier)) (trace-proper calls)) in
     let rises = free-later r.packet.link between (started r ∷ earlier) h.2 in
@@ -74,9 +72,7 @@ module _ (bw : ℕ) (some : 0 < bw) (r : Start) (earlier : List Event) where
       by false e rest = omega (arith, rest)
   by-free (_ ∷ between) h at = by-free between h at
 
-pub keeps-the-rate : (calls : List Call) (later between earlier : List Event) (s r : Start) (bw : ℕ) → trace_of calls ≡ later ++ started s ∷ between ++ started r ∷ earlier →
-    s.packet.link ≡ r.packet.link → 0 < bw → IsAtBandwidth bw r.packet.link (between ++ started r ∷ []) →
-    sent r.packet.link (between ++ started r ∷ []) * 8 * 10 ^ 9 + r.moment * bw ≤ s.moment * bw
+pub keeps-the-rate : KeepsTheRate
 keeps-the-rate calls later between earlier s r bw e same some at =
     let h = suffix-proper later (started s ∷ (between ++ started r ∷ earlier)) (subst IsProper (e ∙ shape later between (started s) (started r ∷ earlier)) (trace-proper calls)) in
     let bits = by-free bw some r earlier between h.2 at in

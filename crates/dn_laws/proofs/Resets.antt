@@ -1,25 +1,24 @@
 -- A busy period begins with tags of 0, a delete forgets its flows' tags, and a packet that is dropped changes nothing.
-use Rattle.std.proofs.Common.{◌≡◌, ◌∙◌, ◌≤◌, ℕ, zero, suc, max, Bool, true, false, cond, List, [], ◌∷◌, ◌++◌, refl, ap, length, arith}
+use Rattle.std.proofs.Common.{◌≡◌, ◌∙◌, ◌≤◌, ℕ, zero, suc, max, Bool, true, false, cond, List, [], ◌∷◌, refl, ap, length, arith}
 use Rattle.std.specs.Prelude.{nat_le, nat_eq}
 use Rattle.std.proofs.lemmas.Bool.{eq-eqb, le-leb, and_from}
 use Rattle.dn_types.specs.Calls.{link_of, Verdict, no_target, loses, refuses, takes, accept, after_verdict, verdict, trace_of}
 use Rattle.dn_types.specs.Clock.{call_limit, effective_moment}
-use Rattle.dn_types.specs.Configuration.{Settings, settings, target_eq, reply_to_command}
+use Rattle.dn_types.specs.Configuration.{Settings, settings, target_eq}
 use Rattle.dn_types.specs.Deliveries.{undelivered}
 use Rattle.dn_types.specs.Flows.{Treatment, keys, key_of, flow_number}
 use Rattle.dn_types.specs.Links.{free, last_due}
-use Rattle.dn_types.specs.Replies.{reply, counted_reply, reply_to_verdict}
-use Rattle.dn_laws.specs.ResetLaws.{IsDropped}
+use Rattle.dn_types.specs.Replies.{counted_reply, reply_to_verdict}
+use Rattle.dn_laws.specs.ResetLaws.{DroppedChangesNothing, IsDropped, PipeDeleteResets, QueueDeleteResets, TagsBeginAfresh}
 use Rattle.dn_types.specs.SharedLinks.{waiting, opening, virtual_time, last_finish_tag}
 use Rattle.dn_types.specs.Starts.{settled}
 use Rattle.dn_types.specs.Trace.{Link, Accepted, Event, opened, arrived, backlog, flow_bound}
 use Rattle.dn_types.specs.Wf2q.{total, start_tag_on_arrival}
 use Rattle.dn_types.specs.declared.call.Call.{Call}
-use Rattle.dn_types.specs.declared.call.Call.TheVariants.{Configure, Submit, Advance}
+use Rattle.dn_types.specs.declared.call.Call.TheVariants.{Submit, Advance}
 use Rattle.dn_types.specs.declared.command.Command.TheVariants.{DeletePipe, DeleteQueue}
-use Rattle.dn_types.specs.declared.flow_key.FlowKey.{FlowKey}
 use Rattle.dn_types.specs.declared.packet.Packet.{Packet}
-use Rattle.dn_types.specs.declared.reply.Reply.TheVariants.{Deleted, Exhausted}
+use Rattle.dn_types.specs.declared.reply.Reply.TheVariants.{Exhausted}
 use Rattle.dn_types.specs.declared.rule.Rule.{Rule}
 use Rattle.dn_types.specs.declared.target.Target.{Target}
 use Rattle.dn_types.specs.declared.target.Target.TheVariants.{Queue as ToQueue}
@@ -52,9 +51,7 @@ opened-tag link packet flow how at before none soon =
     ∙ zero-tag (nat_eq (length (backlog link flow (opened link ∷ before))) 0) (last_finish_tag link flow (opened link ∷ before)) (virtual_time link (opened link ∷ before))
     (ap {B = ℕ} (λ b. cond b 0 (last_finish_tag link flow before)) (link_eq-refl link)) (ap {B = ℕ} (λ b. cond b 0 (virtual_time link before)) (link_eq-refl link))
 
-pub tags-begin-afresh : (calls : List Call) (target : Target) (packet : Packet) (moment : ℕ) (later between : List Event) (p : Accepted) →
-    trace_of (Submit target packet moment ∷ calls) ≡ later ++ arrived p ∷ between ++ trace_of calls →
-    free p.link (trace_of (Advance moment ∷ calls)) ≤ effective_moment (Advance moment ∷ calls) → p.stamped.start_tag ≡ 0
+pub tags-begin-afresh : TagsBeginAfresh
 tags-begin-afresh calls target packet moment later between p e soon =
     let taken : IsTaken calls (Submit target packet moment) p between = adds-among (IsCaused calls (Submit target packet moment)) (trace_of calls)
     (trace_of (Submit target packet moment ∷ calls)) later between (arrived p) (call-causes calls (Submit target packet moment)) e in
@@ -67,18 +64,14 @@ tags-begin-afresh calls target packet moment later between p e soon =
     ∙ ap (λ (t : List Event). (accept link packet flow how t).stamped.start_tag) taken.3
     ∙ opened-tag link packet flow how (effective_moment (Advance moment ∷ calls)) (trace_of (Advance moment ∷ calls)) (idle (Advance moment ∷ calls) link free_then) free_then
 
-pub queue-delete-resets : (calls : List Call) (number : ℕ) (link : Link) (before behind : List FlowKey) (key : FlowKey) →
-    reply_to_command calls (DeleteQueue number) ≡ Deleted → keys calls ≡ before ++ key ∷ behind → key.target ≡ ToQueue number →
-    last_finish_tag link (length before) (trace_of (Configure (DeleteQueue number) ∷ calls)) ≡ 0
+pub queue-delete-resets : QueueDeleteResets
 queue-delete-resets calls number link before behind key e parts mine =
     ap (last_finish_tag link (length before)) (after-deleted calls (DeleteQueue number) e)
     ∙ reached-cleared (length before) (last_finish_tag link (length before)) 0 (λ f t. refl) (DeleteQueue number) (keys calls) (trace_of calls) key
     (record { before = before; behind = behind; parts = parts; place = refl })
     (ap (λ (t : Target). target_eq t (ToQueue number)) mine ∙ target_eq-refl (ToQueue number))
 
-pub pipe-delete-resets : (calls : List Call) (number : ℕ) (link : Link) (before behind : List FlowKey) (key : FlowKey) →
-    reply_to_command calls (DeletePipe number) ≡ Deleted → keys calls ≡ before ++ key ∷ behind → key.pipe ≡ number →
-    last_finish_tag link (length before) (trace_of (Configure (DeletePipe number) ∷ calls)) ≡ 0
+pub pipe-delete-resets : PipeDeleteResets
 pipe-delete-resets calls number link before behind key e parts mine =
     ap (last_finish_tag link (length before)) (after-deleted calls (DeletePipe number) e)
     ∙ reached-cleared (length before) (last_finish_tag link (length before)) 0 (λ f t. refl) (DeletePipe number) (keys calls) (trace_of calls) key
@@ -99,12 +92,7 @@ module _ (rule : Rule) (link : Link) where
   dropped-verdict set at packet (refuses l f) trace h = (λ flow. (refl, refl), refl, refl, refl, refl)
   dropped-verdict set at packet (takes l f how) trace h = absurd h
 
-pub dropped-changes-nothing : (rule : Rule) (calls : List Call) (target : Target) (packet : Packet) (moment : ℕ) (link : Link) → IsDropped (reply rule calls (Submit target packet moment)) →
-    let with_it = trace_of (Submit target packet moment ∷ calls) in
-    let without = trace_of (Advance moment ∷ calls) in
-    ((flow : ℕ) → (backlog link flow with_it ≡ backlog link flow without) × (last_finish_tag link flow with_it ≡ last_finish_tag link flow without))
-    × (free link with_it ≡ free link without) × (last_due rule link with_it ≡ last_due rule link without) × (virtual_time link with_it ≡ virtual_time link without)
-    × (undelivered rule with_it ≡ undelivered rule without)
+pub dropped-changes-nothing : DroppedChangesNothing
 dropped-changes-nothing rule calls target packet moment link dropped =
     let at = max (effective_moment calls) moment in
     let before = settled (settings calls) at (trace_of calls) in

@@ -8,9 +8,9 @@ use Rattle.dn_laws.specs.Explained.{IsDueBy}
 use Rattle.dn_laws.specs.KeptLaws.{IsNoStart, IsNoOpening, IsApart}
 use Rattle.dn_types.specs.Trace.{Link, link_eq, is_of, Accepted, Start, Event, opened, arrived, started, lost, refused, discarded, collected}
 use Rattle.dn_types.specs.declared.rule.Rule.{Rule}
-use Rattle.dn_types.specs.declared.rule.Rule.TheVariants.{Free, Ordered}
 use Rattle.dn_types.proofs.Settled.{and-left, link_eq-true, link_eq-refl}
 use Rattle.dn_types.proofs.Settling.{and-right}
+use Rattle.dn_laws.proofs.ToldDeliveries.{one-due}
 
 pub decided : {A : Type 0} (b : Bool) → (b ≡ true → A) → (A → b ≡ true) → A ⊎ (A → ⊥)
 decided true forth back = inl (forth refl)
@@ -63,10 +63,6 @@ raised-one r s link trace a b queues same A B =
     let other : b ≤ a = raised-most s r link trace b a (λ flow. sym (queues flow)) (sym same) B A in
     omega (arith, one, other)
 
-due-one : (rule : Rule) (s : Start) (last a b : ℕ) → IsDueBy rule s last a → IsDueBy rule s last b → a ≡ b
-due-one Free s last a b h k = h ∙ sym k
-due-one Ordered s last a b h k = h ∙ sym k
-
 module _ (rule : Rule) (r s : Readings) (R : AreReadings rule r) (S : AreReadings rule s) where
   pub same-queue : (link : Link) (flow : ℕ) (trace : List Event) → r.queue link flow trace ≡ s.queue link flow trace
   same-queue link flow [] = R.queue_begins link flow ∙ sym (S.queue_begins link flow)
@@ -107,7 +103,7 @@ module _ (rule : Rule) (r s : Readings) (R : AreReadings rule r) (S : AreReading
   due-kept link e t h same = R.due_stays link e t h ∙ same ∙ sym (S.due_stays link e t h)
 
   due-started : (st : Start) (t : List Event) → r.last_due st.packet.link t ≡ s.last_due st.packet.link t → r.last_due st.packet.link (started st ∷ t) ≡ s.last_due st.packet.link (started st ∷ t)
-  due-started st t same = due-one rule st (s.last_due st.packet.link t) (r.last_due st.packet.link (started st ∷ t)) (s.last_due st.packet.link (started st ∷ t))
+  due-started st t same = one-due rule st (s.last_due st.packet.link t) (r.last_due st.packet.link (started st ∷ t)) (s.last_due st.packet.link (started st ∷ t))
       (subst (λ (n : ℕ). IsDueBy rule st n (r.last_due st.packet.link (started st ∷ t))) same (R.due_starts st t)) (S.due_starts st t)
 
   pub same-due : (link : Link) (trace : List Event) → r.last_due link trace ≡ s.last_due link trace

@@ -12,6 +12,7 @@ use Rattle.dn_types.specs.Flows.{Treatment, treatment, key_eq, key_of, keys, key
 use Rattle.dn_types.specs.Replies.{reply, replies, reply_to_verdict}
 use Rattle.dn_types.specs.Starts.{settled}
 use Rattle.dn_laws.specs.Told.{is_queued_of, is_lost_of, is_full_of}
+use Rattle.dn_laws.specs.ReplyLaws.{FlowsWereTold}
 use Rattle.dn_types.specs.Trace.{Link, Event, backlog}
 use Rattle.dn_types.specs.declared.call.Call.{Call}
 use Rattle.dn_types.specs.declared.call.Call.TheVariants.{Submit}
@@ -104,6 +105,5 @@ module _ (rule : Rule) (flow : ℕ) where
               (get-last (keys calls) (key_of target packet.tuple how) key flow e)
   flow-told (c ∷ calls) key few e = omega (arith, flow-told calls key (omega (arith, few)) e, told-cons (reply rule calls c) (replies rule calls))
 
-pub flows-were-told : (rule : Rule) (calls : List Call) (flow : ℕ) (key : FlowKey) → length calls ≤ call_limit → slice_get (keys calls) flow ≡ Some key →
-    0 < count_by (is_queued_of flow) (replies rule calls) + count_by (is_lost_of flow) (replies rule calls) + count_by (is_full_of flow) (replies rule calls)
+pub flows-were-told : FlowsWereTold
 flows-were-told rule calls flow key few e = flow-told rule flow calls key few e

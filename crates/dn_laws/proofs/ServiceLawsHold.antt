@@ -13,12 +13,11 @@ use Rattle.dn_types.specs.Flows.{keys}
 use Rattle.dn_types.specs.History.{IsLawfulAfter}
 use Rattle.dn_types.specs.Links.{last_due}
 use Rattle.dn_types.specs.Replies.{reply}
-use Rattle.dn_types.specs.Trace.{Link, Start, Event, started, arrived}
+use Rattle.dn_types.specs.Trace.{Link, Start, Event, started}
 use Rattle.dn_types.specs.declared.call.Call.{Call}
 use Rattle.dn_types.specs.declared.call.Call.TheVariants.{Collect}
 use Rattle.dn_types.specs.declared.delivery.Delivery.{Delivery}
 use Rattle.dn_types.specs.declared.entry.Entry.{Entry}
-use Rattle.dn_types.specs.declared.flow_key.FlowKey.{FlowKey}
 use Rattle.dn_types.specs.declared.reply.Reply.{Reply}
 use Rattle.dn_types.specs.declared.reply.Reply.TheVariants.{Delivered}
 use Rattle.dn_types.specs.declared.rule.Rule.TheVariants.{Ordered}
@@ -31,6 +30,7 @@ use Rattle.dn_laws.specs.Determined.Emulators.{Has}
 use Rattle.dn_laws.specs.Explained.{IsDeliveryOf}
 use Rattle.dn_laws.specs.ServiceLaws.{WasTold, CallersAreLeft, NoneIsForeign, IsDelivered, NoneIsOvertaken}
 use Rattle.dn_laws.proofs.AtHome.{IsHomeOf, HaveHomes, have-homes, start-home, home-is}
+use Rattle.dn_laws.proofs.QueuesRate.{suffix-homes}
 use Rattle.dn_laws.proofs.Rates.{starts-apart, shape}
 use Rattle.dn_laws.proofs.Timely.{events-stay, split}
 use Rattle.dn_laws.proofs.ToldCommands.{limit-is-counted}
@@ -134,15 +134,10 @@ delivered-start calls (e ∷ entries) lawful d h = ⊎_elim here (λ rest. deliv
         (one-collect calls h.1 h.2 h.3 d told h.7 (⊎_elim (λ over. inr over.1) (λ under. inl under.1) (leb_tells call_limit (length calls)))))
 
 -- A flow has one link.
-homes-before : (known : List FlowKey) (later earlier : List Event) → HaveHomes known (later ++ earlier) → HaveHomes known earlier
-homes-before known [] earlier h = h
-homes-before known (arrived p ∷ later) earlier h = homes-before known later earlier h.1
-homes-before known (_ ∷ later) earlier h = homes-before known later earlier h
-
 module _ (calls : List Call) where
   start-is-home : (later earlier : List Event) (s : Start) → trace_of calls ≡ later ++ started s ∷ earlier → IsHomeOf (keys calls) s.packet.link s.packet.stamped.flow
   start-is-home later earlier s e = start-home (keys calls) s earlier (suffix-proper later (started s ∷ earlier) (subst IsProper e (trace-proper calls)))
-      (homes-before (keys calls) later (started s ∷ earlier) (subst (HaveHomes (keys calls)) e (have-homes calls)))
+      (suffix-homes (keys calls) later (started s ∷ earlier) (subst (HaveHomes (keys calls)) e (have-homes calls)))
 
   same-link : (l m : Link) (f g : ℕ) → g ≡ f → IsHomeOf (keys calls) l f → IsHomeOf (keys calls) m g → l ≡ m
   same-link l m f g same a b = home-is (keys calls) f a.key a.at l f refl a ∙ sym (home-is (keys calls) f a.key a.at m g same b)

@@ -7,19 +7,15 @@ use Rattle.std.proofs.lemmas.List.Sums.{sum-map, sum_by-cons}
 use Rattle.std.proofs.lemmas.Bool.Decides.{nat_tests, leb_tells}
 use Rattle.std.proofs.lemmas.Bool.{leb-true, le-leb}
 use Rattle.dn_types.specs.Calls.{trace_of, accept, link_of}
-use Rattle.dn_types.specs.Configuration.{settings}
 use Rattle.dn_laws.specs.Explained.{IsTagged}
+use Rattle.dn_laws.specs.SharingLaws.{GrowsByWork, PickIsLeast, TagsByWeight}
 use Rattle.dn_types.specs.Flows.{Treatment, treatment, keys, key_of, flow_number}
 use Rattle.dn_types.specs.SharedLinks.{virtual_time, link_heads, last_finish_tag}
-use Rattle.dn_types.specs.Trace.{Link, link_eq, Accepted, Start, Event, arrived, started, backlog}
+use Rattle.dn_types.specs.Trace.{Link, link_eq, Accepted, Event, arrived, started, backlog}
 use Rattle.dn_types.specs.Wf2q.{Stamped, pick, raised, least_start_tag, is_eligible, goes_before, weight_sum, grown}
-use Rattle.dn_types.specs.declared.call.Call.{Call}
 use Rattle.dn_types.specs.declared.call.Call.TheVariants.{Submit}
 use Rattle.dn_types.specs.declared.command.Command.TheVariants.{Queue}
-use Rattle.dn_types.specs.declared.limit.Limit.{Limit}
-use Rattle.dn_types.specs.declared.mask.Mask.{Mask}
 use Rattle.dn_types.specs.declared.packet.Packet.{Packet}
-use Rattle.dn_types.specs.declared.target.Target.{Target}
 use Rattle.dn_laws.proofs.Begun.{IsCaused, call-causes, adds-among}
 use Rattle.dn_types.proofs.Firsts.{first_to_go-one-of}
 use Rattle.dn_laws.proofs.Least.{pick-least}
@@ -49,8 +45,7 @@ pick-is-fair v hs h e proper = λ k d lt. one (get_or hs k d) (proper k d lt) (p
 no-later : (f g m n : ℕ) → (nat_lt f g || nat_eq f g && nat_lt m n) ≡ false → g ≡ f → n ≤ m
 no-later f g m n h e = grind (arith, nat_tests)
 
-pub pick-is-least : (v : ℕ) (hs : List Stamped) (h : Stamped) → pick v hs ≡ Some h → All (λ x. x.start_tag ≤ raised v hs → (h.finish_tag ≤ x.finish_tag)
-    × (h.finish_tag ≡ x.finish_tag → h.flow ≤ x.flow)) hs
+pub pick-is-least : PickIsLeast
 pick-is-least v hs h e = λ k d lt. one (get_or hs k d) (pick-least v hs h e k d lt)
   where
     one : (x : Stamped) → (nat_le x.start_tag (raised v hs) ≡ true → goes_before x h ≡ false) → x.start_tag ≤ raised v hs → (h.finish_tag ≤ x.finish_tag)
@@ -82,13 +77,7 @@ weights (h ∷ hs) =
     let more = weights hs in
     omega arith
 
-pub grows-by-work : (link : Link) (trace : List Event) (s : Start) → s.packet.link ≡ link →
-    let hs = link_heads link trace in
-    let from = raised (virtual_time link trace) hs in
-    let to = virtual_time link (started s ∷ trace) in
-    0 < sum (map (λ h. h.weight) hs) →
-    (to * sum (map (λ h. h.weight) hs) ≤ from * sum (map (λ h. h.weight) hs) + s.packet.stamped.len * 65536)
-    × (from * sum (map (λ h. h.weight) hs) + s.packet.stamped.len * 65536 < (to + 1) * sum (map (λ h. h.weight) hs))
+pub grows-by-work : GrowsByWork
 grows-by-work link trace s same =
     by (virtual_time link (started s ∷ trace)) (raised (virtual_time link trace) (link_heads link trace)) (sum (map (λ h. h.weight) (link_heads link trace))) (s.packet.stamped.len * 65536) to
   where
@@ -123,10 +112,7 @@ tagged link packet flow how before = record {
     is-none : (n : ℕ) → n ≡ 0 → nat_eq n 0 ≡ true
     is-none n h = grind (arith, nat_tests)
 
-pub tags-by-weight : (calls : List Call) (target : Target) (packet : Packet) (moment : ℕ) (later between : List Event) (p : Accepted) (number pipe weight : ℕ)
-    (limit : Limit) (loss : ℕ) (buckets : Option ℕ) (mask : Mask) →
-    trace_of (Submit target packet moment ∷ calls) ≡ later ++ arrived p ∷ between ++ trace_of calls → settings calls target ≡ Some (Queue number pipe weight limit loss buckets mask) →
-    IsTagged packet.len weight (between ++ trace_of calls) p
+pub tags-by-weight : TagsByWeight
 tags-by-weight calls target packet moment later between p number pipe weight limit loss buckets mask e set =
     let taken = adds-among (IsCaused calls (Submit target packet moment)) (trace_of calls) (trace_of (Submit target packet moment ∷ calls)) later between
     (arrived p) (call-causes calls (Submit target packet moment)) e in

@@ -1,20 +1,20 @@
 -- What a command that deletes nothing leaves, and what leaves the last finish tags of a link.
-use Rattle.std.proofs.Common.{◌≡◌, ◌∙◌, ◌≢◌, ◌<◌, ℕ, zero, suc, max, Bool, true, false, cond, ◌&&◌, List, ◌∷◌, refl, ap, sym, length}
+use Rattle.std.proofs.Common.{◌≡◌, ◌∙◌, ◌≢◌, ℕ, zero, suc, max, Bool, true, false, cond, ◌&&◌, List, ◌∷◌, refl, ap, sym}
 use Rattle.std.specs.Prelude.{Option, Some, None, nat_eq, nat_le}
 use Rattle.dn_types.specs.Calls.{Verdict, no_target, loses, refuses, takes, verdict, accept, join, after_verdict, after_command, trace_of}
-use Rattle.dn_types.specs.Clock.{call_limit, effective_moment}
+use Rattle.dn_types.specs.Clock.{effective_moment}
 use Rattle.dn_types.specs.Configuration.{Settings, settings, target_eq, subject, setting_after, reply_to_command}
-use Rattle.dn_laws.specs.Explained.{IsJudgedBy}
+use Rattle.dn_laws.specs.PacketLaws.{CommandsSpare}
+use Rattle.dn_laws.specs.KeptLaws.{PacketsSpareTags}
 use Rattle.dn_types.specs.Flows.{treatment, keys}
 use Rattle.dn_types.specs.Links.{free}
 use Rattle.dn_types.specs.Replies.{reply}
 use Rattle.dn_types.specs.SharedLinks.{waiting, opening, last_finish_tag}
 use Rattle.dn_types.specs.Starts.{first_start, settle, start_at, waiting_all}
-use Rattle.dn_types.specs.Trace.{Link, link_eq, pipe_of, Accepted, Start, Event, opened, arrived, started, backlog, links}
+use Rattle.dn_types.specs.Trace.{Link, link_eq, Accepted, Start, Event, opened, arrived, started, backlog, links}
 use Rattle.dn_types.specs.declared.call.Call.{Call}
-use Rattle.dn_types.specs.declared.call.Call.TheVariants.{Configure, Submit, Advance}
+use Rattle.dn_types.specs.declared.call.Call.TheVariants.{Configure, Advance}
 use Rattle.dn_types.specs.declared.command.Command.{Command}
-use Rattle.dn_types.specs.declared.limit.Limit.{Limit}
 use Rattle.dn_types.specs.declared.packet.Packet.{Packet}
 use Rattle.dn_types.specs.declared.reply.Reply.{Reply}
 use Rattle.dn_types.specs.declared.reply.Reply.TheVariants.{Configured, Deleted}
@@ -32,11 +32,7 @@ no-setting command Configured before refused other = absurd (refused refl)
 no-setting command Deleted before refused other = absurd (other refl)
 no-setting command _ before refused other = refl
 
-pub commands-spare : (rule : Rule) (calls : List Call) (command : Command) → length calls < call_limit → reply rule calls (Configure command) ≢ Deleted →
-    ((link : Link) (flow : ℕ) → (backlog link flow (trace_of (Configure command ∷ calls)) ≡ backlog link flow (trace_of calls))
-    × (last_finish_tag link flow (trace_of (Configure command ∷ calls)) ≡ last_finish_tag link flow (trace_of calls)))
-    × (trace_of (Configure command ∷ calls) ≡ trace_of calls)
-    × (reply rule calls (Configure command) ≢ Configured → (target : Target) → settings (Configure command ∷ calls) target ≡ settings calls target)
+pub commands-spare : CommandsSpare
 commands-spare rule calls command few other =
     (λ link flow. (ap (backlog link flow) still, ap (last_finish_tag link flow) still), still, λ refused target. by target (λ e. refused (answered ∙ e)) (target_eq (subject command) target))
   where
@@ -88,9 +84,7 @@ module _ (rule : Rule) (link : Link) (flow : ℕ) where
       tags-join set at (accept l packet f how (opening l at t)) (opening l at t) other ∙ tags-opened (nat_eq (waiting l t) 0 && nat_le (free l t) at) l t other
 
 -- So does a packet on another pipe.
-pub packets-spare-tags : (rule : Rule) (calls : List Call) (target : Target) (packet : Packet) (moment : ℕ) (command : Command) (rate : ℕ) (most : Limit) (carrier : ℕ) (link : Link) (flow : ℕ) →
-    settings calls target ≡ Some command → IsJudgedBy command rate most carrier → pipe_of link ≢ carrier →
-    last_finish_tag link flow (trace_of (Submit target packet moment ∷ calls)) ≡ last_finish_tag link flow (trace_of (Advance moment ∷ calls))
+pub packets-spare-tags : PacketsSpareTags
 packets-spare-tags rule calls target packet moment command rate most carrier link flow set judged other =
     let before = trace_of (Advance moment ∷ calls) in
     tags-verdict rule link flow (settings calls) (max (effective_moment calls) moment) packet (verdict calls target packet before) before

@@ -5,6 +5,7 @@ use Rattle.dn_types.specs.Calls.{trace_of}
 use Rattle.dn_types.specs.Clock.{effective_moment}
 use Rattle.dn_types.specs.Configuration.{settings}
 use Rattle.dn_laws.specs.Explained.{IsStartBy}
+use Rattle.dn_laws.specs.ConfiguredLaws.{StartsAsConfigured}
 use Rattle.dn_types.specs.Links.{free, transmission_time}
 use Rattle.dn_types.specs.SharedLinks.{next_packet, virtual_time, link_heads}
 use Rattle.dn_types.specs.Starts.{start_at, bandwidth_of, delay_of}
@@ -46,8 +47,7 @@ module _ (calls : List Call) (c : Call) (later between : List Event) (s : Start)
   by-command (Pipe number bw delay limit loss buckets mask) set is = with-setting (Some (Pipe number bw delay limit loss buckets mask)) begun.configured set
   by-command _ set is = absurd is
 
-pub starts-as-configured : (calls : List Call) (c : Call) (later between : List Event) (s : Start) → trace_of (c ∷ calls) ≡ later ++ started s ∷ between ++ trace_of calls →
-    (command : Command) × (settings calls (ToPipe (pipe_of s.packet.link)) ≡ Some command) × IsStartBy command s
+pub starts-as-configured : StartsAsConfigured
 starts-as-configured calls c later between s e =
     by (settings calls (ToPipe (pipe_of s.packet.link))) refl (begun calls c later between s e).carried (settings-kept calls (ToPipe (pipe_of s.packet.link)))
   where

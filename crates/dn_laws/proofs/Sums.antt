@@ -1,5 +1,5 @@
 -- The time from a packet's Submit to its due moment is the sum of its parts.
-use Rattle.std.proofs.Common.{◌≡◌, ◌∙◌, ◌≤◌, ℕ, ◌+◌, ◌-◌, List, [], ◌∷◌, ◌++◌, refl, ap, sym, subst, get_or, arith}
+use Rattle.std.proofs.Common.{◌≡◌, ◌∙◌, ◌≤◌, ℕ, ◌+◌, ◌-◌, List, ◌∷◌, ◌++◌, refl, sym, subst, get_or, arith}
 use Rattle.std.specs.List.{All}
 use Rattle.dn_types.specs.Calls.{trace_of}
 use Rattle.dn_types.specs.Clock.{effective_moment}
@@ -7,13 +7,12 @@ use Rattle.dn_types.specs.Deliveries.{undelivered, AreInOrder}
 use Rattle.dn_laws.specs.Explained.{IsDueBy, IsDeliveryOf}
 use Rattle.dn_types.specs.Links.{last_due}
 use Rattle.dn_types.specs.Replies.{reply}
-use Rattle.dn_laws.specs.TimeLaws.{IsLack, IsDelayed}
+use Rattle.dn_laws.specs.TimeLaws.{DelaysAddUp, IsDelayed, IsLack}
 use Rattle.dn_types.specs.Trace.{Start}
 use Rattle.dn_types.specs.declared.call.Call.{Call}
 use Rattle.dn_types.specs.declared.call.Call.TheVariants.{Submit, Collect}
 use Rattle.dn_types.specs.declared.delivery.Delivery.{Delivery}
 use Rattle.dn_types.specs.declared.packet.Packet.{Packet}
-use Rattle.dn_types.specs.declared.reply.Reply.{Reply}
 use Rattle.dn_types.specs.declared.reply.Reply.TheVariants.{Queued, Delivered, Exhausted}
 use Rattle.dn_types.specs.declared.rule.Rule.{Rule}
 use Rattle.dn_types.specs.declared.rule.Rule.TheVariants.{Free, Ordered}
@@ -57,9 +56,7 @@ module _ (rule : Rule) (after calls : List Call) (target : Target) (packet : Pac
         sum = omega (arith, early, same, whole);
       }
 
-pub delays-add-up : (rule : Rule) (after calls : List Call) (target : Target) (packet : Packet) (moment at flow number : ℕ) →
-    reply rule calls (Submit target packet moment) ≡ Queued at flow number →
-    All (λ d. d.packet ≡ number → IsDelayed rule (after ++ Submit target packet moment ∷ calls) at d) (undelivered rule (trace_of (after ++ Submit target packet moment ∷ calls)))
+pub delays-add-up : DelaysAddUp
 delays-add-up rule after calls target packet moment at flow number told = λ k x lt.
     let t = trace_of (after ++ Submit target packet moment ∷ calls) in
     one rule after calls target packet moment at flow number told (get_or (undelivered rule t) k x) ((delays-are-explained rule 0 t).0 k x lt)
@@ -80,9 +77,5 @@ delivered-delays-add-up rule after calls target packet moment at flow number col
     deliveries = collects-are-told rule (after ++ Submit target packet moment ∷ calls) collect
         (told-few rule (after ++ Submit target packet moment ∷ calls) (Collect collect) (λ none. let t : Exhausted ≡ Delivered now' list = sym none ∙ given in cc))
 
-    list-or : List Delivery → Reply → List Delivery
-    list-or d (Delivered n ds) = ds
-    list-or d _ = d
-
     same : list ≡ deliveries.0
-    same = ap (list-or []) (sym given ∙ deliveries.1)
+    same = cc (sym given ∙ deliveries.1)

@@ -8,11 +8,10 @@ use Rattle.std.proofs.lemmas.List.Elements.{All-head, All-tail}
 use Rattle.dn_types.specs.Calls.{trace_of}
 use Rattle.dn_types.specs.Clock.{effective_moment}
 use Rattle.dn_types.specs.Links.{free}
-use Rattle.dn_laws.specs.KeptLaws.{IsApart}
+use Rattle.dn_laws.specs.KeptLaws.{BusyPeriodsBegin, IsApart, TagsAreKept}
 use Rattle.dn_types.specs.SharedLinks.{waiting, last_finish_tag}
 use Rattle.dn_types.specs.Trace.{Link, link_eq, Accepted, Event, opened, arrived, discarded, is_of, backlog, flow_bound}
 use Rattle.dn_types.specs.Wf2q.{total}
-use Rattle.dn_types.specs.declared.call.Call.{Call}
 use Rattle.dn_laws.proofs.Begun.{adds-among}
 use Rattle.dn_laws.proofs.Comes.{Comes, call-comes}
 use Rattle.dn_laws.proofs.Isolation.{false-if, none-left}
@@ -37,11 +36,7 @@ module _ (link : Link) (flow : ℕ) where
   none-yet [] h = refl
   none-yet (e ∷ later) h = left e later (All-head (IsApart link flow) e later h) ∙ none-yet later (All-tail (IsApart link flow) e later h)
 
-pub tags-are-kept : (link : Link) (flow : ℕ) (later earlier : List Event) → All (IsApart link flow) later →
-    ((p : Accepted) → p.link ≡ link → p.stamped.flow ≡ flow → last_finish_tag link flow (later ++ (arrived p ∷ earlier)) ≡ p.stamped.finish_tag)
-    × (last_finish_tag link flow (later ++ (opened link ∷ earlier)) ≡ 0)
-    × (last_finish_tag link flow (later ++ (discarded flow ∷ earlier)) ≡ 0)
-    × (last_finish_tag link flow later ≡ 0)
+pub tags-are-kept : TagsAreKept
 tags-are-kept link flow later earlier h = (
   λ p on of. all-left link flow later (arrived p ∷ earlier) h ∙ ap {B = ℕ} (λ b. cond b p.stamped.finish_tag (last_finish_tag link flow earlier)) (mine p on of),
   all-left link flow later (opened link ∷ earlier) h ∙ ap {B = ℕ} (λ b. cond b 0 (last_finish_tag link flow earlier)) (link_eq-refl link),
@@ -62,9 +57,7 @@ empty-below (suc n) q h flow lt = ⊎_elim (λ last. this (omega (arith, lt, las
     this : flow ≡ n → length (q flow) ≡ 0
     this e = let same = ap (λ (m : ℕ). length (q m)) e in let none = here in omega (arith, same, none)
 
-pub busy-periods-begin : (calls : List Call) (c : Call) (later between : List Event) (link : Link) →
-    trace_of (c ∷ calls) ≡ later ++ opened link ∷ between ++ trace_of calls →
-    (free link (between ++ trace_of calls) ≤ effective_moment (c ∷ calls)) × ((flow : ℕ) → backlog link flow (between ++ trace_of calls) ≡ [])
+pub busy-periods-begin : BusyPeriodsBegin
 busy-periods-begin calls c later between link e = (idle.0, λ flow. empty flow)
   where
     idle : (free link (between ++ trace_of calls) ≤ effective_moment (c ∷ calls)) × (waiting link (between ++ trace_of calls) ≡ 0)

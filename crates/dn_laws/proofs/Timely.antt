@@ -7,7 +7,7 @@ use Rattle.dn_types.specs.Configuration.{Settings, settings}
 use Rattle.dn_types.specs.Links.{free}
 use Rattle.dn_types.specs.Replies.{reply, counted_reply, reply_to_verdict}
 use Rattle.dn_types.specs.Starts.{settle, settled, first_start, waiting_all}
-use Rattle.dn_laws.specs.TimeLaws.{IsMadeBy}
+use Rattle.dn_laws.specs.TimeLaws.{IsMadeBy, NoneStartsEarly, StartsInTime}
 use Rattle.dn_types.specs.Trace.{Start, Event, started, backlog, links, is_arrival, accepted_count}
 use Rattle.dn_types.specs.declared.call.Call.{Call}
 use Rattle.dn_types.specs.declared.call.Call.TheVariants.{Submit}
@@ -27,8 +27,7 @@ use Rattle.dn_laws.proofs.StartLaws.{begun, starts-as-configured}
 pub events-stay : (calls : List Call) (c : Call) → (added : List Event) × (trace_of (c ∷ calls) ≡ added ++ trace_of calls)
 events-stay calls c = let adds = call-causes calls c in (adds.0, adds.1)
 
-pub starts-in-time : (calls : List Call) (c : Call) (later between : List Event) (s : Start) → trace_of (c ∷ calls) ≡ later ++ started s ∷ between ++ trace_of calls →
-    (effective_moment calls ≤ s.moment) × (s.moment ≤ effective_moment (c ∷ calls))
+pub starts-in-time : StartsInTime
 starts-in-time calls c later between s e = (⊎_elim (λ waited. when-free waited.0 waited.1.0.0 waited.1.0.1) (λ on_arrival. let same = on_arrival.0 in omega arith) b.when, b.soon)
   where
     b : IsBegun (settings calls) (effective_moment (c ∷ calls)) (trace_of calls) s between
@@ -176,9 +175,7 @@ not-before (c' ∷ after) calls c later earlier s e number =
     ⊎_elim (λ new. let in_time = (starts-in-time (after ++ c ∷ calls) c' later new.0 s new.1).0 in omega (arith, rises, in_time))
     (λ before. not-before after calls c before.0 earlier s before.1 number) (placed (after ++ c ∷ calls) c' later earlier s e)
 
-pub none-starts-early : (rule : Rule) (after calls : List Call) (target : Target) (packet : Packet) (moment at flow number : ℕ) (later earlier : List Event) (s : Start) →
-    reply rule calls (Submit target packet moment) ≡ Queued at flow number → trace_of (after ++ Submit target packet moment ∷ calls) ≡ later ++ started s ∷ earlier →
-    s.packet.packet ≡ number → at ≤ s.moment
+pub none-starts-early : NoneStartsEarly
 none-starts-early rule after calls target packet moment at flow number later earlier s told e same =
     let q = queued rule calls target packet moment at flow number told in
     let first = not-before after calls (Submit target packet moment) later earlier s e (omega (arith, same, q.1)) in

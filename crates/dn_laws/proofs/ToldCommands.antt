@@ -7,8 +7,8 @@ use Rattle.dn_types.specs.Calls.{Verdict, no_target, loses, refuses, takes, verd
 use Rattle.dn_types.specs.Clock.{call_limit, moment_of, effective_moment}
 use Rattle.dn_types.specs.Configuration.{Settings, settings, is_queue_of, has_queues, queue_numbers, command_reply}
 use Rattle.dn_laws.specs.PartLaws.{IsTimed}
-use Rattle.dn_types.specs.Replies.{reply, counted_reply, reply_to_verdict}
-use Rattle.dn_laws.specs.ReplyLaws.{IsToldBy}
+use Rattle.dn_types.specs.Replies.{counted_reply, reply_to_verdict}
+use Rattle.dn_laws.specs.ReplyLaws.{ClockIsTheGreatest, CommandsAreTold, IsToldBy, LimitIsCounted, RepliesTellTheClock}
 use Rattle.dn_types.specs.Starts.{settled}
 use Rattle.dn_laws.specs.Told.{moment_told, IsQueueOf, HasQueue, IsThere}
 use Rattle.dn_types.specs.Trace.{Event}
@@ -56,8 +56,7 @@ counted-answered rule calls (Submit target packet moment) e =
     verdict-answered at (verdict calls target packet before) before e
 counted-answered rule calls _ e = absurd cc
 
-pub limit-is-counted : (rule : Rule) (calls : List Call) (c : Call) →
-    (length calls < 2 ^ 62 → reply rule calls c ≢ Exhausted) × (2 ^ 62 ≤ length calls → reply rule calls c ≡ Exhausted)
+pub limit-is-counted : LimitIsCounted
 limit-is-counted rule calls c =
     (λ few e. counted-answered rule calls c (sym (not-exhausted rule calls c few) ∙ e), λ many. ap (λ b. cond b Exhausted (counted_reply rule calls c)) (full many))
   where
@@ -80,9 +79,7 @@ counted-told rule calls (Advance moment) timed = refl
 counted-told rule calls (Collect moment) timed = refl
 counted-told rule calls Show timed = absurd timed
 
-pub replies-tell-the-clock : (rule : Rule) (calls : List Call) (c : Call) → length calls < call_limit →
-    (IsTimed c → moment_told (reply rule calls c) ≡ Some (effective_moment (c ∷ calls)))
-    × ((moment : ℕ) → c ≡ Advance moment → reply rule calls c ≡ Advanced (effective_moment (c ∷ calls)))
+pub replies-tell-the-clock : RepliesTellTheClock
 replies-tell-the-clock rule calls c few = (
   λ timed. ap moment_told (not-exhausted rule calls c few) ∙ counted-told rule calls c timed,
   λ moment is. not-exhausted rule calls c few ∙ ap (counted_reply rule calls) is ∙ ap (λ (d : Call). Advanced (effective_moment (d ∷ calls))) (sym is),
@@ -95,10 +92,7 @@ named (d ∷ later) c earlier = let rest = named later c earlier in omega (arith
 abbrev IsNamed : List Call → Type 0
 IsNamed calls = (later : List Call) × ((c : Call) × ((earlier : List Call) × (calls ≡ later ++ c ∷ earlier) × (moment_of c ≡ effective_moment calls)))
 
-pub clock-is-the-greatest : (calls : List Call) →
-    ((later : List Call) (c : Call) (earlier : List Call) → calls ≡ later ++ c ∷ earlier → moment_of c ≤ effective_moment calls)
-    × ((effective_moment calls ≡ 0) ⊎ ((later : List Call) × ((c : Call) × ((earlier : List Call) × (calls ≡ later ++ c ∷ earlier)
-    × (moment_of c ≡ effective_moment calls)))))
+pub clock-is-the-greatest : ClockIsTheGreatest
 clock-is-the-greatest calls = (λ later c earlier e. subst (λ (cs : List Call). moment_of c ≤ effective_moment cs) (sym e) (named later c earlier), one calls)
   where
     one : (calls : List Call) → (effective_moment calls ≡ 0) ⊎ IsNamed calls
@@ -165,7 +159,6 @@ module _ (calls : List Call) where
   commands-told (DeleteQueue number) =
       (λ h. ap (λ b. cond b Deleted NoSuchQueue) (there (set (ToQueue number)) h), λ e. ap (λ (o : Option Command). cond (is_some o) Deleted NoSuchQueue) e)
 
-pub commands-are-told : (rule : Rule) (calls : List Call) (command : Command) → length calls < call_limit →
-    IsToldBy (settings calls) command (reply rule calls (Configure command))
+pub commands-are-told : CommandsAreTold
 commands-are-told rule calls command few =
     subst (λ (r : Reply). IsToldBy (settings calls) command r) (sym (not-exhausted rule calls (Configure command) few)) (commands-told calls command)

@@ -13,6 +13,7 @@ use Rattle.dn_types.specs.Replies.{reply, counted_reply, reply_to_verdict, repli
 use Rattle.dn_types.specs.SharedLinks.{waiting, opening}
 use Rattle.dn_types.specs.Starts.{settled, start_at}
 use Rattle.dn_laws.specs.Told.{is_queued, is_queued_of, is_lost_of, is_full_of, is_arrival_of}
+use Rattle.dn_laws.specs.ReplyLaws.{PacketsAreNumbered}
 use Rattle.dn_types.specs.Trace.{Link, Accepted, Start, Event, opened, arrived, started, lost, refused, discarded, collected, is_arrival, is_loss_of, is_refusal_of, accepted_count}
 use Rattle.dn_types.specs.declared.call.Call.{Call}
 use Rattle.dn_types.specs.declared.call.Call.TheVariants.{Configure, Submit, Advance, Collect, Show}
@@ -22,7 +23,6 @@ use Rattle.dn_types.specs.declared.packet.Packet.{Packet}
 use Rattle.dn_types.specs.declared.reply.Reply.{Reply}
 use Rattle.dn_types.specs.declared.reply.Reply.TheVariants.{Queued, Lost, Full, NoTarget, Exhausted, Configured, NoSuchPipe, Deleted, PipeHasQueues, NoSuchQueue}
 use Rattle.dn_types.specs.declared.rule.Rule.{Rule}
-use Rattle.dn_types.specs.declared.target.Target.{Target}
 use Rattle.dn_types.specs.declared.target.Target.TheVariants.{Pipe as ToPipe, Queue as ToQueue}
 use Rattle.dn_types.proofs.CallCounts.{count-none, settled-count, opened-count, command-count}
 use Rattle.dn_laws.proofs.DropLaws.{not-exhausted}
@@ -170,8 +170,7 @@ pub full-of-count : (flow : ℕ) (rule : Rule) (calls : List Call) → length ca
 full-of-count flow = all-told (is_refusal_of flow) (λ l. refl) (λ s. refl) (λ f. refl) (λ at. refl) (is_full_of flow) (quiet-full flow) (λ at f link. refl) (λ at f link. refl) (λ at number a. refl)
 
 -- A packet that is queued is told how many were before it.
-pub packets-are-numbered : (rule : Rule) (calls : List Call) (target : Target) (packet : Packet) (moment at flow number : ℕ) →
-    reply rule calls (Submit target packet moment) ≡ Queued at flow number → number ≡ count_by is_queued (replies rule calls)
+pub packets-are-numbered : PacketsAreNumbered
 packets-are-numbered rule calls target packet moment at flow number e =
     let few = told-few rule calls (Submit target packet moment) (λ none. let t : Exhausted ≡ Queued at flow number = sym none ∙ e in cc) in
     (queued rule calls target packet moment at flow number e).1 ∙ queued-count rule calls (omega (arith, few))

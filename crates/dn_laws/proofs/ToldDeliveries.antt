@@ -7,20 +7,21 @@ use Rattle.std.proofs.lemmas.List.Elements.{All-head, All-tail}
 use Rattle.dn_types.specs.Calls.{Verdict, no_target, loses, refuses, takes, verdict, trace_of}
 use Rattle.dn_types.specs.Clock.{call_limit, effective_moment}
 use Rattle.dn_types.specs.Configuration.{Settings, settings, has_queues, queue_numbers, command_reply}
-use Rattle.dn_types.specs.Deliveries.{undelivered, given, AreInOrder}
+use Rattle.dn_types.specs.Deliveries.{undelivered, given}
 use Rattle.dn_laws.specs.Explained.{IsDueBy, IsDeliveryOf}
 use Rattle.dn_types.specs.Given.{is_packet, is_start_with, start_count, given_count}
 use Rattle.dn_types.specs.Links.{last_due}
-use Rattle.dn_types.specs.Replies.{reply, counted_reply, reply_to_verdict, replies}
+use Rattle.dn_types.specs.Replies.{counted_reply, reply_to_verdict, replies}
 use Rattle.dn_types.specs.Starts.{settled}
 use Rattle.dn_laws.specs.Told.{times_in, times_told}
+use Rattle.dn_laws.specs.ReplyLaws.{CollectsAreTold, ToldWhenDue}
 use Rattle.dn_types.specs.Trace.{Start, Event, started, collected}
 use Rattle.dn_types.specs.declared.call.Call.{Call}
 use Rattle.dn_types.specs.declared.call.Call.TheVariants.{Configure, Submit, Advance, Collect, Show}
 use Rattle.dn_types.specs.declared.command.Command.{Command}
 use Rattle.dn_types.specs.declared.command.Command.TheVariants.{Pipe, Queue, DeletePipe, DeleteQueue}
 use Rattle.dn_types.specs.declared.delivery.Delivery.{Delivery}
-use Rattle.dn_types.specs.declared.reply.Reply.TheVariants.{Configured, NoSuchPipe, Deleted, PipeHasQueues, NoSuchQueue, Delivered, Exhausted}
+use Rattle.dn_types.specs.declared.reply.Reply.TheVariants.{Configured, NoSuchPipe, Deleted, PipeHasQueues, NoSuchQueue, Exhausted}
 use Rattle.dn_types.specs.declared.rule.Rule.{Rule}
 use Rattle.dn_types.specs.declared.rule.Rule.TheVariants.{Free, Ordered}
 use Rattle.dn_types.specs.declared.target.Target.TheVariants.{Pipe as ToPipe, Queue as ToQueue}
@@ -33,10 +34,7 @@ use Rattle.dn_types.proofs.Giving.{count-delivery, count-event, gives-started}
 use Rattle.dn_types.proofs.InTurn.{gives-in-order}
 use Rattle.dn_types.proofs.Once.{starts-once}
 
-pub collects-are-told : (rule : Rule) (calls : List Call) (moment : ℕ) → length calls < call_limit → (list : List Delivery)
-    × (reply rule calls (Collect moment) ≡ Delivered (effective_moment (Collect moment ∷ calls)) list)
-    × All (λ d. (d.due ≤ effective_moment (Collect moment ∷ calls)) × IsDeliveryOf rule (trace_of (Collect moment ∷ calls)) d) list
-    × AreInOrder list
+pub collects-are-told : CollectsAreTold
 collects-are-told rule calls moment few =
     let at = max (effective_moment calls) moment in
     let before = trace_of (Advance moment ∷ calls) in
@@ -166,9 +164,7 @@ pub one-due : (rule : Rule) (s : Start) (last a b : ℕ) → IsDueBy rule s last
 one-due Free s last a b h k = h ∙ sym k
 one-due Ordered s last a b h k = h ∙ sym k
 
-pub told-when-due : (rule : Rule) (calls : List Call) (moment due : ℕ) (later earlier : List Event) (s : Start) → length calls < call_limit →
-    trace_of (Collect moment ∷ calls) ≡ later ++ started s ∷ earlier → IsDueBy rule s (last_due rule s.packet.link earlier) due →
-    due ≤ effective_moment (Collect moment ∷ calls) → times_told s.packet.packet (replies rule (Collect moment ∷ calls)) ≡ 1
+pub told-when-due : ToldWhenDue
 told-when-due rule calls moment due later earlier s few happened is_due soon =
     let told = told-given rule number all (omega (arith, few)) in
     let counts = gives-started rule number (trace_of all) in

@@ -10,7 +10,7 @@ use Rattle.std.proofs.lemmas.List.Sums.{count_by-le-length}
 use Rattle.std.proofs.lemmas.List.Elements.{All-from_get_or}
 use Rattle.std.proofs.lemmas.List.Folds.{list_any-append, list_any_at, list_any_none}
 use Rattle.std.proofs.lemmas.List.Splits.{join_with_byte-slice_split, length-slice_split, slice_split_at, slice_split_none}
-use Rattle.std.proofs.Math.Seq.{drop-append_seam, take-append_seam}
+use Rattle.std.proofs.Math.Seq.{drop-append_seam}
 use Rattle.memchr.specs.Find.{IsFirstByte, NoneBefore, Nowhere, Passes, is_byte, is_byte2}
 use Rattle.csv.specs.Machine.{ends_with, next_record}
 use Rattle.csv.specs.Reading.{is_bom, records_from, strip_bom}
@@ -143,12 +143,7 @@ bare-line text line rest begins some none =
           split-line text (13 ∷ 10 ∷ rest) rest (λ front last fs writes. return-line text front last last rest fs writes there) line (slice_split (λ b. b == 44) line) both some join bare
     ]
 
--- The front of the pieces of a line, where as many were read, and where all were.
-pub front-full : (most : ℕ) (fields more all : Fields) → fields ++ more ≡ all → most ≤ length fields → length fields ≤ most → fields ≡ take most all
-front-full most fields more all is enough few =
-    let n : length fields ≡ most = omega (arith, enough, few) in
-    sym (take-append_seam fields more) ∙ ap (λ (k : ℕ). take k (fields ++ more)) n ∙ ap (take most) is
-
+-- The pieces of a line, where all were read.
 pub front-whole : (most : ℕ) (fields all : Fields) → fields ≡ all → length fields ≤ most → fields ≡ take most all
 front-whole most fields all is few = is ∙ sym (take_all most all (rw is at few))
 
@@ -174,11 +169,6 @@ front-shorter most (first ∷ rest) new found fields takes e = rw takes.2 (omega
 pub behind-line : (text : List ℕ) (fields : Fields) (rest : List ℕ) → BeginsLine text fields rest → StandsBehindLine text rest
 behind-line text fields rest begins = record { line = begins.front; stands = begins.stands }
 
-pub rest-fits : (text rest : List ℕ) → StandsBehindLine text rest → length rest + 1 ≤ length text
-rest-fits text rest behind =
-    let count = ap (length {A = ℕ}) behind.stands ∙ length-append behind.line (10 ∷ rest) in
-    omega (arith, count)
-
 pub rest-is : (text rest : List ℕ) → StandsBehindLine text rest → drop (length text - length rest - 1) text ≡ 10 ∷ rest
 rest-is text rest behind =
     let count = ap (length {A = ℕ}) behind.stands ∙ length-append behind.line (10 ∷ rest) in
@@ -189,10 +179,6 @@ rest-is text rest behind =
 pub none-in : records_of [] ≡ []
 unfolding records_from strip_bom next_record
 none-in = refl
-
--- Where no record is left none is taken.
-pub none-taken : (most : ℕ) (old : List Fields) (text : List ℕ) (fields : Fields) → old ≡ records_after st.StartRecord text → records_after st.StartRecord text ≡ [] → TakesFront most old old false fields
-none-taken most old text fields is none = let all = is ∙ none in rw all (refl, refl)
 
 -- A text that begins with an end of line.
 pub behind-front : (text : List ℕ) → 1 ≤ length text → ends_with term.CRLF (get_or text 0 0) ≡ true → records_of text ≡ records_after st.StartRecord (take (length text - 1) (drop 1 text))

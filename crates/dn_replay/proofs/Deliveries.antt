@@ -12,6 +12,7 @@ use Rattle.std.proofs.lemmas.List.Folds.{find-append}
 use Rattle.dn_types.specs.declared.delivery.Delivery.{Delivery}
 use Rattle.dn_types.specs.declared.entry.Entry.{Entry}
 use Rattle.dn_replay.specs.Report.{delivered, deliveries, delivery_of_packet}
+use Rattle.dn_replay.proofs.LineSteps.{differ}
 
 or-none : (o : Option Delivery) → option_or o None ≡ o
 or-none None = refl
@@ -20,9 +21,6 @@ or-none (Some d) = refl
 or-assoc : (a b c : Option Delivery) → option_or (option_or a b) c ≡ option_or a (option_or b c)
 or-assoc None b c = refl
 or-assoc (Some d) b c = refl
-
-differ : (a b : ℕ) → nat_eq a b ≡ false → b ≢ a
-differ a b e = grind (arith, nat_tests)
 
 -- A delivery whose packet has no place.
 pub beyond : (table : List (Option Delivery)) (d : Delivery) (packet : ℕ) → length table ≤ d.packet → packet < length table

@@ -15,7 +15,7 @@ use Rattle.dn_replay.specs.Tables.{counts_after}
 use Rattle.dn_replay.specs.declared.report.line.ReportLine.{ReportLine}
 use Rattle.dn_records.proofs.TextSteps.{text-append}
 
-differ : (a b : ℕ) → nat_eq a b ≡ false → b ≢ a
+pub differ : (a b : ℕ) → nat_eq a b ≡ false → b ≢ a
 differ a b e = grind (arith, nat_tests)
 
 -- The counts of Submits after one entry more.

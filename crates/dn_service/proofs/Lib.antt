@@ -1,6 +1,5 @@
 pub mod Accounts
 pub mod Calling
-pub mod Causes
 pub mod Handing
 pub mod HistoryLaws
 pub mod Lastings

@@ -6,7 +6,6 @@ mod wakes;
 use crate::after_fault::AfterFault;
 use crate::desk::Desk;
 use crate::lasting::Lasting;
-use crate::lock::{enter, give_back, publish};
 use crate::patience::Patience;
 use crate::placed::Placed;
 use crate::rule::BookSeat;
@@ -100,28 +99,15 @@ impl Caller {
         ensures err { IfErr result (λ fault. RefusesAfter self.old fault self.new) }
         ensures cause { IfErr result (λ fault. IsTryAfterFault self.old after fault) }
     {
-        let caller = self.number;
-        let desk: &Desk = &self.desk;
-        let mut book = match enter(desk, &mut self.seat, caller) {
-            Ok(book) => book,
-            Err(holder) => return Err(TryAfterFault::Busy(holder)),
-        };
-        let place = book.place();
-        if place < after {
-            give_back(desk, &mut self.seat, book);
-            desk.bell.ring();
-            return Err(TryAfterFault::Ahead);
-        }
-        match book.apply(caller, &call) {
-            Ok(reply) => {
-                publish(desk, &mut self.seat, book);
-                desk.bell.ring();
-                Ok(Placed { place, reply })
+        match self.try_placed(after, &call) {
+            Ok(placed) => {
+                self.desk.bell.ring();
+                Ok(placed)
             }
-            Err(_) => {
-                give_back(desk, &mut self.seat, book);
-                desk.bell.ring();
-                Err(TryAfterFault::OutOfMemory)
+            Err(TryAfterFault::Busy(holder)) => Err(TryAfterFault::Busy(holder)),
+            Err(fault) => {
+                self.desk.bell.ring();
+                Err(fault)
             }
         }
     }

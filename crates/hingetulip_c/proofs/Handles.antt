@@ -1,19 +1,7 @@
 -- The machine value of a `Handle`. Assumes `Logic`.
-use Rattle.std.proofs.Common.{◌≡◌, List, [], ◌∷◌, ◌++◌, refl, subst}
-use mathlib.Core.Bool.{Bool}
-use seplogic.Ra.Ura.{Ura}
-use mir.Val.{Val, vbool, vstruct, of_list}
-use base.Fml.{Fml}
-use types.Logic.{Logic}
-use types.Kit.{Item, Goal, Seq, Step, step, ‵, ◌$◌, drop, fsplit, fjoin, fpick, fpack, feq_i, feq_l}
-use denote.RattleType.{RattleType, Valss}
-use denote.Builtin.{RawPtr, bool}
-use denote.RawPtr.{Ptr, ptr_val}
-use denote.Steps.{nothing}
-use denote.Struct.Struct.{within}
-use denote.Struct.Owning.{shape}
-use Rattle.std_alloc.specs.Box.Ownership.{box_owns}
 use Rattle.dn_shaper.specs.contracts.shaper.Shaper as shaper
+use Rattle.hingetulip_c.proofs.Walks.{◌≡◌, List, [], ◌∷◌, ◌++◌, refl, subst, Bool, Ura, Val, vbool, vstruct, of_list, Fml, Logic, Item, Goal, Seq, Step, step, ‵, ◌$◌, drop, fsplit, fjoin, fpick}
+use Rattle.hingetulip_c.proofs.Walks.{fpack, feq_i, feq_l, RattleType, Valss, RawPtr, bool, Ptr, ptr_val, nothing, within, shape, box_owns}
 use Rattle.hingetulip_c.specs.contracts.handle.Handle as handle
 use Rattle.hingetulip_c.specs.Handles.{freed, owned_by}
 use Rattle.hingetulip_c.proofs.RawBoxes.{two}

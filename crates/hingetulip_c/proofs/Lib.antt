@@ -11,4 +11,4 @@ pub mod RawBoxes
 pub mod Rooms
 pub mod ServiceHandles
 pub mod Serving
-pub mod Texts
+pub mod Walks

@@ -3,6 +3,7 @@
 mod advance;
 mod audit;
 mod caller;
+mod close;
 mod collect;
 mod configure;
 mod lifetime;

@@ -1,10 +1,12 @@
-//! Readers and writers for the tests of other crates: they give and take bytes in parts, and fail where they are told to.
+//! For the tests of other crates: readers and writers that give and take bytes in parts and fail on demand, and a packet.
 #![tactic(auto)]
 
+mod packets;
 mod parts;
 mod room;
 mod sink;
 
+pub use packets::{example_packet, no_bits, no_tuple, one_started};
 pub use parts::Parts;
 pub use room::with_room;
 pub use sink::{Sink, WhenFull};

@@ -1,17 +1,10 @@
 use dn_types::{
     Bandwidth, Call, Command, Delay, Deliveries, Delivery, Entry, FiveTuple, FlowKey, FlowStatus,
-    Len, Limit, Loss, Mask, Moment, Number, Packet, Reply, Statuses, Target,
+    Limit, Loss, Mask, Moment, Number, Reply, Statuses, Target,
 };
 use std::alloc::{AllocError, Global};
 use std::test::Fail;
-
-pub const NO_BITS: Mask = Mask {
-    src: 0,
-    dst: 0,
-    proto: 0,
-    sport: 0,
-    dport: 0,
-};
+use test_devices::{example_packet, no_bits, one_started};
 
 pub fn number(value: u32) -> Result<Number, Fail> {
     Ok(Number::new(value).ok_or("a number")?)
@@ -26,23 +19,13 @@ pub fn pipe_one() -> Option<Command> {
         limit: Limit::slots(50)?,
         loss: Loss::new(0)?,
         buckets: None,
-        mask: NO_BITS,
+        mask: no_bits(),
     })
 }
 
 // A Submit of the packet of 1,000 bytes that the worked examples send.
 pub fn submit(target: Target, moment: Moment) -> Result<Call, Fail> {
-    let packet = Packet {
-        tuple: FiveTuple {
-            src: 0x0a00_0001,
-            dst: 0x0a00_0002,
-            proto: 17,
-            sport: 1000,
-            dport: 2000,
-        },
-        len: Len::new(1000).ok_or("a length")?,
-        word: 0,
-    };
+    let packet = example_packet().ok_or("a length")?;
     Ok(Call::Submit {
         target,
         packet,
@@ -52,31 +35,6 @@ pub fn submit(target: Target, moment: Moment) -> Result<Call, Fail> {
 
 pub fn moment(value: u64) -> Result<Moment, Fail> {
     Ok(Moment::new(value).ok_or("a moment")?)
-}
-
-// The state of pipe 1's one flow, whose one packet has started.
-fn one_started() -> Result<FlowStatus, Fail> {
-    Ok(FlowStatus {
-        flow: 0,
-        key: FlowKey {
-            target: Target::Pipe(number(1)?),
-            pipe: number(1)?,
-            mask: NO_BITS,
-            tuple: FiveTuple {
-                src: 0,
-                dst: 0,
-                proto: 0,
-                sport: 0,
-                dport: 0,
-            },
-        },
-        queued: 0,
-        bytes: 0,
-        lost: 0,
-        full: 0,
-        started: 1,
-        discarded: 0,
-    })
 }
 
 // A state with a value of its own in each field.
@@ -140,7 +98,7 @@ fn status(alloc: Global) -> Result<Reply, Fail> {
     // The prover asks that a body that moves a state into a list names the types in it.
     let _key: Option<FlowKey> = None;
     let _target: Option<Target> = None;
-    let items = list_of(alloc, [one_started()?])?;
+    let items = list_of(alloc, [one_started().ok_or("a state")?])?;
     Ok(Reply::Status {
         list: Statuses::from_vec(items),
     })

@@ -1,4 +1,4 @@
-use crate::histories::{NO_BITS, entry, flow_state, number, one_caller, pipe_one, submit};
+use crate::histories::{entry, flow_state, number, one_caller, pipe_one, submit};
 use dn_files::{ReplayFault, Source};
 use dn_history::{read_history, write_history};
 use dn_records::{FromReader, FromWriter, Outlet};
@@ -8,7 +8,7 @@ use dn_types::{
 };
 use std::alloc::{AllocError, Global};
 use std::test::Fail;
-use test_devices::{Sink, WhenFull};
+use test_devices::{Sink, WhenFull, no_bits};
 
 pub const ONE_CALLER: &str = "dummynet-history,3\n\
     c,0,configure,pipe 1 config bw 8000000bit/s\n\
@@ -81,7 +81,7 @@ fn commands() -> Option<[Command; 5]> {
             buckets: Some(Buckets::new(64)?),
             mask: Mask {
                 dst: 255,
-                ..NO_BITS
+                ..no_bits()
             },
         },
         Command::Queue {
@@ -91,7 +91,7 @@ fn commands() -> Option<[Command; 5]> {
             limit: Limit::slots(50)?,
             loss: Loss::new(0)?,
             buckets: None,
-            mask: NO_BITS,
+            mask: no_bits(),
         },
         Command::DeletePipe(Number::new(7)?),
         Command::DeleteQueue(Number::new(65_535)?),

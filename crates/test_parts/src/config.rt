@@ -4,6 +4,7 @@ use dn_types::{
 };
 use std::alloc::{AllocError, Global};
 use std::process::Abort;
+use test_devices::no_bits;
 
 fn check_parsed(rt: &impl Abort, line: &str, command: Command) {
     assert!(rt; parse_line(line) == Ok(Some(command)));
@@ -58,13 +59,7 @@ fn a_queue_line(rt: HostRuntime) -> Result<(), AllocError> {
         limit: Limit::Slots(SlotCount::new(50).expect(&rt, "a limit")),
         loss: Loss::new(0).expect(&rt, "a loss rate"),
         buckets: None,
-        mask: Mask {
-            src: 0,
-            dst: 0,
-            proto: 0,
-            sport: 0,
-            dport: 0,
-        },
+        mask: no_bits(),
     };
     check_parsed(&rt, "queue 2 config weight 100 pipe 1", command);
     check_parsed(&rt, "queue 2 delete", Command::DeleteQueue(number));

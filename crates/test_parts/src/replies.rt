@@ -1,10 +1,10 @@
 use dn_types::{
-    Call, Deliveries, Delivery, Entry, FiveTuple, FlowKey, FlowStatus, Mask, Moment, Number, Reply,
-    Statuses, Target,
+    Call, Deliveries, Delivery, Entry, FlowKey, FlowStatus, Moment, Reply, Statuses, Target,
 };
 use std::alloc::{AllocError, Global};
 use std::process::Abort;
 use std::test::Fail;
+use test_devices::one_started;
 
 #[test]
 fn deliveries_go_by_due_moment_and_packet(rt: HostRuntime) {
@@ -30,39 +30,13 @@ fn delivered(alloc: Global) -> Result<Vec<Delivery>, Fail> {
     Ok(list)
 }
 
-// The state of a pipe's one flow, of which a packet has started and none waits.
+// The states of one flow, which is a pipe's.
 fn states(alloc: Global) -> Result<Vec<FlowStatus>, Fail> {
-    let pipe = Number::new(1).ok_or("1 is a number")?;
-    let mask = Mask {
-        src: 0,
-        dst: 0,
-        proto: 0,
-        sport: 0,
-        dport: 0,
-    };
-    let tuple = FiveTuple {
-        src: 0,
-        dst: 0,
-        proto: 0,
-        sport: 0,
-        dport: 0,
-    };
+    // The prover asks that a body that moves a state into a list names the types in it.
+    let _key: Option<FlowKey> = None;
+    let _target: Option<Target> = None;
     let mut list = Vec::new(alloc);
-    list.push(FlowStatus {
-        flow: 0,
-        key: FlowKey {
-            target: Target::Pipe(pipe),
-            pipe,
-            mask,
-            tuple,
-        },
-        queued: 0,
-        bytes: 0,
-        lost: 0,
-        full: 0,
-        started: 1,
-        discarded: 0,
-    })?;
+    list.push(one_started().ok_or("numbers in range")?)?;
     Ok(list)
 }
 

@@ -1,10 +1,11 @@
 use crate::headers::{PACKET_HEADER, REPORT_HEADER};
 use dn_records::{FromReader, FromWriter};
 use dn_replay::{ReplayFault, read_config, read_packets, replay, replay_joined};
-use dn_types::{Command, Limit, Loss, Mask, Number, Weight};
+use dn_types::{Command, Limit, Loss, Number, Weight};
 use std::alloc::{AllocError, Global};
 use std::io::Read;
 use std::test::Fail;
+use test_devices::no_bits;
 
 // What a replay answers, by the count of its entries, and what it writes.
 #[derive(Drop)]
@@ -182,13 +183,7 @@ fn queue_of_pipe_three() -> Option<Command> {
         limit: Limit::slots(50)?,
         loss: Loss::new(0)?,
         buckets: None,
-        mask: Mask {
-            src: 0,
-            dst: 0,
-            proto: 0,
-            sport: 0,
-            dport: 0,
-        },
+        mask: no_bits(),
     })
 }
 

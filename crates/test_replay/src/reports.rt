@@ -3,19 +3,13 @@ ghost use Rattle.std.specs.Prelude.{◌≡◌};
 use crate::headers::REPORT_HEADER;
 use dn_records::FromWriter;
 use dn_replay::write_report;
-use dn_types::{Call, Entry, FiveTuple, Len, Moment, Number, Packet, Reply, Target};
+use dn_types::{Call, Entry, Len, Moment, Number, Packet, Reply, Target};
 use std::test::Fail;
+use test_devices::no_tuple;
 
 fn submit() -> Option<Call> {
-    let tuple = FiveTuple {
-        src: 0,
-        dst: 0,
-        proto: 0,
-        sport: 0,
-        dport: 0,
-    };
     let packet = Packet {
-        tuple,
+        tuple: no_tuple(),
         len: Len::new(1000)?,
         word: 0,
     };

@@ -4,18 +4,10 @@ ghost use Rattle.dn_service.specs.Callers.{IsOf, IsSameCaller};
 
 use dn_service::{Caller, CloseFault, Service};
 use dn_types::{
-    Bandwidth, Call, Command, Delay, Entry, FiveTuple, Len, Limit, Loss, Mask, Moment, Number,
-    Packet, Reply, Target,
+    Bandwidth, Call, Command, Delay, Entry, Limit, Loss, Moment, Number, Reply, Target,
 };
 use std::process::Abort;
-
-pub(crate) const NO_BITS: Mask = Mask {
-    src: 0,
-    dst: 0,
-    proto: 0,
-    sport: 0,
-    dport: 0,
-};
+use test_devices::{example_packet, no_bits};
 
 /// `pipe 1 config bw 8Mbit/s`, where the bandwidth is 8,000,000: a packet of 1,000 bytes takes 1,000,000 ns.
 pub(crate) fn pipe(bandwidth: u64) -> Option<Call> {
@@ -26,7 +18,7 @@ pub(crate) fn pipe(bandwidth: u64) -> Option<Call> {
         limit: Limit::slots(50)?,
         loss: Loss::new(0)?,
         buckets: None,
-        mask: NO_BITS,
+        mask: no_bits(),
     }))
 }
 
@@ -34,17 +26,7 @@ pub(crate) fn pipe(bandwidth: u64) -> Option<Call> {
 pub(crate) fn packet(moment: u64) -> Option<Call> {
     Some(Call::Submit {
         target: Target::Pipe(Number::new(1)?),
-        packet: Packet {
-            tuple: FiveTuple {
-                src: 0x0a00_0001,
-                dst: 0x0a00_0002,
-                proto: 17,
-                sport: 1000,
-                dport: 2000,
-            },
-            len: Len::new(1000)?,
-            word: 0,
-        },
+        packet: example_packet()?,
         moment: Moment::new(moment)?,
     })
 }

@@ -2,39 +2,15 @@
 ghost use Rattle.std.specs.Prelude.{◌≡◌, All, length};
 ghost use Rattle.dn_service.specs.Callers.{IsOf, IsSameCaller};
 
-use crate::calls::{NO_BITS, collect, history_of, made, packet, pipe};
+use crate::calls::{collect, history_of, made, packet, pipe};
 use crate::replies::{check_delivered, check_queued};
 use dn_service::{Caller, OpenFault, Service, TryFault};
-use dn_types::{Call, Delivery, Entry, FiveTuple, FlowKey, FlowStatus, Number, Reply, Target};
+use dn_types::{Call, Delivery, Entry, Reply};
 use std::alloc::{AllocError, Global};
 use std::process::Abort;
 use std::sync::Wait;
 use std::test::Fail;
-
-/// The flow of the packets to pipe 1, once its one packet has started.
-fn one_started() -> Option<FlowStatus> {
-    Some(FlowStatus {
-        flow: 0,
-        key: FlowKey {
-            target: Target::Pipe(Number::new(1)?),
-            pipe: Number::new(1)?,
-            mask: NO_BITS,
-            tuple: FiveTuple {
-                src: 0,
-                dst: 0,
-                proto: 0,
-                sport: 0,
-                dport: 0,
-            },
-        },
-        queued: 0,
-        bytes: 0,
-        lost: 0,
-        full: 0,
-        started: 1,
-        discarded: 0,
-    })
-}
+use test_devices::one_started;
 
 /// The four calls of the one caller.
 fn four_calls() -> Option<[Call; 4]> {

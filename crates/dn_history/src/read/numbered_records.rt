@@ -1,8 +1,8 @@
-ghost use Rattle.std.specs.Prelude.{◌≡◌, ◌<◌, ◌≤◌, ◌^◌, ℕ, length, Ok, None, OnOk, OnSome, IfErr, MatchOption};
+ghost use Rattle.std.specs.Prelude.{◌≡◌, ◌<◌, ◌≤◌, ◌+◌, ◌^◌, ◌∷◌, ℕ, List, length, Ok, None, OnOk, OnSome, IfErr, MatchOption};
 ghost use Rattle.csv.specs.Records.{fields_of};
 ghost use Rattle.csv.specs.declared.parser.State.TheVariants as st;
-ghost use Rattle.dn_records.specs.Reading.{records_after};
-ghost use Rattle.dn_records.specs.Records.{records_of};
+ghost use Rattle.dn_records.specs.Reading.{BeginsLine, records_after};
+ghost use Rattle.dn_records.specs.Records.{Fields, records_of};
 ghost use Rattle.dn_history.specs.HistoryFile.{between, entry_from, nothing_in, reply_from};
 ghost use Rattle.dn_history.specs.HistoryItems.{delivery_item};
 ghost use Rattle.dn_history.specs.PlainRecords.{answered};
@@ -124,18 +124,28 @@ impl<'a> NumberedRecords<'a> {
         Ok(())
     }
 
+    /// Goes on behind the line of the next record, with which the text that is left begins.
+    fn pass_line(&mut self, text: &'a [u8], rest: &'a [u8])
+        requires records { self.old.records ≡ records_after st.StartRecord text.now }
+        requires line { (field : List ℕ) × (others : Fields) × BeginsLine text.now (field ∷ others) rest.now }
+        ensures next { self.new ≡ record { number = self.old.number + 1; records = records_after st.StartRecord rest.now } }
+        ensures fewer { length self.new.records < length self.old.records }
+    {
+        self.records.go_on(text, rest);
+        self.number += 1;
+    }
+
     /// The caller and the call of the next record, where it is a Submit whose line is written plainly.
     pub(crate) fn take_submit(&mut self) -> Option<(usize, Call)>
         ensures call { MatchOption result (self.new ≡ self.old)
             (λ p. (version : Version) (count : ℕ) → entry_from version count self.old ≡ answered version p.0 p.1 self.new) }
         ensures fewer { OnSome result (length self.new.records < length self.old.records) }
     {
-        let text = self.records.lines();
+        let text = self.lines();
         let Some((caller, call, rest)) = submit_at_front(text) else {
             return None;
         };
-        self.records.go_on(text, rest);
-        self.number += 1;
+        self.pass_line(text, rest);
         Some((caller, call))
     }
 
@@ -145,12 +155,11 @@ impl<'a> NumberedRecords<'a> {
             (λ reply. (version : Version) → reply_from version self.old ≡ Ok (reply, self.new)) }
         ensures fewer { OnSome result (length self.new.records < length self.old.records) }
     {
-        let text = self.records.lines();
+        let text = self.lines();
         let Some((reply, rest)) = queued_at_front(text) else {
             return None;
         };
-        self.records.go_on(text, rest);
-        self.number += 1;
+        self.pass_line(text, rest);
         Some(reply)
     }
 
@@ -160,12 +169,11 @@ impl<'a> NumberedRecords<'a> {
             (λ delivery. item_from delivery_item self.old ≡ Ok (delivery, self.new)) }
         ensures fewer { OnSome result (length self.new.records < length self.old.records) }
     {
-        let text = self.records.lines();
+        let text = self.lines();
         let Some((delivery, rest)) = delivery_at_front(text) else {
             return None;
         };
-        self.records.go_on(text, rest);
-        self.number += 1;
+        self.pass_line(text, rest);
         Some(delivery)
     }
 }

@@ -6,6 +6,7 @@ ghost use Rattle.std.specs.Prelude.{◌≡◌, ◌<◌, ◌≤◌, ◌+◌, ◌+
 ghost use Rattle.dn_records.specs.Records.{line_of};
 ghost use Rattle.dn_replay.specs.Report.{line_fields, report_header};
 ghost use Rattle.dn_replay.specs.declared.report.line.ReportLine.TheVariants.{Held, NoTarget, Out};
+ghost use Rattle.dn_replay.specs.declared.report.line_text.TheConstants.{LINE};
 
 use crate::report::line::ReportLine;
 use itoa::{Buffer, write_digits};
@@ -77,10 +78,10 @@ pub(crate) fn put_row(bytes: &mut [u8], end: usize, row: u128) -> usize
 
 /// Puts the end of a line at the end of the array, and answers where it stands.
 pub(crate) fn put_line_feed(bytes: &mut [u8]) -> usize
-    requires { length bytes.old ≡ 160 }
-    ensures start { result ≡ 159 }
+    requires { length bytes.old ≡ LINE }
+    ensures start { result + 1 ≡ LINE }
     ensures written { drop result bytes.new ≡ 10 ∷ [] }
-    ensures len { length bytes.new ≡ 160 }
+    ensures len { length bytes.new ≡ LINE }
 {
     put_byte(bytes, LINE, b'\n')
 }
@@ -106,9 +107,37 @@ fn append_from(text: &mut Vec<u8>, bytes: &[u8], start: usize)
     append(text, &bytes[start..]);
 }
 
+/// Puts the end of a line without a start and a due moment, and before that end the Submit's moment.
+fn put_submitted(bytes: &mut [u8], at: u64) -> usize
+    requires { length bytes.old ≡ LINE }
+    ensures below { result ≤ 157 }
+    ensures start { 136 ≤ result }
+    ensures written { drop result bytes.new ≡ 44 ∷ (decimal at ++ 44 ∷ 44 ∷ 10 ∷ []) }
+    ensures len { length bytes.new ≡ LINE }
+{
+    let end = put_line_feed(bytes);
+    let end = put_byte(bytes, end, b',');
+    let end = put_byte(bytes, end, b',');
+    put_number(bytes, end, at)
+}
+
+/// Adds a line: its first word, the row, and its bytes from `end` on.
+fn add_row(text: &mut Vec<u8>, event: &[u8], row: u128, bytes: &mut [u8], end: usize)
+    requires room { length text.old.items + LINE ≤ vec_capacity text.old }
+    requires word { length event.now ≡ 4 }
+    requires end { (44 ≤ end) × (end ≤ LINE) }
+    requires line { length bytes.old ≡ LINE }
+    ensures items { text.new.items ≡ text.old.items ++ (event.now ++ 44 ∷ (decimal row ++ drop end bytes.old)) }
+    ensures capacity { vec_capacity text.old ≤ vec_capacity text.new }
+{
+    let start = put_row(bytes, end, row);
+    append(text, event);
+    append_from(text, bytes, start);
+}
+
 /// Adds the line of names.
 pub(crate) fn add_header(text: &mut Vec<u8>)
-    requires { length text.old.items + 160 ≤ vec_capacity text.old }
+    requires { length text.old.items + LINE ≤ vec_capacity text.old }
     ensures items { text.new.items ≡ text.old.items ++ line_of report_header }
     ensures capacity { vec_capacity text.old ≤ vec_capacity text.new }
 {
@@ -125,7 +154,7 @@ pub(crate) fn add_out(
     start: u64,
     due: u64,
 )
-    requires { length text.old.items + 160 ≤ vec_capacity text.old }
+    requires { length text.old.items + LINE ≤ vec_capacity text.old }
     ensures items { text.new.items ≡ text.old.items ++ line_of (line_fields (Out row flow packet at start due)) }
     ensures capacity { vec_capacity text.old ≤ vec_capacity text.new }
 {
@@ -145,63 +174,48 @@ pub(crate) fn add_out(
 
 /// Adds the line of a packet that was accepted and not delivered.
 pub(crate) fn add_held(text: &mut Vec<u8>, row: u128, flow: usize, packet: u64, at: u64)
-    requires { length text.old.items + 160 ≤ vec_capacity text.old }
+    requires { length text.old.items + LINE ≤ vec_capacity text.old }
     ensures items { text.new.items ≡ text.old.items ++ line_of (line_fields (Held row flow packet at)) }
     ensures capacity { vec_capacity text.old ≤ vec_capacity text.new }
 {
     let mut bytes = [0u8; LINE];
-    let end = put_line_feed(&mut bytes);
-    let end = put_byte(&mut bytes, end, b',');
-    let end = put_byte(&mut bytes, end, b',');
-    let end = put_number(&mut bytes, end, at);
+    let end = put_submitted(&mut bytes, at);
     let end = put_number(&mut bytes, end, packet);
     let end = put_number(&mut bytes, end, flow as u64);
-    let end = put_row(&mut bytes, end, row);
-    append(text, b"held");
-    append_from(text, &bytes, end);
+    add_row(text, b"held", row, &mut bytes, end);
 }
 
 /// Adds the line of a packet that has a flow and was not accepted.
 pub(crate) fn add_refused(text: &mut Vec<u8>, event: &[u8], row: u128, flow: usize, at: u64)
-    requires room { length text.old.items + 160 ≤ vec_capacity text.old }
+    requires room { length text.old.items + LINE ≤ vec_capacity text.old }
     requires word { length event.now ≡ 4 }
     ensures items { text.new.items ≡ text.old.items ++ (event.now
         ++ 44 ∷ (decimal row ++ 44 ∷ (decimal flow ++ 44 ∷ 44 ∷ (decimal at ++ 44 ∷ 44 ∷ 10 ∷ [])))) }
     ensures capacity { vec_capacity text.old ≤ vec_capacity text.new }
 {
     let mut bytes = [0u8; LINE];
-    let end = put_line_feed(&mut bytes);
-    let end = put_byte(&mut bytes, end, b',');
-    let end = put_byte(&mut bytes, end, b',');
-    let end = put_number(&mut bytes, end, at);
+    let end = put_submitted(&mut bytes, at);
     let end = put_byte(&mut bytes, end, b',');
     let end = put_number(&mut bytes, end, flow as u64);
-    let end = put_row(&mut bytes, end, row);
-    append(text, event);
-    append_from(text, &bytes, end);
+    add_row(text, event, row, &mut bytes, end);
 }
 
 /// Adds the line of a packet without a target, which has neither a flow nor a number.
 pub(crate) fn add_no_target(text: &mut Vec<u8>, row: u128, at: u64)
-    requires { length text.old.items + 160 ≤ vec_capacity text.old }
+    requires { length text.old.items + LINE ≤ vec_capacity text.old }
     ensures items { text.new.items ≡ text.old.items ++ line_of (line_fields (NoTarget row at)) }
     ensures capacity { vec_capacity text.old ≤ vec_capacity text.new }
 {
     let mut bytes = [0u8; LINE];
-    let end = put_line_feed(&mut bytes);
+    let end = put_submitted(&mut bytes, at);
     let end = put_byte(&mut bytes, end, b',');
     let end = put_byte(&mut bytes, end, b',');
-    let end = put_number(&mut bytes, end, at);
-    let end = put_byte(&mut bytes, end, b',');
-    let end = put_byte(&mut bytes, end, b',');
-    let end = put_row(&mut bytes, end, row);
-    append(text, b"none");
-    append_from(text, &bytes, end);
+    add_row(text, b"none", row, &mut bytes, end);
 }
 
 /// Adds a line.
 pub(crate) fn add_line(text: &mut Vec<u8>, line: &ReportLine)
-    requires { length text.old.items + 160 ≤ vec_capacity text.old }
+    requires { length text.old.items + LINE ≤ vec_capacity text.old }
     ensures { text.new.items ≡ text.old.items ++ line_of (line_fields line.now) }
 {
     match *line {

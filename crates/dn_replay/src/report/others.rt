@@ -4,6 +4,7 @@ ghost use Rattle.std.specs.Prelude.{◌≡◌, ◌<◌, ◌≤◌, ◌+◌, ◌^
 ghost use Rattle.dn_replay.specs.Kept.{accepted_line, fate_line, IsKeptOf, no_refusal, no_row, other_text, refusal_in, refusal_line, refused_row, rows_kept};
 ghost use Rattle.dn_replay.specs.declared.report.fate.Fate.{Fate};
 ghost use Rattle.dn_replay.specs.KeptReports.{AddsOthers, BreaksOffInOthers, OfFate, OfMarked};
+ghost use Rattle.dn_replay.specs.declared.report.line_text.TheConstants.{LINE};
 
 use crate::report::kept::Kept;
 use crate::report::kept_rows::{AcceptedRow, RefusedRow};
@@ -16,7 +17,7 @@ use dn_records::{Outlet, WriteFault};
 
 /// Adds the line of an accepted packet, unless it was given.
 fn add_accepted(text: &mut Vec<u8>, marks: &[bool], accepted: &[AcceptedRow], packet: usize)
-    requires room { length text.old.items + 160 ≤ vec_capacity text.old }
+    requires room { length text.old.items + LINE ≤ vec_capacity text.old }
     requires numbered { packet < length accepted.now }
     ensures items { OfMarked marks.now (length accepted.now) (λ given.
         text.new.items ≡ text.old.items ++ other_text (accepted_line packet given (slice_index_or accepted.now packet no_row))) }
@@ -31,7 +32,7 @@ fn add_accepted(text: &mut Vec<u8>, marks: &[bool], accepted: &[AcceptedRow], pa
 
 /// Adds the line of a row whose packet was not accepted, if it has one.
 fn add_refusal(text: &mut Vec<u8>, row: usize, why: Refusal)
-    requires room { length text.old.items + 160 ≤ vec_capacity text.old }
+    requires room { length text.old.items + LINE ≤ vec_capacity text.old }
     ensures items { text.new.items ≡ text.old.items ++ other_text (refusal_line row why) }
     ensures capacity { vec_capacity text.old ≤ vec_capacity text.new }
 {
@@ -76,7 +77,7 @@ fn add_other(
     packet: usize,
     refusal: Option<Refusal>,
 )
-    requires room { length text.old.items + 160 ≤ vec_capacity text.old }
+    requires room { length text.old.items + LINE ≤ vec_capacity text.old }
     requires numbered { refusal ≡ None → packet < length accepted.now }
     ensures items { OfFate marks.now accepted.now row packet refusal (λ given fate.
         text.new.items ≡ text.old.items ++ other_text (fate_line row packet given fate)) }
@@ -104,11 +105,11 @@ pub(crate) fn write_others<O: Outlet>(
     out: &mut O,
 ) -> Result<(), WriteFault>
     requires kept { (fates : List Fate) × IsKeptOf kept.now fates }
-    requires room { 65536 + 160 ≤ vec_capacity text.old }
+    requires room { 65536 + LINE ≤ vec_capacity text.old }
     requires short { length text.old.items < 65536 }
     requires sound { O.has_failed out.old ≡ false }
     ensures ok { OnOk result (AddsOthers kept.now marks.now (O.contents out.old) text.old.items (O.contents out.new) text.new.items) }
-    ensures room { OnOk result (65536 + 160 ≤ vec_capacity text.new) }
+    ensures room { OnOk result (65536 + LINE ≤ vec_capacity text.new) }
     ensures short { OnOk result (length text.new.items < 65536) }
     ensures sound { OnOk result (O.has_failed out.new ≡ false) }
     ensures part { OnErr result (BreaksOffInOthers kept.now marks.now (O.contents out.old) text.old.items (O.contents out.new)) }

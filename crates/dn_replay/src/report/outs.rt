@@ -5,6 +5,7 @@ ghost use Rattle.dn_records.specs.Records.{line_of};
 ghost use Rattle.dn_replay.specs.Kept.{AreKnown, delivery_line, no_row, out_text};
 ghost use Rattle.dn_replay.specs.Parts.{Adds, BreaksOffIn};
 ghost use Rattle.dn_replay.specs.Report.{line_fields};
+ghost use Rattle.dn_replay.specs.declared.report.line_text.TheConstants.{LINE};
 
 use crate::report::kept::Kept;
 use crate::report::kept_rows::AcceptedRow;
@@ -23,7 +24,7 @@ pub(crate) fn row_of(accepted: &[AcceptedRow], packet: u64) -> AcceptedRow
 
 /// Adds the `out` line of a delivery.
 fn add_delivery(text: &mut Vec<u8>, accepted: &[AcceptedRow], delivery: Delivery)
-    requires room { length text.old.items + 160 ≤ vec_capacity text.old }
+    requires room { length text.old.items + LINE ≤ vec_capacity text.old }
     requires known { delivery.packet < length accepted.now }
     ensures items { text.new.items ≡ text.old.items ++ line_of (line_fields (delivery_line accepted.now delivery)) }
     ensures capacity { vec_capacity text.old ≤ vec_capacity text.new }
@@ -46,11 +47,11 @@ pub(crate) fn write_outs<O: Outlet>(
     out: &mut O,
 ) -> Result<(), WriteFault>
     requires known { AreKnown kept.now given.now }
-    requires room { 65536 + 160 ≤ vec_capacity text.old }
+    requires room { 65536 + LINE ≤ vec_capacity text.old }
     requires short { length text.old.items < 65536 }
     requires sound { O.has_failed out.old ≡ false }
     ensures ok { OnOk result (Adds (O.contents out.old) text.old.items (O.contents out.new) text.new.items (out_text kept.now given.now)) }
-    ensures room { OnOk result (65536 + 160 ≤ vec_capacity text.new) }
+    ensures room { OnOk result (65536 + LINE ≤ vec_capacity text.new) }
     ensures short { OnOk result (length text.new.items < 65536) }
     ensures sound { OnOk result (O.has_failed out.new ≡ false) }
     ensures part { OnErr result (BreaksOffIn (out_text kept.now given.now) (O.contents out.old) text.old.items (O.contents out.new)) }

@@ -7,6 +7,7 @@ ghost use Rattle.dn_replay.specs.Kept.{AreKnown, AreMarksOf, CanReport, IsKeptOf
 ghost use Rattle.dn_replay.specs.Report.{report_header};
 ghost use Rattle.dn_replay.specs.declared.report.fate.Fate.{Fate};
 ghost use Rattle.dn_replay.specs.KeptReports.{BreaksOffKept, LeavesKept, ReportsKept, WritesKept};
+ghost use Rattle.dn_replay.specs.declared.report.line_text.TheConstants.{LINE};
 
 use crate::report::kept::Kept;
 use crate::report::line_text::{LINE, add_header};
@@ -22,10 +23,10 @@ use std::alloc::Global;
 
 /// Begins a report with the line of names.
 fn begin(text: &mut Vec<u8>)
-    requires room { 65536 + 160 ≤ vec_capacity text.old }
+    requires room { 65536 + LINE ≤ vec_capacity text.old }
     requires empty { text.old.items ≡ [] }
     ensures items { text.new.items ≡ line_of report_header }
-    ensures room { 65536 + 160 ≤ vec_capacity text.new }
+    ensures room { 65536 + LINE ≤ vec_capacity text.new }
     ensures short { length text.new.items < 65536 }
 {
     add_header(text);
@@ -42,7 +43,7 @@ fn write_lines<O: Outlet>(
     requires kept { (fates : List Fate) × IsKeptOf kept.now fates }
     requires known { AreKnown kept.now given.now }
     requires marks { AreMarksOf marks.now (length kept.now.accepted.items) given.now }
-    requires room { 65536 + 160 ≤ vec_capacity text.old }
+    requires room { 65536 + LINE ≤ vec_capacity text.old }
     requires empty { text.old.items ≡ [] }
     requires sound { O.has_failed out.old ≡ false }
     ensures ok { OnOk result (WritesKept kept.now given.now (O.contents out.old) (O.contents out.new)) }
@@ -67,7 +68,7 @@ fn write_by<O: Outlet>(
 ) -> Result<Outcome, ReplayFault>
     requires kept { (calls : List Call) × CanReport kept.now given.now calls }
     requires marks { AreMarksOf marks.items (length kept.now.accepted.items) given.now }
-    requires room { 65536 + 160 ≤ vec_capacity text }
+    requires room { 65536 + LINE ≤ vec_capacity text }
     requires empty { text.items ≡ [] }
     requires sound { O.has_failed out.old ≡ false }
     ensures ok { IfOk result (λ outcome. ReportsKept kept.now given.now outcome.untargeted (O.contents out.old) (O.contents out.new)) }

@@ -1,13 +1,15 @@
 //! A caller's call by one try, and its tries that wake nobody.
-ghost use Rattle.std.specs.Prelude.{◌≡◌, ◌≢◌, ◌<◌, [], IfOk, IfErr, OnOk};
+ghost use Rattle.std.specs.Prelude.{◌≡◌, ◌≢◌, ◌<◌, ◌≤◌, ◌+◌, ◌^◌, [], length, IfOk, IfErr, OnOk};
 ghost use Rattle.dn_service.specs.Callers.{IsSameCaller, Answered, NamesAnother, Refuses, IsOf, having_lost};
-ghost use Rattle.dn_service.specs.Lasting.{Takes};
+ghost use Rattle.dn_service.specs.Lasting.{Takes, IsTryAfterFault, RefusesAfter};
 
 use crate::caller::Caller;
 use crate::desk::Desk;
 use crate::lasting::Lasting;
 use crate::lock::{enter, give_back, publish};
+use crate::placed::Placed;
 use crate::segment::Segment;
+use crate::try_after_fault::TryAfterFault;
 use crate::try_fault::TryFault;
 use dn_types::{Call, Entry, Reply};
 
@@ -57,20 +59,43 @@ impl Caller {
         ensures err { IfErr result (λ fault. Refuses self.old fault self.new) }
         ensures busy { IfErr result (λ fault. NamesAnother self.old fault) }
     {
+        match self.try_placed(0, call) {
+            Ok(placed) => Ok(placed.reply),
+            Err(TryAfterFault::Busy(holder)) => Err(TryFault::Busy(holder)),
+            Err(TryAfterFault::OutOfMemory) => Err(TryFault::OutOfMemory),
+            Err(TryAfterFault::Ahead) => unreachable!(),
+        }
+    }
+
+    /// Makes a call that comes after `after` others, as `try_call_after` does, and wakes no caller that waits.
+    pub(crate) fn try_placed(&mut self, after: u64, call: &Call) -> Result<Placed, TryAfterFault>
+        ensures ok { IfOk result (λ placed. Answered self.old call.now placed.reply self.new) }
+        ensures place { IfOk result (λ placed. length self.new.front < 2 ^ 64 → length self.new.front ≡ placed.place + 1) }
+        ensures after { IfOk result (λ placed. after ≤ placed.place) }
+        ensures same_caller { IsSameCaller self.old self.new }
+        ensures lost { OnOk result (self.new.lost ≡ self.old.lost) }
+        ensures err { IfErr result (λ fault. RefusesAfter self.old fault self.new) }
+        ensures cause { IfErr result (λ fault. IsTryAfterFault self.old after fault) }
+    {
         let number = self.number;
         let desk: &Desk = &self.desk;
         let mut book = match enter(desk, &mut self.seat, number) {
             Ok(book) => book,
-            Err(holder) => return Err(TryFault::Busy(holder)),
+            Err(holder) => return Err(TryAfterFault::Busy(holder)),
         };
+        let place = book.place();
+        if place < after {
+            give_back(desk, &mut self.seat, book);
+            return Err(TryAfterFault::Ahead);
+        }
         match book.apply(number, call) {
             Ok(reply) => {
                 publish(desk, &mut self.seat, book);
-                Ok(reply)
+                Ok(Placed { place, reply })
             }
             Err(_) => {
                 give_back(desk, &mut self.seat, book);
-                Err(TryFault::OutOfMemory)
+                Err(TryAfterFault::OutOfMemory)
             }
         }
     }

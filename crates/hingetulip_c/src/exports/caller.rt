@@ -1,7 +1,6 @@
 //! The calls of the header on a caller of a service. Each tries once, and waits for nobody.
 
 mod advance;
-mod close;
 mod collect;
 mod configure;
 mod deliveries;

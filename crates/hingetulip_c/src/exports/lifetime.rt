@@ -1,10 +1,10 @@
 ghost use Rattle.std.specs.Prelude.{◌≡◌, ◌<◌, ◌≤◌, ◌⊎◌, [], cond, nat_eq, IfNone, IfOk, IfSome};
 ghost use Rattle.dn_types.specs.declared.rule.Rule.TheVariants.{Ordered, Free};
 ghost use Rattle.dn_shaper.specs.Shaper.{StandsAfter};
-ghost use Rattle.hingetulip_c.specs.Handles.{HeldAfter, IsClosedBy, Opens};
+ghost use Rattle.hingetulip_c.specs.Handles.{HeldAfter, Opens};
 
 use crate::handle::Handle;
-use crate::status::{BAD_RULE, CLOSED, MEMORY, OK};
+use crate::status::{BAD_RULE, MEMORY, OK};
 use dn_shaper::{HashKey, Shaper};
 use dn_types::Rule;
 use std::alloc::{AllocError, Global};
@@ -88,15 +88,4 @@ pub extern "C" fn dn_open_with_key(
 {
     let key = HashKey(u128::from(high) << 64 | u128::from(low));
     open(alloc, handle, rule, key)
-}
-
-/// Closes a handle, and lets go what it held.
-#[unsafe(no_mangle)]
-pub extern "C" fn dn_close(alloc: Global, handle: &mut Handle) -> u32
-    ensures { IsClosedBy result handle.old.held handle.new.held }
-{
-    match handle.take(alloc) {
-        Some(_shaper) => OK,
-        None => CLOSED,
-    }
 }

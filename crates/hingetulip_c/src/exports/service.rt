@@ -1,6 +1,5 @@
 //! The calls of the header on a service.
 
-mod close;
 mod hand_out;
 mod open;
 mod take;

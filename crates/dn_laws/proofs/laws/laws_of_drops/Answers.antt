@@ -2,8 +2,8 @@
 use Rattle.dn_laws.proofs.DropLaws.{drops-are-explained, none-unconfigured}
 use Rattle.dn_laws.proofs.laws.laws_of_drops.Goals as goal
 
-pub returns-clause-explained : goal.returns-clause-explained
-returns-clause-explained c = drops-are-explained
-
-pub returns-clause-unconfigured : goal.returns-clause-unconfigured
-returns-clause-unconfigured c = none-unconfigured
+pub returns : goal.returns
+returns c = record {
+  explained = drops-are-explained;
+  unconfigured = none-unconfigured;
+}

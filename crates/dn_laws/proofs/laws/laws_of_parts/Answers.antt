@@ -9,32 +9,16 @@ use Rattle.dn_laws.proofs.PartSettings.{commands-act-by-force, parts-rest-on-the
 use Rattle.dn_laws.proofs.PartsWhole.{parts-are-whole}
 use Rattle.dn_laws.proofs.laws.laws_of_parts.Goals as goal
 
-pub returns-clause-trace : goal.returns-clause-trace
-returns-clause-trace c = other-links-change-nothing
-
-pub returns-clause-replies : goal.returns-clause-replies
-returns-clause-replies c = other-links-change-no-reply
-
-pub returns-clause-agree : goal.returns-clause-agree
-returns-clause-agree c = agreeing-calls-agree
-
-pub returns-clause-advances : goal.returns-clause-advances
-returns-clause-advances c = advances-are-no-more
-
-pub returns-clause-replays : goal.returns-clause-replays
-returns-clause-replays c = replays-fall-apart
-
-pub returns-clause-whole : goal.returns-clause-whole
-returns-clause-whole c = parts-are-whole
-
-pub returns-clause-settings : goal.returns-clause-settings
-returns-clause-settings c = parts-rest-on-their-pipe
-
-pub returns-clause-force : goal.returns-clause-force
-returns-clause-force c = commands-act-by-force
-
-pub returns-clause-happens : goal.returns-clause-happens
-returns-clause-happens c = parts-happen-alone
-
-pub returns-clause-alone : goal.returns-clause-alone
-returns-clause-alone c = parts-are-alone
+pub returns : goal.returns
+returns c = record {
+  trace = other-links-change-nothing;
+  replies = other-links-change-no-reply;
+  agree = agreeing-calls-agree;
+  advances = advances-are-no-more;
+  replays = replays-fall-apart;
+  whole = parts-are-whole;
+  settings = parts-rest-on-their-pipe;
+  force = commands-act-by-force;
+  happens = parts-happen-alone;
+  alone = parts-are-alone;
+}

@@ -5,23 +5,13 @@ use Rattle.dn_types.proofs.Settled.{settled-ends}
 use Rattle.dn_laws.proofs.Readings.{starts-are-due, links-are-told-apart, queues-are-read}
 use Rattle.dn_laws.proofs.laws.laws_of_starts.Goals as goal
 
-pub returns-clause-settles : goal.returns-clause-settles
-returns-clause-settles c = settled-ends
-
-pub returns-clause-in_order : goal.returns-clause-in_order
-returns-clause-in_order c = starts-in-order
-
-pub returns-clause-once : goal.returns-clause-once
-returns-clause-once c = starts-once
-
-pub returns-clause-one_at_a_time : goal.returns-clause-one_at_a_time
-returns-clause-one_at_a_time c = sends-one-at-a-time
-
-pub returns-clause-on_time : goal.returns-clause-on_time
-returns-clause-on_time c = starts-are-due
-
-pub returns-clause-apart : goal.returns-clause-apart
-returns-clause-apart c = links-are-told-apart
-
-pub returns-clause-queues : goal.returns-clause-queues
-returns-clause-queues c = queues-are-read
+pub returns : goal.returns
+returns c = record {
+  settles = settled-ends;
+  on_time = starts-are-due;
+  apart = links-are-told-apart;
+  queues = queues-are-read;
+  one_at_a_time = sends-one-at-a-time;
+  in_order = starts-in-order;
+  once = starts-once;
+}

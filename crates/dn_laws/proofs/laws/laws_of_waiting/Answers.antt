@@ -5,23 +5,13 @@ use Rattle.dn_laws.proofs.WaitBounds.{slots-bound-the-wait, kbytes-bound-the-wai
 use Rattle.dn_laws.proofs.Waits.{waits-for-those-ahead, wait-is-known}
 use Rattle.dn_laws.proofs.laws.laws_of_waiting.Goals as goal
 
-pub returns-clause-those_ahead : goal.returns-clause-those_ahead
-returns-clause-those_ahead c = waits-for-those-ahead
-
-pub returns-clause-no_pause : goal.returns-clause-no_pause
-returns-clause-no_pause c = links-make-no-pause
-
-pub returns-clause-known : goal.returns-clause-known
-returns-clause-known c = wait-is-known
-
-pub returns-clause-slots : goal.returns-clause-slots
-returns-clause-slots c = slots-bound-the-wait
-
-pub returns-clause-kbytes : goal.returns-clause-kbytes
-returns-clause-kbytes c = kbytes-bound-the-wait
-
-pub returns-clause-delay : goal.returns-clause-delay
-returns-clause-delay c = slots-bound-the-delay
-
-pub returns-clause-kbytes_delay : goal.returns-clause-kbytes_delay
-returns-clause-kbytes_delay c = kbytes-bound-the-delay
+pub returns : goal.returns
+returns c = record {
+  those_ahead = waits-for-those-ahead;
+  no_pause = links-make-no-pause;
+  known = wait-is-known;
+  slots = slots-bound-the-wait;
+  kbytes = kbytes-bound-the-wait;
+  delay = slots-bound-the-delay;
+  kbytes_delay = kbytes-bound-the-delay;
+}

@@ -7,46 +7,36 @@ use Rattle.dn_replay.proofs.CallerSteps.{callers_replay, callers_unread, callers
 use Rattle.dn_replay.proofs.ReplaySteps.{read_failed}
 use Rattle.dn_replay.proofs.callers.replay.replay_callers_with_key.Goals as goal
 
-pub returns-in_err-opened-clause-inputs : goal.returns-in_err-opened-clause-inputs
-returns-in_err-opened-clause-inputs g c =
-    let p = err_from_is_err_and c.from_residual.result c.from_residual.ensures.1 in
-    rw (p.1, p.2) (subst (EitherFailed (g.C.Inlet.remaining c.args.config.now) (g.C.Inlet.has_failed c.args.config.now) (g.P.Inlet.has_failed c.args.packets.now))
-    (sym (unopened_sound c.args.n _ c.in_err-opened.ensures.err)) (c.requires.config, c.requires.packets))
-
-pub returns-in_err-opened-clause-unread : goal.returns-in_err-opened-clause-unread
-returns-in_err-opened-clause-unread g c =
-    let p = err_from_is_err_and c.from_residual.result c.from_residual.ensures.1 in
-    rw (p.1, p.2) (λ is. (refl, refl))
-
-pub returns-in_err-opened-clause-err : goal.returns-in_err-opened-clause-err
-returns-in_err-opened-clause-err g c =
-    let p = err_from_is_err_and c.from_residual.result c.from_residual.ensures.1 in
-    rw (p.1, p.2) (unopened c.args.n (g.C.Inlet.remaining c.args.config.now) (g.P.Inlet.remaining c.args.packets.now) (g.O.Outlet.contents c.args.out.now)
-    (g.O.Outlet.has_failed c.args.out.now) _ c.requires.out c.in_err-opened.ensures.err)
-
-pub returns-in_err-commands-clause-inputs : goal.returns-in_err-commands-clause-inputs
-returns-in_err-commands-clause-inputs g c =
+pub returns-in_err-opened : goal.returns-in_err-opened
+returns-in_err-opened g c =
     let config = g.C.Inlet.remaining c.args.config.now in
-    let p = err_from_is_err_and c.from_residual-in_err-commands.result c.from_residual-in_err-commands.ensures.1 in
-    rw (p.1, p.2) (read_failed
-    (EitherFailed config (g.C.Inlet.has_failed c.commands_and_rows-read.new.config) (g.P.Inlet.has_failed c.commands_and_rows-read.new.packets))
-    (AskFor config (g.P.Inlet.remaining c.args.packets.now)) _ c.in_err-commands.ensures.err)
+    let fault = c.in_err-opened.ensures.err in
+    let p = err_from_is_err_and c.from_residual.result c.from_residual.ensures.1 in
+    rw (p.1, p.2) record {
+      ok = tt;
+      inputs = subst (EitherFailed config (g.C.Inlet.has_failed c.args.config.now) (g.P.Inlet.has_failed c.args.packets.now))
+          (sym (unopened_sound c.args.n _ fault)) (c.requires.config, c.requires.packets);
+      sound = tt;
+      unread = λ is. (refl, refl);
+      err = unopened c.args.n config (g.P.Inlet.remaining c.args.packets.now) (g.O.Outlet.contents c.args.out.now)
+          (g.O.Outlet.has_failed c.args.out.now) _ c.requires.out fault;
+    }
 
-pub returns-in_err-commands-clause-unread : goal.returns-in_err-commands-clause-unread
-returns-in_err-commands-clause-unread g c =
+pub returns-in_err-commands : goal.returns-in_err-commands
+returns-in_err-commands g c =
     let config = g.C.Inlet.remaining c.args.config.now in
+    let packets = g.P.Inlet.remaining c.args.packets.now in
+    let failed = EitherFailed config (g.C.Inlet.has_failed c.commands_and_rows-read.new.config) (g.P.Inlet.has_failed c.commands_and_rows-read.new.packets) in
+    let fault = c.in_err-commands.ensures.err in
     let p = err_from_is_err_and c.from_residual-in_err-commands.result c.from_residual-in_err-commands.ensures.1 in
-    rw (p.1, p.2) (λ is. absurd (no_bad_count c.args.n config (g.P.Inlet.remaining c.args.packets.now)
-    (EitherFailed config (g.C.Inlet.has_failed c.commands_and_rows-read.new.config) (g.P.Inlet.has_failed c.commands_and_rows-read.new.packets)) _
-    c.in_err-commands.ensures.err is))
-
-pub returns-in_err-commands-clause-err : goal.returns-in_err-commands-clause-err
-returns-in_err-commands-clause-err g c =
-    let config = g.C.Inlet.remaining c.args.config.now in
-    let p = err_from_is_err_and c.from_residual-in_err-commands.result c.from_residual-in_err-commands.ensures.1 in
-    rw (p.1, p.2) (callers_unread c.args.n config (g.P.Inlet.remaining c.args.packets.now)
-    (EitherFailed config (g.C.Inlet.has_failed c.commands_and_rows-read.new.config) (g.P.Inlet.has_failed c.commands_and_rows-read.new.packets))
-    (g.O.Outlet.contents c.args.out.now) (g.O.Outlet.has_failed c.args.out.now) _ c.in_ok-opened.ensures.count.0 c.requires.out c.in_err-commands.ensures.err)
+    rw (p.1, p.2) record {
+      ok = tt;
+      inputs = read_failed failed (AskFor config packets) _ fault;
+      sound = tt;
+      unread = λ is. absurd (no_bad_count c.args.n config packets failed _ fault is);
+      err = callers_unread c.args.n config packets failed (g.O.Outlet.contents c.args.out.now) (g.O.Outlet.has_failed c.args.out.now) _
+          c.in_ok-opened.ensures.count.0 c.requires.out fault;
+    }
 
 pub returns-in_default-clause-err : goal.returns-in_default-clause-err
 returns-in_default-clause-err g c = (c.in_ok-opened.ensures.count.0, (c.requires.out, Keeps-refl (g.O.Outlet.contents c.args.out.now)))

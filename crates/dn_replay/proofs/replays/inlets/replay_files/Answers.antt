@@ -10,43 +10,26 @@ use Rattle.dn_replay.proofs.InputSteps.{answered_through, asked_by_both, either_
 use Rattle.dn_replay.proofs.ReplaySteps.{config_unread}
 use Rattle.dn_replay.proofs.replays.inlets.replay_files.Goals as goal
 
-pub returns-in_err-text-clause-inputs : goal.returns-in_err-text-clause-inputs
-returns-in_err-text-clause-inputs g c =
+pub returns-in_err-text : goal.returns-in_err-text
+returns-in_err-text g c =
     let config = g.C.Inlet.remaining c.args.config.now in
     let failed = g.C.Inlet.has_failed c.read_input.new.reader in
-    let p = err_from_is_err_and c.from_residual.result c.from_residual.ensures.1 in
-    rw (p.1, p.2) (config_unread c.args.manner.limit config (g.P.Inlet.remaining c.args.packets.now) (g.O.Outlet.contents c.args.out.now) failed
+    let refused = config_unread c.args.manner.limit config (g.P.Inlet.remaining c.args.packets.now) (g.O.Outlet.contents c.args.out.now) failed
     (g.P.Inlet.has_failed c.args.packets.now) (g.O.Outlet.has_failed c.args.out.now) _ c.requires.packets c.requires.out
-    (passed_on Config config_limit configured_by config failed _ c.in_err-text.ensures.err)).0
-
-pub returns-in_err-text-clause-err : goal.returns-in_err-text-clause-err
-returns-in_err-text-clause-err g c =
-    let config = g.C.Inlet.remaining c.args.config.now in
-    let failed = g.C.Inlet.has_failed c.read_input.new.reader in
+    (passed_on Config config_limit configured_by config failed _ c.in_err-text.ensures.err) in
     let p = err_from_is_err_and c.from_residual.result c.from_residual.ensures.1 in
-    rw (p.1, p.2) (config_unread c.args.manner.limit config (g.P.Inlet.remaining c.args.packets.now) (g.O.Outlet.contents c.args.out.now) failed
-    (g.P.Inlet.has_failed c.args.packets.now) (g.O.Outlet.has_failed c.args.out.now) _ c.requires.packets c.requires.out
-    (passed_on Config config_limit configured_by config failed _ c.in_err-text.ensures.err)).1
+    rw (p.1, p.2) record { ok = tt; lawful = tt; callers = tt; inputs = refused.0; sound = tt; err = refused.1 }
 
-pub returns-in_err-replay-clause-inputs : goal.returns-in_err-replay-clause-inputs
-returns-in_err-replay-clause-inputs g c =
+pub returns-in_err-replay : goal.returns-in_err-replay
+returns-in_err-replay g c =
     let config = g.C.Inlet.remaining c.args.config.now in
     let failed = g.C.Inlet.has_failed c.read_input.new.reader in
     let is = rw (← c.as_slice.ensures.value) at c.in_ok-text.ensures.text in
-    let p = err_from_is_err_and c.from_residual-in_err-replay.result c.from_residual-in_err-replay.ensures.1 in
-    rw (p.1, p.2) (config_unread c.args.manner.limit config (g.P.Inlet.remaining c.args.packets.now) (g.O.Outlet.contents c.args.out.now) failed
+    let refused = config_unread c.args.manner.limit config (g.P.Inlet.remaining c.args.packets.now) (g.O.Outlet.contents c.args.out.now) failed
     (g.P.Inlet.has_failed c.args.packets.now) (g.O.Outlet.has_failed c.args.out.now) _ c.requires.packets c.requires.out
-    (refused_for Config config_calls config failed c.as_slice.result.now c.in_ok-text.ensures.sound is _ c.in_err-replay.ensures.err)).0
-
-pub returns-in_err-replay-clause-err : goal.returns-in_err-replay-clause-err
-returns-in_err-replay-clause-err g c =
-    let config = g.C.Inlet.remaining c.args.config.now in
-    let failed = g.C.Inlet.has_failed c.read_input.new.reader in
-    let is = rw (← c.as_slice.ensures.value) at c.in_ok-text.ensures.text in
+    (refused_for Config config_calls config failed c.as_slice.result.now c.in_ok-text.ensures.sound is _ c.in_err-replay.ensures.err) in
     let p = err_from_is_err_and c.from_residual-in_err-replay.result c.from_residual-in_err-replay.ensures.1 in
-    rw (p.1, p.2) (config_unread c.args.manner.limit config (g.P.Inlet.remaining c.args.packets.now) (g.O.Outlet.contents c.args.out.now) failed
-    (g.P.Inlet.has_failed c.args.packets.now) (g.O.Outlet.has_failed c.args.out.now) _ c.requires.packets c.requires.out
-    (refused_for Config config_calls config failed c.as_slice.result.now c.in_ok-text.ensures.sound is _ c.in_err-replay.ensures.err)).1
+    rw (p.1, p.2) record { ok = tt; lawful = tt; callers = tt; inputs = refused.0; sound = tt; err = refused.1 }
 
 pub returns-clause-ok : goal.returns-clause-ok
 returns-clause-ok g c =

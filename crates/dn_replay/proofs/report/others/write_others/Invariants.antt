@@ -4,6 +4,7 @@ use Rattle.dn_types.specs.declared.delivery.Delivery.{Delivery}
 use Rattle.dn_replay.specs.Kept.{AreMarksOf, IsKeptOf}
 use Rattle.dn_replay.specs.Parts.{IsUnderWay}
 use Rattle.dn_replay.specs.declared.report.fate.Fate.{Fate}
+use Rattle.dn_replay.specs.declared.report.line_text.TheConstants.{LINE}
 use Rattle.dn_replay.proofs.OtherSteps.{AreLeft, text_from}
 use Rattle.dn_replay.proofs.report.others.write_others.Given as goal
 
@@ -16,7 +17,7 @@ invariant-loop-place g l = record {
       × (done ++ text_from l.place l.packet given fates ≡ before ++ text_from 0 0 given fates);
   left : (fates : List Fate) → IsKeptOf l.kept fates → AreLeft l.kept l.place l.packet (drop l.place fates);
   numbered : l.packet ≤ l.place;
-  room : 65536 + 160 ≤ vec_capacity l.text;
+  room : 65536 + LINE ≤ vec_capacity l.text;
   short : length l.text.items < 65536;
   sound : g.O.Outlet.has_failed l.out ≡ false;
 }

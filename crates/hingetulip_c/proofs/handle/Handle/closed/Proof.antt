@@ -1,21 +1,6 @@
 -- `closed` owns nothing.
-use Rattle.std.proofs.Common.{◌≡◌, [], ◌∷◌, refl}
-use mathlib.Core.Bool.{false}
-use mir.Val.{Val, vbool}
-use base.Logic.{SProp, emp}
-use types.Kit.{‵, raw, ◌⊛◌, ◌$◌, ◌∵◌, !, qed, by, keep, split, use0}
-use types.Run.{lit, false_lit, no_more, and_then, returns, enter}
-use types.ByLocal.{alloc_all, pass_all, free_all, look_at, sets}
-use types.Part.{agg}
-use contract.Monad.{fact, fact_i}
-use contract.Running.{tables}
-use denote.RattleType.{owns}
-use denote.RawPtr.{null_ptr, ptr_val}
-use denote.Signature.{types_at}
-use denote.Steps.{nothing}
-use denote.Triple.Entry.{alive}
-use denote.Triple.Walked.{Stays, walk_of}
-use Rattle.std.proofs.raw_atomic.Walks.{proved_at, leaves}
+use Rattle.hingetulip_c.proofs.Walks.{◌≡◌, [], ◌∷◌, refl, false, Val, vbool, SProp, emp, ‵, raw, ◌⊛◌, ◌$◌, ◌∵◌, !, qed, by, keep, split, use0, lit, false_lit, no_more, and_then, returns, enter}
+use Rattle.hingetulip_c.proofs.Walks.{alloc_all, pass_all, free_all, look_at, sets, agg, fact, fact_i, tables, owns, null_ptr, ptr_val, types_at, nothing, alive, Stays, walk_of, proved_at, leaves}
 use Rattle.hingetulip_c.proofs.RawBoxes.{two, handle_good}
 use Rattle.hingetulip_c.proofs.Handles.{Hd, handle_in}
 use Rattle.hingetulip_c.specs.contracts.handle.Handle.closed.{ended, clauses}

@@ -1,39 +1,13 @@
 -- `into_raw_box` takes the handle apart, and moves what it owns.
-use Rattle.std.proofs.Common.{◌≡◌, List, [], ◌∷◌, ◌++◌, refl, sym, ap, subst, lit<, ◌∙◌}
-use mathlib.Core.Bool.{Bool, true, false}
-use mir.Val.{Val, vbool, vptr, vcons, vnil}
 use mir.Raw.{raw as bare}
-use base.Logic.{SProp, ent, emp, id⊢, never, fst∗}
-use prog.Wp.{WpFn}
-use types.Logic.{sem}
-use types.Kit.{‵, raw, ◌⊛◌, at_ret, ◌$◌, ◌∵◌, !, qed, by, move, keep, split, fsplit, fjoin, suffices, use0, use1}
-use types.Run.{stop, fld, of_opd, lit, no_more, and_then, first, branches, exec, returns, enter}
-use types.ByLocal.{alloc_all, pass_all, free_all, look_at, get, get_in, sets, sets_last, env}
-use types.Part.{agg, sub, whole}
-use types.Match.{live}
-use contract.Monad.{fact, fact_i}
-use contract.Running.{tables}
-use denote.Exit.{yes}
-use denote.RattleType.{RattleType, owns}
-use denote.RawPtr.{Ptr, block_ptr, null_ptr, ptr_val, in_a_block}
-use denote.Memory.{lone}
-use denote.Param.{layout}
-use denote.Signature.{types_at, type_at, plain}
-use denote.Steps.{nothing}
-use denote.Triple.Entry.{alive}
-use denote.Triple.Walked.{Stays, stay_dropped, walk_of, Goes-dropped}
-use Rattle.std.specs.declared.option.Option.TheVariants.{None, Some}
 use Rattle.std.specs.contracts.alloc.Global as heap
 use Rattle.std.proofs.alloc.Global.TheLaws as heap_laws
-use Rattle.std.specs.contracts.impls.GlobalAllocator.TheImpl.{ghosts}
-use Rattle.std.proofs.alloc.Calls.{handle_tells}
-use Rattle.std.proofs.alloc.Shapes.{after}
-use Rattle.std.proofs.cell.Inside.{Good}
-use Rattle.std.proofs.option.Made.{Some-of, none_of}
-use Rattle.std_alloc.proofs.ResultValues.{and_tt}
-use Rattle.std_alloc.specs.Box.Ownership.{box_owns}
+use Rattle.hingetulip_c.proofs.Walks.{◌≡◌, List, [], ◌∷◌, ◌++◌, refl, sym, ap, subst, lit<, ◌∙◌, Bool, true, false, Val, vbool, vptr, vcons, vnil, SProp, ent, emp, id⊢, never, fst∗, WpFn, sem, ‵}
+use Rattle.hingetulip_c.proofs.Walks.{raw, ◌⊛◌, at_ret, ◌$◌, ◌∵◌, !, qed, by, move, keep, split, fsplit, fjoin, suffices, use0, use1, stop, fld, of_opd, lit, no_more, and_then, first, branches}
+use Rattle.hingetulip_c.proofs.Walks.{exec, returns, enter, alloc_all, pass_all, free_all, look_at, get, get_in, sets, sets_last, env, agg, sub, whole, live, fact, fact_i, tables, yes, RattleType}
+use Rattle.hingetulip_c.proofs.Walks.{owns, Ptr, block_ptr, null_ptr, ptr_val, in_a_block, lone, layout, types_at, type_at, plain, nothing, alive, Stays, stay_dropped, walk_of, Goes-dropped, None}
+use Rattle.hingetulip_c.proofs.Walks.{Some, ghosts, handle_tells, after, Good, Some-of, none_of, and_tt, box_owns, proved_at, leaves}
 use Rattle.hingetulip_c.specs.Handles.{freed}
-use Rattle.std.proofs.raw_atomic.Walks.{proved_at, leaves}
 use Rattle.hingetulip_c.proofs.RawBoxes.{Row, two, ptr_good, handle_good, two_cases, allocator, typed, made}
 use Rattle.hingetulip_c.proofs.Handles.{Hd, R, handle_out}
 use Rattle.hingetulip_c.specs.contracts.handle.Handle.into_raw_box.{ended, clauses}

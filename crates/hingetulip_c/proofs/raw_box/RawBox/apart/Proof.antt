@@ -1,39 +1,17 @@
 -- `apart` takes the pointer and the allocator out of the box.
-use Rattle.std.proofs.Common.{◌≡◌, ◌∙◌, List, [], ◌∷◌, ◌++◌, refl, sym, ap, subst}
-use mir.Syntax.{Args, Fn, a_type, dcons, dnil}
-use mir.MapTy.{inst_fn}
 use mir.Raw.{raw as bare}
-use mir.Val.{Val, vptr, vstruct, of_list}
-use base.Fml.{ftrue, fsep, flft}
-use base.Logic.{SProp, ent, emp, never, id⊢, fst∗}
-use prog.Wp.{WpFn}
-use contract.Monad.{fact, fact_i}
-use contract.Running.{tables}
-use types.Logic.{sem}
-use types.Kit.{Item, ‵, raw, ◌⊛◌, some, later, ◌$◌, ◌∵◌, !, qed, by, move, keep, drop, split, split3, join, fsplit, fjoin, fpick, pick, suffices, use0, use1, await, rewrite, feq_l}
-use types.Part.{agg, sub, whole}
-use types.Run.{stop, fld, of_opd, no_more, and_then, returns, enter}
-use types.ByLocal.{alloc_all, pass_all, free_all, look_at, get, get_in, sets, lands_as}
-use denote.Builtin.{RawPtr}
-use denote.Exit.{no}
-use denote.Param.{param, layout, bounded}
-use denote.Param.Laws.{param_laws}
-use denote.RattleType.{RattleType, owns}
-use denote.RawPtr.{Ptr, block_ptr, null_ptr, ptr_val, in_a_block}
-use denote.Signature.{types_at, plain}
-use denote.Steps.{nothing, only, heard}
+use base.Fml.{fsep}
+use types.ByLocal.{lands_as}
 use denote.Struct.Tuple.{Tuple}
 use denote.Triple.Call.{calls_at}
-use denote.Triple.Spec.{triple_of}
-use denote.Triple.Table.{framed}
-use denote.Triple.Walked.{Stays, stay_dropped, walk_of}
-use Rattle.std.proofs.alloc.Calls.{Goes-blank, handle_tells}
-use Rattle.std.proofs.raw_atomic.Walks.{proved_at, leaves}
-use Rattle.std_alloc.specs.Box.Ownership.{box_owns}
 use Rattle.std_alloc.proofs.BoxSteps.Form as box
-use Rattle.std_alloc.proofs.BoxSteps.Steps.{box_out, box_in}
 use Rattle.std_alloc.specs.contracts.boxed.Box.into_raw_with_allocator as taking
 use Rattle.std_alloc.proofs.boxed.Box.into_raw_with_allocator.Met.{met}
+use Rattle.hingetulip_c.proofs.Walks.{◌≡◌, ◌∙◌, List, [], ◌∷◌, ◌++◌, refl, sym, ap, subst, Args, Fn, a_type, dcons, dnil, inst_fn, Val, vptr, vstruct, of_list, ftrue, flft, SProp, ent, emp, never}
+use Rattle.hingetulip_c.proofs.Walks.{id⊢, fst∗, WpFn, fact, fact_i, tables, sem, Item, ‵, raw, ◌⊛◌, some, later, ◌$◌, ◌∵◌, !, qed, by, move, keep, drop, split, split3, join, fsplit, fjoin, fpick}
+use Rattle.hingetulip_c.proofs.Walks.{pick, suffices, use0, use1, await, rewrite, feq_l, agg, sub, whole, stop, fld, of_opd, no_more, and_then, returns, enter, alloc_all, pass_all, free_all}
+use Rattle.hingetulip_c.proofs.Walks.{look_at, get, get_in, sets, RawPtr, no, param, layout, bounded, param_laws, RattleType, owns, Ptr, block_ptr, null_ptr, ptr_val, in_a_block, types_at, plain}
+use Rattle.hingetulip_c.proofs.Walks.{nothing, only, heard, triple_of, framed, Stays, stay_dropped, walk_of, Goes-blank, handle_tells, proved_at, leaves, box_owns, box_out, box_in}
 use Rattle.hingetulip_c.proofs.RawBoxes.{two, typed, made}
 use Rattle.hingetulip_c.specs.contracts.raw_box.RawBox.apart as f
 use Rattle.hingetulip_c.proofs.raw_box.RawBox.apart.Statement.{statement}

@@ -1,38 +1,17 @@
 -- `whole` makes a box of the pointer and the allocator.
-use Rattle.std.proofs.Common.{◌≡◌, List, [], ◌∷◌, ◌++◌, refl, sym, ap, subst}
-use mir.Syntax.{Args, Fn, a_type, dcons, dnil}
-use mir.MapTy.{inst_fn}
-use mir.Val.{Val, vptr}
-use base.Fml.{ftrue, flft}
-use base.Logic.{SProp, ent, emp, id⊢}
-use prog.Wp.{WpFn}
 use contract.BorrowLft.{◌⊑◌}
-use contract.Monad.{fact, fact_i}
-use contract.Running.{tables}
-use types.Kit.{Item, ‵, raw, ◌⊛◌, some, later, at_ret, ◌$◌, ◌∵◌, !, qed, by, move, keep, drop, split, split3, join, fsplit, fjoin, pick, suffices, use0, use1, await, rewrite, feq_i}
-use types.Part.{sub, whole}
-use types.Run.{stop, fld, of_opd, no_more, and_then, first, blocks, exec, returns, enter}
-use types.ByLocal.{alloc_all, pass_all, free_all, look_at, get, get_in, sets, lands_last, env}
-use denote.Exit.{no}
-use denote.Param.{param, layout, bounded}
-use denote.Param.Laws.{param_laws}
-use denote.RattleType.{RattleType, owns}
-use denote.RawPtr.{block_ptr}
-use denote.Signature.{types_at, plain}
-use denote.Steps.{nothing, only, heard}
+use types.Run.{blocks}
+use types.ByLocal.{lands_last}
 use denote.Triple.Call.{calls_at_last}
 use denote.Triple.Clauses.{Lasts, lasts}
-use denote.Triple.Spec.{triple_of}
-use denote.Triple.Table.{framed}
-use denote.Triple.Walked.{Stays, stay_dropped, walk_of}
-use Rattle.std.proofs.alloc.Calls.{Goes-blank}
-use Rattle.std.proofs.alloc.Shapes.{after}
-use Rattle.std.proofs.cell.Inside.{Good}
-use Rattle.std.proofs.raw_atomic.Walks.{proved_at, leaves}
 use Rattle.std_alloc.proofs.BoxSteps.Form as box
-use Rattle.std_alloc.proofs.BoxSteps.Steps.{box_out, box_in}
 use Rattle.std_alloc.specs.contracts.boxed.Box.from_raw as making
 use Rattle.std_alloc.proofs.boxed.Box.from_raw.Met.{met}
+use Rattle.hingetulip_c.proofs.Walks.{◌≡◌, List, [], ◌∷◌, ◌++◌, refl, sym, ap, subst, Args, Fn, a_type, dcons, dnil, inst_fn, Val, vptr, ftrue, flft, SProp, ent, emp, id⊢, WpFn, fact, fact_i}
+use Rattle.hingetulip_c.proofs.Walks.{tables, Item, ‵, raw, ◌⊛◌, some, later, at_ret, ◌$◌, ◌∵◌, !, qed, by, move, keep, drop, split, split3, join, fsplit, fjoin, pick, suffices, use0, use1, await}
+use Rattle.hingetulip_c.proofs.Walks.{rewrite, feq_i, sub, whole, stop, fld, of_opd, no_more, and_then, first, exec, returns, enter, alloc_all, pass_all, free_all, look_at, get, get_in, sets, env}
+use Rattle.hingetulip_c.proofs.Walks.{no, param, layout, bounded, param_laws, RattleType, owns, block_ptr, types_at, plain, nothing, only, heard, triple_of, framed, Stays, stay_dropped, walk_of}
+use Rattle.hingetulip_c.proofs.Walks.{Goes-blank, after, Good, proved_at, leaves, box_out, box_in}
 use Rattle.hingetulip_c.proofs.RawBoxes.{Row, two, typed, opened}
 use Rattle.hingetulip_c.specs.contracts.raw_box.RawBox.whole as f
 use Rattle.hingetulip_c.proofs.raw_box.RawBox.whole.Statement.{statement}

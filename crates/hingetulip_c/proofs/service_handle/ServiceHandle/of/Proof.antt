@@ -1,26 +1,10 @@
 -- `of` moves what the pointer owns.
-use Rattle.std.proofs.Common.{◌≡◌, List, [], ◌∷◌, ◌++◌, refl, sym, subst}
-use mathlib.Core.Bool.{true}
-use mir.Val.{Val, vbool, vptr}
-use base.Logic.{SProp, ent, emp, id⊢}
-use prog.Wp.{WpFn}
-use types.Kit.{‵, raw, ◌⊛◌, ◌$◌, ◌∵◌, !, qed, by, move, keep, split, fsplit, fjoin, suffices, use0}
-use types.Run.{stop, fld, of_opd, true_lit, no_more, and_then, returns, enter}
-use types.ByLocal.{alloc_all, pass_all, free_all, look_at, get, get_in, sets}
-use types.Part.{agg, sub, whole}
-use contract.Monad.{fact, fact_i}
-use contract.Running.{tables}
-use denote.Exit.{yes}
-use denote.RattleType.{RattleType, owns}
-use denote.RawPtr.{block_ptr}
-use denote.Signature.{types_at, plain}
-use denote.Steps.{nothing}
-use denote.Triple.Entry.{alive}
-use denote.Triple.Walked.{Stays, stay_dropped, walk_of, Goes-dropped}
 use Rattle.std.specs.contracts.alloc.Global as heap
 use Rattle.std.proofs.alloc.Global.TheLaws as heap_laws
-use Rattle.std.specs.contracts.impls.GlobalAllocator.TheImpl.{ghosts}
-use Rattle.std.proofs.raw_atomic.Walks.{proved_at, leaves}
+use Rattle.hingetulip_c.proofs.Walks.{◌≡◌, List, [], ◌∷◌, ◌++◌, refl, sym, subst, true, Val, vbool, vptr, SProp, ent, emp, id⊢, WpFn, ‵, raw, ◌⊛◌, ◌$◌, ◌∵◌, !, qed, by, move, keep, split, fsplit}
+use Rattle.hingetulip_c.proofs.Walks.{fjoin, suffices, use0, stop, fld, of_opd, true_lit, no_more, and_then, returns, enter, alloc_all, pass_all, free_all, look_at, get, get_in, sets, agg, sub}
+use Rattle.hingetulip_c.proofs.Walks.{whole, fact, fact_i, tables, yes, RattleType, owns, block_ptr, types_at, plain, nothing, alive, Stays, stay_dropped, walk_of, Goes-dropped, ghosts, proved_at}
+use Rattle.hingetulip_c.proofs.Walks.{leaves}
 use Rattle.hingetulip_c.proofs.RawBoxes.{Row, two, handle_good, typed, opened}
 use Rattle.hingetulip_c.proofs.ServiceHandles.{Hd, R, handle_in}
 use Rattle.hingetulip_c.specs.contracts.service_handle.ServiceHandle.of.{ended, clauses}

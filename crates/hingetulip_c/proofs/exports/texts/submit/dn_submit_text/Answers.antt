@@ -1,10 +1,13 @@
 -- The text is the entry's.
-use Rattle.std.proofs.Common.{◌∙◌, ap, length}
+use Rattle.std.proofs.Common.{◌≡◌, ◌≢◌, ◌⊎◌, ◌∙◌, inl, inr, ℕ, ap, arith, length}
 use Rattle.dn_types.specs.declared.entry.Entry.{Entry}
 use Rattle.dn_records.specs.Records.{text_of}
 use Rattle.dn_history.specs.HistoryText.{entry_records}
-use Rattle.hingetulip_c.proofs.Texts.{has_length}
 use Rattle.hingetulip_c.proofs.exports.texts.submit.dn_submit_text.Goals as goal
+
+has_length : (status : ℕ) → (status ≡ 0) ⊎ (status ≡ 7) → status ≢ 6
+has_length status (inl none) = λ six. omega (arith, none, six)
+has_length status (inr room) = λ six. omega (arith, room, six)
 
 pub returns-in-Ok-clause-wrote : goal.returns-in-Ok-clause-wrote
 returns-in-Ok-clause-wrote c done =

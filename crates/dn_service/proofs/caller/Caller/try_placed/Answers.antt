@@ -1,12 +1,12 @@
-use Rattle.std.proofs.Common.{◌≡◌, ◌++◌, ◌∷◌, [], ◌<◌, ◌≤◌, List, refl, sym, ap, ◌∙◌, subst}
+use Rattle.std.proofs.Common.{length, length-append, arith, ◌+◌, ◌^◌, ◌≡◌, ◌++◌, ◌∷◌, [], ◌<◌, ◌≤◌, List, refl, sym, ap, ◌∙◌, subst}
 use Rattle.dn_types.specs.declared.entry.Entry.{Entry}
-use Rattle.dn_service.specs.Callers.{Answered, IsSameCaller, having_lost, having_faced}
+use Rattle.dn_service.specs.Callers.{Answered, IsSameCaller}
 use Rattle.dn_service.specs.Histories.{entry_of}
-use Rattle.dn_service.specs.Accounts.{Has, lost_in}
+use Rattle.dn_service.specs.Accounts.{Has, front_in, lost_in}
 use Rattle.dn_service.specs.Seats.{with_history}
-use Rattle.dn_service.proofs.Calling.{now_sitting, still_sitting, lost_sitting, lost_to, had_it, same_one, seen_from, answers, stands_for}
-use Rattle.dn_service.proofs.Lastings.{is_sitting, is_seat}
-use Rattle.dn_service.proofs.caller.Caller.try_call_quietly.Goals as goal
+use Rattle.dn_service.proofs.Calling.{now_sitting, seen_from, answers, stands_for, has_seen}
+use Rattle.dn_service.proofs.Lastings.{is_sitting, gone_all, seen_less}
+use Rattle.dn_service.proofs.caller.Caller.try_placed.Goals as goal
 
 pub apply-requires : goal.apply-requires
 apply-requires c = let won = c.in-Ok.ensures.taken in (won.past, won.keeps)
@@ -20,6 +20,10 @@ publish-requires-clause-book c =
 
 pub give_back-requires-clause-book : goal.give_back-requires-clause-book
 give_back-requires-clause-book c =
+    let won = c.in-Ok.ensures.taken in (won.past, ap (λ v. v.taken) won.view, won.keeps)
+
+pub give_back-requires-in-Err-apply-clause-book : goal.give_back-requires-in-Err-apply-clause-book
+give_back-requires-in-Err-apply-clause-book c =
     let won = c.in-Ok.ensures.taken in (won.past, ap (λ v. v.taken) won.view, c.in-Err-apply.ensures.err won.past won.keeps)
 
 pub invariant_of-self-in-Ok-apply : goal.invariant_of-self-in-Ok-apply
@@ -64,48 +68,30 @@ returns-in-Ok-apply-clause-ok c =
     (answers c.self.inside.seat.table_id k m c.publish.new.seat.me c.publish.new.seat.table_id history c.args.call.now c.in-Ok-apply.reply is c.self.invariant.below
     kept.lawful won.below won.follows (c.publish.ensures.seat.0 k) now)
 
--- ---- Another caller was in a call
+pub returns-in-Ok-apply-clause-place : goal.returns-in-Ok-apply-clause-place
+returns-in-Ok-apply-clause-place c = λ few.
+    let m = c.self.inside.seat.me in let k = c.self.inside.number in let is = c.self.invariant.sits in
+    let won = c.in-Ok.ensures.taken in let history : List Entry = won.past.history in
+    let e : Entry = entry_of k c.args.call.now c.in-Ok-apply.reply in
+    let kept = c.in-Ok-apply.ensures.ok won.past won.keeps in
+    let now =
+    now_sitting k m c.publish.new.seat.me c.enter.new.seat.me.0 won.past c.publish.ensures.seat.0 (won.past.shed ++ c.apply.new.self.kept) is won.view
+    (c.publish.ensures.seat.1 won.past (ap (λ v. v.taken) won.view)) in
+    let front : front_in c.publish.new.seat.me.0.accounts ≡ history ++ e ∷ [] = ap (λ x. front_in x.0.accounts) now ∙ sym kept.whole in
+    let size : length (front_in c.publish.new.seat.me.0.accounts) ≡ length history + 1 = ap length front ∙ length-append history (e ∷ []) in
+    let place : length history < 2 ^ 64 → c.place-place.result ≡ length history =
+    (gone_all history won.past.shed c.in-Ok.book.kept c.in-Ok.book.gone c.place-place.result won.keeps.whole won.keeps.gone c.place-place.ensures).0 in
+    let same = place (omega (arith, size, few)) in omega (arith, size, same)
 
-pub invariant_of-self : goal.invariant_of-self
-invariant_of-self c =
-    let k = c.self.inside.number in let m = c.self.inside.seat.me in
-    is_seat _ c.self.inside.seat.table_id c.enter.new.seat.table_id k m c.enter.new.seat.me _ _ _ _ c.self.invariant c.enter.ensures.table.0
-    (lost_sitting k m c.enter.new.seat.me c.in-Err.holder c.self.invariant.sits c.in-Err.ensures.taken.0)
-
-pub returns-in-Err-clause-same_caller : goal.returns-in-Err-clause-same_caller
-returns-in-Err-clause-same_caller c =
-    let k = c.self.inside.number in let m = c.self.inside.seat.me in
-    subst (λ v. IsSameCaller v (seen_from c.enter.new.seat.table_id k c.enter.new.seat.me)) c.self.view_is
-    (same_one c.self.inside.seat.table_id c.enter.new.seat.table_id k m c.enter.new.seat.me c.enter.ensures.table.0 (ap (λ x. x.0.count) c.in-Err.ensures.taken.0))
-
-pub returns-in-Err-clause-err : goal.returns-in-Err-clause-err
-returns-in-Err-clause-err c =
-    let k = c.self.inside.number in let m = c.self.inside.seat.me in
-    subst (λ v. seen_from c.enter.new.seat.table_id k c.enter.new.seat.me ≡ having_lost c.in-Err.holder v) c.self.view_is
-    (lost_to c.self.inside.seat.table_id c.enter.new.seat.table_id k m c.enter.new.seat.me c.enter.ensures.table.0 c.in-Err.holder
-    (lost_sitting k m c.enter.new.seat.me c.in-Err.holder c.self.invariant.sits c.in-Err.ensures.taken.0))
-
--- ---- Memory was refused
-
-pub invariant_of-self-in-Err-apply : goal.invariant_of-self-in-Err-apply
-invariant_of-self-in-Err-apply c =
-    let k = c.self.inside.number in let m = c.self.inside.seat.me in let won = c.in-Ok.ensures.taken in let back = c.give_back.ensures.seat in
-    is_seat _ c.self.inside.seat.table_id c.give_back.new.seat.table_id k m c.give_back.new.seat.me _ _ _ _ c.self.invariant (c.give_back.ensures.table.0 ∙ c.enter.ensures.table.0)
-    (still_sitting k m c.give_back.new.seat.me c.enter.new.seat.me.0 won.past back.0 c.self.invariant.sits won.view back.1)
-
-pub returns-in-Err-apply-clause-same_caller : goal.returns-in-Err-apply-clause-same_caller
-returns-in-Err-apply-clause-same_caller c =
-    let k = c.self.inside.number in let m = c.self.inside.seat.me in let won = c.in-Ok.ensures.taken in let back = c.give_back.ensures.seat in
-    let now = still_sitting k m c.give_back.new.seat.me c.enter.new.seat.me.0 won.past back.0 c.self.invariant.sits won.view back.1 in
-    subst (λ v. IsSameCaller v (seen_from c.give_back.new.seat.table_id k c.give_back.new.seat.me)) c.self.view_is
-    (same_one c.self.inside.seat.table_id c.give_back.new.seat.table_id k m c.give_back.new.seat.me (c.give_back.ensures.table.0 ∙ c.enter.ensures.table.0) (ap (λ x. x.0.count) now))
-
-pub returns-in-Err-apply-clause-err : goal.returns-in-Err-apply-clause-err
-returns-in-Err-apply-clause-err c =
-    let k = c.self.inside.number in let m = c.self.inside.seat.me in let won = c.in-Ok.ensures.taken in let back = c.give_back.ensures.seat in
-    let now = still_sitting k m c.give_back.new.seat.me c.enter.new.seat.me.0 won.past back.0 c.self.invariant.sits won.view back.1 in
-    subst (λ v. seen_from c.give_back.new.seat.table_id k c.give_back.new.seat.me ≡ having_faced (seen_from c.give_back.new.seat.table_id k c.give_back.new.seat.me).faced v) c.self.view_is
-    (had_it c.self.inside.seat.table_id c.give_back.new.seat.table_id k m c.give_back.new.seat.me (c.give_back.ensures.table.0 ∙ c.enter.ensures.table.0) (back.0 k) now)
+pub returns-then-place-after-clause-cause : goal.returns-then-place-after-clause-cause
+returns-then-place-after-clause-cause c =
+    let m = c.self.inside.seat.me in let k = c.self.inside.number in let is = c.self.invariant.sits in
+    let won = c.in-Ok.ensures.taken in
+    let front : front_in m.0.accounts ≡ c.args.self.now.front = ap (λ v. v.front) c.self.view_is in
+    subst (λ f. length f < c.args.after) front
+    (seen_less won.past.history (front_in m.0.accounts) c.place-place.result c.args.after (has_seen k m is won.past.history won.follows).front
+    (gone_all won.past.history won.past.shed c.in-Ok.book.kept c.in-Ok.book.gone c.place-place.result won.keeps.whole won.keeps.gone c.place-place.ensures)
+    (omega arith) (omega arith))
 
 pub returns-in-Ok-apply-clause-lost : goal.returns-in-Ok-apply-clause-lost
 returns-in-Ok-apply-clause-lost c =

@@ -1,0 +1,18 @@
+-- What is so of each packet of a queue stays so of each as one comes, one leaves, or all go.
+use Rattle.std.proofs.Common.{◌≡◌, Bool, true, false, cond, List, [], ◌∷◌, ◌++◌, refl, drop}
+use Rattle.std.specs.List.{All}
+use Rattle.std.proofs.lemmas.List.Elements.{All-nil, All-push, All-drop}
+use Rattle.dn_types.specs.Trace.{Accepted}
+
+module _ (Is : Accepted → Type 0) where
+  pub each-pushed : (b : Bool) (qs : List Accepted) (q : Accepted) → (b ≡ true → Is q) → All Is qs → All Is (cond b (qs ++ q ∷ []) qs)
+  each-pushed true qs q one h = All-push Is qs q h (one refl)
+  each-pushed false qs q one h = h
+
+  pub each-left : (b : Bool) (qs : List Accepted) → All Is qs → All Is (cond b (drop 1 qs) qs)
+  each-left true qs h = All-drop Is 1 qs h
+  each-left false qs h = h
+
+  pub each-cleared : (b : Bool) (qs : List Accepted) → All Is qs → All Is (cond b [] qs)
+  each-cleared true qs h = All-nil Is
+  each-cleared false qs h = h
