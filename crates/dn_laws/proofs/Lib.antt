@@ -66,6 +66,7 @@ pub mod SameCalls
 pub mod SameReadings
 pub mod SameReplies
 pub mod Seen
+pub mod ServiceHeadline
 pub mod ServiceLawsHold
 mod ServiceWitnesses
 pub mod SettlingHolds

@@ -1,10 +1,11 @@
 -- The laws of words: words that other laws use, in words of calls, replies and events alone.
-use Rattle.std.specs.Prelude.{cond, ℕ, max, Option, ◌≡◌, ◌<◌, ◌+◌, List, [], ◌∷◌, length, nat_eq, Some, None}
+use Rattle.std.specs.Prelude.{ℕ, max, Option, ◌≡◌, ◌<◌, List, ◌∷◌, length, Some, None}
 use Rattle.std.specs.List.{count_by}
+use Rattle.dn_laws.specs.Determined.Reports.{starts_of}
 use Rattle.dn_types.specs.Clock.{call_limit, effective_moment}
 use Rattle.dn_types.specs.Configuration.{settings}
 use Rattle.dn_types.specs.Replies.{reply}
-use Rattle.dn_types.specs.Trace.{Event, started, is_start_of}
+use Rattle.dn_types.specs.Trace.{Event, is_start_of}
 use Rattle.dn_types.specs.declared.call.Call.{Call}
 use Rattle.dn_types.specs.declared.call.Call.TheVariants.{Configure, Submit, Advance, Collect, Show}
 use Rattle.dn_types.specs.declared.command.Command.{Command}
@@ -40,12 +41,6 @@ ClockFollows = (calls : List Call) →
     × ((command : Command) → effective_moment (Configure command ∷ calls) ≡ effective_moment calls)
     × (effective_moment (Show ∷ calls) ≡ effective_moment calls)
 
--- The starts of a flow, by what happens.
-abbrev pub starts_of : ℕ → List Event → ℕ
-starts_of flow [] = 0
-starts_of flow (started s ∷ trace) = cond (nat_eq s.packet.stamped.flow flow) 1 0 + starts_of flow trace
-starts_of flow (_ ∷ trace) = starts_of flow trace
-
--- Those that a Show tells are these: so of the packets that were queued it tells which started and which were discarded.
+-- The starts that a Show tells are those that happened. So it tells which queued packets started and which were discarded.
 abbrev pub StartsAreCounted : Type 0
 StartsAreCounted = (flow : ℕ) (trace : List Event) → count_by (is_start_of flow) trace ≡ starts_of flow trace
