@@ -1,7 +1,8 @@
 #!/usr/bin/env python3
 """Tells how much of definitions a reader has to believe for each headline: those that its clauses reach through the crates'
 specs/, by lines and by characters, and how many lines there are of each subject: the emulation, the service, and the formats of files.
-Comments, imports and blank lines don't count, and neither do the toolchain's own words.
+Comments, imports and blank lines don't count, and neither do the toolchain's own words. By a law that has clauses of functions as
+premises, what these clauses say needn't be believed, only that the functions have them, so their definitions aren't counted.
 
     python3 tools/laws/lines_to_believe.py          (in the top folder; prints a table in Markdown)
 """
@@ -19,9 +20,10 @@ DEFINITION = re.compile(
     r"^(?:(?:abbrev|unfoldable|record|data)\s+(?:pub\s+)?|pub\s+(?:record|data|abbrev)\s+(?:pub\s+)?|pub\s+)" + NAME
 )
 IMPORT = re.compile(r"use\s+Rattle\.(\w+)\.specs\.([\w.]+?)\.\{([^}]*)\}", re.S)
-WORD = re.compile(r"[A-Za-z_][\w'\-]*")
+WORD = re.compile(r"(?<![\w.'])[A-Za-z_][\w'\-]*")  # no field of a record: `entry.reply` is no `reply`
 SKIPPED = re.compile(r"\s*(--|use |pub use |pub mod |mod |module |$)")
 # A method stands in the file of its type or trait, and a function anywhere in its crate.
+SERVICE = [("Service::open", "dn_service"), ("Caller::call", "dn_service"), ("Service::close", "dn_service")]
 HEADLINES = [
     ("Service::close", "dn_service"),
     ("Caller::call", "dn_service"),
@@ -33,8 +35,11 @@ HEADLINES = [
     ("audit_file", "dn_audit"),
     ("parse_line", "dn_config"),
 ]
+# The headline of the service by the laws, and the premises of the law.
+LAW = ("laws_give_the_headline", "dn_laws")
+PREMISES = {("dn_service", "Callers", "Closes"), ("dn_service", "Callers", "Answered")}
 # What the definitions of a crate are of. Those of the others are of formats.
-SUBJECTS = {"dn_types": "emulation", "dn_shaper": "emulation", "dn_service": "service"}
+SUBJECTS = {"dn_types": "emulation", "dn_shaper": "emulation", "dn_laws": "emulation", "dn_service": "service"}
 Key = Tuple[str, str, str]  # the crate of a definition, its module and its name
 Imports = Dict[str, Key]
 
@@ -98,7 +103,7 @@ def clause_lines(text: str, name: str) -> Iterator[str]:
     inside = False
     for line in text[re.search(rf"\bfn {name}\b", text).start() :].splitlines():
         inside = inside or line.strip().startswith(("requires", "ensures"))
-        if line.strip() == "{":
+        if line.strip() in ("{", "{}"):
             return
         if inside:
             yield line.partition("//")[0]
@@ -119,9 +124,23 @@ def reached(definitions: Definitions, words: Iterable[str], imports: Imports) ->
     return found
 
 
+def reached_by(top: Path, definitions: Definitions, headlines: Iterable[tuple[str, str]]) -> set[Key]:
+    """The definitions that the clauses of functions reach."""
+    found: set[Key] = set()
+    for title, crate in headlines:
+        text, name = file_of(top, crate, title)
+        words = [word for line in clause_lines(text, name) for word in WORD.findall(line)]
+        found |= reached(definitions, words, imports_of(text))
+    return found
+
+
+def subject_of(key: Key) -> str:
+    return "service" if key[1] == "ServiceLaws" else SUBJECTS.get(key[0], "formats")
+
+
 def row(name: str, definitions: Definitions, found: set[Key]) -> str:
     lines = [line for key in found for line in definitions[key].lines]
-    by_subject = Counter(SUBJECTS.get(key[0], "formats") for key in found for _ in definitions[key].lines)
+    by_subject = Counter(subject_of(key) for key in found for _ in definitions[key].lines)
     counts = " | ".join(f"{by_subject[subject]:,}" for subject in ("emulation", "service", "formats"))
     return f"| {name} | {len(found)} | {len(lines):,} | {counts} | {sum(map(len, lines)):,} |"
 
@@ -132,11 +151,12 @@ def main(top: Path) -> None:
         "| Promise | Definitions | Lines | of emulation | of the service | of formats | Characters |\n|---|---|---|---|---|---|---|"
     )
     for title, crate in HEADLINES:
-        text, name = file_of(top, crate, title)
-        words = [word for line in clause_lines(text, name) for word in WORD.findall(line)]
-        found = reached(definitions, words, imports_of(text))
+        found = reached_by(top, definitions, [(title, crate)])
         every |= found
         print(row(f"`{title}` of {crate}", definitions, found))
+    print(row("`Service::open`, `Caller::call` and `Service::close`", definitions, reached_by(top, definitions, SERVICE)))
+    open_to = {key: definition for key, definition in definitions.items() if key not in PREMISES}
+    print(row("the same by `laws_give_the_headline`", definitions, reached_by(top, open_to, [*SERVICE, LAW])))
     print(row("all of these", definitions, every))
 
 
