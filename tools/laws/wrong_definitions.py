@@ -36,6 +36,7 @@ SET_ASIDE = [
     "FairWitness",
     "LawWitnesses",
     "DeleteWitnesses",
+    "DeterminedWitnesses",
     "DividedWitnesses",
     "KeptWitnesses",
     "PartWitnesses",

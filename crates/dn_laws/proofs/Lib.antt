@@ -12,6 +12,7 @@ pub mod DelayBound
 pub mod Delays
 mod DeleteWitnesses
 pub mod Delivered
+mod DeterminedWitnesses
 pub mod Determines
 pub mod Divided
 mod DividedWitnesses
