@@ -18,8 +18,7 @@ use Rattle.dn_types.specs.declared.rule.Rule.{Rule}
 use Rattle.dn_types.specs.declared.target.Target.{Target}
 use Rattle.dn_types.specs.declared.target.Target.TheVariants.{Pipe as ToPipe, Queue as ToQueue}
 
--- A command that is told Configured is what is in force for the pipe or the queue of its number, and nothing is once its
--- delete was told Deleted.
+-- A command that is told Configured is in force for its pipe or queue, and none is once a delete of it was told Deleted.
 abbrev pub ObeysAsTold : Type 0
 ObeysAsTold = (rule : Rule) (calls : List Call) → length calls < call_limit →
     ((number bw delay : ℕ) (limit : Limit) (loss : ℕ) (buckets : Option ℕ) (mask : Mask) →
@@ -31,8 +30,7 @@ ObeysAsTold = (rule : Rule) (calls : List Call) → length calls < call_limit �
     × ((number : ℕ) → reply rule calls (Configure (DeletePipe number)) ≡ Deleted → settings (Configure (DeletePipe number) ∷ calls) (ToPipe number) ≡ None)
     × ((number : ℕ) → reply rule calls (Configure (DeleteQueue number)) ≡ Deleted → settings (Configure (DeleteQueue number) ∷ calls) (ToQueue number) ≡ None)
 
--- A packet, an Advance and a Collect move the clock to the moment that they name, where that is later. A command and a Show
--- leave it.
+-- A packet, an Advance and a Collect move the clock to the moment that they name, where that is later. No other call does.
 abbrev pub ClockFollows : Type 0
 ClockFollows = (calls : List Call) →
     ((target : Target) (packet : Packet) (moment : ℕ) → effective_moment (Submit target packet moment ∷ calls) ≡ max (effective_moment calls) moment)
