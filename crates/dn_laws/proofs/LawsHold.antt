@@ -3,8 +3,8 @@ use Rattle.std.proofs.Common.{◌≡◌, ◌∙◌, ◌<◌, List, [], ◌∷◌
 use Rattle.dn_types.specs.Clock.{call_limit}
 use Rattle.dn_laws.specs.Determined.Emulators.{Emulator}
 use Rattle.dn_laws.specs.Determined.Laws.{AnswersOneMore, ObeysTheLaws}
-use Rattle.dn_laws.specs.Emulated.{emulated, IsToldAfter}
-use Rattle.dn_types.specs.History.{IsLawfulAfter, IsLawful}
+use Rattle.dn_laws.specs.Emulated.{emulated, IsToldAfter, FalseByTheLaws}
+use Rattle.dn_types.specs.History.{IsLawfulAfter, IsLawful, calls_of}
 use Rattle.dn_types.specs.Replies.{reply}
 use Rattle.dn_types.specs.declared.call.Call.{Call}
 use Rattle.dn_types.specs.declared.call.Call.TheVariants.{Advance}
@@ -91,3 +91,6 @@ told-lawful rule e h calls (entry ∷ entries) t = (t.0 ∙ laws-give-the-replie
 pub histories-by-the-laws : (rule : Rule) (e : Emulator) → ObeysTheLaws rule e → (history : List Entry) →
     (IsLawful rule history → IsToldAfter e [] history) × (IsToldAfter e [] history → IsLawful rule history)
 histories-by-the-laws rule e h history = (lawful-told rule e h [] history, told-lawful rule e h [] history)
+
+pub false-by-the-laws : FalseByTheLaws
+false-by-the-laws rule e h front entry lawful wrong = (lawful-told rule e h [] front lawful, λ same. wrong (same ∙ laws-give-the-replies rule e h (calls_of front) entry.call))

@@ -12,6 +12,7 @@ pub mod DelayBound
 pub mod Delays
 mod DeleteWitnesses
 pub mod Delivered
+mod DeterminedWitnesses
 pub mod Determines
 pub mod Divided
 mod DividedWitnesses
@@ -67,6 +68,7 @@ pub mod SameCalls
 pub mod SameReadings
 pub mod SameReplies
 pub mod Seen
+pub mod ServiceHeadline
 pub mod ServiceLawsHold
 mod ServiceWitnesses
 pub mod SettlingHolds

@@ -1,23 +1,31 @@
 -- The laws of closed services at a service of one caller, who sent two packets at 0 and collected both at 2 ms.
-use Rattle.std.proofs.Common.{◌≡◌, ◌≤◌, ◌<◌, refl, inl, inr, ℕ, zero, suc, true, List, [], ◌∷◌, drop, arith}
+-- Whatever obeys the laws tells this Collect both.
+use Rattle.std.proofs.Common.{◌≡◌, ◌≤◌, ◌<◌, refl, inl, inr, ℕ, zero, suc, true, List, [], ◌∷◌, take, drop, arith}
 use Rattle.std.specs.Prelude.{Some, slice_get}
 use Rattle.std.specs.List.{All}
 use Rattle.std.proofs.lemmas.List.Elements.{All-nil, All-cons}
 use Rattle.dn_types.specs.declared.call.Call.{Call}
 use Rattle.dn_types.specs.declared.call.Call.TheVariants.{Collect}
+use Rattle.dn_types.specs.declared.delivery.Delivery.{Delivery}
 use Rattle.dn_types.specs.declared.entry.Entry.{Entry}
 use Rattle.dn_types.specs.declared.reply.Reply.{Reply}
 use Rattle.dn_types.specs.declared.reply.Reply.TheVariants.{Configured, Queued, Delivered}
 use Rattle.dn_types.proofs.ExampleWords.{pipe, to_pipe, delivery}
-use Rattle.dn_service.specs.Callers.{ServiceView, CallerView, IsAccountedFor, IsFaced, Closes, has_number}
+use Rattle.dn_types.specs.declared.rule.Rule.TheVariants.{Ordered}
+use Rattle.dn_service.specs.Callers.{ServiceView, CallerView, IsAccountedFor, IsFaced, Answered, Closes, has_number}
+use Rattle.dn_laws.specs.Determined.Emulators.{Emulator}
+use Rattle.dn_laws.specs.Determined.Laws.{ObeysTheLaws}
+use Rattle.dn_laws.proofs.ServiceHeadline.{services-by-the-laws, calls-by-the-laws}
 use Rattle.dn_laws.proofs.ServiceLawsHold.{callers-are-left, none-is-foreign, none-is-overtaken}
 
 abbrev entry : Call → Reply → Entry
 entry c r = record { caller = 0; call = c; reply = r }
 
+abbrev list : List Delivery
+list = delivery 0 0 0 1000000 ∷ delivery 1 0 1000000 2000000 ∷ []
+
 abbrev history : List Entry
-history = entry (pipe 1 8000000 0) Configured ∷ entry (to_pipe 1 0) (Queued 0 0 0) ∷ entry (to_pipe 1 0) (Queued 0 0 1)
-    ∷ entry (Collect 2000000) (Delivered 2000000 (delivery 0 0 0 1000000 ∷ delivery 1 0 1000000 2000000 ∷ [])) ∷ []
+history = entry (pipe 1 8000000 0) Configured ∷ entry (to_pipe 1 0) (Queued 0 0 0) ∷ entry (to_pipe 1 0) (Queued 0 0 1) ∷ entry (Collect 2000000) (Delivered 2000000 list) ∷ []
 
 module _ (any : ServiceView) where
   abbrev service : ServiceView
@@ -50,22 +58,19 @@ module _ (any : ServiceView) where
   whose-is-it = (none-is-foreign service (caller ∷ []) history (entry (pipe 1 8000000 0) Configured) closes (inl refl)).2
 
   in-order : 1000000 ≤ 2000000
-  in-order = none-is-overtaken service (caller ∷ []) history (delivery 0 0 0 1000000) (delivery 1 0 1000000 2000000) closes (
-    entry (Collect 2000000) (Delivered 2000000 (delivery 0 0 0 1000000 ∷ delivery 1 0 1000000 2000000 ∷ [])),
-    2000000,
-    2000000,
-    (delivery 0 0 0 1000000 ∷ delivery 1 0 1000000 2000000 ∷ []),
-    inr (inr (inr (inl refl))),
-    refl,
-    refl,
-    inl refl,
-  ) (
-    entry (Collect 2000000) (Delivered 2000000 (delivery 0 0 0 1000000 ∷ delivery 1 0 1000000 2000000 ∷ [])),
-    2000000,
-    2000000,
-    (delivery 0 0 0 1000000 ∷ delivery 1 0 1000000 2000000 ∷ []),
-    inr (inr (inr (inl refl))),
-    refl,
-    refl,
-    inr (inl refl),
-  ) refl (omega arith)
+  in-order = none-is-overtaken service (caller ∷ []) history (delivery 0 0 0 1000000) (delivery 1 0 1000000 2000000) closes
+      (entry (Collect 2000000) (Delivered 2000000 list), 2000000, 2000000, list, inr (inr (inr (inl refl))), refl, refl, inl refl)
+      (entry (Collect 2000000) (Delivered 2000000 list), 2000000, 2000000, list, inr (inr (inr (inl refl))), refl, refl, inr (inl refl)) refl (omega arith)
+
+  abbrev before : CallerView
+  before = record { service = service; number = 0; front = take 3 history; own = take 3 history; lost = []; faced = 0 }
+
+  answered : Answered before (Collect 2000000) (Delivered 2000000 list) caller
+  answered = record { lawful = closes.lawful; below = all-first; between = []; front = refl; own = refl; all_own = refl }
+
+  module _ (e : Emulator) (obeys : ObeysTheLaws Ordered e) where
+    tells-both : Delivered 2000000 list ≡ e.told (to_pipe 1 0 ∷ to_pipe 1 0 ∷ pipe 1 8000000 0 ∷ []) (Collect 2000000)
+    tells-both = (services-by-the-laws e obeys service (caller ∷ []) history closes).replies.1.1.1.0
+
+    tells-both-at-once : Delivered 2000000 list ≡ e.told (to_pipe 1 0 ∷ to_pipe 1 0 ∷ pipe 1 8000000 0 ∷ []) (Collect 2000000)
+    tells-both-at-once = (calls-by-the-laws e obeys before caller (Collect 2000000) (Delivered 2000000 list) answered).2.1.1.1.0

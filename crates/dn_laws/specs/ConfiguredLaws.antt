@@ -84,8 +84,7 @@ abbrev pub StartsApart : Type 0
 StartsApart = (calls : List Call) (later between earlier : List Event) (s r : Start) →
     trace_of calls ≡ later ++ started s ∷ between ++ started r ∷ earlier → s.packet.link ≡ r.packet.link → r.moment + r.transmission ≤ s.moment
 
--- So at a bandwidth the bits that a link starts from one start on, and before a later one, are at most the bandwidth by
--- the time between the two.
+-- So at a bandwidth a link's bits from one start on, and before a later one, are at most the bandwidth by the time between them.
 abbrev pub KeepsTheRate : Type 0
 KeepsTheRate = (calls : List Call) (later between earlier : List Event) (s r : Start) (bw : ℕ) →
     trace_of calls ≡ later ++ started s ∷ between ++ started r ∷ earlier → s.packet.link ≡ r.packet.link → 0 < bw →

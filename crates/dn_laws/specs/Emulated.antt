@@ -1,12 +1,12 @@
 -- The definitions as what the laws are of: with what has happened on each link.
-use Rattle.std.specs.Prelude.{◌≡◌, ⊤, Bool, true, false, cond, List, [], ◌∷◌}
+use Rattle.std.specs.Prelude.{◌≡◌, ◌≢◌, ⊤, Bool, true, false, cond, List, [], ◌∷◌}
 use Rattle.dn_types.specs.Calls.{trace_of}
 use Rattle.dn_types.specs.Clock.{effective_moment}
 use Rattle.dn_types.specs.Configuration.{settings}
 use Rattle.dn_laws.specs.Determined.Emulators.{Emulator}
 use Rattle.dn_laws.specs.Determined.Laws.{ObeysTheLaws}
 use Rattle.dn_types.specs.Flows.{keys}
-use Rattle.dn_types.specs.History.{IsLawful}
+use Rattle.dn_types.specs.History.{IsLawful, calls_of}
 use Rattle.dn_types.specs.Replies.{reply}
 use Rattle.dn_types.specs.Trace.{Link, link_eq, Event, opened, arrived, started, discarded}
 use Rattle.dn_types.specs.declared.call.Call.{Call}
@@ -45,3 +45,8 @@ IsToldAfter e calls (entry ∷ entries) = (entry.reply ≡ e.told calls entry.ca
 abbrev pub HistoriesByTheLaws : Type 0
 HistoriesByTheLaws = (rule : Rule) (e : Emulator) → ObeysTheLaws rule e → (history : List Entry) →
     (IsLawful rule history → IsToldAfter e [] history) × (IsToldAfter e [] history → IsLawful rule history)
+
+-- The first false reply of a history, as an audit finds it, is the first that isn't theirs.
+abbrev pub FalseByTheLaws : Type 0
+FalseByTheLaws = (rule : Rule) (e : Emulator) → ObeysTheLaws rule e → (front : List Entry) (entry : Entry) → IsLawful rule front →
+    entry.reply ≢ reply rule (calls_of front) entry.call → IsToldAfter e [] front × (entry.reply ≢ e.told (calls_of front) entry.call)

@@ -39,8 +39,7 @@ pub record IsFirstEligible (virtual_time : ℕ) (hs : List Stamped) (h : Stamped
 abbrev pub PickIsFirst : Type 0
 PickIsFirst = (virtual_time : ℕ) (hs : List Stamped) (h : Stamped) → pick virtual_time hs ≡ Some h → IsFirstEligible virtual_time hs h
 
--- What a flow's queue accepted since the last delete that reached it is what has started since, and then what waits, in
--- this order.
+-- What a flow's queue accepted since the last delete that reached it has started since, or waits, in this order.
 abbrev pub StartsInOrder : Type 0
 StartsInOrder = (calls : List Call) (link : Link) (flow : ℕ) → accepted_since link flow (trace_of calls) ≡ started_since link flow (trace_of calls) ++ backlog link flow (trace_of calls)
 

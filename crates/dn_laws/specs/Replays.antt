@@ -20,8 +20,7 @@ abbrev pub IsReplay : List Call → Type 0
 IsReplay (Collect moment ∷ calls) = ArePackets calls
 IsReplay calls = ArePackets calls
 
--- The replay with the packets on chosen links alone, each at its effective moment, which is its own where the packets
--- come in order of time.
+-- The replay with the packets on chosen links alone, each at its effective moment: its own if the packets come in order of time.
 abbrev pub own_calls : Choice → List Call → List Call
 own_calls chosen [] = []
 own_calls chosen (Submit target packet moment ∷ calls) =

@@ -45,8 +45,7 @@ IsDropped (Full at flow) = ⊤
 IsDropped (NoTarget at) = ⊤
 IsDropped _ = ⊥
 
--- A packet that is lost, refused or without a target changes no queue, no link and no delivery, against a call at its
--- moment that has none.
+-- A packet that is lost, refused or without a target changes no queue, link or delivery, against an Advance to its moment.
 abbrev pub DroppedChangesNothing : Type 0
 DroppedChangesNothing = (rule : Rule) (calls : List Call) (target : Target) (packet : Packet) (moment : ℕ) (link : Link) →
     IsDropped (reply rule calls (Submit target packet moment)) →

@@ -1,7 +1,9 @@
--- The laws of a closed service: what its history is to its callers and to what they were told.
-use Rattle.std.specs.Prelude.{ℕ, ◌≡◌, ◌≤◌, ◌<◌, List, [], ◌∷◌, map, reverse, sum, nat_eq, Some, slice_get}
+-- The laws of a closed service: what its history is to its callers, to what they were told, and to whatever obeys the laws.
+use Rattle.std.specs.Prelude.{ℕ, ◌≡◌, ◌≤◌, ◌<◌, List, [], ◌∷◌, ◌++◌, map, reverse, sum, nat_eq, Some, slice_get}
 use Rattle.std.specs.List.{count_by, filter}
-use Rattle.dn_laws.specs.Determined.Emulators.{Has}
+use Rattle.dn_laws.specs.Determined.Emulators.{Emulator, Has}
+use Rattle.dn_laws.specs.Determined.Laws.{ObeysTheLaws}
+use Rattle.dn_laws.specs.Emulated.{IsToldAfter}
 use Rattle.dn_service.specs.Callers.{ServiceView, CallerView, Answered, new_caller, Closes}
 use Rattle.dn_types.specs.declared.call.Call.{Call}
 use Rattle.dn_types.specs.declared.call.Call.TheVariants.{Collect}
@@ -9,6 +11,7 @@ use Rattle.dn_types.specs.declared.delivery.Delivery.{Delivery}
 use Rattle.dn_types.specs.declared.entry.Entry.{Entry}
 use Rattle.dn_types.specs.declared.reply.Reply.{Reply}
 use Rattle.dn_types.specs.declared.reply.Reply.TheVariants.{Delivered}
+use Rattle.dn_types.specs.declared.rule.Rule.TheVariants.{Ordered}
 
 -- Since its opening the caller made these calls, newest first, and was told these replies.
 abbrev pub WasTold : ServiceView → ℕ → List (Call × Reply) → CallerView → Type 0
@@ -37,3 +40,18 @@ IsDelivered history d = (entry : Entry) × (moment : ℕ) × (at : ℕ) × (list
 abbrev pub NoneIsOvertaken : Type 0
 NoneIsOvertaken = (service : ServiceView) (callers : List CallerView) (history : List Entry) (d e : Delivery) → Closes service callers history →
     IsDelivered history d → IsDelivered history e → d.flow ≡ e.flow → d.start < e.start → d.due ≤ e.due
+
+-- The headline with an emulator in the place of `reply`: each reply in the history is the emulator's after the calls before.
+-- Each caller's calls are there with their replies, once and in order, and each entry is a caller's.
+pub record IsLeftBy (e : Emulator) (callers : List CallerView) (history : List Entry) : Type 0 where
+  pub replies : IsToldAfter e [] history
+  pub left : (c : CallerView) → Has callers c → IsLeft history callers c
+  pub no_others : (entry : Entry) → Has history entry → (c : CallerView) × Has callers c × (c.number ≡ entry.caller)
+
+abbrev pub ServicesByTheLaws : Type 0
+ServicesByTheLaws = (e : Emulator) → ObeysTheLaws Ordered e → (service : ServiceView) (callers : List CallerView) (history : List Entry) → Closes service callers history → IsLeftBy e callers history
+
+-- And each call's reply is the emulator's, after all that the caller had seen and what came in between.
+abbrev pub CallsByTheLaws : Type 0
+CallsByTheLaws = (e : Emulator) → ObeysTheLaws Ordered e → (before after : CallerView) (c : Call) (r : Reply) → Answered before c r after →
+    (between : List Entry) × (after.front ≡ (before.front ++ between) ++ record { caller = before.number; call = c; reply = r } ∷ []) × IsToldAfter e [] after.front

@@ -1,5 +1,4 @@
--- The laws of sharing and of isolation: weights share a link, and a delete or a packet reaches what it is about and nothing
--- else.
+-- The laws of sharing and of isolation: weights share a link, and a delete or a packet reaches only what it is about.
 use Rattle.std.specs.Prelude.{ℕ, ◌≡◌, ◌≢◌, ◌≤◌, ◌<◌, ◌+◌, ◌*◌, max, List, [], ◌∷◌, ◌++◌, map, sum, take, length, nat_eq, Option, Some}
 use Rattle.std.specs.List.{All, filter}
 use Rattle.dn_types.specs.Calls.{trace_of}
@@ -49,8 +48,7 @@ abbrev pub PickIsFair : Type 0
 PickIsFair = (v : ℕ) (hs : List Stamped) (h : Stamped) → pick v hs ≡ Some h → All (λ x. x.start_tag ≤ x.finish_tag) hs →
     All (λ x. h.start_tag ≤ x.finish_tag) hs
 
--- Of the heads whose start tag virtual time has reached the pick has the least finish tag, and of those with that one the
--- least flow number.
+-- Of the heads that virtual time has reached the pick has the least finish tag, and of those with that one the least flow number.
 abbrev pub PickIsLeast : Type 0
 PickIsLeast = (v : ℕ) (hs : List Stamped) (h : Stamped) → pick v hs ≡ Some h → All (λ x. x.start_tag ≤ raised v hs → (h.finish_tag ≤ x.finish_tag)
     × (h.finish_tag ≡ x.finish_tag → h.flow ≤ x.flow)) hs

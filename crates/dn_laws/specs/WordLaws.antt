@@ -1,10 +1,11 @@
 -- The laws of words: words that other laws use, in words of calls, replies and events alone.
-use Rattle.std.specs.Prelude.{cond, ℕ, max, Option, ◌≡◌, ◌<◌, ◌+◌, List, [], ◌∷◌, length, nat_eq, Some, None}
+use Rattle.std.specs.Prelude.{ℕ, max, Option, ◌≡◌, ◌<◌, List, ◌∷◌, length, Some, None}
 use Rattle.std.specs.List.{count_by}
+use Rattle.dn_laws.specs.Determined.Reports.{starts_of}
 use Rattle.dn_types.specs.Clock.{call_limit, effective_moment}
 use Rattle.dn_types.specs.Configuration.{settings}
 use Rattle.dn_types.specs.Replies.{reply}
-use Rattle.dn_types.specs.Trace.{Event, started, is_start_of}
+use Rattle.dn_types.specs.Trace.{Event, is_start_of}
 use Rattle.dn_types.specs.declared.call.Call.{Call}
 use Rattle.dn_types.specs.declared.call.Call.TheVariants.{Configure, Submit, Advance, Collect, Show}
 use Rattle.dn_types.specs.declared.command.Command.{Command}
@@ -17,8 +18,7 @@ use Rattle.dn_types.specs.declared.rule.Rule.{Rule}
 use Rattle.dn_types.specs.declared.target.Target.{Target}
 use Rattle.dn_types.specs.declared.target.Target.TheVariants.{Pipe as ToPipe, Queue as ToQueue}
 
--- A command that is told Configured is what is in force for the pipe or the queue of its number, and nothing is once its
--- delete was told Deleted.
+-- A command that is told Configured is in force for its pipe or queue, and none is once a delete of it was told Deleted.
 abbrev pub ObeysAsTold : Type 0
 ObeysAsTold = (rule : Rule) (calls : List Call) → length calls < call_limit →
     ((number bw delay : ℕ) (limit : Limit) (loss : ℕ) (buckets : Option ℕ) (mask : Mask) →
@@ -30,8 +30,7 @@ ObeysAsTold = (rule : Rule) (calls : List Call) → length calls < call_limit �
     × ((number : ℕ) → reply rule calls (Configure (DeletePipe number)) ≡ Deleted → settings (Configure (DeletePipe number) ∷ calls) (ToPipe number) ≡ None)
     × ((number : ℕ) → reply rule calls (Configure (DeleteQueue number)) ≡ Deleted → settings (Configure (DeleteQueue number) ∷ calls) (ToQueue number) ≡ None)
 
--- A packet, an Advance and a Collect move the clock to the moment that they name, where that is later. A command and a Show
--- leave it.
+-- A packet, an Advance and a Collect move the clock to the moment that they name, where that is later. No other call does.
 abbrev pub ClockFollows : Type 0
 ClockFollows = (calls : List Call) →
     ((target : Target) (packet : Packet) (moment : ℕ) → effective_moment (Submit target packet moment ∷ calls) ≡ max (effective_moment calls) moment)
@@ -40,12 +39,6 @@ ClockFollows = (calls : List Call) →
     × ((command : Command) → effective_moment (Configure command ∷ calls) ≡ effective_moment calls)
     × (effective_moment (Show ∷ calls) ≡ effective_moment calls)
 
--- The starts of a flow, by what happens.
-abbrev pub starts_of : ℕ → List Event → ℕ
-starts_of flow [] = 0
-starts_of flow (started s ∷ trace) = cond (nat_eq s.packet.stamped.flow flow) 1 0 + starts_of flow trace
-starts_of flow (_ ∷ trace) = starts_of flow trace
-
--- Those that a Show tells are these: so of the packets that were queued it tells which started and which were discarded.
+-- The starts that a Show tells are those that happened. So it tells which queued packets started and which were discarded.
 abbrev pub StartsAreCounted : Type 0
 StartsAreCounted = (flow : ℕ) (trace : List Event) → count_by (is_start_of flow) trace ≡ starts_of flow trace

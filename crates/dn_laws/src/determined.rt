@@ -1,7 +1,7 @@
 //! The law of laws: what obeys them all is the emulator.
 
 ghost use Rattle.dn_laws.specs.Determined.Laws.{LawsDetermine};
-ghost use Rattle.dn_laws.specs.Emulated.{HistoriesByTheLaws, LawsGiveTheReplies, LawsHold};
+ghost use Rattle.dn_laws.specs.Emulated.{FalseByTheLaws, HistoriesByTheLaws, LawsGiveTheReplies, LawsHold};
 
 /// The laws determine the emulator.
 ///
@@ -17,8 +17,10 @@ pub fn laws_hold()
 
 /// So whatever obeys the laws answers as the definitions do.
 ///
-/// A history is lawful exactly if its replies are those of whatever obeys the laws.
+/// A history is lawful exactly if its replies are those of whatever obeys the laws, and its first false reply is the first that
+/// isn't one of those.
 pub fn laws_give_the_replies()
     ensures replies { LawsGiveTheReplies }
     ensures histories { HistoriesByTheLaws }
+    ensures first_false { FalseByTheLaws }
 {}

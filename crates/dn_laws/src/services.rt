@@ -1,6 +1,6 @@
 //! The laws of closed services.
 
-ghost use Rattle.dn_laws.specs.ServiceLaws.{CallersAreLeft, NoneIsForeign, NoneIsOvertaken};
+ghost use Rattle.dn_laws.specs.ServiceLaws.{CallersAreLeft, CallsByTheLaws, NoneIsForeign, NoneIsOvertaken, ServicesByTheLaws};
 
 /// The history that a service leaves is of its callers alone, and has what each of them was told.
 ///
@@ -9,4 +9,12 @@ pub fn laws_of_services()
     ensures callers { CallersAreLeft }
     ensures entries { NoneIsForeign }
     ensures deliveries { NoneIsOvertaken }
+{}
+
+/// The replies of a service are those of whatever obeys the laws that determine the emulator.
+///
+/// So no definition of a reply has to be believed for its headline: its history has these replies, and its callers' calls alone.
+pub fn laws_give_the_headline()
+    ensures closes { ServicesByTheLaws }
+    ensures calls { CallsByTheLaws }
 {}
