@@ -1,4 +1,4 @@
--- What is read off a trace is determined: two families of readings that obey the laws are the same.
+-- What is read off a trace is determined: two families of readings that obey the laws are the same, if at first the same waits.
 use Rattle.std.proofs.Common.{◌≡◌, ◌∙◌, ◌≢◌, ◌≤◌, ◌⊎◌, inl, inr, ⊎_elim, ℕ, zero, suc, ◌+◌, ◌*◌, ◌/◌, max, Bool, true, false, List, [], ◌∷◌, ◌++◌, refl, ap, sym, subst, arith}
 use Rattle.std.specs.Prelude.{nat_eq, map, sum, take, drop}
 use Rattle.std.proofs.lemmas.Bool.{eqb-true, eq-eqb, and_from}
@@ -67,9 +67,9 @@ due-one : (rule : Rule) (s : Start) (last a b : ℕ) → IsDueBy rule s last a �
 due-one Free s last a b h k = h ∙ sym k
 due-one Ordered s last a b h k = h ∙ sym k
 
-module _ (rule : Rule) (r s : Readings) (R : AreReadings rule r) (S : AreReadings rule s) where
+module _ (rule : Rule) (r s : Readings) (R : AreReadings rule r) (S : AreReadings rule s) (at_first : (link : Link) (flow : ℕ) → r.queue link flow [] ≡ s.queue link flow []) where
   pub same-queue : (link : Link) (flow : ℕ) (trace : List Event) → r.queue link flow trace ≡ s.queue link flow trace
-  same-queue link flow [] = R.queue_begins link flow ∙ sym (S.queue_begins link flow)
+  same-queue link flow [] = at_first link flow
   same-queue link flow (arrived p ∷ t) = ⊎_elim
       (λ is. R.queue_arrives link flow p t is ∙ ap (λ (q : List Accepted). q ++ p ∷ []) (same-queue link flow t) ∙ sym (S.queue_arrives link flow p t is))
       (λ not'. R.queue_stays link flow (arrived p) t not' ∙ same-queue link flow t ∙ sym (S.queue_stays link flow (arrived p) t not'))
