@@ -141,6 +141,7 @@ def parts(fresh: Optional[int], program: str) -> list[Part]:
         Part("docstrings", [python, "tools/gate/docstrings.py"]),
         Part("words of the laws", [python, "tools/laws/pinned_words.py"]),
         Part("wrong definitions", [python, "tools/gate/laws.py", of_laws], "rt", True),
+        Part("each clause of the laws", [python, "tools/laws/independence.py"], is_long=True),
         Part("the text of the definitions", [python, "tools/definitions", "gate", *words, str(CALLS_BY_DEFINITIONS)], is_long=True),
         Part("callers that wait", [python, "tools/gate/waiting.py"], "objdump"),
         Part("the tables of CONTRIBUTING", [python, "tools/gate/contributing.py"], "git"),

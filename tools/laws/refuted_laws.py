@@ -3,7 +3,6 @@
 
     tools/laws/refuted_laws.py              tries every row of wrong_definitions.py that has a file in tools/laws/refuted
     tools/laws/refuted_laws.py 3 17         tries these rows alone
-    tools/laws/refuted_laws.py --list       prints the rows and their files, and tries nothing
 
 wrong_definitions.py shows that the proof of a law doesn't go through under a wrong definition. That is weaker than that
 the law is false of it: a proof may only mirror the definition, and be repaired. Here the law is refuted. A file of
@@ -13,7 +12,6 @@ It has the specs with the row's wrong definition, but no proof of the crates: so
 definitions the same file must not be proved. A row passes where both hold and one of its lemmas is about its own law.
 A row without a file is told apart: of it only wrong_definitions.py speaks. The prover is called as RT, as there.
 """
-import argparse
 import glob
 import os
 import re
@@ -164,16 +162,8 @@ def try_row(crate: str, row: Row, refutation: Refutation, laws: Laws) -> str:
 
 def main() -> int:
     """Tries the rows, prints a line for each, and how many passed."""
-    reads = argparse.ArgumentParser(description=(__doc__ or "").split("\n")[0])
-    reads.add_argument("rows", nargs="*", type=int)
-    reads.add_argument("--list", action="store_true")
-    asked = reads.parse_args()
     laws, refutations = laws_of_the_crate(), read_refutations()
-    rows = [wrong_definitions.ROWS[place - 1] for place in asked.rows] or wrong_definitions.ROWS
-    if asked.list:
-        for place, row in enumerate(wrong_definitions.ROWS, 1):
-            print(place, row[0], "(has a file)" if row[0] in refutations else "")
-        return 0
+    rows = [wrong_definitions.ROWS[int(place) - 1] for place in sys.argv[1:]] or wrong_definitions.ROWS
     with_file = [row for row in rows if row[0] in refutations]
     told = {name: "no row has this name" for name in set(refutations) - {row[0] for row in wrong_definitions.ROWS}}
     with tempfile.TemporaryDirectory() as folder:

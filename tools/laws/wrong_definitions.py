@@ -3,7 +3,6 @@
 
     tools/laws/wrong_definitions.py              prints a table in Markdown: a law, and the wrong definitions that it refuses
     tools/laws/wrong_definitions.py 3 17         tries these rows alone
-    tools/laws/wrong_definitions.py --determined 3 17     asks that laws_hold refuses them: the laws that determine the replies
     tools/laws/wrong_definitions.py --list       prints the rows and tries nothing
     tools/laws/wrong_definitions.py --table      prints the table as it is if each row is refused, and tries nothing
 
@@ -25,25 +24,7 @@ import tempfile
 from typing import NamedTuple
 
 TOP = os.path.dirname(os.path.dirname(os.path.dirname(os.path.abspath(__file__))))
-SET_ASIDE = [
-    "Cases",
-    "ExamplesDeletes",
-    "ExamplesLinks",
-    "ExamplesWf2q",
-    "ShortListsFlows",
-    "ShortListsWf2q",
-    "Witnesses",
-    "FairWitness",
-    "LawWitnesses",
-    "DeleteWitnesses",
-    "DeterminedWitnesses",
-    "DividedWitnesses",
-    "KeptWitnesses",
-    "PartWitnesses",
-    "ReadingWitnesses",
-    "ReplyWitnesses",
-    "WaitWitnesses",
-]
+SET_ASIDE = re.compile(r"Cases|Examples\w*|ShortLists\w*|\w*Witness(?:es)?")
 
 # Texts of the rows in which what a command is told isn't what is done, and of those in which the clock goes otherwise.
 SETTING_AFTER = "-- What is in force for a command's subject once"
@@ -471,12 +452,11 @@ def set_aside(proofs):
     library = os.path.join(proofs, "Lib.antt")
     with open(library) as file:
         text = file.read()
-    for name in SET_ASIDE:
-        text = re.sub("^(pub )?mod %s\n" % name, "", text, flags=re.M)
-        if os.path.exists(os.path.join(proofs, name + ".antt")):
+    for name in re.findall(r"mod (\w+)$", text, re.M):
+        if SET_ASIDE.fullmatch(name):
             os.remove(os.path.join(proofs, name + ".antt"))
     with open(library, "w") as file:
-        file.write(text)
+        file.write(re.sub(r"(?m)^(?:pub )?mod (?:%s)\n" % SET_ASIDE.pattern, "", text))
     shutil.rmtree(os.path.join(proofs, "Cases"), ignore_errors=True)
 
 
@@ -612,13 +592,11 @@ def main(arguments):
     if "--table" in arguments:
         print_table(ROWS)
         return 0
-    rows = [ROWS[int(argument) - 1] for argument in arguments if argument != "--determined"] or ROWS
-    if "--determined" in arguments:
-        rows = [row[:4] + ("laws_hold", "") for row in rows if base_of(row) == DEFINITIONS]
+    rows = [ROWS[int(argument) - 1] for argument in arguments] or ROWS
     passed = []
     for base in dict.fromkeys((DEFINITIONS, *BASES.values())):
         own = [row for row in rows if base_of(row) == base]
-        functions = {"laws_hold" if "--determined" in arguments else row[4] if base.word else "laws" for row in own}
+        functions = {row[4] if base.word else "laws" for row in own}
         good = try_rows(base, own, sorted(functions)) if own else []
         if good is None:
             return 1

@@ -7,7 +7,7 @@ use Rattle.dn_laws.specs.Emulated.{emulated, IsToldAfter, FalseByTheLaws}
 use Rattle.dn_types.specs.History.{IsLawfulAfter, IsLawful, calls_of}
 use Rattle.dn_types.specs.Replies.{reply}
 use Rattle.dn_types.specs.declared.call.Call.{Call}
-use Rattle.dn_types.specs.declared.call.Call.TheVariants.{Advance}
+use Rattle.dn_types.specs.declared.call.Call.TheVariants.{Submit, Advance}
 use Rattle.dn_types.specs.declared.entry.Entry.{Entry}
 use Rattle.dn_types.specs.declared.rule.Rule.{Rule}
 use Rattle.dn_laws.proofs.Determines.{laws-determine}
@@ -16,7 +16,7 @@ use Rattle.dn_laws.proofs.GivesHold.{gives-hold}
 use Rattle.dn_laws.proofs.Isolation.{only-commands-count}
 use Rattle.dn_laws.proofs.JoinsHold.{joins-hold, keeps-apart, drops}
 use Rattle.dn_laws.proofs.Masks.{flows-have-their-keys}
-use Rattle.dn_laws.proofs.PlainLawsHold.{clock-stays, flows-stay, flow-known, flow-new, flow-none, deletes, spares, configures, unconfigures, refuses, spares-others, judges, numbers}
+use Rattle.dn_laws.proofs.PlainLawsHold.{clock-configured, clock-shown, flows-stay, flow-known, flow-new, flow-none, deletes, spares, configures, unconfigures, refuses, spares-others, judges, numbers}
 use Rattle.dn_laws.proofs.ReadingsObey.{read, readings-obey}
 use Rattle.dn_laws.proofs.SettlingHolds.{settles-hold}
 use Rattle.dn_laws.proofs.StatesHold.{states-hold}
@@ -28,8 +28,9 @@ one-more rule calls lt = record {
     submits = λ target packet moment. refl;
     advances = λ moment. refl;
     collects = λ moment. refl;
-    stays = clock-stays calls;
-    told = λ c timed. (replies-tell-the-clock rule calls c lt).0 timed;
+    configures = clock-configured calls;
+    shows = clock-shown calls;
+    told = λ target packet moment. (replies-tell-the-clock rule calls (Submit target packet moment) lt).0 tt;
     advanced = λ moment. (replies-tell-the-clock rule calls (Advance moment) lt).1 moment refl;
   };
   commands = record {

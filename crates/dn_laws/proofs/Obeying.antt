@@ -90,11 +90,11 @@ module _ (rule : Rule) (e : Emulator) (E : ObeysTheLaws rule e) where
   clock-is (Advance moment ∷ calls) le = (E.one_more calls (omega (arith, le))).clock.advances moment ∙ ap (λ n. max n moment) (clock-is calls (omega (arith, le)))
   clock-is (Collect moment ∷ calls) le = (E.one_more calls (omega (arith, le))).clock.collects moment ∙ ap (λ n. max n moment) (clock-is calls (omega (arith, le)))
   clock-is (Configure command ∷ calls) le =
-      let h = (E.one_more calls (omega (arith, le))).clock.stays (Configure command) (λ t. t) in
+      let h = (E.one_more calls (omega (arith, le))).clock.configures command in
       let k = clock-is calls (omega (arith, le)) in
       omega (arith, h, k)
   clock-is (Show ∷ calls) le =
-      let h = (E.one_more calls (omega (arith, le))).clock.stays Show (λ t. t) in
+      let h = (E.one_more calls (omega (arith, le))).clock.shows in
       let k = clock-is calls (omega (arith, le)) in
       omega (arith, h, k)
 

@@ -13,7 +13,6 @@ use Rattle.dn_laws.specs.Emulated.{on_link, emulated}
 use Rattle.dn_laws.specs.Explained.{IsJudgedBy, IsExplained}
 use Rattle.dn_laws.specs.FlowLaws.{IsMaskedBy}
 use Rattle.dn_types.specs.Flows.{treatment, key_eq, with_key, keys_with, keys}
-use Rattle.dn_laws.specs.PartLaws.{IsTimed}
 use Rattle.dn_types.specs.Replies.{reply, replies}
 use Rattle.dn_laws.specs.Told.{is_queued}
 use Rattle.dn_types.specs.Trace.{Link, Event, discarded, backlog}
@@ -46,12 +45,11 @@ pub link_to-is : (target : Target) (flow carrier : ℕ) → link_to target flow 
 link_to-is (ToPipe n) flow carrier = refl
 link_to-is (ToQueue n) flow carrier = refl
 
-pub clock-stays : (calls : List Call) (c : Call) → (IsTimed c → ⊥) → effective_moment (c ∷ calls) ≡ effective_moment calls
-clock-stays calls (Configure command) h = omega arith
-clock-stays calls Show h = omega arith
-clock-stays calls (Submit target packet moment) h = absurd (h tt)
-clock-stays calls (Advance moment) h = absurd (h tt)
-clock-stays calls (Collect moment) h = absurd (h tt)
+pub clock-configured : (calls : List Call) (command : Command) → effective_moment (Configure command ∷ calls) ≡ effective_moment calls
+clock-configured calls command = omega arith
+
+pub clock-shown : (calls : List Call) → effective_moment (Show ∷ calls) ≡ effective_moment calls
+clock-shown calls = omega arith
 
 pub flows-stay : (calls : List Call) (c : Call) → ((target : Target) (packet : Packet) (moment : ℕ) → c ≢ Submit target packet moment) → keys (c ∷ calls) ≡ keys calls
 flows-stay calls (Submit target packet moment) h = absurd (h target packet moment refl)

@@ -219,7 +219,6 @@ module _ (rule : Rule) where
 
   pub readings-obey : AreReadings rule (read rule)
   readings-obey = record {
-    queue_begins = λ link flow. refl;
     queue_arrives = λ link flow p t h. ap (λ b. cond b (backlog link flow t ++ p ∷ []) (backlog link flow t)) (is-mine link flow p h);
     queue_starts = λ link flow s t h. ap (λ b. cond b (drop 1 (backlog link flow t)) (backlog link flow t)) (is-mine link flow s.packet h);
     queue_ends = λ link flow t. ap (λ b. cond b [] (backlog link flow t)) (eq-eqb flow flow refl);
@@ -291,7 +290,6 @@ module _ (rule : Rule) where
 
   on-obey : AreReadings rule (read-on rule)
   on-obey = record {
-    queue_begins = λ link flow. refl;
     queue_arrives = λ link flow p t h. ap (backlog link flow) (kept-on link (arrived p) t (here p.link link h.0)) ∙ R.queue_arrives link flow p (on_link link t) h;
     queue_starts = λ link flow s t h. ap (backlog link flow) (kept-on link (started s) t (here s.packet.link link h.0)) ∙ R.queue_starts link flow s (on_link link t) h;
     queue_ends = λ link flow t. R.queue_ends link flow (on_link link t);
@@ -316,7 +314,7 @@ module _ (rule : Rule) where
 
   -- So what is read of a link is read of what happened on it.
   pub reads-on : read-on rule ≡ read rule
-  reads-on = same-readings rule (read-on rule) (read rule) on-obey R
+  reads-on = same-readings rule (read-on rule) (read rule) on-obey R (λ link flow. refl)
 
 pub queue-on : (link : Link) (flow : ℕ) (t : List Event) → backlog link flow (on_link link t) ≡ backlog link flow t
 queue-on link flow t = ap (λ (r : Readings). r.queue link flow t) (reads-on Ordered)

@@ -3,8 +3,8 @@ use Rattle.std.proofs.Common.{◌≡◌, ◌∙◌, ◌≤◌, ◌<◌, ⊎_elim
 use Rattle.std.specs.Prelude.{Option, Some, None}
 use Rattle.std.proofs.lemmas.Bool.Decides.{leb_tells}
 use Rattle.dn_laws.specs.Determined.Emulators.{Readings, IsFirst}
-use Rattle.dn_laws.specs.Determined.Links.{IsPick, IsNext, IsTransmission, pipe_under, IsBy, IsStart, AreStarts, Settles, with_starts, IsTaggedBy, Joins}
-use Rattle.dn_types.specs.Trace.{Link, own, shared, Accepted, Start, Event, opened, arrived, started}
+use Rattle.dn_laws.specs.Determined.Links.{IsPick, IsTransmission, pipe_under, IsBy, IsStart, AreStarts, Settles, with_starts, IsTaggedBy, Joins}
+use Rattle.dn_types.specs.Trace.{Link, Accepted, Start, Event, opened, arrived, started}
 use Rattle.dn_types.specs.declared.command.Command.{Command}
 use Rattle.dn_types.specs.declared.command.Command.TheVariants.{Pipe, Queue, DeletePipe, DeleteQueue}
 use Rattle.dn_types.specs.declared.target.Target.{Target}
@@ -12,35 +12,27 @@ use Rattle.dn_types.specs.declared.target.Target.TheVariants.{Pipe as ToPipe}
 use Rattle.dn_laws.proofs.SameReadings.{raised-one}
 
 module _ (r : Readings) where
-  first-one : (link : Link) (t : List Event) (p q : Accepted) → p.stamped.flow ≡ q.stamped.flow → IsFirst r link t p → IsFirst r link t q → p ≡ q
+  pub first-one : (link : Link) (t : List Event) (p q : Accepted) → p.stamped.flow ≡ q.stamped.flow → IsFirst r link t p → IsFirst r link t q → p ≡ q
   first-one link t p q same P Q =
       let e : p ∷ P.0 ≡ q ∷ Q.0 = sym P.1 ∙ ap (λ n. r.queue link n t) same ∙ Q.1 in cc
 
-  pick-one : (link : Link) (t : List Event) (p q : Accepted) → IsFirst r link t p → IsPick r link t p → IsFirst r link t q → IsPick r link t q → p ≡ q
-  pick-one link t p q P A Q B = first-one link t p q flows P Q
+  pick-one : (link : Link) (t : List Event) (p q : Accepted) → IsPick r link t p → IsPick r link t q → p ≡ q
+  pick-one link t p q A B = first-one link t p q flows A.first B.first
     where
       to : A.to ≡ B.to
       to = raised-one r r link t A.to B.to (λ flow. refl) refl A.raised B.raised
 
       mine : (p.stamped.finish_tag ≤ q.stamped.finish_tag) × (p.stamped.finish_tag ≡ q.stamped.finish_tag → p.stamped.flow ≤ q.stamped.flow)
-      mine = A.least q Q (let e = B.eligible in let same = to in omega (arith, e, same))
+      mine = A.least q B.first (let e = B.eligible in let same = to in omega (arith, e, same))
 
       other : (q.stamped.finish_tag ≤ p.stamped.finish_tag) × (q.stamped.finish_tag ≡ p.stamped.finish_tag → q.stamped.flow ≤ p.stamped.flow)
-      other = B.least p P (let e = A.eligible in let same = to in omega (arith, e, same))
+      other = B.least p A.first (let e = A.eligible in let same = to in omega (arith, e, same))
 
       tags : p.stamped.finish_tag ≡ q.stamped.finish_tag
       tags = let a = mine.0 in let b = other.0 in omega (arith, a, b)
 
       flows : p.stamped.flow ≡ q.stamped.flow
       flows = let a = mine.1 tags in let b = other.1 (sym tags) in omega (arith, a, b)
-
-  next-one : (link : Link) (t : List Event) (p q : Accepted) → IsNext r link t p → IsNext r link t q → p ≡ q
-  next-one (own pipe flow) t p q P Q = first-one (own pipe flow) t p q (P.1 ∙ sym Q.1) P.0 Q.0
-  next-one (shared pipe) t p q P Q = pick-one (shared pipe) t p q P.0 P.1 Q.0 Q.1
-
-  next-waits : (link : Link) (t : List Event) (p : Accepted) → IsNext r link t p → IsFirst r link t p
-  next-waits (own pipe flow) t p P = P.0
-  next-waits (shared pipe) t p P = P.0
 
   sent-one : (bw len a b : ℕ) → IsTransmission bw len a → IsTransmission bw len b → a ≡ b
   sent-one zero len a b A B = A.unlimited refl ∙ sym (B.unlimited refl)
@@ -63,12 +55,12 @@ module _ (r : Readings) where
 
   start-one : (force : Target → Option Command) (link : Link) (at : ℕ) (s u : Start) (t : List Event) → IsStart r force link at s t → IsStart r force link at u t → s ≡ u
   start-one force link at s u t A B =
-      let packet = next-one link t s.packet u.packet A.next B.next in
+      let packet = pick-one link t s.packet u.packet A.next B.next in
       start-of s u packet (A.at_once ∙ sym B.at_once) (by-one (force (ToPipe (pipe_under link))) s u packet A.by_command B.by_command)
 
   starting : (force : Target → Option Command) (link : Link) (at : ℕ) (s : Start) (t : List Event) → IsStart r force link at s t → AreStarts r force link at [] t → ⊥
   starting force link at s t A busy =
-      let first = next-waits link t s.packet A.next in
+      let first = A.next.first in
       let late : at < r.free link t = busy s.packet.stamped.flow s.packet first.0 first.1 in
       let is : s.moment ≡ r.free link t = A.at_once in
       let by : s.moment ≤ at = A.in_time in

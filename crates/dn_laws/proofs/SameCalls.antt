@@ -98,7 +98,7 @@ module _ (rule : Rule) (r : Readings) (e f : Emulator) (E : ObeysTheLaws rule e)
         (e.told calls c) (f.told calls c)
         (x.packets.judged target packet moment command rate most carrier (force-one calls here target ∙ set) judges)
         (y.packets.judged target packet moment command rate most carrier set judges)
-        (x.clock.told c tt ∙ ap (λ (n : ℕ). Some n) (clock-one (c ∷ calls) (next c)) ∙ sym (y.clock.told c tt))
+        (x.clock.told target packet moment ∙ ap (λ (n : ℕ). Some n) (clock-one (c ∷ calls) (next c)) ∙ sym (y.clock.told target packet moment))
         (flow-one target packet moment command mask carrier set masks)
         (λ at a m at' b n p q. x.packets.numbered target packet moment at a m p ∙ ap (count_by is_queued) H.told ∙ sym (y.packets.numbered target packet moment at' b n q))
 

@@ -1,4 +1,4 @@
--- What is read off a trace is determined: two families of readings that obey the laws are the same.
+-- What is read off a trace is determined: two families of readings that obey the laws are the same, if at first the same waits.
 use Rattle.std.proofs.Common.{◌≡◌, ◌∙◌, ◌≢◌, ◌≤◌, ◌⊎◌, inl, inr, ⊎_elim, ℕ, zero, suc, ◌+◌, ◌*◌, ◌/◌, max, Bool, true, false, List, [], ◌∷◌, ◌++◌, refl, ap, sym, subst, arith}
 use Rattle.std.specs.Prelude.{nat_eq, map, sum, take, drop}
 use Rattle.std.proofs.lemmas.Bool.{eqb-true, eq-eqb, and_from}
@@ -63,9 +63,9 @@ raised-one r s link trace a b queues same A B =
     let other : b ≤ a = raised-most s r link trace b a (λ flow. sym (queues flow)) (sym same) B A in
     omega (arith, one, other)
 
-module _ (rule : Rule) (r s : Readings) (R : AreReadings rule r) (S : AreReadings rule s) where
+module _ (rule : Rule) (r s : Readings) (R : AreReadings rule r) (S : AreReadings rule s) (at_first : (link : Link) (flow : ℕ) → r.queue link flow [] ≡ s.queue link flow []) where
   pub same-queue : (link : Link) (flow : ℕ) (trace : List Event) → r.queue link flow trace ≡ s.queue link flow trace
-  same-queue link flow [] = R.queue_begins link flow ∙ sym (S.queue_begins link flow)
+  same-queue link flow [] = at_first link flow
   same-queue link flow (arrived p ∷ t) = ⊎_elim
       (λ is. R.queue_arrives link flow p t is ∙ ap (λ (q : List Accepted). q ++ p ∷ []) (same-queue link flow t) ∙ sym (S.queue_arrives link flow p t is))
       (λ not'. R.queue_stays link flow (arrived p) t not' ∙ same-queue link flow t ∙ sym (S.queue_stays link flow (arrived p) t not'))

@@ -3,11 +3,11 @@ use Rattle.std.proofs.Common.{◌≡◌, ◌∙◌, ◌≤◌, ◌<◌, ⊎_elim
 use Rattle.std.specs.Prelude.{Option, Some, None, is_some, map, slice_get, option_and_then}
 use Rattle.std.specs.List.{All}
 use Rattle.std.proofs.lemmas.List.Elements.{All-head, All-tail}
-use Rattle.dn_types.specs.Calls.{trace_of}
+use Rattle.dn_types.specs.Calls.{trace_of, link_of}
 use Rattle.dn_types.specs.Clock.{effective_moment}
 use Rattle.dn_types.specs.Configuration.{Settings, settings}
 use Rattle.dn_laws.specs.Determined.Emulators.{Readings, Has, IsFirst, IsRaised}
-use Rattle.dn_laws.specs.Determined.Links.{IsPick, IsNext, IsTransmission, IsBy, IsStart, AreStarts, Settles}
+use Rattle.dn_laws.specs.Determined.Links.{IsPick, IsTransmission, IsBy, IsStart, AreStarts, Settles}
 use Rattle.dn_laws.specs.Emulated.{on_link}
 use Rattle.dn_types.specs.Flows.{keys}
 use Rattle.dn_types.specs.Links.{free, transmission_time}
@@ -21,15 +21,17 @@ use Rattle.dn_types.specs.declared.command.Command.{Command}
 use Rattle.dn_types.specs.declared.command.Command.TheVariants.{Pipe, Queue, DeletePipe, DeleteQueue}
 use Rattle.dn_types.specs.declared.flow_key.FlowKey.{FlowKey}
 use Rattle.dn_types.specs.declared.rule.Rule.{Rule}
-use Rattle.dn_types.specs.declared.target.Target.TheVariants.{Pipe as ToPipe}
+use Rattle.dn_types.specs.declared.target.Target.{Target}
+use Rattle.dn_types.specs.declared.target.Target.TheVariants.{Pipe as ToPipe, Queue as ToQueue}
 use Rattle.dn_laws.proofs.AtHome.{have-homes, waits-home}
 use Rattle.dn_laws.proofs.Begun.{HasSettled, none-settled, settled-more, next_start-is, begun-next}
 use Rattle.dn_types.proofs.Conserving.{conserves-work}
 use Rattle.dn_types.proofs.Firsts.{next-picked}
 use Rattle.dn_types.proofs.InForce.{IsKept, settings-kept}
-use Rattle.dn_types.proofs.Known.{all-known}
+use Rattle.dn_types.proofs.Known.{AreKnown, all-known}
 use Rattle.dn_laws.proofs.PickLaws.{pick-is-first}
 use Rattle.dn_laws.proofs.ReadingsObey.{read, read-on, reads-on, mine-is, is-raised, first-head, queue-on, free-on}
+use Rattle.dn_laws.proofs.SameAnswers.{first-one}
 use Rattle.dn_types.proofs.Settled.{link_eq-true, first_start-of, next_start-link}
 use Rattle.dn_types.proofs.Settling.{next_start-packet, first-own, backlog-own}
 use Rattle.dn_laws.proofs.Shares.{pick-is-least}
@@ -58,9 +60,45 @@ module _ (rule : Rule) where
       let own = mine-is link flow p (first-own link flow p (backlog link flow t) e (backlog-own link flow t)) in
       ((some.0, queue-on link p.stamped.flow t ∙ ap (λ n. backlog link n t) own.1 ∙ some.1), own.1)
 
-  next-on : (link : Link) (t : List Event) (p : Accepted) → next_packet link t ≡ Some p → IsNext (read rule) link (on_link link t) p
-  next-on (own pipe flow) t p e = first-on (own pipe flow) t flow p e
-  next-on (shared pipe) t p e = (by (pick v hs) refl, picked)
+  own-flow : (target : Target) (other carrier pipe flow : ℕ) → own pipe flow ≡ link_of target other carrier → other ≡ flow
+  own-flow (ToPipe n) other carrier pipe flow e = let is : own pipe flow ≡ own carrier other = e in cc
+  own-flow (ToQueue n) other carrier pipe flow e = let is : own pipe flow ≡ shared carrier = e in absurd cc
+
+  -- On a link of its own, a flow's first is picked since no other flow waits.
+  alone-on : (set : Settings) (known : List FlowKey) (pipe flow : ℕ) (t : List Event) (p : Accepted) → AreKnown set known t → next_packet (own pipe flow) t ≡ Some p →
+      IsPick (read rule) (own pipe flow) (on_link (own pipe flow) t) p
+  alone-on set known pipe flow t p are_known e = record {
+    first = mine.0;
+    to = raised (virtual_time (own pipe flow) t) (link_heads (own pipe flow) t);
+    raised = there;
+    eligible = ⊎_elim
+        (λ (some : (q : Accepted) × IsFirst (read rule) (own pipe flow) (on_link (own pipe flow) t) q × (q.stamped.start_tag ≤ raised (virtual_time (own pipe flow) t) (link_heads (own pipe flow) t))).
+        let tags = ap (λ (x : Accepted). x.stamped.start_tag) (same some.0 some.1) in let low = some.2 in omega (arith, tags, low))
+        (λ (none : ((other : ℕ) → backlog (own pipe flow) other (on_link (own pipe flow) t) ≡ []) × (raised (virtual_time (own pipe flow) t) (link_heads (own pipe flow) t) ≡ virtual_time (own pipe flow) (on_link (own pipe flow) t))).
+        let f : p ∷ mine.0.0 ≡ [] = sym mine.0.1 ∙ none.0 p.stamped.flow in absurd cc)
+        there.far_enough;
+    least = λ q head low. (
+      (let tags = ap (λ (x : Accepted). x.stamped.finish_tag) (same q head) in omega (arith, tags)),
+      (λ tags. let flows = ap (λ (x : Accepted). x.stamped.flow) (same q head) in omega (arith, flows)),
+    );
+  }
+    where
+      mine : IsFirst (read rule) (own pipe flow) (on_link (own pipe flow) t) p × (p.stamped.flow ≡ flow)
+      mine = first-on (own pipe flow) t flow p e
+
+      there : IsRaised (read rule) (own pipe flow) (on_link (own pipe flow) t) (raised (virtual_time (own pipe flow) t) (link_heads (own pipe flow) t))
+      there = raised-on (own pipe flow) t
+
+      same : (q : Accepted) → IsFirst (read rule) (own pipe flow) (on_link (own pipe flow) t) q → q ≡ p
+      same q head =
+          let waits : backlog (own pipe flow) q.stamped.flow t ≡ q ∷ head.0 = sym (queue-on (own pipe flow) q.stamped.flow t) ∙ head.1 in
+          let some = ap (λ (ps : List Accepted). length ps) waits in
+          let home = are_known (own pipe flow) q.stamped.flow (omega (arith, some)) in
+          first-one (read rule) (own pipe flow) (on_link (own pipe flow) t) q p (own-flow home.key.target q.stamped.flow home.key.pipe pipe flow home.link_is ∙ sym mine.1) head mine.0
+
+  next-on : (set : Settings) (known : List FlowKey) (link : Link) (t : List Event) (p : Accepted) → AreKnown set known t → next_packet link t ≡ Some p → IsPick (read rule) link (on_link link t) p
+  next-on set known (own pipe flow) t p are_known e = alone-on set known pipe flow t p are_known e
+  next-on set known (shared pipe) t p are_known e = picked
     where
       v : ℕ
       v = virtual_time (shared pipe) t
@@ -79,12 +117,13 @@ module _ (rule : Rule) where
 
       picked : IsPick (read rule) (shared pipe) (on_link (shared pipe) t) p
       picked = record {
+        first = by (pick v hs) refl;
         to = raised v hs;
         raised = raised-on (shared pipe) t;
         eligible = (pick-is-first v hs p.stamped is).may_go;
-        least = λ q first low. all-at (λ x. x.start_tag ≤ raised v hs → (p.stamped.finish_tag ≤ x.finish_tag) × (p.stamped.finish_tag ≡ x.finish_tag → p.stamped.flow ≤ x.flow))
+        least = λ q head low. all-at (λ x. x.start_tag ≤ raised v hs → (p.stamped.finish_tag ≤ x.finish_tag) × (p.stamped.finish_tag ≡ x.finish_tag → p.stamped.flow ≤ x.flow))
             (heads (flow_bound t) (λ flow. backlog (shared pipe) flow t)) q (pick-is-least v hs p.stamped is)
-            (first-head rule (shared pipe) t q (first.0, sym (queue-on (shared pipe) q.stamped.flow t) ∙ first.1)) low;
+            (first-head rule (shared pipe) t q (head.0, sym (queue-on (shared pipe) q.stamped.flow t) ∙ head.1)) low;
       }
 
   pub is-transmission : (bw len : ℕ) → IsTransmission bw len (transmission_time bw len)
@@ -120,8 +159,7 @@ module _ (rule : Rule) where
         let is = next_start-is set at link (f ++ old) s mine in
         let begun = begun-next set known at old link s f h mine in
         record {
-          on_link = on;
-          next = next-on link (f ++ old) s.packet (next_start-packet set at link (f ++ old) s mine);
+          next = next-on set known link (f ++ old) s.packet h.are_known (next_start-packet set at link (f ++ old) s mine);
           at_once = is.1 ∙ sym (free-on link (f ++ old));
           in_time = is.2;
           by_command = is-by set link s (free link (f ++ old)) is.0 (ap (λ (l : Link). is_some (set (ToPipe (pipe_of l)))) (sym on) ∙ begun.carried) kept;

@@ -73,7 +73,6 @@ pub record GrowsBy (r : Readings) (link : Link) (trace : List Event) (s : Start)
 
 pub record AreReadings (rule : Rule) (r : Readings) : Type 0 where
   -- What waits is what arrived, less the first at each start, and nothing after a delete.
-  pub queue_begins : (link : Link) (flow : ℕ) → r.queue link flow [] ≡ []
   pub queue_arrives : (link : Link) (flow : ℕ) (p : Accepted) (trace : List Event) → IsOf link flow p → r.queue link flow (arrived p ∷ trace) ≡ r.queue link flow trace ++ p ∷ []
   pub queue_starts : (link : Link) (flow : ℕ) (s : Start) (trace : List Event) → IsOf link flow s.packet → r.queue link flow (started s ∷ trace) ≡ drop 1 (r.queue link flow trace)
   pub queue_ends : (link : Link) (flow : ℕ) (trace : List Event) → r.queue link flow (discarded flow ∷ trace) ≡ []

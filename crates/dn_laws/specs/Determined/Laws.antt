@@ -4,7 +4,6 @@ use Rattle.std.specs.Prelude.{ℕ, ◌≡◌, ◌≢◌, ◌≤◌, ◌<◌, ◌
 use Rattle.std.specs.List.{count_by}
 use Rattle.dn_laws.specs.Explained.{IsJudgedBy, IsExplained}
 use Rattle.dn_laws.specs.FlowLaws.{flow_told, IsMaskedBy, kept_by}
-use Rattle.dn_laws.specs.PartLaws.{IsTimed}
 use Rattle.dn_laws.specs.ReplyLaws.{IsToldBy}
 use Rattle.dn_laws.specs.Told.{moment_told, is_queued, IsCarriedBy}
 use Rattle.dn_laws.specs.Determined.Emulators.{Emulator, answers, Has, Readings, AreReadings}
@@ -43,13 +42,15 @@ IsWeight (Pipe number bw delay limit loss buckets mask) weight = weight ≡ 1
 IsWeight (Queue number pipe own_weight limit loss buckets mask) weight = weight ≡ own_weight
 IsWeight _ weight = ⊥
 
--- A packet, an Advance and a Collect move the clock to the moment that they name, where that is later, and are told it.
+-- A packet, an Advance and a Collect move the clock to the moment that they name, where that is later. A packet and an Advance are
+-- told it here, and a Collect with its deliveries.
 pub record KeepsTheClock (e : Emulator) (calls : List Call) : Type 0 where
   pub submits : (target : Target) (packet : Packet) (moment : ℕ) → e.clock (Submit target packet moment ∷ calls) ≡ max (e.clock calls) moment
   pub advances : (moment : ℕ) → e.clock (Advance moment ∷ calls) ≡ max (e.clock calls) moment
   pub collects : (moment : ℕ) → e.clock (Collect moment ∷ calls) ≡ max (e.clock calls) moment
-  pub stays : (c : Call) → (IsTimed c → ⊥) → e.clock (c ∷ calls) ≡ e.clock calls
-  pub told : (c : Call) → IsTimed c → moment_told (e.told calls c) ≡ Some (e.clock (c ∷ calls))
+  pub configures : (command : Command) → e.clock (Configure command ∷ calls) ≡ e.clock calls
+  pub shows : e.clock (Show ∷ calls) ≡ e.clock calls
+  pub told : (target : Target) (packet : Packet) (moment : ℕ) → moment_told (e.told calls (Submit target packet moment)) ≡ Some (e.clock (Submit target packet moment ∷ calls))
   pub advanced : (moment : ℕ) → e.told calls (Advance moment) ≡ Advanced (e.clock (Advance moment ∷ calls))
 
 -- A command is told what is in force, and obeyed as it is told. Nothing else changes what is in force.

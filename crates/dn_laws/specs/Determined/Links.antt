@@ -24,23 +24,19 @@ abbrev pub IsBy : Option Command → Start → Type 0
 IsBy (Some (Pipe number bw delay limit loss buckets mask)) s = IsTransmission bw s.packet.stamped.len s.transmission × (s.delay ≡ delay * 10 ^ 6)
 IsBy _ s = ⊥
 
--- The packet that starts next: a flow's first on its own link. On a shared link WF2Q+ picks, of the firsts whose start tag the
--- raised virtual time has reached, the one with the least finish tag, and of those with that one the least flow number.
+-- The packet that starts next. WF2Q+ picks, of the firsts whose start tag the raised virtual time has reached, the one with the
+-- least finish tag, and of those with that one the least flow number. On a link of its own, a flow's first is the only one.
 pub record IsPick (r : Readings) (link : Link) (trace : List Event) (p : Accepted) : Type 0 where
+  pub first : IsFirst r link trace p
   pub to : ℕ
   pub raised : IsRaised r link trace to
   pub eligible : p.stamped.start_tag ≤ to
   pub least : (q : Accepted) → IsFirst r link trace q → q.stamped.start_tag ≤ to →
       (p.stamped.finish_tag ≤ q.stamped.finish_tag) × (p.stamped.finish_tag ≡ q.stamped.finish_tag → p.stamped.flow ≤ q.stamped.flow)
 
-abbrev pub IsNext : Readings → Link → List Event → Accepted → Type 0
-IsNext r (own pipe flow) trace p = IsFirst r (own pipe flow) trace p × (p.stamped.flow ≡ flow)
-IsNext r (shared pipe) trace p = IsFirst r (shared pipe) trace p × IsPick r (shared pipe) trace p
-
 -- A start by the clock, of the next packet, as soon as its link is free.
 pub record IsStart (r : Readings) (force : Target → Option Command) (link : Link) (at : ℕ) (s : Start) (trace : List Event) : Type 0 where
-  pub on_link : s.packet.link ≡ link
-  pub next : IsNext r link trace s.packet
+  pub next : IsPick r link trace s.packet
   pub at_once : s.moment ≡ r.free link trace
   pub in_time : s.moment ≤ at
   pub by_command : IsBy (force (ToPipe (pipe_under link))) s
