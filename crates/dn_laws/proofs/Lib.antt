@@ -59,6 +59,8 @@ pub mod Rates
 pub mod Readings
 pub mod ReadingsObey
 mod ReadingWitnesses
+pub mod RecordLawsHold
+mod RecordWitnesses
 mod ReplyWitnesses
 pub mod Resets
 pub mod SameAnswers

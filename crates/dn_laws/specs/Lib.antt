@@ -13,6 +13,7 @@ pub mod PacketLaws
 pub mod PartLaws
 pub mod Parts
 pub mod ReadingLaws
+pub mod RecordLaws
 pub mod Replays
 pub mod ReplyLaws
 pub mod ReplyParts

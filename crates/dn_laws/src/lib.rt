@@ -4,4 +4,5 @@
 pub mod determined;
 pub mod laws;
 pub mod lines;
+pub mod records;
 pub mod services;
