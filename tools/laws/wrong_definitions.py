@@ -422,6 +422,18 @@ ROWS = [
      'laws_of_records', 'written'),
     ('version 2 of a history is by rule Ordered', 'HistoryRecords', 'rule_of Second = Free', 'rule_of Second = Ordered',
      'laws_of_records', 'read'),
+    ('any packet may lack memory', 'Shaper', 'is_some (treatment (settings calls target)) ≡ true', 'Unit {0}',
+     'laws_of_reservations', 'memory'),
+    ('a refused command may lack memory', 'Shaper', ' × (reply_to_command calls command ≡ Configured)', '',
+     'laws_of_reservations', 'memory'),
+    ('an Advance may lack memory', 'Shaper', 'calls (Advance moment) = ⊥', 'calls (Advance moment) = Unit {0}',
+     'laws_of_reservations', 'memory'),
+    ('no command has room', 'Room', 'is_some (settings_of s.configured (subject command)) ≡ true', '⊥', 'laws_of_reservations', 'room'),
+    ('a packet to no pipe has no room', 'Room', 'HasRoomBy None target tuple p = Unit {0}', 'HasRoomBy None target tuple p = ⊥',
+     'laws_of_reservations', 'room'),
+    ('a packet leaves no room', 'Room', '= KeepsOthersRoom target packet.tuple old new', '= Unit {0}', 'laws_of_reservations', 'stays'),
+    ('a Collect leaves no room', 'Room', 'LeavesRoom (Collect moment) old new = KeepsRoom old new',
+     'LeavesRoom (Collect moment) old new = Unit {0}', 'laws_of_reservations', 'stays'),
     ('a service is by rule Free', 'Callers', ('Rule.TheVariants.{Ordered}', 'pub lawful : IsLawful Ordered history'),
      ('Rule.TheVariants.{Ordered, Free}', 'pub lawful : IsLawful Free history'), 'laws_of_services', 'deliveries'),
     ('a history has entries of anybody', 'Histories', '(λ e. e.caller < n)',
@@ -450,6 +462,7 @@ DEFINITIONS = Base("dn_types", (), "")
 BASES = {
     "laws_of_lines": Base("dn_config", ("dn_types", "dn_text"), "line"),
     "laws_of_records": Base("dn_history", ("dn_types", "dn_text", "dn_config", "dn_records"), "record", joined=("dn_files",)),
+    "laws_of_reservations": Base("dn_shaper", ("dn_types", "dn_heap", "dn_flows", "dn_link", "dn_wf2q"), "reservation"),
     "laws_of_services": Base(
         "dn_service", ("dn_types",), "service", ("close_fault", "open_fault", "try_fault", "Accounts", "Callers", "Histories")
     ),

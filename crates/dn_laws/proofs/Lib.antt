@@ -62,6 +62,8 @@ mod ReadingWitnesses
 pub mod RecordLawsHold
 mod RecordWitnesses
 mod ReplyWitnesses
+pub mod ReservationLawsHold
+mod ReservationWitnesses
 pub mod Resets
 pub mod SameAnswers
 pub mod SameCalls

@@ -17,6 +17,7 @@ pub mod RecordLaws
 pub mod Replays
 pub mod ReplyLaws
 pub mod ReplyParts
+pub mod ReservationLaws
 pub mod ResetLaws
 pub mod ServiceLaws
 pub mod SharingLaws
