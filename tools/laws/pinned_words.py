@@ -44,7 +44,7 @@ def used_by(definitions: Definitions, start: Set[Key]) -> Set[Key]:
         seen.add(key)
         if key[0] == "dn_types":
             found.add(key)
-        else:
+        elif key[0] == "dn_laws":
             left += words_in(definitions, key)
     return {key for key in found if not TYPE.match(definitions[key].lines[0])}
 

@@ -1,5 +1,5 @@
 #!/usr/bin/env python3
-"""Tries wrong definitions of dn_types, dn_config and dn_service one at a time, and asks that the laws of dn_laws refuse each.
+"""Tries wrong definitions of dn_types and of the crates in BASES one at a time, and asks that the laws of dn_laws refuse each.
 
     tools/laws/wrong_definitions.py              prints a table in Markdown: a law, and the wrong definitions that it refuses
     tools/laws/wrong_definitions.py 3 17         tries these rows alone
@@ -369,6 +369,53 @@ ROWS = [
     ('weights are forgotten', 'Line', 'Ok (c.Queue n p o.weight', 'Ok (c.Queue n p 1', 'laws_of_lines', 'queues'),
     ('dst-port sets the source port', 'Masks', 'record mask { dport = n }', 'record mask { sport = n }', 'laws_of_lines', 'pipes'),
     ('all spares the protocol', 'Masks', '2 ^ 32 - 1; proto = 255;', '2 ^ 32 - 1; proto = 0;', 'laws_of_lines', 'pipes'),
+    ('a weight may be 1,000', 'Values', 'number_within 1 100 w', 'number_within 1 1000 w', 'laws_of_lines', 'ranges'),
+    ('a loss rate may be 2', 'Values', 'within 0 (10 ^ 18) (rate', 'within 0 (2 * 10 ^ 18) (rate', 'laws_of_lines', 'ranges'),
+    ('a queue may have no slot', 'Values', 'number_within 1 10000 (digits', 'number_within 0 10000 (digits', 'laws_of_lines', 'ranges'),
+    ('a delay may be two hours', 'Values', 'number_within 0 3600000', 'number_within 0 7200000', 'laws_of_lines', 'ranges'),
+    ('source and destination of a row are exchanged', 'Fields', 'record { src = src; dst = dst;',
+     'record { src = dst; dst = src;', 'laws_of_records', 'rows'),
+    ('a row has its word before its length', 'Fields', ('(place + 5) 1', '(place + 6) 0'), ('(place + 6) 1', '(place + 5) 0'),
+     'laws_of_records', 'rows'),
+    ('the moment of a row is in microseconds', 'PacketFile', ('Prelude.{', '{ moment = moment;'),
+     ('Prelude.{◌*◌, ', '{ moment = moment * 1000;'), 'laws_of_records', 'rows'),
+    ('the length of a row is in bits', 'Fields', ('Prelude.{', 'len = len;'), ('Prelude.{◌/◌, ', 'len = len / 8;'),
+     'laws_of_records', 'rows'),
+    ('a random number has 31 bits', 'Fields', '0 4294967295', '0 2147483647', 'laws_of_records', 'rows'),
+    ('a missing random number counts as 1', ('Fields', 'PacketFile'),
+     (('Prelude.{', '0 4294967295 fields'), ('Prelude.{', 'cond (length fields == 10) (do')),
+     (('Prelude.{◌∷◌, ◌++◌, ', '0 4294967295 (fields ++ codes "1" ∷ [])'),
+      ('Prelude.{◌||◌, ', 'cond (length fields == 9 || length fields == 10) (do')), 'laws_of_records', 'ten'),
+    ('rows count from 0', 'PacketFile', '(rows_from 1 rest)', '(rows_from 0 rest)', 'laws_of_records', 'ten'),
+    ('a packet file may have 2^27 bytes', 'PacketFile', '67108864', '134217728', 'laws_of_records', 'limits'),
+    ('each record of a call is of caller 0', 'EntryRecords', '"c" ∷ decimal caller', '"c" ∷ decimal 0', 'laws_of_records', 'written'),
+    ('flow and packet of a reply are exchanged', ('EntryRecords', 'HistoryRecords'),
+     ('decimal flow ∷ decimal packet', ('flow ← long_at 4', 'packet ← long_at 5')),
+     ('decimal packet ∷ decimal flow', ('flow ← long_at 5', 'packet ← long_at 4')), 'laws_of_records', 'written'),
+    ('start and due moment of a delivery are exchanged', ('EntryRecords', 'HistoryItems'),
+     ('decimal d.start ∷ decimal d.due', ('start ← long_at 4', 'due ← long_at 5')),
+     ('decimal d.due ∷ decimal d.start', ('start ← long_at 5', 'due ← long_at 4')), 'laws_of_records', 'written'),
+    ('packets and bytes of a flow are exchanged', ('EntryRecords', 'HistoryItems'),
+     ('decimal s.queued ∷ decimal s.bytes', ('queued ← long_at 16', 'bytes ← long_at 17')),
+     ('decimal s.bytes ∷ decimal s.queued', ('queued ← long_at 17', 'bytes ← long_at 16')), 'laws_of_records', 'written'),
+    ('the end counts itself', ('HistoryText', 'HistoryRecords'),
+     (('Prelude.{', '"end" ∷ decimal count'), ('Prelude.{', 'number_at 2 count count')),
+     (('Prelude.{◌+◌, ', '"end" ∷ decimal (count + 1)'), ('Prelude.{◌+◌, ', 'number_at 2 (count + 1) (count + 1)')),
+     'laws_of_records', 'written'),
+    ('version 2 of a history is by rule Ordered', 'HistoryRecords', 'rule_of Second = Free', 'rule_of Second = Ordered',
+     'laws_of_records', 'read'),
+    ('any packet may lack memory', 'Shaper', 'is_some (treatment (settings calls target)) ≡ true', 'Unit {0}',
+     'laws_of_reservations', 'memory'),
+    ('a refused command may lack memory', 'Shaper', ' × (reply_to_command calls command ≡ Configured)', '',
+     'laws_of_reservations', 'memory'),
+    ('an Advance may lack memory', 'Shaper', 'calls (Advance moment) = ⊥', 'calls (Advance moment) = Unit {0}',
+     'laws_of_reservations', 'memory'),
+    ('no command has room', 'Room', 'is_some (settings_of s.configured (subject command)) ≡ true', '⊥', 'laws_of_reservations', 'room'),
+    ('a packet to no pipe has no room', 'Room', 'HasRoomBy None target tuple p = Unit {0}', 'HasRoomBy None target tuple p = ⊥',
+     'laws_of_reservations', 'room'),
+    ('a packet leaves no room', 'Room', '= KeepsOthersRoom target packet.tuple old new', '= Unit {0}', 'laws_of_reservations', 'stays'),
+    ('a Collect leaves no room', 'Room', 'LeavesRoom (Collect moment) old new = KeepsRoom old new',
+     'LeavesRoom (Collect moment) old new = Unit {0}', 'laws_of_reservations', 'stays'),
     ('a service is by rule Free', 'Callers', ('Rule.TheVariants.{Ordered}', 'pub lawful : IsLawful Ordered history'),
      ('Rule.TheVariants.{Ordered, Free}', 'pub lawful : IsLawful Free history'), 'laws_of_services', 'deliveries'),
     ('a history has entries of anybody', 'Histories', '(λ e. e.caller < n)',
@@ -392,6 +439,7 @@ class Base(NamedTuple):
     below: tuple
     word: str
     kept: tuple = ()  # what the copy has of src/ and specs/, where that isn't all
+    joined: tuple = ()  # crates below whose definitions are tried too, so that their files are the crate's own in the copy
 
 
 DEFINITIONS = Base("dn_types", (), "")
@@ -400,6 +448,13 @@ SERVICES = Base(
 )
 BASES = {
     "laws_of_lines": Base("dn_config", ("dn_types",), "line"),
+    "laws_of_records": Base(
+        "dn_history",
+        ("dn_types", "dn_heap", "dn_flows", "dn_link", "dn_wf2q", "dn_shaper", "dn_config", "dn_records"),
+        "record",
+        joined=("dn_files",),
+    ),
+    "laws_of_reservations": Base("dn_shaper", ("dn_types", "dn_heap", "dn_flows", "dn_link", "dn_wf2q"), "reservation"),
     "laws_of_services": SERVICES,
     "laws_give_the_headline": SERVICES,
 }
@@ -409,9 +464,29 @@ def base_of(row):
     return BASES.get(row[4], DEFINITIONS)
 
 
-def in_one_crate(text, crate="dn_types"):
-    """A text of dn_laws as one of the crate, for the copy that has both."""
-    return text.replace("Rattle.dn_laws.", "Rattle.%s." % crate).replace("use %s::" % crate, "use crate::")
+def in_one_crate(text, crate="dn_types", other="dn_laws"):
+    """A text of another crate as one of the crate, for the copy that has both."""
+    text = text.replace("Rattle.%s." % other, "Rattle.%s." % crate)
+    return text.replace("use %s::" % crate, "use crate::").replace("use %s::" % other, "use crate::")
+
+
+def files_of(top):
+    """The specs, proofs and sources of a crate, by their paths in it."""
+    paths = (os.path.join(folder, name) for folder, _, names in os.walk(top) for name in names if name.endswith((".antt", ".rt")))
+    return [path for path in (os.path.relpath(one, top) for one in paths) if not path.startswith(("out", "edits", "must-fail"))]
+
+
+def join_crate(crate, base, other):
+    """Puts the files of another crate into the copy as ones of its own. The lists of modules, which both have, become one."""
+    for top in (crate, os.path.join(TOP, "crates", other)):
+        for path in files_of(top):
+            own = os.path.join(crate, path)
+            with open(os.path.join(top, path)) as file:
+                text = in_one_crate(file.read(), base.crate, other)
+            joins = top != crate and os.path.exists(own)
+            os.makedirs(os.path.dirname(own), exist_ok=True)
+            with open(own, "a" if joins else "w") as file:
+                file.write(re.sub(r"(?m)^(//!|#!).*\n", "", text) if joins else text)
 
 
 def has_word(path, word):
@@ -427,22 +502,20 @@ def is_wanted(path, base):
 
 def add_the_laws(crate, base=DEFINITIONS):
     """Puts the files of dn_laws into the copy of the crate, so that a wrong definition meets its law first."""
-    top = os.path.join(TOP, "crates", "dn_laws")
-    for folder, folders, names in os.walk(top):
-        folders[:] = [name for name in folders if name != "out"]
-        for name in names:
-            path = os.path.relpath(os.path.join(folder, name), top)
-            if not name.endswith((".antt", ".rt")) or path == os.path.join("src", "lib.rt"):
-                continue
-            with open(os.path.join(folder, name)) as file:
-                text = in_one_crate(file.read(), base.crate)
-            if name == "Lib.antt":
-                text = "".join(line for line in text.splitlines(True) if is_wanted(os.path.join(path, line.split()[-1]), base))
-            elif not is_wanted(path, base):
-                continue
-            os.makedirs(os.path.dirname(os.path.join(crate, path)), exist_ok=True)
-            with open(os.path.join(crate, path), "a" if name == "Lib.antt" else "w") as file:
-                file.write(text)
+    top, own = os.path.join(TOP, "crates", "dn_laws"), files_of(crate)
+    for path in files_of(top):
+        folder, name = os.path.split(path)
+        with open(os.path.join(top, path)) as file:
+            text = in_one_crate(file.read(), base.crate)
+        if name == "Lib.antt":
+            modules = [os.path.join(folder, line.split()[-1] + ".antt") for line in text.splitlines()]
+            wanted = [module not in own and is_wanted(module, base) for module in modules]
+            text = "".join(line for line, is_one in zip(text.splitlines(True), wanted) if is_one)
+        elif name == "lib.rt" or path in own or not is_wanted(path, base):
+            continue
+        os.makedirs(os.path.dirname(os.path.join(crate, path)), exist_ok=True)
+        with open(os.path.join(crate, path), "a" if name == "Lib.antt" else "w") as file:
+            file.write(text)
     with open(os.path.join(crate, "src", "lib.rt"), "a") as file:
         file.write("pub mod %ss;\n" % base.word if base.word else "pub mod determined;\npub mod laws;\n")
 
@@ -485,13 +558,17 @@ def copy_of_the_crate(folder, base=DEFINITIONS):
         shutil.copytree(os.path.join(TOP, "crates", name), os.path.join(crates, name), dirs_exist_ok=True)
     shutil.copy(os.path.join(TOP, "HANDLES"), folder)
     with open(os.path.join(TOP, "crates.txt")) as file:
-        lines = [line.split() for line in file if line.split(":")[0] in (*base.below, base.crate)]
+        needs = {line.split()[0].rstrip(":"): line.split()[1:] for line in file}
+    needs[base.crate] = list(dict.fromkeys(sum((needs[name] for name in (base.crate, *base.joined)), [])))
     ours = set(os.listdir(os.path.join(TOP, "crates"))) - {*base.below}
     with open(os.path.join(folder, "crates.txt"), "w") as own:
-        own.writelines(" ".join([line[0], *(name for name in line[1:] if name not in ours)]) + "\n" for line in lines)
+        for name in (*base.below, base.crate):
+            own.write(" ".join([name + ":", *(word for word in needs[name] if word not in ours)]) + "\n")
     if base.kept:
         only_kept(crate, base.kept)
     add_the_laws(crate, base)
+    for name in base.joined:
+        join_crate(crate, base, name)
     set_aside(os.path.join(crate, "proofs"))
     return crate
 

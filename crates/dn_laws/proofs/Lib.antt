@@ -61,7 +61,11 @@ pub mod Rates
 pub mod Readings
 pub mod ReadingsObey
 mod ReadingWitnesses
+pub mod RecordLawsHold
+mod RecordWitnesses
 mod ReplyWitnesses
+pub mod ReservationLawsHold
+mod ReservationWitnesses
 pub mod Resets
 pub mod SameAnswers
 pub mod SameCalls

@@ -1,5 +1,5 @@
 -- The laws of configuration lines hold.
-use Rattle.std.proofs.Common.{◌≡◌, refl, sym, ◌∙◌, ap, subst, ⊎_elim, inl, inr, ℕ, ◌+◌, ◌^◌, ◌<◌, ◌≤◌, Bool, true, false, cond, List, [], ◌∷◌, ◌++◌, length, drop, arith}
+use Rattle.std.proofs.Common.{◌≡◌, refl, sym, ◌∙◌, ap, subst, ⊎_elim, inl, inr, ℕ, ◌+◌, ◌^◌, ◌<◌, ◌≤◌, Bool, true, false, cond, List, [], ◌∷◌, ◌++◌, length, drop, arith, append-nil}
 use Rattle.std.specs.Prelude.{decimal, codes, bytes_eq, nat_eq, slice_index, ◌==◌, ◌&&◌, ◌⊎◌, Option, Some, None, Result, Ok, Err}
 use Rattle.std.specs.List.{list_all}
 use Rattle.std.specs.Char.{is_ascii_digit}
@@ -22,6 +22,7 @@ use Rattle.dn_config.specs.Reading.{read_options, read_mask}
 use Rattle.dn_config.specs.Settings.{defaults, set_option}
 use Rattle.dn_config.specs.Values.{placed, bits_of, bits_at}
 use Rattle.dn_config.specs.declared.fault.LineFault.{LineFault}
+use Rattle.dn_config.specs.declared.fault.LineFault.TheVariants.{OutOfRange}
 use Rattle.dn_config.specs.declared.kind.Kind.{Kind}
 use Rattle.dn_config.specs.declared.kind.Kind.TheVariants as kind
 use Rattle.dn_config.specs.declared.option_group.Parameter.{Parameter}
@@ -36,11 +37,11 @@ use Rattle.dn_config.specs.declared.option_group.Setting.TheVariants as set
 use Rattle.dn_config.specs.declared.options.Options.{Options}
 use Rattle.dn_config.proofs.Config.{config_ok, config_err}
 use Rattle.dn_config.proofs.MaskSteps.{fields_nil, fields_step, mask_begins}
-use Rattle.dn_config.proofs.OptionSteps.{options_step, options_nil, option_mask_ok}
+use Rattle.dn_config.proofs.OptionSteps.{options_step, options_nil, option_bad, option_mask_ok}
 use Rattle.dn_laws.proofs.LineSteps.{EndsMasks, options-add, valued-last}
-use Rattle.dn_laws.proofs.LineValues.{rate-is, delay-is, limit-is, loss-is}
+use Rattle.dn_laws.proofs.LineValues.{rate-is, delay-is, limit-is, loss-is, number-out, rate-out, delay-out, slots-out, kbytes-out, loss-out}
 use Rattle.dn_laws.specs.Determined.Emulators.{Has}
-use Rattle.dn_laws.specs.LineLaws.{Says, IsMask, no_bits, with_bits, DefaultsAreKnown, PipesAreSet, QueuesAreSet}
+use Rattle.dn_laws.specs.LineLaws.{Says, IsMask, no_bits, with_bits, ranges, DefaultsAreKnown, PipesAreSet, QueuesAreSet, OthersAreRefused}
 
 abbrev name-of : Kind → List ℕ
 name-of kind.Pipe = codes "pipe"
@@ -238,3 +239,36 @@ queues-are-set n carrier share lost most count bits ws low high says =
       mask = λ words m is. mask-says n low high ws kind.Queue (Queue n carrier share most lost count bits) says words m is (Queue n carrier share most lost count m)
           (λ o h. let e = names o o.pipe refl h in let good = rw e at h in rw e (cc));
     }
+
+module _ (n : ℕ) (low : 1 ≤ n) (high : n ≤ 65535) where
+  bad-says : (k : Kind) (p : Parameter) (v : List ℕ) → belongs k p ≡ true → value_of 5 p v ≡ Err (OutOfRange 5)
+      → command_of (name-of k ∷ decimal n ∷ codes "config" ∷ word-of p ∷ v ∷ []) ≡ Err (OutOfRange 5)
+  bad-says k p v own bad =
+      let is = word-is p in
+      let named = option_bad k 4 (option_of (word-of p)) (is_left_out_word (word-of p)) (v ∷ []) v [] p is.0 own refl (OutOfRange 5) bad in
+      let options = rw named at (options_step k defaults 4 (word-of p) (v ∷ []) (option_of (word-of p)) (is_left_out_word (word-of p)) refl refl) in
+      let config = sym (config_err k 1 n 4 (word-of p ∷ v ∷ []) (OutOfRange 5) refl (sym options)) in
+      head n low high (word-of p ∷ v ∷ []) k ∙ rw config refl
+
+  abbrev Refuses : ℕ → List ℕ × List ℕ × List ℕ × ℕ × ℕ → Type 0
+  Refuses k row = k < 2 ^ 64 → (k < row.3) ⊎ (row.4 < k) → command_of (row.0 ∷ decimal n ∷ codes "config" ∷ row.1 ∷ (decimal k ++ row.2) ∷ []) ≡ Err (OutOfRange 5)
+
+  above : (k most : ℕ) → (k < 0) ⊎ (most < k) → most < k
+  above k most (inl none) = absurd (omega (arith, none))
+  above k most (inr more) = more
+
+  row-refuses : (k : ℕ) (row : List ℕ × List ℕ × List ℕ × ℕ × ℕ) → Has ranges row → Refuses k row
+  row-refuses k row h =
+      ⊎_elim (λ e. subst (Refuses k) e (λ l out. bad-says kind.Pipe p.Bandwidth (decimal k ++ codes "") refl (rw (rate-out k 5 l (above k (10 ^ 12) out)) refl)))
+      (λ h. ⊎_elim (λ e. subst (Refuses k) e (λ l out. bad-says kind.Pipe p.Delay (decimal k ++ codes "") refl (rw (delay-out k 5 l (above k 3600000 out)) refl)))
+      (λ h. ⊎_elim (λ e. subst (Refuses k) e (λ l out. bad-says kind.Pipe p.Queue (decimal k ++ codes "") refl (rw (slots-out k 5 l out) refl)))
+      (λ h. ⊎_elim (λ e. subst (Refuses k) e (λ l out. bad-says kind.Pipe p.Queue (decimal k ++ codes "K") refl (rw (kbytes-out k 5 l out) refl)))
+      (λ h. ⊎_elim (λ e. subst (Refuses k) e (λ l out. bad-says kind.Pipe p.Buckets (decimal k ++ codes "") refl (rw (append-nil (decimal k), number-out k 5 l 16 65536 out) refl)))
+      (λ h. ⊎_elim (λ e. subst (Refuses k) e (λ l out. bad-says kind.Queue p.Weight (decimal k ++ codes "") refl (rw (append-nil (decimal k), number-out k 5 l 1 100 out) refl)))
+      (λ h. ⊎_elim (λ e. subst (Refuses k) e (λ l out. bad-says kind.Queue p.Pipe (decimal k ++ codes "") refl (rw (append-nil (decimal k), number-out k 5 l 1 65535 out) refl))) (λ h. absurd h) h) h) h) h) h) h) h
+
+pub others-are-refused : OthersAreRefused
+others-are-refused n low high = record {
+  numbers = λ k row h. row-refuses n low high k row h;
+  losses = λ whole places digits some few fewer above. bad-says n low high kind.Pipe p.Loss (whole ++ 46 ∷ places) refl (rw (loss-out whole places digits some few fewer above 5) refl);
+}

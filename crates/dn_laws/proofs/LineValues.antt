@@ -1,23 +1,26 @@
 -- What the values of options write, by the laws' words for them.
 use Rattle.std.proofs.Common.{◌≡◌, refl, sym, ◌∙◌, ap, subst, ⊎_elim, ℕ, zero, suc, ◌+◌, ◌*◌, ◌-◌, ◌/◌, ◌^◌, ◌<◌, ◌≤◌}
-use Rattle.std.proofs.Common.{Bool, true, false, List, [], ◌∷◌, ◌++◌, length, map, drop, arith, append-nil, length-append}
-use Rattle.std.specs.Prelude.{Option, Some, Ok, nat_lt, nat_le, slice_index, decimal, codes}
+use Rattle.std.proofs.Common.{Bool, true, false, cond, inl, inr, List, [], ◌∷◌, ◌++◌, length, map, drop, arith, append-nil, length-append}
+use Rattle.std.specs.Prelude.{◌⊎◌, ◌&&◌, Option, Some, Result, Ok, Err, nat_lt, nat_le, slice_index, decimal, codes}
 use Rattle.std.specs.List.{prefix_len, list_all}
 use Rattle.std.specs.Char.{is_ascii_digit, is_ascii_alphabetic, to_ascii_lowercase, digit_value}
 use Rattle.std.specs.Str.Parse.{digits_value, digits_value_after}
 use Rattle.std.proofs.Math.Nat.{mul_assoc, mul_right_comm, add-mul, mul-le-mul_left, mul-le-mul_right, mul-lt-mul_of_pos_right, pow-suc, pow-zero}
 use Rattle.std.proofs.Math.Seq.{take-append_seam, drop-append_seam, take-length}
-use Rattle.std.proofs.lemmas.Bool.{and_parts, le-leb, lt-ltb}
+use Rattle.std.proofs.lemmas.Bool.{and_parts, le-leb, lt-leb, lt-ltb}
 use Rattle.std.proofs.lemmas.Bool.Decides.{nat_tests}
 use Rattle.std.proofs.lemmas.Fmt.{decimal_is_IsNumeral}
 use Rattle.std.proofs.lemmas.List.Folds.{list_all-append}
 use Rattle.std.proofs.lemmas.Nat.{pow-add}
 use Rattle.dn_types.specs.declared.limit.Limit.{Limit}
 use Rattle.dn_types.specs.declared.limit.Limit.TheVariants.{Slots, Kbytes}
-use Rattle.dn_config.specs.Tokens.Numbers.{within}
+use Rattle.dn_config.specs.Tokens.Numbers.{number_within, within}
+use Rattle.dn_config.specs.declared.tokens.number_fault.NumberFault.{NumberFault}
+use Rattle.dn_config.specs.declared.tokens.number_fault.NumberFault.TheVariants.{Range}
 use Rattle.dn_config.proofs.Capping.{ok_within}
 use Rattle.dn_config.proofs.NumbersBack.{ascii_digits, number_back, ranged_back}
 use Rattle.dn_config.specs.Keywords.{is_among}
+use Rattle.dn_config.specs.declared.fault.LineFault.TheVariants.{OutOfRange}
 use Rattle.dn_config.specs.Values.{placed, delay_at, limit_at, limited, rate_of, bandwidth_at, rate_parts_of, kept, loss_at}
 use Rattle.dn_config.proofs.ValuesBack.{digits_front, digits_of}
 use Rattle.dn_laws.specs.Determined.Emulators.{Has}
@@ -142,16 +145,28 @@ value-append n (x ∷ xs) ys = value-append (n * 10 + digit_value x) xs ys
 both-value : (xs ys : List ℕ) → digits_value 10 (xs ++ ys) ≡ digits_value 10 xs * 10 ^ length ys + digits_value 10 ys
 both-value xs ys = value-append 0 xs ys ∙ value-after (digits_value 10 xs) ys
 
--- the digits over 10 for each place, in units of 10^-18 and then of 2^-31
+-- the digits over 10 for each place, in units of 10^-18
+in-units : (d p places value : ℕ) → places ≤ 18 → value ≡ d * 10 ^ places + p
+    → (d * 1000000000000000000 + p * 10 ^ (18 - places) ≡ value * 10 ^ (18 - places)) × (10 ^ places * 10 ^ (18 - places) ≡ 1000000000000000000) × (0 < 10 ^ (18 - places))
+in-units d p places value l same =
+    let rest = 10 ^ (18 - places) in
+    let split : places + (18 - places) ≡ 18 = omega arith in
+    let powers : 10 ^ places * rest ≡ 1000000000000000000 = sym (pow-add 10 places (18 - places)) ∙ ap (λ n. 10 ^ n) split in (
+      ap (λ m. d * m + p * rest) (sym powers) ∙ ap (λ m. m + p * rest) (sym (mul_assoc d (10 ^ places) rest)) ∙ sym (add-mul (d * 10 ^ places) p rest) ∙ ap (λ m. m * rest) (sym same),
+      powers,
+      positive (18 - places),
+    )
+  where
+    positive : (n : ℕ) → 0 < 10 ^ n
+    positive zero = rw pow-zero (omega arith)
+    positive (suc n) = omega (arith, pow-suc 10 n, positive n)
+
+-- and then of 2^-31
 kept-is : (at d p places value t : ℕ) → places ≤ 18 → value ≡ d * 10 ^ places + p → value ≤ 10 ^ places → t * 10 ^ places ≤ value * 2 ^ 31 → value * 2 ^ 31 < (t + 1) * 10 ^ places
     → kept (placed at (within 0 (10 ^ 18) (Some (d * 10 ^ 18 + p * 10 ^ (18 - places))))) ≡ Ok t
 kept-is at d p places value t l same rate holds less =
     let rest = 10 ^ (18 - places) in
-    let split : places + (18 - places) ≡ 18 = omega arith in
-    let powers : 10 ^ places * rest ≡ 1000000000000000000 = sym (pow-add 10 places (18 - places)) ∙ ap (λ n. 10 ^ n) split in
-    let some : 0 < rest = positive (18 - places) in
-    let total : d * 1000000000000000000 + p * rest ≡ value * rest =
-    ap (λ m. d * m + p * rest) (sym powers) ∙ ap (λ m. m + p * rest) (sym (mul_assoc d (10 ^ places) rest)) ∙ sym (add-mul (d * 10 ^ places) p rest) ∙ ap (λ m. m * rest) (sym same) in
+    let (total, powers, some) = in-units d p places value l same in
     let below : value * rest ≤ 10 ^ places * rest = mul-le-mul_right rest rate in
     let low : t * 10 ^ places * rest ≤ value * 2147483648 * rest = mul-le-mul_right rest holds in
     let high : value * 2147483648 * rest < (t + 1) * 10 ^ places * rest = mul-lt-mul_of_pos_right less some in
@@ -162,10 +177,6 @@ kept-is at d p places value t l same rate holds less =
     let b' : (t + 1) * (10 ^ places * rest) ≡ (t + 1) * 1000000000000000000 = ap (λ m. (t + 1) * m) powers in
     let quotient : (value * rest) * 2147483648 / 1000000000000000000 ≡ t = omega (arith, low, high, a, b, c, a', b') in
     rw total (ap kept (placed-in at 0 1000000000000000000 (value * rest) (omega arith) (omega (arith, below, powers))) ∙ ap Ok quotient)
-  where
-    positive : (n : ℕ) → 0 < 10 ^ n
-    positive zero = rw pow-zero (omega arith)
-    positive (suc n) = omega (arith, pow-suc 10 n, positive n)
 
 drop-length : (xs : List ℕ) → drop (length xs) xs ≡ []
 drop-length [] = refl
@@ -189,3 +200,52 @@ loss-is v t h at =
     rw h.text (loss-text at h.whole h.places (Some (digits_value 10 h.whole * 10 ^ 18 + digits_value 10 h.places * 10 ^ (18 - length h.places))) h.digits (rw (a, b, c) refl)
     ∙ kept-is at (digits_value 10 h.whole) (digits_value 10 h.places) (length h.places) (digits_value 10 (h.whole ++ h.places)) t h.few.2
     (both-value h.whole h.places) h.rate h.holds h.no_more)
+
+-- ---- Values out of their range
+
+out-of : (at least most n : ℕ) → (n < least) ⊎ (most < n) → placed at (within least most (Some n)) ≡ Err (OutOfRange at)
+unfolding within
+out-of at least most n (inl below) = let low : nat_le least n ≡ false = lt-leb _ _ below in rw low refl
+out-of at least most n (inr above) = let high : nat_le n most ≡ false = lt-leb _ _ above in rw high (either (nat_le least n))
+  where
+    either : (b : Bool) → placed at (cond {A = Result ℕ NumberFault} (b && false) (Ok n) (Err Range)) ≡ Err (OutOfRange at)
+    either true = refl
+    either false = refl
+
+module _ (k at : ℕ) (small : k < 2 ^ 64) where
+  pub number-out : (least most : ℕ) → (k < least) ⊎ (most < k) → placed at (number_within least most (decimal k)) ≡ Err (OutOfRange at)
+  number-out least most out = rw (number_back k small) (out-of at least most k out)
+
+  pub rate-out : 10 ^ 12 < k → bandwidth_at at (decimal k ++ codes "") ≡ Err (OutOfRange at)
+  unfolding bandwidth_at rate_of
+  rate-out above =
+      let parts = digits_of k [] small refl in
+      let is = decimal_is_IsNumeral k small in
+      let first = no-letter-first (decimal k) [] is.0.0 (ascii_digits (decimal k) is.0.1) in
+      rw (first, parts.0, parts.1, number_back k small) (out-of at 0 1000000000000 (k * 1) (inr (omega (arith, above))))
+
+  pub delay-out : 3600000 < k → delay_at at (decimal k ++ codes "") ≡ Err (OutOfRange at)
+  unfolding delay_at
+  delay-out above = let parts = digits_of k [] small refl in rw (parts.0, parts.1) (number-out 0 3600000 (inr above))
+
+  pub slots-out : (k < 1) ⊎ (10000 < k) → limit_at at (decimal k ++ codes "") ≡ Err (OutOfRange at)
+  unfolding limit_at
+  slots-out out = let parts = digits_of k [] small refl in rw (parts.0, parts.1) (ap (limited Slots) (number-out 1 10000 out))
+
+  pub kbytes-out : (k < 1) ⊎ (1024 < k) → limit_at at (decimal k ++ codes "K") ≡ Err (OutOfRange at)
+  unfolding limit_at
+  kbytes-out out = let parts = digits_of k (codes "K") small refl in rw (parts.0, parts.1) (ap (limited Kbytes) (number-out 1 1024 out))
+
+pub loss-out : (whole places : List ℕ) → list_all is_ascii_digit (whole ++ places) ≡ true → 0 < length (whole ++ places) → length whole ≤ 18 → length places ≤ 18
+    → 10 ^ length places < digits_value 10 (whole ++ places) → (at : ℕ) → loss_at at (whole ++ 46 ∷ places) ≡ Err (OutOfRange at)
+loss-out whole places digits some few fewer above at =
+    let long = length-append whole places in
+    let a : nat_le (length whole) 18 ≡ true = le-leb _ _ few in
+    let b : nat_le (length places) 18 ≡ true = le-leb _ _ fewer in
+    let c : nat_lt 0 (length whole + length places) ≡ true = lt-ltb _ _ (rw long at some) in
+    let value = digits_value 10 (whole ++ places) in
+    let rest = 10 ^ (18 - length places) in
+    let (total, powers, positive) = in-units (digits_value 10 whole) (digits_value 10 places) (length places) value fewer (both-value whole places) in
+    let over : 10 ^ length places * rest < value * rest = mul-lt-mul_of_pos_right above positive in
+    loss-text at whole places (Some (digits_value 10 whole * 10 ^ 18 + digits_value 10 places * rest)) digits (rw (a, b, c) refl)
+    ∙ rw total (ap kept (out-of at 0 1000000000000000000 (value * rest) (inr (omega (arith, over, powers)))))

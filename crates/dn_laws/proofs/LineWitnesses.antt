@@ -1,9 +1,11 @@
 -- The laws of configuration lines at examples.
-use Rattle.std.proofs.Common.{refl, inl, inr, [], ◌∷◌, ◌++◌, arith}
-use Rattle.std.specs.Prelude.{codes, decimal, None}
+use Rattle.std.proofs.Common.{◌≡◌, refl, inl, inr, [], ◌∷◌, ◌++◌, arith}
+use Rattle.std.specs.Prelude.{codes, decimal, None, Err}
+use Rattle.dn_config.specs.Line.{command_of}
+use Rattle.dn_config.specs.declared.fault.LineFault.TheVariants.{OutOfRange}
 use Rattle.dn_types.specs.declared.command.Command.TheVariants.{Pipe, Queue}
 use Rattle.dn_types.specs.declared.limit.Limit.TheVariants.{Slots, Kbytes}
-use Rattle.dn_laws.proofs.LineLawsHold.{defaults-are-known, pipes-are-set, queues-are-set}
+use Rattle.dn_laws.proofs.LineLawsHold.{defaults-are-known, others-are-refused, pipes-are-set, queues-are-set}
 use Rattle.dn_laws.specs.LineLaws.{Says, no_bits}
 
 -- `pipe 1 config bw 3Mbit/s`
@@ -27,3 +29,11 @@ weight-and-limit =
     weighed : Says (codes "queue") 2 ((codes "pipe" ∷ decimal 1 ∷ []) ++ codes "weight" ∷ decimal 7 ∷ []) (Queue 2 1 7 (Slots 50) 0 None no_bits)
     weighed = (queues-are-set 2 1 1 0 (Slots 50) None no_bits (codes "pipe" ∷ decimal 1 ∷ []) (omega arith) (omega arith)
         (defaults-are-known.queue 2 1 (omega arith) (omega arith) (omega arith) (omega arith))).weight 7 (omega arith) (omega arith)
+
+-- `queue 2 config weight 101` and `pipe 1 config plr 1.1`
+weight-and-loss-refused : (command_of (codes "queue" ∷ decimal 2 ∷ codes "config" ∷ codes "weight" ∷ (decimal 101 ++ codes "") ∷ []) ≡ Err (OutOfRange 5))
+    × (command_of (codes "pipe" ∷ decimal 1 ∷ codes "config" ∷ codes "plr" ∷ codes "1.1" ∷ []) ≡ Err (OutOfRange 5))
+weight-and-loss-refused = (
+  (others-are-refused 2 (omega arith) (omega arith)).numbers 101 (codes "queue", codes "weight", codes "", 1, 100) (inr (inr (inr (inr (inr (inl refl)))))) (omega arith) (inr (omega arith)),
+  (others-are-refused 1 (omega arith) (omega arith)).losses (codes "1") (codes "1") refl (omega arith) (omega arith) (omega arith) (omega arith),
+)

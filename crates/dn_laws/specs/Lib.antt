@@ -13,9 +13,11 @@ pub mod PacketLaws
 pub mod PartLaws
 pub mod Parts
 pub mod ReadingLaws
+pub mod RecordLaws
 pub mod Replays
 pub mod ReplyLaws
 pub mod ReplyParts
+pub mod ReservationLaws
 pub mod ResetLaws
 pub mod ServiceLaws
 pub mod SharingLaws

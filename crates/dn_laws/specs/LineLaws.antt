@@ -1,9 +1,10 @@
 -- The laws of configuration lines: what a line says without options, what each option changes and leaves, and in which units.
-use Rattle.std.specs.Prelude.{ℕ, ◌≡◌, ◌≤◌, ◌<◌, ◌+◌, ◌*◌, ◌-◌, ◌^◌, ◌⊎◌, true, List, [], ◌∷◌, ◌++◌, length, map, codes, decimal, Option, Some, None, Ok}
+use Rattle.std.specs.Prelude.{ℕ, ◌≡◌, ◌≤◌, ◌<◌, ◌+◌, ◌*◌, ◌-◌, ◌^◌, ◌⊎◌, true, List, [], ◌∷◌, ◌++◌, length, map, codes, decimal, Option, Some, None, Ok, Err}
 use Rattle.std.specs.Char.{to_ascii_lowercase, is_ascii_digit}
 use Rattle.std.specs.List.{list_all}
 use Rattle.std.specs.Str.Parse.{digits_value}
 use Rattle.dn_config.specs.Line.{command_of}
+use Rattle.dn_config.specs.declared.fault.LineFault.TheVariants.{OutOfRange}
 use Rattle.dn_laws.specs.Determined.Emulators.{Has}
 use Rattle.dn_types.specs.declared.command.Command.{Command}
 use Rattle.dn_types.specs.declared.command.Command.TheVariants.{Pipe, Queue}
@@ -83,3 +84,19 @@ PipesAreSet = (n rate wait lost : ℕ) (most : Limit) (count : Option ℕ) (bits
 abbrev pub QueuesAreSet : Type 0
 QueuesAreSet = (n carrier share lost : ℕ) (most : Limit) (count : Option ℕ) (bits : Mask) (options : List (List ℕ)) → 1 ≤ n → n ≤ 65535 →
     Says (codes "queue") n options (Queue n carrier share most lost count bits) → OnQueues n carrier share lost most count bits options
+
+-- An option whose value is a number, what may stand behind the number, and the least and the greatest one.
+abbrev pub ranges : List (List ℕ × List ℕ × List ℕ × ℕ × ℕ)
+ranges = (codes "pipe", codes "bw", codes "", 0, 10 ^ 12) ∷ (codes "pipe", codes "delay", codes "", 0, 3600000) ∷ (codes "pipe", codes "queue", codes "", 1, 10000)
+    ∷ (codes "pipe", codes "queue", codes "K", 1, 1024) ∷ (codes "pipe", codes "buckets", codes "", 16, 65536) ∷ (codes "queue", codes "weight", codes "", 1, 100)
+    ∷ (codes "queue", codes "pipe", codes "", 1, 65535) ∷ []
+
+-- The fifth word of a line is out of range: another number, or a loss rate above 1.
+pub record RangesAreKnown (n : ℕ) : Type 0 where
+  pub numbers : (k : ℕ) (row : List ℕ × List ℕ × List ℕ × ℕ × ℕ) → Has ranges row → k < 2 ^ 64 → (k < row.3) ⊎ (row.4 < k)
+      → command_of (row.0 ∷ decimal n ∷ codes "config" ∷ row.1 ∷ (decimal k ++ row.2) ∷ []) ≡ Err (OutOfRange 5)
+  pub losses : (whole places : List ℕ) → list_all is_ascii_digit (whole ++ places) ≡ true → 0 < length (whole ++ places) → length whole ≤ 18 → length places ≤ 18
+      → 10 ^ length places < digits_value 10 (whole ++ places) → command_of (codes "pipe" ∷ decimal n ∷ codes "config" ∷ codes "plr" ∷ (whole ++ 46 ∷ places) ∷ []) ≡ Err (OutOfRange 5)
+
+abbrev pub OthersAreRefused : Type 0
+OthersAreRefused = (n : ℕ) → 1 ≤ n → n ≤ 65535 → RangesAreKnown n

@@ -4,4 +4,6 @@
 pub mod determined;
 pub mod laws;
 pub mod lines;
+pub mod records;
+pub mod reservations;
 pub mod services;

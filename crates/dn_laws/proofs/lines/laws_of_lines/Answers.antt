@@ -1,4 +1,4 @@
-use Rattle.dn_laws.proofs.LineLawsHold.{defaults-are-known, pipes-are-set, queues-are-set}
+use Rattle.dn_laws.proofs.LineLawsHold.{defaults-are-known, others-are-refused, pipes-are-set, queues-are-set}
 use Rattle.dn_laws.proofs.lines.laws_of_lines.Goals as goal
 
 pub returns-clause-defaults : goal.returns-clause-defaults
@@ -9,3 +9,6 @@ returns-clause-pipes c = pipes-are-set
 
 pub returns-clause-queues : goal.returns-clause-queues
 returns-clause-queues c = queues-are-set
+
+pub returns-clause-ranges : goal.returns-clause-ranges
+returns-clause-ranges c = others-are-refused

@@ -1,0 +1,17 @@
+use Rattle.dn_laws.proofs.RecordLawsHold.{histories-are-read, histories-are-written, limits-are-known, rows-are-read, rows-have-ten-fields}
+use Rattle.dn_laws.proofs.records.laws_of_records.Goals as goal
+
+pub returns-clause-rows : goal.returns-clause-rows
+returns-clause-rows c = rows-are-read
+
+pub returns-clause-ten : goal.returns-clause-ten
+returns-clause-ten c = rows-have-ten-fields
+
+pub returns-clause-written : goal.returns-clause-written
+returns-clause-written c = histories-are-written
+
+pub returns-clause-read : goal.returns-clause-read
+returns-clause-read c = histories-are-read
+
+pub returns-clause-limits : goal.returns-clause-limits
+returns-clause-limits c = limits-are-known
