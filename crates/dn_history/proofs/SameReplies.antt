@@ -38,12 +38,12 @@ five a b c d e a' b' c' d' e' all = (grind (arith, nat_tests), grind (arith, nat
 same-mask : (a b : Mask) → mask.eq-value.it a b ≡ true → a ≡ b
 same-mask a b e =
     let k = five a.src a.dst a.proto a.sport a.dport b.src b.dst b.proto b.sport b.dport e in
-    λ i. record { src = k.0 i; dst = k.1.0 i; proto = k.1.1.0 i; sport = k.1.1.1.0 i; dport = k.1.1.1.1 i }
+    λ i. record { src = k.0 i; dst = k.1 i; proto = k.2 i; sport = k.3 i; dport = k.4 i }
 
 same-tuple : (a b : FiveTuple) → tuple.eq-value.it a b ≡ true → a ≡ b
 same-tuple a b e =
     let k = five a.src a.dst a.proto a.sport a.dport b.src b.dst b.proto b.sport b.dport e in
-    λ i. record { src = k.0 i; dst = k.1.0 i; proto = k.1.1.0 i; sport = k.1.1.1.0 i; dport = k.1.1.1.1 i }
+    λ i. record { src = k.0 i; dst = k.1 i; proto = k.2 i; sport = k.3 i; dport = k.4 i }
 
 same-target : (a b : Target) → target.eq-value.it a b ≡ true → a ≡ b
 same-target (Pipe m) (Pipe n) e = ap Pipe (eqb-true m n e)
