@@ -4,7 +4,8 @@
 usage: bench/live_rates.py [ROUNDS] [SECONDS]     (3 rounds of 3 s)
 
 Packets of 100 bytes one way with a delay of 5 ms, at some rates and as fast as they go; then TCP by iperf3 without a rate and 5 ms, and
-through 10 Gbit/s and 1 ms. Each with a transcript and without one. The link goes before all other programs (--realtime), so as root.
+through 10 Gbit/s and 1 ms. Each with a transcript and without one. The link goes before all other programs (--realtime), and the traffic
+before all but the link, so as root. The processor's time is the host's, without that of the transcript's writer.
 """
 
 from __future__ import annotations
@@ -17,7 +18,8 @@ import tempfile
 from pathlib import Path
 
 TOP = Path(__file__).resolve().parent.parent
-CPU = 'awk \'$2 == "(hinge-link)" {print "cpu", ($14 + $15) / 100}\' /proc/[0-9]*/stat 2>/dev/null'
+CPU = "for host in $(grep -lx hinge-link /proc/[0-9]*/comm); do echo cpu $(cut -d' ' -f1 ${host%comm}schedstat); done"
+FIRST = "chrt -f 5"
 
 
 def run(folder: str, transcript: bool, *words: str) -> tuple[str, dict[str, dict[str, float]]]:
@@ -37,18 +39,23 @@ def packets(folder: str, rate: int, seconds: float, transcript: bool) -> str:
         "--up",
         "5ms",
         "--server",
-        f"{blast} sink 9999",
+        f"{FIRST} {blast} sink 9999",
         "--",
         "sh",
         "-c",
-        f"{blast} 10.8.0.2 9999 {rate} {seconds} 100; {CPU}",
+        f"{FIRST} {blast} 10.8.0.2 9999 {rate} {seconds} 100; {CPU}",
     )
-    up, cpu = told["up"], float(re.findall(r"cpu (\S+)", text)[0])
+    up, cpu = told["up"], spent(text)
     came = max(1, up["came"])
     return (
         f"{up['sent'] / seconds:9,.0f}/s delivered, {up['system_drops']} dropped; late {up['late_p50_ms']:.3f} p99 {up['late_p99_ms']:.3f} ms; "
-        f"unread p99 {up['unread_p99_ms']:.3f} ms; {cpu / came * 1e6:.1f} us and {float(told['wakeups']) / came:.2f} wakeups a packet"
+        f"unread p99 {up['unread_p99_ms']:.3f} ms; {cpu / came * 1e6:.2f} us and {float(told['wakeups']) / came:.2f} wakeups a packet"
     )  # type: ignore[arg-type]
+
+
+def spent(text: str) -> float:
+    """The seconds of the host, which began before its writer."""
+    return int(re.findall(r"cpu (\d+)", text)[0]) / 1e9
 
 
 def tcp(folder: str, link: str, seconds: float, transcript: bool) -> str:
@@ -60,16 +67,15 @@ def tcp(folder: str, link: str, seconds: float, transcript: bool) -> str:
         "--down",
         link,
         "--server",
-        "iperf3 -s -1 >/dev/null",
+        f"{FIRST} iperf3 -s -1 >/dev/null",
         "--",
-        "iperf3",
+        "sh",
         "-c",
-        "server",
-        "-t",
-        str(seconds),
-        "-J",
+        f"{FIRST} iperf3 -c server -t {seconds} -J; {CPU}",
     )
-    return f"{json.loads(text)['end']['sum_received']['bits_per_second'] / 1e9:.2f} Gbit/s"
+    received = json.loads(text[: text.rindex("}") + 1])["end"]["sum_received"]
+    cost = received["bytes"] * 8e-9 / spent(text)
+    return f"{received['bits_per_second'] / 1e9:.2f} Gbit/s, {cost:.2f} Gbit in a second of the processor"
 
 
 def main(rounds: int = 3, seconds: float = 3) -> None:

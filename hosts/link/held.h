@@ -7,7 +7,8 @@
 #include "page.h"
 
 struct packet {
-    struct packet *next; /* in its bucket */
+    struct packet *next; /* in its bucket, or among those of its kind that were let go */
+    int kind;            /* of its room */
     uint64_t number;
     int way;
     uint64_t came;   /* the moment */
@@ -29,8 +30,11 @@ void hold(struct held *held, const struct packet *packet, const unsigned char *b
 /* Puts a packet that was taken back, with another number. */
 void hold_again(struct held *held, struct packet *packet, uint64_t number);
 
-/* Takes a packet out; the caller frees it. */
+/* Takes a packet out, which the caller lets go. */
 struct packet *taken(struct held *held, uint64_t number);
+
+/* A packet that was taken out has gone; another one gets its room. */
+void let_go(struct held *held, struct packet *packet);
 
 /* Lets go all that is still there, and counts it as discarded by a delete. */
 void let_go_of_discarded(struct held *held);

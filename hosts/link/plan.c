@@ -193,7 +193,7 @@ static bool read_switch(struct host *host, const char *rest) {
 
 static bool read_realtime(struct host *host, const char *rest) {
     struct sched_param first = {.sched_priority = PRIORITY};
-    host->page->realtime = sched_setscheduler(0, SCHED_FIFO, &first) == 0 ? HAS_IT : NOT_ALLOWED;
+    host->page->realtime = sched_setscheduler(0, SCHED_FIFO | SCHED_RESET_ON_FORK, &first) == 0 ? HAS_IT : NOT_ALLOWED;
     return *rest == 0;
 }
 
@@ -268,4 +268,5 @@ void read_plan(struct host *host) {
         if (!read_one(host, line)) refuse(line, "no line of a plan");
     }
     free(line);
+    if (host->page->realtime == HAS_IT && !host->clock.stands) prefer_writer(host->transcript, PRIORITY - 1);
 }

@@ -50,9 +50,7 @@ void fit_ip(unsigned char *ip, size_t len, size_t number) {
     put_two(ip + IPV4_CHECKSUM, ~folded(sum));
 }
 
-void fit_tcp_length(unsigned char *tcp, size_t was, size_t is) {
-    put_two(tcp + TCP_CHECKSUM, folded(two(tcp + TCP_CHECKSUM) + (0xffff - was % 0x10000) + is));
-}
+void fit_checksum(unsigned char *checksum, size_t was, size_t is) { put_two(checksum, folded(two(checksum) + (0xffff - was % 0x10000) + is)); }
 
 /* The place in the stream, the flags, and what the checksum goes on from. */
 static void fit_tcp(unsigned char *tcp, size_t before, bool is_last, size_t whole_length, size_t length) {
@@ -61,7 +59,7 @@ static void fit_tcp(unsigned char *tcp, size_t before, bool is_last, size_t whol
     put_two(tcp + TCP_SEQUENCE + 2, (unsigned)sequence);
     if (!is_last) tcp[TCP_FLAGS] &= (unsigned char)~(FIN | PUSH);
     if (before > 0) tcp[TCP_FLAGS] &= (unsigned char)~WINDOW_REDUCED;
-    fit_tcp_length(tcp, whole_length, length);
+    fit_checksum(tcp + TCP_CHECKSUM, whole_length, length);
 }
 
 size_t cut_next(struct whole *whole, unsigned char **packet) {

@@ -28,5 +28,5 @@ size_t cut_next(struct whole *whole, unsigned char **packet);
 /* Has the IP header tell the length of the packet, and a number that is higher by so much than it was. */
 void fit_ip(unsigned char *ip, size_t len, size_t number);
 
-/* Has the sum in the place of TCP's checksum, from which a card goes on, be for another length of TCP than it was. */
-void fit_tcp_length(unsigned char *tcp, size_t was, size_t is);
+/* Has the sum in the place of a checksum, from which a card goes on, be for another length of TCP or UDP than it was. */
+void fit_checksum(unsigned char *checksum, size_t was, size_t is);

@@ -4,49 +4,63 @@
 #include <errno.h>
 #include <fcntl.h>
 #include <inttypes.h>
+#include <sched.h>
 #include <stdarg.h>
 #include <stdio.h>
-#include <stdio_ext.h>
+#include <stdlib.h>
 #include <string.h>
 #include <sys/file.h>
+#include <sys/mman.h>
 #include <sys/wait.h>
 #include <unistd.h>
 
 #include "basics.h"
-#include "page.h"
+#include "writer.h"
 
-/* The record with which a transcript begins. Behind it remarks may come between entries, and links keep the order of their packets. */
-#define FIRST_RECORD "dummynet-live,1\n"
-
-enum { BUFFER = 1 << 16 };
+enum { BUFFER = 1 << 16, CLOSED = -1 };
 
 struct transcript {
     struct page *page;
-    FILE *file; /* the pipe to the process that writes the present part */
     const char *name;
-    uint64_t longest, entries, submits, bytes; /* the last three of the present part */
-    bool failed;                               /* an earlier part couldn't be written */
+    uint64_t longest;
+    bool failed;  /* a part couldn't be written */
+    int priority; /* of writers, or 0 */
 
-    /* The lines of an entry, as the library writes them. */
-    uint8_t *lines;
-    size_t room;
-    uint64_t length;
+    /* Of the present part: its writer and the pipe to it, how many bytes it has at most, by how many fewer are written, and its packets. */
+    pid_t writer;
+    int pipe;
+    uint64_t most;
+    _Atomic uint64_t *spared;
+    uint64_t submits;
+
+    unsigned char *records; /* that aren't handed on yet */
+    size_t used, room;
 };
 
 struct transcript *new_transcript(struct page *page) {
     struct transcript *transcript = zeroed(sizeof *transcript);
-    *transcript = (struct transcript){.page = page, .room = 256};
-    transcript->lines = grown(NULL, transcript->room);
+    *transcript = (struct transcript){.page = page, .pipe = CLOSED, .records = zeroed(BUFFER), .room = BUFFER};
     return transcript;
 }
 
-/* Copies a pipe into a file until the pipe ends: the whole life of the writing process. */
-_Noreturn static void write_file(int from, int to, const char *path) {
-    char text[BUFFER];
-    for (ssize_t len, done; (len = read(from, text, sizeof text)) > 0;)
-        for (ssize_t at = 0; at < len; at += done)
-            if ((done = write(to, text + at, (size_t)(len - at))) < 0) fail(path, strerror(errno));
-    _exit(0);
+static void hand_on(struct transcript *transcript) {
+    for (size_t at = 0; at < transcript->used;) {
+        ssize_t done = write(transcript->pipe, transcript->records + at, transcript->used - at);
+        transcript->failed |= done < 0;
+        at = done < 0 ? transcript->used : at + (size_t)done;
+    }
+    transcript->used = 0;
+}
+
+/* At an end of the program without that of the transcript: what is written is as much as there is. */
+static void hand_on_last(int status, void *transcript) {
+    (void)status;
+    hand_on(transcript);
+}
+
+void prefer_writer(struct transcript *transcript, int priority) {
+    transcript->priority = priority;
+    if (priority && transcript->writer) sched_setscheduler(transcript->writer, SCHED_FIFO, &(struct sched_param){.sched_priority = priority});
 }
 
 /* Begins a part. A process of its own writes it, so that a slow disk keeps no packet waiting. It is locked against other runs before it is
@@ -56,41 +70,57 @@ static void begin(struct transcript *transcript, const char *path) {
     if (made < 0) fail(path, strerror(errno));
     if (flock(made, LOCK_EX | LOCK_NB) < 0 && errno == EWOULDBLOCK) fail(path, "another run writes it"); /* until its writer ends */
     if (ftruncate(made, 0) < 0 && errno != EINVAL) fail(path, strerror(errno));                          /* a pipe has no length */
-    pid_t writer = pipe2(ends, O_CLOEXEC) < 0 ? -1 : fork();
-    if (writer < 0) fail("the transcript", strerror(errno));
-    if (writer == 0) {
+    transcript->spared = mmap(NULL, sizeof *transcript->spared, PROT_READ | PROT_WRITE, MAP_SHARED | MAP_ANONYMOUS, -1, 0);
+    transcript->writer = transcript->spared == MAP_FAILED || pipe2(ends, O_CLOEXEC) < 0 ? -1 : fork();
+    if (transcript->writer < 0) fail("the transcript", strerror(errno));
+    if (transcript->writer == 0) {
         close(ends[1]);
-        write_file(ends[0], made, path);
+        write_part(ends[0], made, path, transcript->spared);
     }
     close(ends[0]);
     close(made);
     fcntl(ends[1], F_SETPIPE_SZ, (int)MEGABYTE);
-    FILE *file = transcript->file = fdopen(ends[1], "w");
-    if (!file) fail("the transcript", strerror(errno));
-    setvbuf(file, NULL, _IOFBF, BUFFER);
-    fputs(FIRST_RECORD, file);
-    transcript->entries = transcript->submits = transcript->bytes = 0;
+    transcript->pipe = ends[1];
+    transcript->most = transcript->submits = 0;
     transcript->page->parts++;
+    prefer_writer(transcript, transcript->priority);
 }
 
 void open_transcript(struct transcript *transcript, const char *path, uint64_t most) {
     transcript->name = strdup(path);
     transcript->longest = most;
+    on_exit(hand_on_last, transcript);
     begin(transcript, path);
 }
 
 void hand_on_transcript(struct transcript *transcript) {
-    if (transcript->file && __fpending(transcript->file) > BUFFER / 2) fflush(transcript->file);
+    if (transcript->used > BUFFER / 2) hand_on(transcript);
 }
 
 bool transcript_is_long(const struct transcript *transcript) {
-    return transcript->file && transcript->submits && transcript->bytes > transcript->longest;
+    return transcript->pipe != CLOSED && transcript->submits && transcript->most - *transcript->spared > transcript->longest;
+}
+
+/* Puts a record, whose body is of two pieces. */
+static inline void put(struct transcript *transcript, enum kind kind, const void *first, size_t first_size, const void *second, size_t second_size) {
+    size_t size = first_size + second_size, whole = whole_size(size);
+    if (transcript->pipe == CLOSED) return;
+    if (whole > transcript->room - transcript->used) hand_on(transcript);
+    if (whole > transcript->room) transcript->records = grown(transcript->records, transcript->room = whole);
+    struct record *record = (void *)(transcript->records + transcript->used);
+    *record = (struct record){kind, size};
+    memcpy(record->body, first, first_size);
+    memcpy(record->body + first_size, second, second_size);
+    transcript->used += whole;
+    transcript->most += TIMES * whole;
 }
 
 static void end(struct transcript *transcript) {
-    fprintf(transcript->file, "end,%" PRIu64 "\n", transcript->entries);
-    if (fclose(transcript->file)) transcript->failed = true;
-    transcript->file = NULL;
+    put(transcript, END, "", 0, "", 0);
+    hand_on(transcript);
+    close(transcript->pipe);
+    munmap(transcript->spared, sizeof *transcript->spared);
+    transcript->pipe = CLOSED;
 }
 
 void next_part(struct transcript *transcript) {
@@ -101,67 +131,38 @@ void next_part(struct transcript *transcript) {
 }
 
 bool close_transcript(struct transcript *transcript) {
-    if (!transcript->file) return true;
+    if (transcript->pipe == CLOSED) return true;
     end(transcript);
     for (int status; wait(&status) > 0;) transcript->failed |= status != 0;
     return !transcript->failed;
 }
 
-/* Whether the library has written lines by this status. If they need more room, there is as much for another try. */
-static bool are_written(struct transcript *transcript, uint32_t status) {
-    if (status == DN_OK) return true;
-    if (status != DN_ROOM) fail("the transcript", "out of memory");
-    transcript->lines = grown(transcript->lines, transcript->room = transcript->length + transcript->length / 2);
-    return false;
-}
-
-/* Puts an entry, unless it has no lines: a line without words is no call. */
-static void put_entry(struct transcript *transcript) {
-    transcript->entries += transcript->length > 0;
-    transcript->bytes += transcript->length;
-    fwrite_unlocked(transcript->lines, 1, transcript->length, transcript->file);
-}
-
 void keep_submit(struct transcript *transcript, const struct dn_packet *packet, const struct dn_fate *fate) {
-    if (!transcript->file) return;
-    while (!are_written(transcript, dn_submit_text(0, packet, fate, transcript->lines, transcript->room, &transcript->length))) {}
-    put_entry(transcript);
+    put(transcript, SUBMIT, packet, sizeof *packet, fate, sizeof *fate);
     transcript->submits++;
 }
 
 void keep_collect(struct transcript *transcript, uint64_t moment, const struct dn_delivery *list, uint64_t count) {
-    if (!transcript->file) return;
-    while (!are_written(transcript, dn_collect_text(0, moment, moment, list, count, transcript->lines, transcript->room, &transcript->length))) {}
-    put_entry(transcript);
+    put(transcript, COLLECT, &moment, sizeof moment, list, count * sizeof *list);
 }
 
-void keep_advance(struct transcript *transcript, uint64_t moment, uint64_t at) {
-    if (!transcript->file) return;
-    while (!are_written(transcript, dn_advance_text(0, moment, at, transcript->lines, transcript->room, &transcript->length))) {}
-    put_entry(transcript);
-}
+void keep_advance(struct transcript *transcript, uint64_t moment, uint64_t at) { put(transcript, ADVANCE, &moment, sizeof moment, &at, sizeof at); }
 
 void keep_configure(struct transcript *transcript, const char *line, uint32_t status) {
-    struct dn_fault none; /* the line was answered, so it has no fault */
-    if (!transcript->file) return;
-    while (!are_written(transcript, dn_configure_text(0, (const uint8_t *)line, strlen(line), status, &none, transcript->lines, transcript->room,
-                                                      &transcript->length))) {}
-    put_entry(transcript);
+    uint64_t number = status;
+    put(transcript, CONFIGURE, &number, sizeof number, line, strlen(line));
 }
 
 void remark(struct transcript *transcript, const char *format, ...) {
     va_list words;
-    if (!transcript->file) return;
+    char *text;
+    if (transcript->pipe == CLOSED) return;
     va_start(words, format);
-    transcript->bytes += (uint64_t)vfprintf(transcript->file, format, words);
+    int length = vasprintf(&text, format, words);
     va_end(words);
+    if (length < 0) fail("the transcript", "out of memory");
+    put(transcript, REMARK, text, (size_t)length, "", 0);
+    free(text);
 }
 
-void remark_content(struct transcript *transcript, uint64_t content) {
-    static const char digits[] = "0123456789abcdef";
-    char text[] = "#,content,0123456789abcdef\n";
-    if (!transcript->file) return;
-    for (char *at = text + sizeof text - 2; *--at != ','; content >>= 4) *at = digits[content & 15];
-    transcript->bytes += strlen(text);
-    fputs_unlocked(text, transcript->file);
-}
+void remark_content(struct transcript *transcript, uint64_t content) { put(transcript, CONTENT, &content, sizeof content, "", 0); }

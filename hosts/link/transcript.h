@@ -12,6 +12,9 @@ struct transcript *new_transcript(struct page *page);
 /* Opens a transcript of that name, whose parts are not much longer than `most` bytes where the link is ever idle. */
 void open_transcript(struct transcript *transcript, const char *path, uint64_t most);
 
+/* Has the process that writes it go before others, by a priority of the scheduler's first-in-first-out class. */
+void prefer_writer(struct transcript *transcript, int priority);
+
 /* Hands much that was kept on to the process that writes it, which may have this program wait. Called between turns. */
 void hand_on_transcript(struct transcript *transcript);
 

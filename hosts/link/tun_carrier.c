@@ -1,5 +1,7 @@
 #include <fcntl.h>
+#include <stdlib.h>
 #include <sys/uio.h>
+#include <sys/utsname.h>
 #include <unistd.h>
 
 #include "basics.h"
@@ -36,12 +38,20 @@ static bool transmit(void *state, int way, const struct bytes *packets, int coun
     return writev(tuns->interfaces[back(way)], parts, count) >= 0;
 }
 
+static bool takes_udp_at_once(void) {
+    struct utsname system = {0};
+    char *rest;
+    uname(&system);
+    long major = strtol(system.release, &rest, 10), minor = *rest ? strtol(rest + 1, NULL, 10) : 0;
+    return major > 6 || (major == 6 && minor >= 2);
+}
+
 struct carrier tun_carrier(int count, const int *descriptors) {
     struct tuns *tuns = zeroed(sizeof *tuns);
     tuns->interfaces = descriptors;
     for (int way = 0; way < count; way++) fcntl(descriptors[way], F_SETFL, O_NONBLOCK);
     struct carrier carrier = {.ways = count, .polled = descriptors, .prefix = NOTE, .state = tuns, .receive = receive, .transmit = transmit};
     carrier.goes_on = goes_on;
-    carrier.joins = joins;
+    carrier.joins = takes_udp_at_once() ? joins : joins_tcp;
     return carrier;
 }

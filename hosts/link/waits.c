@@ -11,11 +11,16 @@
 /* The beat of an idle link: a stop of this program is counted from the last one, and not from the last packet. */
 enum { BEAT = 100000000 }; /* ns */
 
+/* For SPIN before a moment that is FAR it polls, since a sleep may end late: for a tenth of the time at most, or the system would stop a program
+   that goes before all others. */
+enum { SPIN = 50000, FAR = 10 * SPIN }; /* ns */
+
 /* All are told by one call, each with its way, behind which come the signal, the timers and the lines: what isn't told of had nothing. */
 struct waits {
     struct clock *clock;
     int polling, timer, beats, ways, *ready;
-    uint64_t first_beat, set; /* the moment of the timer */
+    bool spins;
+    uint64_t first_beat, set, next, early; /* the moment of the timer, the one that is waited for, and for how long it polls before that */
     struct epoll_event *told;
 };
 
@@ -47,9 +52,9 @@ static uint64_t next_beat(const struct waits *waits, uint64_t moment) {
     return moment < first ? first : first + ((moment - first) / BEAT + 1) * BEAT;
 }
 
-struct waits *begun_waits(struct clock *clock, const int *polled, int ways, int signal, int control) {
+struct waits *begun_waits(struct clock *clock, const int *polled, int ways, int signal, int control, bool spins) {
     struct waits *made = grown(NULL, sizeof *made);
-    *made = (struct waits){.clock = clock, .timer = made_timer(), .ways = ways, .first_beat = DN_NEVER, .set = DN_NEVER};
+    *made = (struct waits){.clock = clock, .timer = made_timer(), .ways = ways, .first_beat = DN_NEVER, .set = DN_NEVER, .spins = spins};
     made->ready = grown(NULL, (size_t)ways * sizeof *made->ready);
     made->told = grown(NULL, (size_t)(ways + OTHERS) * sizeof *made->told);
     if ((made->polling = epoll_create1(EPOLL_CLOEXEC)) < 0) fail("epoll", strerror(errno));
@@ -95,9 +100,17 @@ static int slept_poll(const struct waits *waits, struct wait *wait, uint64_t mom
     return wait->paused ? polled(waits, 0) : count;
 }
 
+/* The moment up to which it may sleep. */
+static uint64_t before(struct waits *waits, uint64_t moment) {
+    if (moment != waits->next) waits->early = waits->spins && moment != DN_NEVER && moment > waits->clock->last + FAR ? SPIN : 0;
+    waits->next = moment;
+    return moment - waits->early;
+}
+
 struct wait wait_until(struct waits *waits, uint64_t moment) {
     struct wait wait = {.ready = waits->ready};
     bool may_sleep = moment > waits->clock->last;
+    moment = before(waits, moment);
     if (may_sleep) set_timer(waits, moment);
     int count = polled(waits, 0);
     wait.slept = may_sleep && count == 0;

@@ -17,7 +17,7 @@ struct wait {
 };
 
 /* Gets a descriptor of each way, or -1, one that can be read once the signal has come, and one for lines, or -1. */
-struct waits *begun_waits(struct clock *clock, const int *polled, int ways, int signal, int control);
+struct waits *begun_waits(struct clock *clock, const int *polled, int ways, int signal, int control, bool spins);
 
 /* A moment that has passed since the clock was read last is told at once. */
 struct wait wait_until(struct waits *waits, uint64_t moment);

@@ -1,7 +1,6 @@
 #include "ways.h"
 
 #include <inttypes.h>
-#include <stdlib.h>
 
 #include "content.h"
 #include "frames.h"
@@ -139,7 +138,7 @@ static bool pass_again(struct host *host, struct packet *packet, uint64_t due) {
         hold_again(host->held, packet, fate.packet);
     } else {
         host->page->ways[packet->way].no_target++; /* a line has deleted it */
-        free(packet);
+        let_go(host->held, packet);
     }
     return true;
 }
@@ -179,7 +178,7 @@ static void send_on(struct host *host, struct leaving *leaving) {
     uint64_t moment = present(&host->clock);
     for (int i = 0; i < leaving->count; i++) {
         note_left(host, leaving->packets[i], leaving->dues[i], sent, moment);
-        free(leaving->packets[i]);
+        let_go(host->held, leaving->packets[i]);
     }
     leaving->count = 0;
 }
@@ -203,13 +202,13 @@ void leave(struct host *host) {
     uint64_t count = collect(host->links, host->clock.last, &list);
     for (uint64_t i = 0; i < count; i++) {
         struct packet *packet = taken(host->held, list[i].packet);
-        if (!packet->len) free(packet);
+        if (!packet->len) let_go(host->held, packet);
         else if (pass_again(host, packet, list[i].due)) continue;
         else if (ends_at_switch(host->switches, packet->way)) arrive_at_switch(host, &leaving, packet, list[i].due);
         else add_leaving(host, &leaving, packet, list[i].due);
     }
     send_on(host, &leaving);
-    for (struct packet *packet; (packet = leaving.first); free(packet)) {
+    for (struct packet *packet; (packet = leaving.first); let_go(host->held, packet)) {
         leaving.first = packet->next;
         switch_on(host, packet);
     }
@@ -221,7 +220,7 @@ void count_the_rest(struct host *host) {
     for (uint64_t i = 0; i < count; i++) {
         struct packet *packet = taken(host->held, list[i].packet);
         host->page->underway += packet->len > 0;
-        free(packet);
+        let_go(host->held, packet);
     }
     let_go_of_discarded(host->held);
 }

@@ -7,8 +7,10 @@ import tempfile
 import unittest
 from contextlib import nullcontext
 from pathlib import Path
+from unittest import mock
 
 from hingetulip import LineError, Outcome, RefusedError
+from hingetulip.aio.history import History
 from hingetulip.recorded import RecordedShaper
 from simulated_hosts import PROGRAM, exchange, network
 
@@ -75,6 +77,16 @@ class Histories(unittest.TestCase):
             ],
             [pair for pair in zip(lines, lines[1:]) if pair[0].startswith("c,0,configure")][2:],
         )
+
+    def test_what_was_not_written_is_written_once(self) -> None:
+        entry = b"c,0,configure,pipe 1 config\nr,configured\n" * 2000
+        with tempfile.TemporaryDirectory() as folder:
+            history = History(Path(folder) / "h")
+            history.add(memoryview(entry))
+            with mock.patch.object(history._file, "_file", mock.Mock(write=mock.Mock(side_effect=OSError))):
+                self.assertRaises(OSError, history.end)
+            history.end()
+            self.assertEqual((Path(folder) / "h").read_bytes(), b"dummynet-history,3\n" + entry + b"end,1\n")
 
 
 class Recorded(unittest.TestCase):

@@ -6,7 +6,7 @@ from ctypes import byref, c_char, c_size_t, c_uint32, c_uint64
 from struct import error as StructError
 from typing import TYPE_CHECKING, Optional
 
-from hingetulip.aio.history import History
+from hingetulip.aio.history import FEW_IN_ENTRY, History
 from hingetulip.entry_text import ANSWERED, CALLER
 from hingetulip.layout import DELIVERY, FATE, FAULT, PACKET
 from hingetulip.library import CALLS, ROOM, failure
@@ -54,7 +54,7 @@ class Emulator:
         self._submitted = shaper._self, byref(self._packet), byref(self._fate)
         self._fault = byref((c_char * FAULT.size)())  # of a line that was refused before it is written
         if history is not None:
-            self._submit_text = CALLER, *self._submitted[1:], *history.text.for_short
+            self._submit_text = CALLER, *self._submitted[1:], *history.for_short
         self._moment, self._number = c_uint64(), c_uint64()
         self._woken = shaper._self, byref(self._number)
         self._make_room(FEW)
@@ -62,9 +62,9 @@ class Emulator:
     def _make_room(self, count: int) -> None:
         self._deliveries = bytearray(DELIVERY.size * count)
         place = byref((c_char * len(self._deliveries)).from_buffer(self._deliveries))
-        self._collected = self.shaper._self, self._moment, place, c_size_t(count), byref(self._number)
+        self._collected = self.shaper._self, self._moment, place, c_size_t.from_param(count), byref(self._number)
         if self.history is not None:
-            self._collect_text = CALLER, self._moment, self._moment, place, self._number, *self.history.text.for_short
+            self._collect_text = CALLER, self._moment, self._moment, place, self._number, *self.history.for_short
 
     def close(self) -> None:
         """Ends the history, and lets go of the shaper."""
@@ -98,7 +98,7 @@ class Emulator:
         if status:
             raise failure(status)
         if self.history is not None:
-            self.history.add(self.history.text.short(CALLS.dn_submit_text(*self._submit_text)))
+            self.history.add_short(CALLS.dn_submit_text(*self._submit_text))
         _, _, packet, outcome = unpack_fate(self._fate)
         return outcome, packet
 
@@ -120,14 +120,15 @@ class Emulator:
             raise failure(status)
         count = self._number.value
         if self.history is not None:
-            self.history.write_many()
             self._add_collect(self.history, count)
         if count == 1:
             return [unpack_delivery(self._deliveries)[1]]
         return [it[1] for it in iterate_deliveries(memoryview(self._deliveries)[: DELIVERY.size * count])] if count else []
 
     def _add_collect(self, history: History, count: int) -> None:
-        if count < 2:
-            history.add(history.text.short(CALLS.dn_collect_text(*self._collect_text)))
+        if history.waiting:
+            history.write()
+        if count <= FEW_IN_ENTRY:
+            history.add_short(CALLS.dn_collect_text(*self._collect_text))
         else:
             history.add(history.text.written(CALLS.dn_collect_text, *self._collect_text[1:5]))

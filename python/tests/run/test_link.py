@@ -2,7 +2,9 @@
 
 from __future__ import annotations
 
+import fcntl
 import select
+import signal
 import socket
 import struct
 import time
@@ -188,6 +190,21 @@ class OfTheEnd(unittest.TestCase):
         link.far.close()
         ended = link.ended()
         self.assertEqual((ended.status, ended.said), (6, "hinge: an interface: is gone\n"))
+        audited_as_lawful(self, link.transcript)
+
+    def test_a_killed_host_leaves_whole_entries(self) -> None:
+        link = Linked(SEEDS + "line pipe 1 config delay 1\n")
+        for number in range(600):
+            link.near.send(udp(number))
+            link.far.recv(100)
+        link.process.kill()
+        self.assertEqual(link.ended().status, -signal.SIGKILL)
+        with open(link.transcript, "a+") as history:
+            fcntl.flock(history, fcntl.LOCK_EX)  # its writer has ended
+            history.seek(0)
+            entries = history.read().count("\nc,")
+            history.write(f"end,{entries}\n")
+        self.assertGreater(entries, 200)
         audited_as_lawful(self, link.transcript)
 
     def test_what_is_under_way_at_the_end_is_counted_and_not_delivered(self) -> None:

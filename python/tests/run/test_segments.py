@@ -1,25 +1,27 @@
-"""TCP that is handed over as one packet is cut as a card would cut it: the host between two sockets, each packet behind
-its note."""
+"""TCP that is handed over as one packet is cut as a card would cut it, and packets are joined: the host between two sockets, each packet
+behind its note."""
 
 from __future__ import annotations
 
 import os
+import platform
 import signal
 import socket
 import struct
 import time
 import unittest
-from typing import Callable
+from functools import partial
 
 from linked import SEEDS, Linked, audited_as_lawful, found, ip4, needs_host, until
 
 # struct virtio_net_hdr: flags, kind, headers' length, size, start and offset of the checksum
 NOTE = struct.Struct("=BBHHHH")
-CHECKSUM, TCP4, TCP6, ECN = 1, 1, 4, 0x80
+CHECKSUM, TCP4, TCP6, UDP, ECN = 1, 1, 4, 5, 0x80
 FIN, PUSH, ACK, ECHO, REDUCED = 1, 8, 16, 64, 128
 TCP_CHECKSUM = 16
 TIMES = bytes([1, 1, 8, 10]) + bytes(range(8))  # a time stamp, as most packets have it
-Built = Callable[[int, int, bytes, int], bytes]
+ENDS = socket.inet_aton("10.8.0.1") + socket.inet_aton("10.8.0.2")
+ENDS_OF_6 = socket.inet_pton(socket.AF_INET6, "fd08::1") + socket.inet_pton(socket.AF_INET6, "fd08::2")
 
 
 def summed(data: bytes) -> int:
@@ -40,18 +42,21 @@ def tcp(ends: bytes, sequence: int, flags: int, data: bytes) -> bytes:
     )
 
 
-def in_ipv4(sequence: int, flags: int, data: bytes, number: int) -> bytes:
-    """With an option of IP, and a right checksum of the header."""
-    ends = socket.inet_aton("10.8.0.1") + socket.inet_aton("10.8.0.2")
-    inside = tcp(ends, sequence, flags, data)
-    head = struct.pack("!BBHHHBBH", 0x46, 2, 24 + len(inside), number % 2**16, 0x4000, 64, 6, 0) + ends + bytes([1, 1, 1, 0])
+def ip(ends: bytes, protocol: int, inside: bytes, number: int, options: bytes = b"") -> bytes:
+    """With a right checksum of the header of IPv4."""
+    if len(ends) > 8:
+        return struct.pack("!IHBB", 0x6 << 28, len(inside), protocol, 64) + ends + inside
+    length = 20 + len(options) + len(inside)
+    head = struct.pack("!BBHHHBBH", 0x45 + len(options) // 4, 2, length, number % 2**16, 0x4000, 64, protocol, 0) + ends + options
     return head[:10] + struct.pack("!H", 0xFFFF - summed(head)) + head[12:] + inside
 
 
+def in_ipv4(sequence: int, flags: int, data: bytes, number: int, options: bytes = bytes([1, 1, 1, 0])) -> bytes:
+    return ip(ENDS, 6, tcp(ENDS, sequence, flags, data), number, options)
+
+
 def in_ipv6(sequence: int, flags: int, data: bytes, number: int) -> bytes:
-    ends = socket.inet_pton(socket.AF_INET6, "fd08::1") + socket.inet_pton(socket.AF_INET6, "fd08::2")
-    inside = tcp(ends, sequence, flags, data)
-    return struct.pack("!IHBB", 0x6 << 28, len(inside), 6, 64) + ends + inside
+    return ip(ENDS_OF_6, 6, tcp(ENDS_OF_6, sequence, flags, data), number)
 
 
 def noted(packet: bytes, kind: int = 0, size: int = 0) -> bytes:
@@ -118,12 +123,15 @@ class OfSegments(unittest.TestCase):
         self.assertEqual(got, [plain, small, *cut, small, odd, plain])
 
 
-def bare_ipv4(sequence: int, flags: int, data: bytes, number: int) -> bytes:
-    """Without options of IP."""
-    ends = socket.inet_aton("10.8.0.1") + socket.inet_aton("10.8.0.2")
-    inside = tcp(ends, sequence, flags, data)
-    head = struct.pack("!BBHHHBBH", 0x45, 2, 20 + len(inside), number % 2**16, 0x4000, 64, 6, 0) + ends
-    return head[:10] + struct.pack("!H", 0xFFFF - summed(head)) + head[12:] + inside
+bare_ipv4 = partial(in_ipv4, options=b"")
+
+
+def datagram(number: int, data: bytes, ends: bytes, kind: int = 0, size: int = 0) -> bytes:
+    """Of UDP, behind its note."""
+    length = 8 + len(data)
+    inside = struct.pack("!HHHH", 5, 7, length, summed(ends + struct.pack("!HH", 17, length))) + data
+    start = 20 if len(ends) == 8 else 40
+    return NOTE.pack(CHECKSUM, kind, start + 8 if kind else 0, size, start, 6) + ip(ends, 17, inside, number)
 
 
 def of_card(packet: bytes) -> bytes:
@@ -135,8 +143,8 @@ def of_card(packet: bytes) -> bytes:
 class OfJoins(unittest.TestCase):
     """Packets of a link that was late leave at once: those of TCP that follow one another in one write."""
 
-    def writes(self, sent: "list[bytes]", length: int, packets: int) -> "list[bytes]":
-        """What the far end gets until it has so many bytes of data, in so many packets of the link."""
+    def writes(self, sent: "list[bytes]", length: int, packets: int, headers: int = 32) -> "list[bytes]":
+        """What the far end gets until it has so many bytes of data, in so many packets of the link with such headers behind IP's."""
         link, got = Linked(SEEDS + "line pipe 1 config delay 20\n", carrier="tun"), []
         for packet in sent:
             link.near.send(packet)
@@ -146,7 +154,7 @@ class OfJoins(unittest.TestCase):
         os.kill(link.process.pid, signal.SIGCONT)
         while length > 0:
             got.append(link.far.recv(70000))
-            length -= len(got[-1]) - 10 - (52 if got[-1][10] >> 4 == 4 else 72)
+            length -= len(got[-1]) - 10 - (20 if got[-1][10] >> 4 == 4 else 40) - headers
         ended = link.end()
         audited_as_lawful(self, link.transcript)
         self.assertEqual(ended.counts.ways[0]["sent"], packets)
@@ -195,6 +203,17 @@ class OfJoins(unittest.TestCase):
         self.assertEqual(len(self.writes([of_card(one) for one in (first, shorter, lacking)], 3896, 3)), 2)
         for before in (bare_ipv4(0, ACK | PUSH, data, 1), bare_ipv4(1, ACK, data[1:], 1)):
             self.assertEqual(len(self.writes([of_card(before), of_card(good)], 2895, 2)), 2)
+
+    @unittest.skipIf(tuple(map(int, platform.release().split(".")[:2])) < (6, 2), "an older system takes them one by one")
+    def test_datagrams_of_one_length_from_one_socket_to_another(self) -> None:
+        data = os.urandom(260)
+        for ends in (ENDS, ENDS_OF_6):
+            sent = [datagram(2**16 - 1 + at // 100, data[at : at + 100], ends) for at in (0, 100, 200)]
+            self.assertEqual(self.writes(sent, 260, 3, 8), [datagram(2**16 - 1, data, ends, UDP, 100)])
+            others = datagram(0, data[:101], ends), datagram(0, data[:100], ends[:-1] + b"\x03"), bytes(10) + sent[1][10:]
+            for other in others:
+                self.assertEqual(self.writes([sent[0], other], 200, 2, 8), [sent[0], other])
+        self.assertEqual(len(self.writes([datagram(1, data, ENDS), datagram(3, data, ENDS)], 520, 2, 8)), 2)
 
     def test_those_of_two_links_are_not_joined(self) -> None:
         data = os.urandom(1448)
