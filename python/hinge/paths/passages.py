@@ -12,11 +12,10 @@ from hinge.captures.addresses import address_of_six
 from hinge.command import ROWS, Fault
 from hinge.lazy import Integers, np
 from hinge.paths.scopes import scopes_of
-from hinge.replays.columns import Bad, numbered
-from hinge.replays.history import Entries, with_fates
-from hinge.replays.record_lines import HistoryFile, Records, is_history, read_records
-from hinge.replays.remarks import Lateness, lateness_in
-from hinge.replays.replay import OUT
+from hinge.replays.history import NEVER_MOVED, Entries, with_fates
+from hinge.replays.record_lines import LINE_FEED, REMARK, Records, is_history, joined, plain, text_of
+from hinge.replays.remarks import Lateness, addresses_in, lateness_in
+from hinge.replays.replay import OUT, Rows
 
 CONTENT, DIGITS = b"#,content,", 16  # a remark, and how many hexadecimal digits it has, before a line feed
 LAST = b"#,last\n"  # before that: no host may hand the packet on
@@ -180,10 +179,8 @@ def refused_in(data: bytes) -> Integers:
     return np.array([int(text.split(",")[2]) for text in remarks(data, [b"refused"])], np.int64)
 
 
-def places_of_deliveries(records: Records, packet: Integers) -> Integers:
-    """The place of the delivery of each packet, -1 for those without."""
-    at = np.flatnonzero(records.starts(b"d,"))
-    departures = Entries.deliveries_of(records.of(at))[0]
+def places_of_deliveries(at: Integers, departures: Integers, packet: Integers) -> Integers:
+    """The place of the delivery of each packet, -1 for those without; the packets that left have these places."""
     order = np.argsort(departures, kind="stable")
     places = np.minimum(np.searchsorted(departures[order], packet), max(len(departures) - 1, 0))
     return np.where(departures[order][places] == packet, at[order][places], -1) if len(departures) else np.full(len(packet), -1)
@@ -199,79 +196,59 @@ class Reader:
         self.columns: list[list[Integers]] = []
         self.records, self.late = 0, b""
 
-    def note_remarks(self, file: HistoryFile) -> None:
-        for text in remarks(file.data, [b"host", b"switch", b"outside", b"pipe", b"copies", b"model"]):
+    def note_remarks(self, data: bytes) -> None:
+        for text in remarks(data, [b"host", b"switch", b"outside", b"pipe", b"copies", b"model"]):
             self.topology.read(text)
-        self.topology.read_stand_ins(file.addresses)
-        self.late += b"".join(f"\n{text}".encode() for text in remarks(file.data, [b"late"]))
-        for queue, pipe in QUEUE_OF_PIPE.findall(file.data):
+        self.topology.read_stand_ins(addresses_in(data))
+        self.late += b"".join(f"\n{text}".encode() for text in remarks(data, [b"late"]))
+        for queue, pipe in QUEUE_OF_PIPE.findall(data):
             self.pipe_of_queue[int(queue)] = int(pipe)
 
-    def read(self, path: str) -> None:
-        file = read_records(path)
-        if not is_history(file.records):
+    def records_of(self, path: str) -> tuple[Records, Integers]:
+        """The records of a file, whose remarks are noted, and the packets that the system didn't take. Fault: it is no history."""
+        text = plain(text_of(path))
+        records = Records.of_text(text).without(LINE_FEED, REMARK)
+        if not is_history(records):
             raise Fault(f"{path} line 1: no history of dummynet, and no live session", ROWS)
-        self.note_remarks(file)
-        entries = Entries.of(path, file.records)
-        places = entries.submits()
-        try:
-            calls = entries.records.of(places)
-            rows, replies = entries.submits_of(calls), entries.replies(places)
-            event, _, packet, _, due = with_fates(entries, replies)
-            hand_over = places_of_deliveries(entries.records, packet)
-            self.changes += [(moment, text) for _, moment, text in entries.changes()]
-        except Bad:
-            raise entries.bad(places) from None
-        hand_over = np.where((event == OUT) & ~np.isin(packet, refused_in(file.data)), hand_over, -1)
-        self.add(
-            path,
-            calls,
-            rows,
-            [event, replies[1], due, self.records + places, np.where(hand_over < 0, -1, self.records + hand_over)],
-        )
+        self.note_remarks(text)
+        return records, refused_in(text)
+
+    def read(self, path: str) -> None:
+        records, refusals = self.records_of(path)
+        entries, rows = Entries.of(path, records), Rows()
+        (event, moments, _, packet), deliveries, changes = entries.read(rows, NEVER_MOVED)
+        event, _, due = with_fates(path, event, packet, deliveries)
+        self.changes += [(moment, text) for _, moment, text in changes]
+        hand_over = places_of_deliveries(entries.deliveries, deliveries[0], packet)
+        hand_over = np.where((event == OUT) & ~np.isin(packet, refusals), hand_over, -1)
+        hand_over = np.where(hand_over < 0, -1, self.records + hand_over)
+        self.add(path, records.of(entries.submits), rows, [event, moments, due, self.records + entries.submits, hand_over])
         self.records += len(entries.records)
 
-    def add(self, path: str, calls: Records, rows: list[Integers], items: list[Integers]) -> None:
+    def add(self, path: str, calls: Records, rows: Rows, items: list[Integers]) -> None:
         """Takes the submits of a file, without those that nobody sent. Fault: a pipe has no remark on its hosts."""
-        kind, number, *flow, length, _ = rows
+        of, (kinds, numbers, *tuples) = rows.named.joined()
+        flow, (_, length, _) = [column[of] for column in tuples], joined(rows.columns)
         content = content_before(calls)
         is_own = (flow[2] == OUTAGE_PROTOCOL) & (content == 0)
-        place, firsts = numbered(kind, number)
-        targets = [(is_queue, int(number[row])) for row, is_queue in zip(firsts, kind[firsts] == 1)]
+        targets = zip((kinds == 1).tolist(), numbers.tolist())
         pipes = [self.pipe_of_queue.get(one, one) if is_queue else one for is_queue, one in targets]
         if unknown := set(pipes) - set(self.topology.same):
             raise Fault(f"{path}: no remark says between which hosts pipe {min(unknown)} is: hinge net writes them", ROWS)
-        pipe = np.array([self.topology.same[one] for one in pipes], np.int64)[place]
+        pipe = np.array([self.topology.same[one] for one in pipes], np.int64)[of]
         file = np.full(len(pipe), len(self.columns))
         remarked = (has_before(calls, remark) for remark in (LAST, FLOODED))
         columns = (*flow, length, content, *remarked, pipe, *items, calls.line, file)
         self.columns.append([column[~is_own] for column in columns])
 
     def passages(self) -> Passages:
-        *flow, length, content, last, flooded, pipe, event, came, due, submits_so_far, hand_over, line, file = (
-            np.concatenate(column) for column in zip(*self.columns)
-        )
+        columns = joined(self.columns)
+        length, content, last, flooded, pipe = columns[5:10]
         pipes = sorted(self.topology.pipes)
         ends = np.array([self.topology.pipes[number] for number in pipes], np.int64).reshape(-1, 2)
         place = np.searchsorted(np.array(pipes, np.int64), pipe)
-        return Passages(
-            self.topology,
-            np.stack(flow),
-            length,
-            content,
-            last,
-            flooded,
-            pipe,
-            ends[place, 0],
-            ends[place, 1],
-            event,
-            came,
-            due,
-            submits_so_far,
-            hand_over,
-            line,
-            file,
-        )
+        flow, start, end = np.stack(columns[:5]), ends[place, 0], ends[place, 1]
+        return Passages(self.topology, flow, length, content, last, flooded, pipe, start, end, *columns[10:])
 
 
 class Transcript(NamedTuple):
