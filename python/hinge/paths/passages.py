@@ -12,10 +12,10 @@ from hinge.captures.addresses import address_of_six
 from hinge.command import ROWS, Fault
 from hinge.lazy import Integers, np
 from hinge.paths.scopes import scopes_of
-from hinge.replays.history import NEVER_MOVED, Entries, with_fates
-from hinge.replays.record_lines import LINE_FEED, REMARK, Records, is_history, joined, plain, text_of
+from hinge.replays.history import Entries, HistoryReader, with_fates
+from hinge.replays.record_lines import Records, joined
 from hinge.replays.remarks import Lateness, addresses_in, lateness_in
-from hinge.replays.replay import OUT, Rows
+from hinge.replays.replay import OUT
 
 CONTENT, DIGITS = b"#,content,", 16  # a remark, and how many hexadecimal digits it has, before a line feed
 LAST = b"#,last\n"  # before that: no host may hand the packet on
@@ -169,14 +169,9 @@ def has_before(records: Records, remark: bytes) -> Integers:
     return has.astype(np.int64)
 
 
-def remarks(data: bytes, kinds: Iterable[bytes]) -> list[str]:
+def remarks_of_kinds(text: bytes, kinds: Iterable[bytes]) -> list[str]:
     """The remarks of these kinds."""
-    return [line.decode() for kind in kinds for line in re.findall(b"^#," + kind + b",.*$", data, re.M)]
-
-
-def refused_in(data: bytes) -> Integers:
-    """The packets that were delivered and that the system didn't take."""
-    return np.array([int(text.split(",")[2]) for text in remarks(data, [b"refused"])], np.int64)
+    return [line.decode() for kind in kinds for line in re.findall(b"^#," + kind + b",.*$", text, re.M)]
 
 
 def places_of_deliveries(at: Integers, departures: Integers, packet: Integers) -> Integers:
@@ -184,6 +179,27 @@ def places_of_deliveries(at: Integers, departures: Integers, packet: Integers) -
     order = np.argsort(departures, kind="stable")
     places = np.minimum(np.searchsorted(departures[order], packet), max(len(departures) - 1, 0))
     return np.where(departures[order][places] == packet, at[order][places], -1) if len(departures) else np.full(len(packet), -1)
+
+
+class NetReader(HistoryReader):
+    """Reads a file of a transcript."""
+
+    def __init__(self, path: str, reader: Reader) -> None:
+        super().__init__(path)
+        self.reader, self.refusals = reader, list[int]()
+        self.calls, self.places = list[list[Integers]](), list[list[Integers]]()  # what belongs to calls; the places of deliveries
+
+    def note(self, text: bytes, remarks: Records) -> None:
+        super().note(text, remarks)
+        self.reader.note_remarks(text)
+        self.refusals += [int(remark.split(",")[2]) for remark in remarks_of_kinds(text, [b"refused"])]
+
+    def take(self, entries: Entries) -> None:
+        super().take(entries)
+        calls, place = entries.records.of(entries.submits), self.reader.records + self.count
+        before = [content_before(calls), has_before(calls, LAST), has_before(calls, FLOODED)]
+        self.calls.append([*before, place + entries.submits, calls.line])
+        self.places.append([place + entries.deliveries])
 
 
 class Reader:
@@ -196,50 +212,43 @@ class Reader:
         self.columns: list[list[Integers]] = []
         self.records, self.late = 0, b""
 
-    def note_remarks(self, data: bytes) -> None:
-        for text in remarks(data, [b"host", b"switch", b"outside", b"pipe", b"copies", b"model"]):
-            self.topology.read(text)
-        self.topology.read_stand_ins(addresses_in(data))
-        self.late += b"".join(f"\n{text}".encode() for text in remarks(data, [b"late"]))
-        for queue, pipe in QUEUE_OF_PIPE.findall(data):
+    def note_remarks(self, text: bytes) -> None:
+        for remark in remarks_of_kinds(text, [b"host", b"switch", b"outside", b"pipe", b"copies", b"model"]):
+            self.topology.read(remark)
+        self.late += b"".join(f"\n{remark}".encode() for remark in remarks_of_kinds(text, [b"late"]))
+        for queue, pipe in QUEUE_OF_PIPE.findall(text):
             self.pipe_of_queue[int(queue)] = int(pipe)
 
-    def records_of(self, path: str) -> tuple[Records, Integers]:
-        """The records of a file, whose remarks are noted, and the packets that the system didn't take. Fault: it is no history."""
-        text = plain(text_of(path))
-        records = Records.of_text(text).without(LINE_FEED, REMARK)
-        if not is_history(records):
-            raise Fault(f"{path} line 1: no history of dummynet, and no live session", ROWS)
-        self.note_remarks(text)
-        return records, refused_in(text)
-
     def read(self, path: str) -> None:
-        records, refusals = self.records_of(path)
-        entries, rows = Entries.of(path, records), Rows()
-        (event, moments, _, packet), deliveries, changes = entries.read(rows, NEVER_MOVED)
-        event, _, due = with_fates(path, event, packet, deliveries)
-        self.changes += [(moment, text) for _, moment, text in changes]
-        hand_over = places_of_deliveries(entries.deliveries, deliveries[0], packet)
-        hand_over = np.where((event == OUT) & ~np.isin(packet, refusals), hand_over, -1)
-        hand_over = np.where(hand_over < 0, -1, self.records + hand_over)
-        self.add(path, records.of(entries.submits), rows, [event, moments, due, self.records + entries.submits, hand_over])
-        self.records += len(entries.records)
-
-    def add(self, path: str, calls: Records, rows: Rows, items: list[Integers]) -> None:
         """Takes the submits of a file, without those that nobody sent. Fault: a pipe has no remark on its hosts."""
-        of, (kinds, numbers, *tuples) = rows.named.joined()
-        flow, (_, length, _) = [column[of] for column in tuples], joined(rows.columns)
-        content = content_before(calls)
+        file = NetReader(path, self)
+        file.read(path)
+        self.topology.read_stand_ins(addresses_in(file.remarks))
+        (event, _, packet), (moments, length, _), deliveries = (
+            joined(file.replies),
+            joined(file.rows.columns),
+            joined(file.deliveries),
+        )
+        event, _, due = with_fates(path, event, packet, deliveries)
+        self.changes += [(moment, text) for _, moment, text in file.changes]
+        (content, last, flooded, submits, line), (places,) = joined(file.calls), joined(file.places)
+        hand_over = places_of_deliveries(places, deliveries[0], packet)
+        hand_over = np.where((event == OUT) & ~np.isin(packet, np.array(file.refusals, np.int64)), hand_over, -1)
+        of, (kinds, numbers, *tuples) = file.rows.named.joined()
+        flow = [column[of] for column in tuples]
         is_own = (flow[2] == OUTAGE_PROTOCOL) & (content == 0)
-        targets = zip((kinds == 1).tolist(), numbers.tolist())
+        pipe = self.pipes_of(path, zip((kinds == 1).tolist(), numbers.tolist()))[of]
+        names = np.full(len(pipe), len(self.columns))
+        columns = (*flow, length, content, last, flooded, pipe, event, moments, due, submits, hand_over, line, names)
+        self.columns.append([column[~is_own] for column in columns])
+        self.records += file.count
+
+    def pipes_of(self, path: str, targets: Iterable[tuple[bool, int]]) -> Integers:
+        """The pipe by which each target is told. Fault: a pipe has no remark on its hosts."""
         pipes = [self.pipe_of_queue.get(one, one) if is_queue else one for is_queue, one in targets]
         if unknown := set(pipes) - set(self.topology.same):
             raise Fault(f"{path}: no remark says between which hosts pipe {min(unknown)} is: hinge net writes them", ROWS)
-        pipe = np.array([self.topology.same[one] for one in pipes], np.int64)[of]
-        file = np.full(len(pipe), len(self.columns))
-        remarked = (has_before(calls, remark) for remark in (LAST, FLOODED))
-        columns = (*flow, length, content, *remarked, pipe, *items, calls.line, file)
-        self.columns.append([column[~is_own] for column in columns])
+        return np.array([self.topology.same[one] for one in pipes], np.int64)
 
     def passages(self) -> Passages:
         columns = joined(self.columns)

@@ -2,10 +2,9 @@
 
 from __future__ import annotations
 
-from contextlib import suppress
 from dataclasses import dataclass
 from functools import cached_property
-from typing import Callable, Iterable, Optional, Sequence
+from typing import Callable, Optional, Sequence
 
 from hinge.border.files import read_again, untrusted
 from hinge.captures.addresses import addresses_file, read_addresses
@@ -15,7 +14,7 @@ from hinge.lazy import Integers, Mask, few as np
 from hinge.outputs import refuse_inputs
 from hinge.replays.columns import Bad, Number, OneOf
 from hinge.replays.links import Configuration
-from hinge.replays.record_lines import LINE_FEED, REMARK, Records, blocks_of, is_history, is_history_file, joined, plain, text_of
+from hinge.replays.record_lines import LINE_FEED, REMARK, Records, blocks_of, is_history, is_history_file, joined
 from hinge.replays.remarks import addresses_in, lateness_in, seed_in
 from hinge.replays.replay import FULL, HELD, LOST, NONE, OUT, Replay, Rows
 from hinge.replays.source import Source, of_reports
@@ -25,6 +24,7 @@ FATES = {"queued": HELD, "lost": LOST, "full": FULL, "no-target": NONE}  # by th
 REPLY_FIELDS = {HELD: 5, LOST: 4, FULL: 4, NONE: 3}
 MOVING = (*(f"r,{reply}," for reply in FATES), "r,advanced,", "r,delivered,")  # the replies whose second number is the clock
 SUBMIT_FIELDS, TARGET, DELIVERY_FIELDS = 13, 3, 5
+MOST_KEPT = 1 << 16  # bytes of lines that wait for the next ones
 NEVER_MOVED = "r,advanced,0"  # which the clock is at first
 Change = tuple[int, int, str]  # the place of a command that was obeyed, the clock's moment, and the line
 REMARKS = (b"#,address,", b"#,seed,", b"#,late,")
@@ -51,7 +51,7 @@ class Entries:
         wrong = is_reply[1:] != is_call[:-1]
         if wrong.any():
             raise Fault(f"{path} line {records.line[int(np.argmax(wrong)) + 1]}: not as a history has it", ROWS)
-        return Entries(path, records, np.flatnonzero(is_call))
+        return Entries(path, records, np.flatnonzero(is_call[:-1]))
 
     def read(self, rows: Rows, before: str) -> tuple[list[Integers], list[Integers], list[Change]]:
         """The replies to the submits, which become rows, the deliveries, and the changes. Fault: a record can't be read."""
@@ -165,34 +165,69 @@ def spelled_by_program(path: str, changes: list[Change]) -> list[Change]:
     return [(place, moment, verdict.text) for (place, moment, _), verdict in zip(changes, verdicts)]
 
 
+def end_of_whole(text: bytes) -> int:
+    """Where the lines end that need none of the next ones: a call needs its reply, and remarks may be those of the next call."""
+    end = last = text.rfind(b"\n") + 1
+    while end and last - end < MOST_KEPT:
+        begin = text.rfind(b"\n", 0, end - 1) + 1
+        if not text.startswith((b"c,", b"#", b"\n"), begin):
+            return end
+        end = begin
+    return last if last - end >= MOST_KEPT else end
+
+
 class HistoryReader:
     """What a history tells, as its blocks are read."""
 
     def __init__(self, path: str) -> None:
         self.path, self.rows = path, Rows()
+        self.fault: Optional[Fault] = None
         self.replies, self.deliveries = list[list[Integers]](), list[list[Integers]]()
         self.changes, self.remarks, self.moving = list[Change](), b"", NEVER_MOVED
         self.count, self.lines, self.first = 0, 1, -1  # of records so far, the next line, and the record of the first submit
-        self.last, self.last_line, self.tail = "", 0, b""
+        self.last, self.last_line, self.rest = "", 0, b""
+
+    def read(self, path: str) -> None:
+        """Reads a file. Fault: it isn't as a history has it."""
+        for text in blocks_of(path):
+            end = end_of_whole(text := self.rest + text)
+            self.rest = text[end:]
+            self.add(text[:end])
+        self.add(self.rest)
+        if not self.count:
+            self.refuse_other(Records.of_text(b""))
+        if self.fault:
+            raise self.fault
 
     def add(self, text: bytes) -> None:
-        """Takes the next block. Bad: a call of another one has its reply here. Fault: it isn't as a history has it."""
+        """Takes whole entries. Fault: a call has no reply, or a reply no call."""
         lines = Records.of_text(text, self.lines)
         self.lines += len(lines)
-        self.tail = text[text.rfind(b"\n") + 1 :]
-        remarks = lines.of(np.flatnonzero(lines.letter == REMARK))
+        records = lines.without(LINE_FEED, REMARK)
+        if len(records) and not self.count:
+            self.refuse_other(records)
+        self.note(text, lines.of(np.flatnonzero(lines.letter == REMARK)))
+        if not len(records):
+            return
+        if self.last.startswith("c,") or records.text(0).startswith("r,"):
+            raise Fault(f"{self.path} line {records.line[0]}: not as a history has it", ROWS)
+        entries = Entries.of(self.path, records)
+        try:
+            if not self.fault:
+                self.take(entries)
+        except Fault as fault:
+            self.fault = fault  # unless calls and replies don't alternate further on
+        self.count += len(records)
+        self.last, self.last_line = records.text(len(records) - 1), int(records.line[-1])
+
+    def note(self, text: bytes, remarks: Records) -> None:
+        """Takes the remarks of a text."""
         for kind in REMARKS:
             own = remarks.of(remarks.starts(kind))
             self.remarks += b"".join(b"\n" + own.text(place).encode() for place in range(len(own)))
-        if len(records := lines.without(LINE_FEED, REMARK)):
-            self.add_records(records)
 
-    def add_records(self, records: Records) -> None:
-        if not self.count:
-            self.refuse_other(records)
-        elif self.last.startswith("c,") or records.text(0).startswith("r,"):
-            raise Bad
-        entries = Entries.of(self.path, records)
+    def take(self, entries: Entries) -> None:
+        """Takes entries. Fault: one can't be read."""
         (event, _, flow, packet), deliveries, changes = entries.read(self.rows, self.moving)
         self.replies.append([event, flow, packet])
         self.deliveries.append(deliveries)
@@ -200,8 +235,6 @@ class HistoryReader:
         if self.first < 0 and len(entries.submits):
             self.first = self.count + int(entries.submits[0])
         self.moving = entries.last_moving(self.moving)
-        self.count += len(records)
-        self.last, self.last_line = records.text(len(records) - 1), int(records.line[-1])
 
     def refuse_other(self, records: Records) -> None:
         """Fault: the first record is that of another file."""
@@ -210,23 +243,17 @@ class HistoryReader:
         if not is_history(records):
             raise Fault(f"{self.path} line 1: no history of dummynet, and no live session", ROWS)
 
-    def read(self, blocks: Iterable[bytes]) -> HistoryReader:
-        for text in blocks:
-            self.add(text)
-        if not self.count:
-            self.refuse_other(Records.of_text(b""))
-        return self
-
     def source(self) -> Source:
         """All of it. Fault: a packet was delivered that is unknown, or a change is no command."""
-        remarks = self.remarks + b"\n" + self.tail
+        tail = self.rest[self.rest.rfind(b"\n") + 1 :]  # a line that has no end
+        remarks = self.remarks + b"\n" + tail
         packets = self.rows.packets(self.path, {**read_addresses(self.path), **addresses_in(remarks)})
         event, flow, packet = joined(self.replies)
         event, start, due = with_fates(self.path, event, packet, joined(self.deliveries))
         changes = spelled_by_program(self.path, self.changes)
         is_steady = self.first < 0 or all(place < self.first for place, _, _ in changes)
         configuration = Configuration.of(self.path, [text for _, _, text in changes]) if is_steady else None
-        cut = None if self.last.startswith("end,") and not self.tail else self.last_line
+        cut = None if self.last.startswith("end,") and not tail else self.last_line
         report = [(moment, text) for _, moment, text in changes]
         replay = Replay(self.path, packets, event, flow, packet, packets.moment, start, due)
         return Source(replay, (self.path,), report, configuration, True, cut, seed_in(remarks), lateness_in(remarks))
@@ -235,9 +262,9 @@ class HistoryReader:
 def read_history(path: str) -> Source:
     """The submits of a history as rows, in the order of the calls, each at the moment that counted. Fault: it is no history."""
     with working(f"reading {path}"), read_again(path) as file:
-        with suppress(Bad, Fault):
-            return HistoryReader(path).read(blocks_of(file.path, b"\nc,")).source()
-        return HistoryReader(path).read([plain(text_of(file.path))]).source()
+        reader = HistoryReader(path)
+        reader.read(file.path)
+        return reader.source()
 
 
 def read_sources(

@@ -9,7 +9,7 @@ from dataclasses import dataclass
 from functools import cached_property
 from typing import Iterator, Union
 
-from hinge.border.files import opened, read_bytes, read_front
+from hinge.border.files import opened, read_front
 from hinge.lazy import Integers, Mask, Octets, few as np
 from hinge.replays.columns import FRONT, Bad, Column, Fields, numbered
 
@@ -17,9 +17,8 @@ csv.field_size_limit(sys.maxsize)  # a field may be as long as its file
 
 BYTE_ORDER_MARK = b"\xef\xbb\xbf"
 COMMA, LINE_FEED, REMARK = b",\n#"
-BLOCK = 1 << 20  # bytes of a file that are read together
+BLOCK = 1 << 19  # bytes of a file that are read together
 PIECE = 1 << 17  # bytes that the processor has at hand
-LONG = 4 * BLOCK
 BEGINNINGS = (b"dummynet-history,", b"dummynet-live,")
 
 
@@ -30,47 +29,37 @@ def plain(text: bytes, errors: str = "strict") -> bytes:
     return text.replace(b"\r\n", b"\n").replace(b"\r", b"\n") if b"\r" in text else text
 
 
-def as_file(text: bytes, errors: str) -> io.TextIOWrapper:
-    """A text for the standard library, which reads a few lines at a time."""
-    return io.TextIOWrapper(io.BytesIO(text), "utf-8", errors, newline="")
-
-
 def without_quotes(text: bytes, errors: str) -> bytes:
     out = bytearray()
-    for row in csv.reader(as_file(text, errors)):
+    for row in csv.reader(io.TextIOWrapper(io.BytesIO(text), "utf-8", errors, newline="")):
         out += ",".join(row).encode() + b"\n"
     return bytes(out if text.endswith((b"\n", b"\r")) else out[:-1])
 
 
-def text_of(path: str) -> bytes:
-    """All of a file, without a byte order mark."""
-    return read_bytes(path).removeprefix(BYTE_ORDER_MARK)
-
-
-def blocks_of(path: str, start: bytes) -> Iterator[bytes]:
-    """A file in plain blocks of whole lines, each of which ends where `start`, a line feed and what begins the next line, is there
-    last. From the first quote on it is one block, since a line may go on in quotes."""
+def blocks_of(path: str, errors: str = "strict") -> Iterator[bytes]:
+    """A file in plain blocks of whole lines, of which the last one may have no end. What comes from the first quote on is read at once,
+    since a line may go on in quotes."""
     with opened(path) as file:
-        rest = file.read(len(BYTE_ORDER_MARK)).removeprefix(BYTE_ORDER_MARK)
-        while piece := file.read(BLOCK):
-            is_open = b'"' in piece or b'"' in rest
-            end = 0 if is_open else piece.rfind(start) + 1 or piece.rfind(b"\n") + 1
-            if end:
+        piece, rest = file.read(BLOCK).removeprefix(BYTE_ORDER_MARK), bytearray()
+        while piece and b'"' not in piece:
+            if end := piece.rfind(b"\n") + 1:
                 yield plain(b"".join((rest, memoryview(piece)[:end])))
-                rest = b""
+                rest.clear()
             rest += piece[end:]
-            if is_open:
-                rest += file.read()
-        yield plain(rest)
+            piece = file.read(BLOCK)
+        text, at = plain(bytes(rest) + piece + file.read(), errors), 0
+    while at < len(text):
+        end = text.rfind(b"\n", at, at + BLOCK) + 1 or text.find(b"\n", at) + 1 or len(text)
+        yield text[at:end]
+        at = end
 
 
 def places_of_marks(data: Octets) -> Integers:
-    """The place before a text, and those of its commas and line feeds; of a long one as numbers of four bytes."""
-    is_long, places = LONG < len(data) < 1 << 31, [np.array([len(FRONT) - 1], np.int64)]
+    """The place before a text, and those of its commas and line feeds."""
+    places = [np.array([len(FRONT) - 1], np.int64)]
     for at in range(0, len(data), PIECE):
         piece = data[at : at + PIECE]
-        more = np.flatnonzero((piece == COMMA) | (piece == LINE_FEED)) + at
-        places.append(np.array(more, "i4") if is_long else more)
+        places.append(np.flatnonzero((piece == COMMA) | (piece == LINE_FEED)) + at)
     return np.concatenate(places)
 
 
@@ -138,9 +127,9 @@ class Records:
         """The field at this place of each, from 0, with so many more behind it."""
         return Fields(self.data, self.end_of(place - 1) + 1, self.end_of(place + more))
 
-    def text(self, place: int) -> str:
+    def text(self, place: int, errors: str = "replace") -> str:
         begin, end = self.marks[self.first[place] - 1] + 1, self.marks[self.first[place] + self.count[place] - 1]
-        return self.data[begin:end].tobytes().decode("utf-8", "replace")
+        return self.data[begin:end].tobytes().decode("utf-8", errors)
 
     def starts(self, word: bytes, place: int = 0) -> Mask:
         """Whether each has a field at this place that begins with this word; the word may go on over commas."""

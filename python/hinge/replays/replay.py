@@ -125,7 +125,7 @@ class Rows:
 
 
 def read_packets(path: str) -> Packets:
-    return read_table(path, PACKET_COLUMNS, Rows).packets(path, read_addresses(path))
+    return read_table(path, PACKET_COLUMNS, Rows()).packets(path, read_addresses(path))
 
 
 def read_report(path: str, packets: Packets) -> Replay:

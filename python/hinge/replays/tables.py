@@ -3,16 +3,17 @@
 from __future__ import annotations
 
 import csv
+import io
 from contextlib import suppress
 from itertools import islice
 from pathlib import Path
-from typing import Callable, Iterable, Protocol, TypeVar
+from typing import Callable, Protocol, TypeVar
 
-from hinge.border.files import read_again, untrusted
+from hinge.border.files import opened, read_again, untrusted
 from hinge.command import ROWS, Fault, working
 from hinge.lazy import Integers
 from hinge.replays.columns import Bad, Column, Fields
-from hinge.replays.record_lines import LINE_FEED, Records, as_file, blocks_of, joined, plain, text_of
+from hinge.replays.record_lines import LINE_FEED, Records, blocks_of, joined
 
 
 class Table(Protocol):
@@ -68,47 +69,47 @@ def lines_of(text: bytes) -> Records:
     return Records.of_text(text + b"\n").without(LINE_FEED)
 
 
-def located(name: str, text: bytes, columns: dict[str, Column]) -> Fault:
-    """The fault of a file of this name: its header, or the first row that can't be read, told by its line."""
-    header = ",".join(columns)
-    with suppress(UnicodeDecodeError, csv.Error):
-        if plain(text).lstrip(b"\n").partition(b"\n")[0].decode() not in ("", header):
-            return Fault(f"{name} line 1: the header isn't {header}", ROWS)
-    try:
-        rows = lines_of(plain(text, "replace")).of(slice(1, None))
-
-        def read(low: int, high: int) -> None:
-            Columns(columns).add_rows(rows.of(slice(low, high)).counted(len(columns)))
-
-        reader = csv.reader(as_file(text, "replace"))
-        row = next(islice(filter(None, reader), first_bad(len(rows), read) + 1, None), None)
+def located(name: str, path: str, columns: dict[str, Column], place: int) -> Fault:
+    """The fault of a row that can't be read, told by its line."""
+    with opened(path) as file:
+        reader = csv.reader(io.TextIOWrapper(file, "utf-8-sig", "replace", newline=""))
+        row = next(islice(filter(None, reader), place + 1, None), None)
         fault = row and fault_of(row, columns)
-    except csv.Error as error:
-        return Fault(f"{name}: {error}", ROWS)
     return Fault(f"{name} line {reader.line_num}: {fault}" if fault else f"{name}: can't be read", ROWS)
 
 
-def with_rows(table: T, header: str, texts: Iterable[bytes]) -> T:
-    """A table with the rows of a file. Bad: the file has another header, or a row has a fault."""
-    is_begun = False
-    for rows in map(lines_of, texts):
-        if not is_begun and len(rows):
-            if rows.text(0) != header:
-                raise Bad
-            rows, is_begun = rows.of(slice(1, None)), True
-        table.add_rows(rows.counted(header.count(",") + 1))
+def with_rows(name: str, path: str, columns: dict[str, Column], table: T, errors: str) -> T:
+    """The table with the rows of a file. Fault: it has another header, or a row can't be read."""
+    header, count = ",".join(columns), -1
+    for text in blocks_of(path, errors):
+        rows = lines_of(text)
+        if count < 0 and len(rows):
+            if errors == "strict" and rows.text(0, errors) != header:
+                raise Fault(f"{name} line 1: the header isn't {header}", ROWS)
+            rows, count = rows.of(slice(1, None)), 0
+        try:
+            table.add_rows(rows.counted(len(columns)))
+        except Bad:
+            reads = Columns(columns).add_rows
+            place = first_bad(len(rows), lambda low, high: reads(rows.of(slice(low, high)).counted(len(columns))))
+            raise located(name, path, columns, count + place) from None
+        count += len(rows)
     return table
 
 
-def read_table(path: str, columns: dict[str, Column], empty: Callable[[], T]) -> T:
-    """A table with the rows of a file whose header has these names."""
+def read_table(path: str, columns: dict[str, Column], table: T) -> T:
+    """The table with the rows of a file whose header has these names."""
     with untrusted(path), working(f"reading {Path(path).name}"), read_again(path) as file:
         try:
-            return with_rows(empty(), ",".join(columns), blocks_of(file.path, b"\n"))
-        except (Bad, UnicodeDecodeError, csv.Error):
-            raise located(path, text_of(file.path), columns) from None
+            table.add_rows(Records.of_text(b""))
+            with suppress(UnicodeDecodeError):
+                return with_rows(path, file.path, columns, table, "strict")
+            with_rows(path, file.path, columns, Columns(columns), "replace")
+        except csv.Error as error:
+            raise Fault(f"{path}: {error}", ROWS) from None
+    raise Fault(f"{path}: can't be read", ROWS)
 
 
 def read_columns(path: str, columns: dict[str, Column]) -> dict[str, Integers]:
     """The columns of a file whose header has these names."""
-    return read_table(path, columns, lambda: Columns(columns)).by_name()
+    return read_table(path, columns, Columns(columns)).by_name()

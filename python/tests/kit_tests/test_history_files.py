@@ -10,7 +10,7 @@ from unittest.mock import patch
 import numpy as np
 
 from hinge.program import dummynet
-from hinge.replays import columns, history, record_lines, tables
+from hinge.replays import columns, record_lines
 from hinge.replays.history import read_history
 from hinge.replays.replay import NONE, OUT, Replay, read_packets, read_report
 from kit import folder, mixed, run, write
@@ -111,18 +111,17 @@ class Blocks(unittest.TestCase):
     """What a file tells doesn't depend on where its blocks end."""
 
     def test_replays(self) -> None:
-        """No file is read a second time as a whole, which takes more memory."""
         for name in ("dsl", "shared"):
             _, packets, report = mixed(name)
             path = history_of(name)
             wanted = told(read_history(path).replay), told(read_report(str(report), read_packets(str(packets))))
             for size in (5_000, 60_001):
-                with patch.object(record_lines, "BLOCK", size), patch.object(history, "text_of"), patch.object(tables, "text_of"):
+                with patch.object(record_lines, "BLOCK", size):
                     found = told(read_history(path).replay), told(read_report(str(report), read_packets(str(packets))))
                 self.assertEqual(found, wanted, (name, size))
 
     def test_a_transcript(self) -> None:
-        """Its changes, remarks, line ends and quotes, and a block that has a call without its reply."""
+        """Its changes, remarks, line ends and quotes, and a block that ends between a call and its reply."""
         lines = [f"pipe 1 config bw 8Mbit/s delay {row}\n{SUBMIT}{row * 900_000}\nc,0,show" for row in range(6)]
         text = live([*lines, "next", "c,0,collect,9000000"]).replace("\nend,", "\n#,late,1000000000,5,6,7,8\n#,seed,5\nend,")
         path = folder() / "blocks.history"
