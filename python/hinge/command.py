@@ -25,6 +25,7 @@ WRITING = (errno.ENOSPC, errno.EIO, errno.EBADF, errno.EFBIG, errno.EDQUOT)
 PROGRESS_AFTER = 2  # seconds
 LONGEST = 4000  # letters of a line
 NAME = ["hinge"]  # as the user typed it, with the command
+CLOSED = list[int]()  # the standard streams that were closed at first
 
 
 class Told(Exception):
@@ -68,6 +69,7 @@ def open_closed_streams() -> None:
             os.fstat(number)
         except OSError:
             silence(number)
+            CLOSED.append(number)
         if getattr(sys, name) is None:
             setattr(sys, name, open(number, "w" if number else "r", closefd=False))
 

@@ -36,8 +36,9 @@ if TYPE_CHECKING:
     Reals = NDArray[np.float64]
     Mask = NDArray[np.bool_]  # whether each place is chosen
     Octets = NDArray[np.uint8]  # of a file
+    Words = NDArray[np.uint64]  # of eight octets
 else:
     np, few = Lazy("numpy"), Lazy("numpy", "hinge.plain")
-    Integers = Reals = Mask = Octets = Any
+    Integers = Reals = Mask = Octets = Words = Any
 
-__all__ = ["Integers", "Mask", "Octets", "Reals", "few", "np"]
+__all__ = ["Integers", "Mask", "Octets", "Reals", "Words", "few", "np"]

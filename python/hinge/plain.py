@@ -123,10 +123,6 @@ def concatenate(rows: Iterable[Array]) -> Array:
     return Array(chain.from_iterable(rows))
 
 
-def isin(row: Array, others: Sequence[Any]) -> Array:
-    return Array(item in others for item in row)
-
-
 def ones(count: int, dtype: object = None) -> Array:
     return full(count, True if dtype is bool else 1)
 
@@ -166,7 +162,8 @@ def bincount(row: Array, weights: Optional[Array] = None, minlength: int = 0) ->
     return Array(counts)
 
 
-def sort(row: Array) -> Array:
+def partition(row: Array, places: Iterable[int]) -> Array:
+    """All in order, and so also those at the places."""
     return Array(sorted(row))
 
 
@@ -176,10 +173,6 @@ def argsort(row: Array, kind: str = "stable") -> Array:
 
 def lexsort(keys: Sequence[Array]) -> Array:
     return Array(sorted(range(len(keys[0])), key=lambda place: [key[place] for key in reversed(keys)]))
-
-
-def union1d(one: Array, other: Array) -> Array:
-    return Array(sorted({*one, *other}))
 
 
 def unique(row: Array, return_inverse: bool = False) -> Any:

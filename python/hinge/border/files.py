@@ -14,7 +14,7 @@ from typing import Any, BinaryIO, Iterator, NamedTuple, Union, cast
 
 from hinge.border.scratch import unnamed
 from hinge.border.terminal import note_defect
-from hinge.command import FILES, ROWS, Fault, Told
+from hinge.command import CLOSED, FILES, ROWS, Fault, Told
 
 Name = Union[str, Path]
 GZIP = b"\x1f\x8b"  # the front of a compressed file
@@ -50,7 +50,9 @@ def untrusted(name: Name, status: int = ROWS, what: str = "") -> Iterator[None]:
 
 
 def opened(name: Name) -> BinaryIO:
-    """A file, a pipe or, as `-`, standard input, from its beginning on."""
+    """A file, a pipe or, as `-`, standard input, from its beginning on. Fault: that was closed."""
+    if str(name) == "-" and 0 in CLOSED:
+        raise Fault(f"{told_name(name)} is closed", FILES)
     return open(0, "rb", closefd=False) if str(name) == "-" else open(name, "rb")
 
 

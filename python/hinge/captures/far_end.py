@@ -8,12 +8,12 @@ from hinge.lazy import Integers, np
 from hinge.outputs import written
 from hinge.replays.columns import Number
 from hinge.replays.replay import Replay
-from hinge.replays.tables import read_table
+from hinge.replays.tables import read_columns
 
 
 def frames_of_rows(path: str, replay: Replay) -> Integers:
     """The frame of each row, by the index that hinge packets wrote. Fault: the index is of other rows."""
-    table = read_table(path, {"row": Number(), "frame": Number()})
+    table = read_columns(path, {"row": Number(), "frame": Number()})
     if not np.array_equal(table["row"], np.arange(1, len(replay.packets) + 1)):
         raise Fault(f"{path}: its rows aren't those of {replay.packets.path}", ROWS)
     if (table["frame"] < 1).any():

@@ -12,10 +12,9 @@ from hinge.captures.addresses import address_of_six
 from hinge.command import ROWS, Fault
 from hinge.lazy import Integers, np
 from hinge.paths.scopes import scopes_of
-from hinge.replays.columns import Bad, numbered
-from hinge.replays.history import Entries, with_fates
-from hinge.replays.record_lines import HistoryFile, Records, is_history, read_records
-from hinge.replays.remarks import Lateness, lateness_in
+from hinge.replays.history import Entries, HistoryReader, with_fates
+from hinge.replays.record_lines import Records, joined
+from hinge.replays.remarks import Lateness, addresses_in, lateness_in
 from hinge.replays.replay import OUT
 
 CONTENT, DIGITS = b"#,content,", 16  # a remark, and how many hexadecimal digits it has, before a line feed
@@ -170,23 +169,37 @@ def has_before(records: Records, remark: bytes) -> Integers:
     return has.astype(np.int64)
 
 
-def remarks(data: bytes, kinds: Iterable[bytes]) -> list[str]:
+def remarks_of_kinds(text: bytes, kinds: Iterable[bytes]) -> list[str]:
     """The remarks of these kinds."""
-    return [line.decode() for kind in kinds for line in re.findall(b"^#," + kind + b",.*$", data, re.M)]
+    return [line.decode() for kind in kinds for line in re.findall(b"^#," + kind + b",.*$", text, re.M)]
 
 
-def refused_in(data: bytes) -> Integers:
-    """The packets that were delivered and that the system didn't take."""
-    return np.array([int(text.split(",")[2]) for text in remarks(data, [b"refused"])], np.int64)
-
-
-def places_of_deliveries(records: Records, packet: Integers) -> Integers:
-    """The place of the delivery of each packet, -1 for those without."""
-    at = np.flatnonzero(records.starts(b"d,"))
-    departures = Entries.deliveries_of(records.of(at))[0]
+def places_of_deliveries(at: Integers, departures: Integers, packet: Integers) -> Integers:
+    """The place of the delivery of each packet, -1 for those without; the packets that left have these places."""
     order = np.argsort(departures, kind="stable")
     places = np.minimum(np.searchsorted(departures[order], packet), max(len(departures) - 1, 0))
     return np.where(departures[order][places] == packet, at[order][places], -1) if len(departures) else np.full(len(packet), -1)
+
+
+class NetReader(HistoryReader):
+    """Reads a file of a transcript."""
+
+    def __init__(self, path: str, reader: Reader) -> None:
+        super().__init__(path)
+        self.reader, self.refusals = reader, list[int]()
+        self.calls, self.places = list[list[Integers]](), list[list[Integers]]()  # what belongs to calls; the places of deliveries
+
+    def note(self, text: bytes, remarks: Records) -> None:
+        super().note(text, remarks)
+        self.reader.note_remarks(text)
+        self.refusals += [int(remark.split(",")[2]) for remark in remarks_of_kinds(text, [b"refused"])]
+
+    def take(self, entries: Entries) -> None:
+        super().take(entries)
+        calls, place = entries.records.of(entries.submits), self.reader.records + self.count
+        before = [content_before(calls), has_before(calls, LAST), has_before(calls, FLOODED)]
+        self.calls.append([*before, place + entries.submits, calls.line])
+        self.places.append([place + entries.deliveries])
 
 
 class Reader:
@@ -199,79 +212,52 @@ class Reader:
         self.columns: list[list[Integers]] = []
         self.records, self.late = 0, b""
 
-    def note_remarks(self, file: HistoryFile) -> None:
-        for text in remarks(file.data, [b"host", b"switch", b"outside", b"pipe", b"copies", b"model"]):
-            self.topology.read(text)
-        self.topology.read_stand_ins(file.addresses)
-        self.late += b"".join(f"\n{text}".encode() for text in remarks(file.data, [b"late"]))
-        for queue, pipe in QUEUE_OF_PIPE.findall(file.data):
+    def note_remarks(self, text: bytes) -> None:
+        for remark in remarks_of_kinds(text, [b"host", b"switch", b"outside", b"pipe", b"copies", b"model"]):
+            self.topology.read(remark)
+        self.late += b"".join(f"\n{remark}".encode() for remark in remarks_of_kinds(text, [b"late"]))
+        for queue, pipe in QUEUE_OF_PIPE.findall(text):
             self.pipe_of_queue[int(queue)] = int(pipe)
 
     def read(self, path: str) -> None:
-        file = read_records(path)
-        if not is_history(file.records):
-            raise Fault(f"{path} line 1: no history of dummynet, and no live session", ROWS)
-        self.note_remarks(file)
-        entries = Entries.of(path, file.records)
-        places = entries.submits()
-        try:
-            calls = entries.records.of(places)
-            rows, replies = entries.submits_of(calls), entries.replies(places)
-            event, _, packet, _, due = with_fates(entries, replies)
-            hand_over = places_of_deliveries(entries.records, packet)
-            self.changes += [(moment, text) for _, moment, text in entries.changes()]
-        except Bad:
-            raise entries.bad(places) from None
-        hand_over = np.where((event == OUT) & ~np.isin(packet, refused_in(file.data)), hand_over, -1)
-        self.add(
-            path,
-            calls,
-            rows,
-            [event, replies[1], due, self.records + places, np.where(hand_over < 0, -1, self.records + hand_over)],
-        )
-        self.records += len(entries.records)
-
-    def add(self, path: str, calls: Records, rows: list[Integers], items: list[Integers]) -> None:
         """Takes the submits of a file, without those that nobody sent. Fault: a pipe has no remark on its hosts."""
-        kind, number, *flow, length, _ = rows
-        content = content_before(calls)
+        file = NetReader(path, self)
+        file.read(path)
+        self.topology.read_stand_ins(addresses_in(file.remarks))
+        (event, _, packet), (moments, length, _), deliveries = (
+            joined(file.replies),
+            joined(file.rows.columns),
+            joined(file.deliveries),
+        )
+        event, _, due = with_fates(path, event, packet, deliveries)
+        self.changes += [(moment, text) for _, moment, text in file.changes]
+        (content, last, flooded, submits, line), (places,) = joined(file.calls), joined(file.places)
+        hand_over = places_of_deliveries(places, deliveries[0], packet)
+        hand_over = np.where((event == OUT) & ~np.isin(packet, np.array(file.refusals, np.int64)), hand_over, -1)
+        of, (kinds, numbers, *tuples) = file.rows.named.joined()
+        flow = [column[of] for column in tuples]
         is_own = (flow[2] == OUTAGE_PROTOCOL) & (content == 0)
-        place, firsts = numbered(kind, number)
-        targets = [(is_queue, int(number[row])) for row, is_queue in zip(firsts, kind[firsts] == 1)]
+        pipe = self.pipes_of(path, zip((kinds == 1).tolist(), numbers.tolist()))[of]
+        names = np.full(len(pipe), len(self.columns))
+        columns = (*flow, length, content, last, flooded, pipe, event, moments, due, submits, hand_over, line, names)
+        self.columns.append([column[~is_own] for column in columns])
+        self.records += file.count
+
+    def pipes_of(self, path: str, targets: Iterable[tuple[bool, int]]) -> Integers:
+        """The pipe by which each target is told. Fault: a pipe has no remark on its hosts."""
         pipes = [self.pipe_of_queue.get(one, one) if is_queue else one for is_queue, one in targets]
         if unknown := set(pipes) - set(self.topology.same):
             raise Fault(f"{path}: no remark says between which hosts pipe {min(unknown)} is: hinge net writes them", ROWS)
-        pipe = np.array([self.topology.same[one] for one in pipes], np.int64)[place]
-        file = np.full(len(pipe), len(self.columns))
-        remarked = (has_before(calls, remark) for remark in (LAST, FLOODED))
-        columns = (*flow, length, content, *remarked, pipe, *items, calls.line, file)
-        self.columns.append([column[~is_own] for column in columns])
+        return np.array([self.topology.same[one] for one in pipes], np.int64)
 
     def passages(self) -> Passages:
-        *flow, length, content, last, flooded, pipe, event, came, due, submits_so_far, hand_over, line, file = (
-            np.concatenate(column) for column in zip(*self.columns)
-        )
+        columns = joined(self.columns)
+        length, content, last, flooded, pipe = columns[5:10]
         pipes = sorted(self.topology.pipes)
         ends = np.array([self.topology.pipes[number] for number in pipes], np.int64).reshape(-1, 2)
         place = np.searchsorted(np.array(pipes, np.int64), pipe)
-        return Passages(
-            self.topology,
-            np.stack(flow),
-            length,
-            content,
-            last,
-            flooded,
-            pipe,
-            ends[place, 0],
-            ends[place, 1],
-            event,
-            came,
-            due,
-            submits_so_far,
-            hand_over,
-            line,
-            file,
-        )
+        flow, start, end = np.stack(columns[:5]), ends[place, 0], ends[place, 1]
+        return Passages(self.topology, flow, length, content, last, flooded, pipe, start, end, *columns[10:])
 
 
 class Transcript(NamedTuple):

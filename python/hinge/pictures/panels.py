@@ -94,17 +94,8 @@ class Panels:
         for name, (moments, rates) in result.capacities.items():
             text = f"{name}: {range_of(rates, 'Mbit/s')}"
             if np.nanmax(rates) <= MOST_ABOVE * most:
-                items.append(
-                    Line(
-                        f"capacity of {text}",
-                        moments,
-                        rates,
-                        self.pipes[name.partition(",")[0]][0],
-                        width=1.2,
-                        dash=DOTTED,
-                        is_behind=True,
-                    )
-                )
+                color, _ = self.pipes[name.partition(",")[0]]
+                items.append(Line(f"capacity of {text}", moments, rates, color, width=1.2, dash=DOTTED, is_behind=True))
             else:
                 notes.append(f"capacity of {text}, above this panel")
         items += [
@@ -149,9 +140,8 @@ class Panels:
             text = f"bound on the delay of {one.name}: {limit:,.6g} ms"
             if limit <= MOST_ABOVE * most:
                 ends = np.array([0, self.found.steps.span]) / NS_PER_S
-                lines.append(
-                    Line(text, ends, np.array([limit, limit]), self.pipes[one.name][0], width=0.9, dash=DASHED, is_behind=True)
-                )
+                color, _ = self.pipes[one.name]
+                lines.append(Line(text, ends, np.array([limit, limit]), color, width=0.9, dash=DASHED, is_behind=True))
             else:
                 notes.append(f"{text}; the greatest is {most:,.6g} ms" if most else text)
         return lines, notes
@@ -177,17 +167,8 @@ class Panels:
             if limit is None or not most:
                 continue
             if limit.numbers is not None and np.nanmax(limit.numbers) <= MOST_ABOVE * most:
-                items.append(
-                    Line(
-                        f"limit of {name}: {limit.told}",
-                        limit.moments,
-                        limit.numbers.astype(float),
-                        color,
-                        width=1.2,
-                        dash=DASHED,
-                        is_behind=True,
-                    )
-                )
+                text, numbers = f"limit of {name}: {limit.told}", limit.numbers.astype(float)
+                items.append(Line(text, limit.moments, numbers, color, width=1.2, dash=DASHED, is_behind=True))
             else:
                 notes.append(f"limit of {name}: {limit.told}" + (", above this panel" if limit.numbers is not None else ""))
         if not any(lengths.any() for _, lengths in self.found.waiting.values()):
@@ -218,16 +199,8 @@ class Panels:
         for number, (way, of_way) in enumerate(self.found.lateness.items()):
             for which, (moments, ms) in of_way.items():
                 x, y = np.append(0, moments), np.append(ms, ms[-1:])  # each is of the time up to its moment
-                items.append(
-                    Line(
-                        f"{way}: {which}, at most {ms.max(initial=0):.3g} ms",
-                        x,
-                        y,
-                        PIPES[number % 2][0],
-                        width=1,
-                        dash=dashes[which],
-                    )
-                )
+                text, (color, _) = f"{way}: {which}, at most {ms.max(initial=0):.3g} ms", PIPES[number % 2]
+                items.append(Line(text, x, y, color, width=1, dash=dashes[which]))
         return late_panel("The host's lateness, the most of each second", items)
 
     def drop_points(self) -> list[Points]:
@@ -236,16 +209,8 @@ class Panels:
         for cause in CAUSES:
             places = spread(np.flatnonzero(items.replay.event == cause), MOST_DROPS_TOLD)
             if len(places):
-                marks.append(
-                    Points(
-                        f"dropped: {EVENT_NAMES[cause]}",
-                        places,
-                        items.sent_at(places),
-                        np.zeros(len(places)),
-                        CAUSE_COLORS[EVENT_NAMES[cause]],
-                        is_cross=True,
-                    )
-                )
+                name, zeros = EVENT_NAMES[cause], np.zeros(len(places))
+                marks.append(Points(f"dropped: {name}", places, items.sent_at(places), zeros, CAUSE_COLORS[name], is_cross=True))
         return marks
 
     def key(self, number: int, flow: Flow) -> Key:

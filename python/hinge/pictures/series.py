@@ -226,16 +226,8 @@ def carried(replay: Replay, places: Integers, steps: Steps) -> Reals:
 def flow_series(replay: Replay, name: str, places: Integers, is_rest: bool, steps: Steps) -> Flow:
     out = places[replay.is_out[places]]
     drops = places[np.isin(replay.event[places], CAUSES)]
-    return Flow(
-        name,
-        is_rest,
-        len(places),
-        offered(replay, places, steps),
-        carried(replay, places, steps),
-        out,
-        *distribution(replay.took[out]),
-        steps.counts(replay.at[drops]),
-    )
+    rates = offered(replay, places, steps), carried(replay, places, steps)
+    return Flow(name, is_rest, len(places), *rates, out, *distribution(replay.took[out]), steps.counts(replay.at[drops]))
 
 
 def series(
@@ -253,16 +245,7 @@ def series(
     drops = {EVENT_NAMES[cause]: steps.counts(replay.at[replay.event == cause]) for cause in CAUSES}
     queues = {name: waiting(replay, places) for name, places in group(replay, "target").places()}
     common = shared_pipes(replay, groups, pipes)
-    return Series(
-        replay,
-        steps,
-        flows,
-        drops,
-        queues,
-        {name: carried(replay, places, steps) for name, places in common.items()},
-        {name: offered(replay, places, steps) for name, places in common.items()},
-        capacities(changes, span),
-        limits(changes, span),
-        lateness or {},
-        list(bounds),
-    )
+    rates_out = {name: carried(replay, places, steps) for name, places in common.items()}
+    rates_in = {name: offered(replay, places, steps) for name, places in common.items()}
+    settings = capacities(changes, span), limits(changes, span)
+    return Series(replay, steps, flows, drops, queues, rates_out, rates_in, *settings, lateness or {}, list(bounds))

@@ -51,5 +51,5 @@ def bounds(replay: Replay, configuration: Configuration) -> Iterator[Bounded]:
             yield Bounded(
                 bound_of(pipe, int(replay.packets.length[places].max())),
                 greatest(replay.start[out] - replay.at[out]),
-                greatest(replay.took[out]),
+                greatest(replay.due[out] - replay.at[out]),
             )

@@ -31,10 +31,8 @@ class Explainer:
         self.packets = self.replay.packets
         self.order = LinkOrder(self.parts)
         if (self.replay.at != np.array(list(accumulate(self.packets.moment.tolist(), max)))).any():
-            raise Fault(
-                f"{self.replay.path}: its rows didn't come in their order, as those of several callers: no " f"queue can be told",
-                ROWS,
-            )
+            why = "its rows didn't come in their order, as those of several callers: no queue can be told"
+            raise Fault(f"{self.replay.path}: {why}", ROWS)
 
     def paragraph(self, row: int) -> str:
         """What happened to a row of the packet file, counted from 1. Fault: there is no such row."""
@@ -68,7 +66,7 @@ class Explainer:
         moment, at = int(self.packets.moment[place]), int(self.replay.at[place])
         late = f" (its own moment is {seconds(moment)}, and a row before it had come later)" if moment < at else ""
         name, length = self.packets.tuple_name(self.packets.five_tuple[place]), int(self.packets.length[place])
-        return f"Row {place + 1} ({name}, {length:,} bytes) was sent to {self.target_name(place)} at " f"{seconds(at)}{late}."
+        return f"Row {place + 1} ({name}, {length:,} bytes) was sent to {self.target_name(place)} at {seconds(at)}{late}."
 
     def link_name(self, place: int) -> str:
         pipe = self.pipe_number(place)
@@ -89,11 +87,9 @@ class Explainer:
         parts = self.parts
         wait, sending, delay = (int(column[place]) for column in (parts.waited, parts.transmission, parts.delay))
         took, due = int(self.replay.took[place]), int(self.replay.due[place])
-        return (
-            f"{self.waiting(place, wait)} {self.sending(place)} The link's delay was {ms(delay)}. "
-            f"In all it took {ms(took)} = {ms(wait)} waiting + {ms(sending)} transmission + {ms(delay)} delay, "
-            f"and it left at {seconds(due)}."
-        )
+        parts_of_it = f"{ms(took)} = {ms(wait)} waiting + {ms(sending)} transmission + {ms(delay)} delay"
+        before = f"{self.waiting(place, wait)} {self.sending(place)} The link's delay was {ms(delay)}."
+        return f"{before} In all it took {parts_of_it}, and it left at {seconds(due)}."
 
     def sending(self, place: int) -> str:
         bandwidth = int(self.parts.bandwidth[place])
@@ -117,7 +113,7 @@ class Explainer:
         if wait.first_was_sending:
             first = int(wait.places[0])
             whose = f" of {self.flow_name(first)}" if self.parts.is_shared[place] else ""
-            lines.append(f"{ms(int(wait.costs[0]))} until row {first + 1}{whose}, which was under transmission, had " f"been sent")
+            lines.append(f"{ms(int(wait.costs[0]))} until row {first + 1}{whose}, which was under transmission, had been sent")
         places, costs = wait.places[int(wait.first_was_sending) :], wait.costs[int(wait.first_was_sending) :]
         flows = self.replay.flow[places]
         for flow in sorted(set(flows.tolist()), key=lambda flow: (flow != self.replay.flow[place], flow)):
@@ -145,11 +141,9 @@ class Explainer:
             raise self.another_configuration(f"row {place + 1} would not have been lost")
         if word & LOW_31_BITS == LOST_WORD and own.loss == LOSS_PARTS // 2:
             return f"It was lost by a model of losses or a list of them, since the word that it was given is {word}."
-        return (
-            f"It was lost by the loss rate of {self.target_name(place)}: the low 31 bits of its random word {word} are "
-            f"{word & LOW_31_BITS:,}, less than {own.loss:,}, which is the rate of {own.loss / LOSS_PARTS:.6g} in "
-            f"parts of 2^31."
-        )
+        rate = f"{own.loss:,}, which is the rate of {own.loss / LOSS_PARTS:.6g} in parts of 2^31"
+        bits = f"the low 31 bits of its random word {word} are {word & LOW_31_BITS:,}, less than {rate}"
+        return f"It was lost by the loss rate of {self.target_name(place)}: {bits}."
 
     def full(self, place: int) -> str:
         """How full the queue was, of which packets, and when there was room again."""
@@ -165,23 +159,20 @@ class Explainer:
             leaver = int(np.searchsorted(bytes_up_to, total - most))
         if too_many < 0:
             raise self.another_configuration(f"row {place + 1} would have found room")
-        return (
-            f"The queue of its flow {self.replay.flow[place]} was full, so it was dropped: {packets(len(backlog))} "
-            f"waited there "
-            f"({rows(backlog + 1)}), {total:,} bytes in all, {options}. {self.room_again(place, int(backlog[leaver]))}"
-        )
+        why = f"The queue of its flow {self.replay.flow[place]} was full, so it was dropped"
+        backlog_text = f"{packets(len(backlog))} waited there ({rows(backlog + 1)}), {total:,} bytes in all, {options}"
+        return f"{why}: {backlog_text}. {self.room_again(place, int(backlog[leaver]))}"
 
     def another_configuration(self, what: str) -> Fault:
-        return Fault(
-            f"{what} by {self.parts.configuration.path}: {self.replay.path} is the report of another " f"configuration", ROWS
-        )
+        why = f"{self.replay.path} is the report of another configuration"
+        return Fault(f"{what} by {self.parts.configuration.path}: {why}", ROWS)
 
     def room_again(self, place: int, leaver: int) -> str:
         """When the queue had room, which is when this packet of it began to be sent."""
         if self.replay.event[leaver] == HELD:
             return f"There was no room again before row {leaver + 1} left it, after the end of the replay."
         start = int(self.replay.start[leaver])
-        return f"There was room again {ms(start - int(self.replay.at[place]))} later, when row {leaver + 1} began to " f"be sent."
+        return f"There was room again {ms(start - int(self.replay.at[place]))} later, when row {leaver + 1} began to be sent."
 
     def untargeted(self, place: int) -> str:
         if self.parts.configuration.own(self.target(place)) is not None:
@@ -195,12 +186,9 @@ class Explainer:
             return f"{connection}, and had not left {self.link_name(place)} when the replay ended at 2^62 ns."
         wait, sending, delay = self.held_parts(place)
         due = int(self.replay.at[place]) + wait + sending + delay
-        return (
-            f"{connection}, and would take {ms(wait + sending + delay)} = {ms(wait)} waiting + {ms(sending)} "
-            f"transmission + "
-            f"{ms(delay)} delay. It would leave at {seconds(due)}, and the replay ended at {seconds(LAST_MOMENT)} "
-            f"(2^62 ns)."
-        )
+        took = f"{ms(wait + sending + delay)} = {ms(wait)} waiting + {ms(sending)} transmission + {ms(delay)} delay"
+        end = f"It would leave at {seconds(due)}, and the replay ended at {seconds(LAST_MOMENT)} (2^62 ns)."
+        return f"{connection}, and would take {took}. {end}"
 
     def held_parts(self, place: int) -> tuple[int, int, int]:
         """The parts of a packet that a link of one flow had not delivered: its packets go in order, the held ones last."""

@@ -20,7 +20,8 @@ class Groups:
 
     def places(self) -> Iterator[tuple[str, Integers]]:
         """Each group with the places of its rows, in order."""
-        order = np.argsort(self.of, kind="stable")
+        numbers = np.array(self.of, "u2") if len(self.names) <= 1 << 16 else self.of  # which are sorted faster
+        order = np.argsort(numbers, kind="stable")
         ends = np.cumsum(np.bincount(self.of, minlength=len(self.names)))
         for name, begin, end in zip(self.names, [0, *ends[:-1].tolist()], ends.tolist()):
             yield name, order[begin:end]

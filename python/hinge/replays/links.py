@@ -99,7 +99,7 @@ class Parts:
     def check(self) -> Parts:
         """The parts, checked. Fault: those of some row don't add up to its delay, so the configuration is another one."""
         replay = self.replay
-        wrong = replay.is_out & (self.waited + self.transmission + self.delay != replay.took)
+        wrong = replay.is_out & (replay.start + self.transmission + self.delay != replay.due)
         unknown = [self.configuration.own(target) is None for target in replay.packets.targets]
         if len(unknown):
             wrong |= np.array(unknown)[replay.packets.target] & (replay.event != NONE)

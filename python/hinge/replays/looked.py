@@ -10,10 +10,7 @@ from hinge.border.terminal import show, standard_output
 from hinge.captures.through import write_through
 from hinge.command import say
 from hinge.outputs import CAPTURES, PICTURES, TABLES, Format, refuse_inputs, write_json, writing
-from hinge.paths.looked import audit
-from hinge.pictures.drawn import draw_sources, provenance_of
 from hinge.pictures.figures import Figures, table_of, write_csv
-from hinge.pictures.ladder import arrows_of_replay, draw_ladder, ladder_text
 from hinge.pictures.text_table import write_bounds, write_text
 from hinge.replays.explain import Explainer
 from hinge.replays.history import read_sources
@@ -30,15 +27,8 @@ def write_table_json(source: Source, table: list[Figures], path: str) -> None:
     most = {kind: source.most_late(kind) for kind in KINDS} if source.lateness else None
     flows: list[dict[str, object]] = [{"flow": row.name, **row.value} for row in table]
     pipes = None if source.bounds is None else [one.figures() for one in source.bounds]
-    record = {
-        "format": FORMAT,
-        "history": source.replay.path,
-        "seed": source.seed,
-        "lateness_ms": most,
-        "pipes": pipes,
-        "flows": flows,
-    }
-    write_json(path, record)
+    head = {"format": FORMAT, "history": source.replay.path, "seed": source.seed, "lateness_ms": most}
+    write_json(path, {**head, "pipes": pipes, "flows": flows})
 
 
 def tell_difference(one: str, other: str, path: Optional[str]) -> None:
@@ -81,18 +71,25 @@ def tell_of(source: Source, options: LookOptions, head: str) -> None:
 
 
 def look(options: LookOptions, most_reports: int) -> None:
-    """The files and the tables of a history or of reports."""
+    """The files and the tables of a history or of reports. What nets, ladders and pictures need is loaded for these alone."""
     if options.audit:
+        from hinge.paths.looked import audit
+
         refuse_inputs(options.outputs, options.source)
         audit(options.source)
     inputs = [options.capture, options.index] if options.capture else []
     sources = read_sources(options.source, options.config, options.outputs, most_reports, inputs)
     if options.ladder:
+        from hinge.pictures.drawn import provenance_of
+        from hinge.pictures.ladder import arrows_of_replay, draw_ladder, ladder_text
+
         arrows = arrows_of_replay(sources[0].replay, options.ladder)
         draw_ladder(arrows, options, provenance_of(sources))
         show("\n".join(ladder_text(arrows)))
         return
     for name in options.files(*PICTURES, Format.PAGE):
+        from hinge.pictures.drawn import draw_sources
+
         draw_sources(sources, name, options)
     for number, source in enumerate(sources):
         head = f"{'' if number == 0 else chr(10)}{source.replay.path}\n" if len(sources) > 1 else ""

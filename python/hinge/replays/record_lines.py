@@ -1,105 +1,177 @@
-"""The records of a history as lines whose fields are read over the whole file at once."""
+"""Lines of a file as records, whose fields are read for many of them at once."""
 
 from __future__ import annotations
 
+import csv
+import io
+import sys
 from dataclasses import dataclass
-from typing import Iterator, NamedTuple, Union
+from functools import cached_property
+from typing import Iterator, Union
 
-from hinge.border.files import read_bytes, read_front, untrusted
+from hinge.border.files import opened, read_front
 from hinge.lazy import Integers, Mask, Octets, few as np
-from hinge.replays.columns import Bad, Fields
-from hinge.replays.remarks import addresses_in
-from hinge.replays.tables import COMMA, LINE_FEED, PIECE, places_of, plain
+from hinge.replays.columns import FRONT, Bad, Column, Fields, numbered
 
-REMARK = ord("#")
+csv.field_size_limit(sys.maxsize)  # a field may be as long as its file
+
+BYTE_ORDER_MARK = b"\xef\xbb\xbf"
+COMMA, LINE_FEED, REMARK = b",\n#"
+BLOCK = 1 << 19  # bytes of a file that are read together
+PIECE = 1 << 17  # bytes that the processor has at hand
 BEGINNINGS = (b"dummynet-history,", b"dummynet-live,")
+
+
+def plain(text: bytes, errors: str = "strict") -> bytes:
+    """A text whose lines end in line feeds, without quotes."""
+    if b'"' in text:
+        return without_quotes(text, errors)
+    return text.replace(b"\r\n", b"\n").replace(b"\r", b"\n") if b"\r" in text else text
+
+
+def without_quotes(text: bytes, errors: str) -> bytes:
+    out = bytearray()
+    for row in csv.reader(io.TextIOWrapper(io.BytesIO(text), "utf-8", errors, newline="")):
+        out += ",".join(row).encode() + b"\n"
+    return bytes(out if text.endswith((b"\n", b"\r")) else out[:-1])
+
+
+def blocks_of(path: str, errors: str = "strict") -> Iterator[bytes]:
+    """A file in plain blocks of whole lines, of which the last one may have no end. What comes from the first quote on is read at once,
+    since a line may go on in quotes."""
+    with opened(path) as file:
+        piece, rest = file.read(BLOCK).removeprefix(BYTE_ORDER_MARK), bytearray()
+        while piece and b'"' not in piece:
+            if end := piece.rfind(b"\n") + 1:
+                yield plain(b"".join((rest, memoryview(piece)[:end])))
+                rest.clear()
+            rest += piece[end:]
+            piece = file.read(BLOCK)
+        text, at = plain(bytes(rest) + piece + file.read(), errors), 0
+    while at < len(text):
+        end = text.rfind(b"\n", at, at + BLOCK) + 1 or text.find(b"\n", at) + 1 or len(text)
+        yield text[at:end]
+        at = end
+
+
+def places_of_marks(data: Octets) -> Integers:
+    """The place before a text, and those of its commas and line feeds."""
+    places = [np.array([len(FRONT) - 1], np.int64)]
+    for at in range(0, len(data), PIECE):
+        piece = data[at : at + PIECE]
+        places.append(np.flatnonzero((piece == COMMA) | (piece == LINE_FEED)) + at)
+    return np.concatenate(places)
 
 
 @dataclass(frozen=True)
 class Records:
-    """Some records of a file: where each begins and ends, and all commas and line feeds of the file."""
+    """Some lines of a text: which of its marks, commas and line feeds, ends the first field of each, how many fields each has, and
+    its number."""
 
     data: Octets
-    begin: Integers
-    end: Integers
-    commas: Integers
-    line_feeds: Integers
+    marks: Integers
+    first: Integers
+    count: Integers
+    line: Integers
+
+    @staticmethod
+    def of_text(text: bytes, line: int = 1) -> Records:
+        """All lines that end; the first one has this number."""
+        data = np.frombuffer(b"".join((FRONT, text, FRONT)), np.uint8)
+        marks = places_of_marks(data)
+        ends = np.flatnonzero(data[marks] == LINE_FEED)
+        first = np.append(1, ends + 1)[: len(ends)]
+        return Records(data, marks, first, ends - first + 1, np.arange(line, line + len(ends)))
 
     def __len__(self) -> int:
-        return len(self.begin)
+        return len(self.first)
 
     def of(self, choice: Union[Integers, Mask, slice]) -> Records:
         """Those that a mask or places choose."""
-        return Records(self.data, self.begin[choice], self.end[choice], self.commas, self.line_feeds)
+        return Records(self.data, self.marks, self.first[choice], self.count[choice], self.line[choice])
 
-    @property
-    def line(self) -> Integers:
-        """The line of each."""
-        lines: Integers = np.searchsorted(self.line_feeds, self.begin) + 1
-        return lines
-
-    def text(self, place: int) -> str:
-        return self.data[self.begin[place] : self.end[place]].tobytes().decode("utf-8", "replace")
-
-    def starts(self, word: bytes, field: int = 0) -> Mask:
-        """Whether each has a field, from 0, that begins with this word; the word may go on over commas."""
-        parts = [self.of(slice(at, at + PIECE)).start(word, field) for at in range(0, len(self), PIECE)]
-        return np.concatenate(parts) if parts else np.zeros(0, bool)
-
-    def start(self, word: bytes, field: int) -> Mask:
-        """The same of a few records."""
-        begin = self.field_begin(field)
-        rest = np.flatnonzero(begin + len(word) <= self.end)
-        for place, letter in enumerate(word):
-            rest = rest[self.data[begin[rest] + place] == letter]
-        places = np.zeros(len(self), bool)
-        places[rest] = True
-        return places
-
-    def field_begin(self, field: int) -> Integers:
-        """Where the field begins; the end of a record that has no such field."""
-        if field == 0:
-            return self.begin
-        comma = np.searchsorted(self.commas, self.begin) + field - 1
-        places = self.commas[np.minimum(comma, len(self.commas) - 1)] if len(self.commas) else self.end
-        return np.where((comma < len(self.commas)) & (places < self.end), places + 1, self.end)
-
-    def fields(self, count: int) -> list[Fields]:
-        """The fields of each; Bad is raised where one has another count."""
-        first = np.searchsorted(self.commas, self.begin)
-        if (np.searchsorted(self.commas, self.end) - first != count - 1).any():
+    def counted(self, count: int) -> Records:
+        """The same. Bad: one has another count of fields."""
+        if (self.count != count).any():
             raise Bad
-        begins = [self.begin, *(self.commas[first + place] + 1 for place in range(count - 1))]
-        ends = [*(begin - 1 for begin in begins[1:]), self.end]
-        return [Fields(self.data, begin, end - begin) for begin, end in zip(begins, ends)]
+        return self
+
+    def without(self, *letters: int) -> Records:
+        """Those that begin with none of these letters; an empty line begins with its line feed."""
+        is_other = np.zeros(len(self), bool)
+        for letter in letters:
+            is_other |= self.letter == letter
+        return self.of(~is_other) if is_other.any() else self
+
+    @cached_property
+    def begin(self) -> Integers:
+        return self.end_of(-1) + 1
+
+    @cached_property
+    def letter(self) -> Octets:
+        """The first letter of each."""
+        return self.data[self.begin]
+
+    @cached_property
+    def ends(self) -> dict[int, Integers]:
+        """Where fields end, by their places, as far as that was asked for."""
+        return {}
+
+    def end_of(self, place: int) -> Integers:
+        """Where the field at this place of each ends, from 0; that at -1 is the line feed before it."""
+        if place not in self.ends:
+            self.ends[place] = self.marks[self.first + place]
+        return self.ends[place]
+
+    def field(self, place: int, more: int = 0) -> Fields:
+        """The field at this place of each, from 0, with so many more behind it."""
+        return Fields(self.data, self.end_of(place - 1) + 1, self.end_of(place + more))
+
+    def text(self, place: int, errors: str = "replace") -> str:
+        begin, end = self.marks[self.first[place] - 1] + 1, self.marks[self.first[place] + self.count[place] - 1]
+        return self.data[begin:end].tobytes().decode("utf-8", errors)
+
+    def starts(self, word: bytes, place: int = 0) -> Mask:
+        """Whether each has a field at this place that begins with this word; the word may go on over commas."""
+        is_so: Mask = self.count > place if place else self.letter == word[0]
+        begin = self.marks[np.minimum(self.first + place, len(self.marks)) - 1] + 1 if place else self.begin
+        for behind, letter in enumerate(word):
+            if not is_so.any():
+                break
+            is_so &= self.data[begin + behind] == letter
+        return is_so
 
 
-class HistoryFile(NamedTuple):
-    """A file and its records, without remarks and empty lines, whether its last line is whole, and the IPv6 addresses
-    that its remarks name."""
+class Combinations:
+    """The combinations of some columns, numbered in order of first sight, as records are read."""
 
-    data: bytes
-    records: Records
-    is_whole: bool
-    addresses: dict[str, str]
+    def __init__(self, *columns: Column) -> None:
+        self.columns, self.count, self.most = columns, 0, BLOCK >> 4
+        self.numbers, self.values = list[Integers](), list[list[Integers]]()
+
+    def add(self, records: Records, at: int) -> None:
+        """Takes records whose field `at` is that of the first column. Bad: a field isn't of its kind."""
+        numbers, firsts = numbered(*records.field(at, len(self.columns) - 1).keys())
+        different = records.of(firsts)  # by their letters
+        self.values.append([column.read(different.field(at + place)) for place, column in enumerate(self.columns)])
+        self.numbers.append(numbers + self.count)
+        self.count += len(firsts)
+        if self.count > self.most:
+            self.joined()
+            self.most = 4 * self.count
+
+    def joined(self) -> tuple[Integers, list[Integers]]:
+        """The number of each record's combination, and the columns of the combinations, of which equal ones become one."""
+        values = joined(self.values)
+        numbers, firsts = numbered(*values)
+        self.numbers, self.values = [numbers[np.concatenate(self.numbers)]], [[value[firsts] for value in values]]
+        self.count = len(firsts)
+        return self.numbers[0], self.values[0]
 
 
-def read_records(path: str) -> HistoryFile:
-    with untrusted(path):
-        data = plain(read_bytes(path), keeps_lines=True)
-    array = np.frombuffer(data, np.uint8)
-    ends = places_of(array, LINE_FEED)
-    begin, end = (np.concatenate(column) for column in zip(*lines_of_records(array, ends)))
-    return HistoryFile(data, Records(array, begin, end, places_of(array, COMMA), ends), data.endswith(b"\n"), addresses_in(data))
-
-
-def lines_of_records(data: Octets, ends: Integers) -> Iterator[list[Integers]]:
-    """Where records begin and end, of some lines at a time."""
-    for at in range(0, len(ends) + 1, PIECE):
-        end = ends[at : at + PIECE]
-        begin = np.append(ends[at - 1 : at] + 1 if at else np.zeros(1, ends.dtype), end[:-1] + 1)[: len(end)]
-        is_record = (begin < end) & (data[begin] != REMARK)
-        yield [begin[is_record], end[is_record]]
+def joined(parts: list[list[Integers]]) -> list[Integers]:
+    """The columns whose parts were read one after the other; a part is left empty, since columns are large."""
+    return [np.concatenate([part.pop(0) for part in parts]) for _ in range(len(parts[0]))]
 
 
 def is_history_file(path: str) -> bool:

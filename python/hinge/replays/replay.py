@@ -13,7 +13,8 @@ from hinge.captures.addresses import read_addresses
 from hinge.command import ROWS, Fault
 from hinge.lazy import Integers, Mask, few as np
 from hinge.replays.columns import Address, Column, Number, OneOf, numbered
-from hinge.replays.tables import read_table
+from hinge.replays.record_lines import Combinations, Records, joined
+from hinge.replays.tables import read_columns, read_table
 from hinge.replays.units import socket_address
 
 EVENTS = NONE, FULL, LOST, HELD, OUT = range(5)
@@ -95,27 +96,48 @@ def named_tuples(rows: Iterable[tuple[int, ...]], addresses: dict[str, str]) -> 
     return [(named(src), named(dst), proto, sport, dport) for src, dst, proto, sport, dport in rows]
 
 
+class Rows:
+    """Rows of packets, as they are read."""
+
+    def __init__(self) -> None:
+        self.named = Combinations(OneOf(KINDS), Number(), Address(), Address(), Number(), Number(), Number())
+        self.columns = list[list[Integers]]()  # moments, lengths and words
+
+    def add(self, records: Records, at: int, moments: Integers) -> None:
+        """Takes records of packets with these moments, of which field `at` and the eight behind it are those of a row. Bad: a field
+        isn't of its kind."""
+        self.named.add(records, at)
+        self.columns.append([moments, *(Number().read(records.field(at + place)) for place in (7, 8))])
+
+    def add_rows(self, rows: Records) -> None:
+        """Takes rows of a packet file. Bad: a field isn't of its kind."""
+        self.add(rows, 1, Number().read(rows.field(0)))
+
+    def packets(self, path: str, addresses: dict[str, str]) -> Packets:
+        """All of them, with these IPv6 addresses."""
+        of, (kind, number, *five) = self.named.joined()
+        (target, first), (five_tuple, first_of_tuple) = numbered(kind, number), numbered(*five)
+        target, five_tuple = np.array(target, "i4")[of], np.array(five_tuple, "i4")[of]
+        moment, length, word = joined(self.columns)
+        targets = [(KINDS[kind], number) for kind, number in zip(kind[first].tolist(), number[first].tolist())]
+        tuples = named_tuples(zip(*(column[first_of_tuple].tolist() for column in five)), addresses)
+        return Packets(path, moment, target, five_tuple, length, word, targets, tuples)
+
+
 def read_packets(path: str) -> Packets:
-    table = read_table(path, PACKET_COLUMNS)
-    target, first_of_target = numbered(table["target"], table["number"])
-    five = [table[name] for name in ("src", "dst", "proto", "sport", "dport")]
-    five_tuple, first_of_tuple = numbered(*five)
-    targets = [(KINDS[table["target"][row]], int(table["number"][row])) for row in first_of_target]
-    rows = zip(*(column[first_of_tuple].tolist() for column in five))
-    tuples = named_tuples(rows, read_addresses(path))
-    return Packets(path, table["moment"], target, five_tuple, table["len"], table["word"], targets, tuples)
+    return read_table(path, PACKET_COLUMNS, Rows()).packets(path, read_addresses(path))
 
 
 def read_report(path: str, packets: Packets) -> Replay:
     """The report of a replay of these packets, a line for each row. Fault: the lines are those of other packets."""
-    columns = read_table(path, REPORT_COLUMNS)
+    columns = read_columns(path, REPORT_COLUMNS)
     place = columns.pop("row") - 1
     count = np.bincount(place, minlength=len(packets)) if len(place) and place.min() >= 0 else np.zeros(len(packets), int)
     if len(place) != len(packets) or len(count) != len(packets) or (count != 1).any():
         raise Fault(f"{path}: its {len(place)} lines aren't those of the {len(packets)} rows of {packets.path}", ROWS)
-    union = {name: np.empty(len(column), np.int64) for name, column in columns.items()}
-    for name, column in columns.items():
-        union[name][place] = column
+    union = {name: np.empty(len(column), column.dtype) for name, column in columns.items()}
+    for name in union:
+        union[name][place] = columns.pop(name)
     if (union["at"] < packets.moment).any():
         row = int(np.argmax(union["at"] < packets.moment)) + 1
         why = "it is the report of other packets"

@@ -44,11 +44,8 @@ class Source:
         if self.parts is not None:
             return self.parts
         if self.is_history:
-            raise Fault(
-                f"{self.replay.path}: the links were changed while packets came, and a paragraph is of links "
-                f"that stay as they are",
-                ROWS,
-            )
+            why = "the links were changed while packets came, and a paragraph is of links that stay as they are"
+            raise Fault(f"{self.replay.path}: {why}", ROWS)
         raise Fault("a paragraph needs the configuration: --config FILE", USAGE)
 
     def remarks(self) -> Iterator[str]:

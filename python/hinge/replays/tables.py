@@ -4,81 +4,39 @@ from __future__ import annotations
 
 import csv
 import io
-import sys
-from itertools import chain, islice
+from contextlib import suppress
+from itertools import islice
 from pathlib import Path
-from typing import Callable, Iterator
+from typing import Callable, Protocol, TypeVar
 
-from hinge.border.files import read_bytes, untrusted
+from hinge.border.files import opened, read_again, untrusted
 from hinge.command import ROWS, Fault, working
-from hinge.lazy import Integers, Mask, Octets, few as np
+from hinge.lazy import Integers
 from hinge.replays.columns import Bad, Column, Fields
-
-csv.field_size_limit(sys.maxsize)  # a field may be as long as its file
-
-BYTE_ORDER_MARK = b"\xef\xbb\xbf"
-COMMA, LINE_FEED = 44, 10
-PIECE = 1 << 20  # places of a file that are looked at together
+from hinge.replays.record_lines import LINE_FEED, Records, blocks_of, joined
 
 
-def plain(data: bytes, keeps_lines: bool = False, errors: str = "strict") -> bytes:
-    """A file whose lines end in line feeds, without quotes, empty lines and a byte order mark. `keeps_lines` leaves the
-    empty lines, so that lines keep their numbers, and a last line that has no end."""
-    if b'"' in data:
-        data = without_quotes(data, errors)
-    else:
-        data = data.removeprefix(BYTE_ORDER_MARK).replace(b"\r\n", b"\n").replace(b"\r", b"\n")
-    if keeps_lines:
-        return data
-    while b"\n\n" in data:
-        data = data.replace(b"\n\n", b"\n")
-    data = data.lstrip(b"\n")
-    return data if data.endswith(b"\n") or not data else data + b"\n"
+class Table(Protocol):
+    """What takes the rows of a file."""
+
+    def add_rows(self, rows: Records) -> None:
+        """Takes some rows, which have as many fields as the header. Bad: a field isn't of its kind."""
 
 
-def text_of(data: bytes, errors: str) -> io.TextIOWrapper:
-    """A file for the standard library, which reads a few lines at a time."""
-    return io.TextIOWrapper(io.BytesIO(data), "utf-8-sig", errors, newline="")
+T = TypeVar("T", bound=Table)
 
 
-def without_quotes(data: bytes, errors: str) -> bytes:
-    out = bytearray()
-    for row in csv.reader(text_of(data, errors)):
-        out += ",".join(row).encode() + b"\n"
-    return bytes(out if data.endswith((b"\n", b"\r")) else out[:-1])
+class Columns:
+    """The columns of a file, as its rows are read."""
 
+    def __init__(self, columns: dict[str, Column]) -> None:
+        self.columns, self.parts = columns, list[list[Integers]]()
 
-def places_of(data: Octets, *letters: int) -> Integers:
-    """Where these letters are, as numbers of four bytes if the file has less than 2 GiB."""
-    masks = [(at, is_letter(data[at : at + PIECE], letters)) for at in range(0, len(data), PIECE)]
-    places: Integers = np.empty(sum(int(np.count_nonzero(mask)) for _, mask in masks), "i8" if len(data) >> 31 else "i4")
-    count = 0
-    for at, mask in masks:
-        more = np.flatnonzero(mask) + at
-        places[count : count + len(more)] = more
-        count += len(more)
-    return places
+    def add_rows(self, rows: Records) -> None:
+        self.parts.append([column.read(rows.field(place)) for place, column in enumerate(self.columns.values())])
 
-
-def is_letter(piece: Octets, letters: tuple[int, ...]) -> Mask:
-    mask: Mask = piece == letters[0]
-    for letter in letters[1:]:
-        mask |= piece == letter
-    return mask
-
-
-def fields_of(data: bytes, count: int) -> Iterator[Fields]:
-    """The fields of each column. Bad: a row has more or fewer."""
-    rows, octets = data.count(b"\n"), np.frombuffer(data, np.uint8)
-    marks = places_of(octets, COMMA, LINE_FEED)
-    if len(marks) != rows * count:
-        raise Bad
-    ends = [marks[place::count] for place in range(count)]
-    if (octets[ends[-1]] != LINE_FEED).any():
-        raise Bad
-    first = np.append(np.zeros(1, marks.dtype), ends[-1][:-1] + 1)[:rows]
-    for begin, end in zip(chain([first], (end + 1 for end in ends[:-1])), ends):
-        yield Fields(octets, begin, end - begin)
+    def by_name(self) -> dict[str, Integers]:
+        return dict(zip(self.columns, joined(self.parts)))
 
 
 def fault_of(record: list[str], columns: dict[str, Column]) -> str | None:
@@ -91,12 +49,6 @@ def fault_of(record: list[str], columns: dict[str, Column]) -> str | None:
         except Bad:
             return f"bad {name} {text!r}"
     return None
-
-
-def read_columns(rows: bytes, columns: dict[str, Column]) -> dict[str, Integers]:
-    """The columns of rows; Bad is raised where some field isn't of its kind."""
-    fields = fields_of(rows, len(columns))
-    return {name: column.read(result) for (name, column), result in zip(columns.items(), fields)}
 
 
 def first_bad(count: int, read: Callable[[int, int], object]) -> int:
@@ -112,36 +64,52 @@ def first_bad(count: int, read: Callable[[int, int], object]) -> int:
     return low
 
 
-def located(path: str, data: bytes, columns: dict[str, Column]) -> Fault:
-    """The fault of a file: the first row that can't be read, told by its line."""
-    try:
-        rows = plain(data, errors="replace").partition(b"\n")[2]
-        ends = places_of(np.frombuffer(rows, np.uint8), LINE_FEED)
+def lines_of(text: bytes) -> Records:
+    """The lines that aren't empty, also a last one that has no end."""
+    return Records.of_text(text + b"\n").without(LINE_FEED)
 
-        def read(low: int, high: int) -> None:
-            read_columns(rows[ends[low - 1] + 1 if low else 0 : ends[high - 1] + 1], columns)
 
-        reader = csv.reader(text_of(data, "replace"))
-        row = next(islice(filter(None, reader), first_bad(len(ends), read) + 1, None), None)
+def located(name: str, path: str, columns: dict[str, Column], place: int) -> Fault:
+    """The fault of a row that can't be read, told by its line."""
+    with opened(path) as file:
+        reader = csv.reader(io.TextIOWrapper(file, "utf-8-sig", "replace", newline=""))
+        row = next(islice(filter(None, reader), place + 1, None), None)
         fault = row and fault_of(row, columns)
-    except csv.Error as error:
-        return Fault(f"{path}: {error}", ROWS)
-    return Fault(f"{path} line {reader.line_num}: {fault}" if fault else f"{path}: can't be read", ROWS)
+    return Fault(f"{name} line {reader.line_num}: {fault}" if fault else f"{name}: can't be read", ROWS)
 
 
-def columns_of(path: str, data: bytes, columns: dict[str, Column]) -> dict[str, Integers]:
-    """The columns of a file. Fault: it has another header. Bad: a field isn't of its kind."""
-    header, _, rows = plain(data).partition(b"\n")
-    if header and header.decode() != ",".join(columns):
-        raise Fault(f"{path} line 1: the header isn't {','.join(columns)}", ROWS)
-    return read_columns(rows, columns)
-
-
-def read_table(path: str, columns: dict[str, Column]) -> dict[str, Integers]:
-    """The columns of a file whose header has these names."""
-    with untrusted(path), working(f"reading {Path(path).name}"):
-        data = read_bytes(path)
+def with_rows(name: str, path: str, columns: dict[str, Column], table: T, errors: str) -> T:
+    """The table with the rows of a file. Fault: it has another header, or a row can't be read."""
+    header, count = ",".join(columns), -1
+    for text in blocks_of(path, errors):
+        rows = lines_of(text)
+        if count < 0 and len(rows):
+            if errors == "strict" and rows.text(0, errors) != header:
+                raise Fault(f"{name} line 1: the header isn't {header}", ROWS)
+            rows, count = rows.of(slice(1, None)), 0
         try:
-            return columns_of(path, data, columns)
-        except (Bad, UnicodeDecodeError, csv.Error):
-            raise located(path, data, columns) from None
+            table.add_rows(rows.counted(len(columns)))
+        except Bad:
+            reads = Columns(columns).add_rows
+            place = first_bad(len(rows), lambda low, high: reads(rows.of(slice(low, high)).counted(len(columns))))
+            raise located(name, path, columns, count + place) from None
+        count += len(rows)
+    return table
+
+
+def read_table(path: str, columns: dict[str, Column], table: T) -> T:
+    """The table with the rows of a file whose header has these names."""
+    with untrusted(path), working(f"reading {Path(path).name}"), read_again(path) as file:
+        try:
+            table.add_rows(Records.of_text(b""))
+            with suppress(UnicodeDecodeError):
+                return with_rows(path, file.path, columns, table, "strict")
+            with_rows(path, file.path, columns, Columns(columns), "replace")
+        except csv.Error as error:
+            raise Fault(f"{path}: {error}", ROWS) from None
+    raise Fault(f"{path}: can't be read", ROWS)
+
+
+def read_columns(path: str, columns: dict[str, Column]) -> dict[str, Integers]:
+    """The columns of a file whose header has these names."""
+    return read_table(path, columns, Columns(columns)).by_name()

@@ -1,10 +1,18 @@
-"""The transcript of a live session."""
+"""Histories of replays, and the transcript of a live session."""
 
 from __future__ import annotations
 
 import subprocess
 
 from hinge.program import dummynet
+from kit import folder, mixed
+
+
+def history_of(name: str) -> str:
+    config, packets, _ = mixed(name)
+    path = folder() / f"{name}.history"
+    subprocess.run([dummynet(), "replay", config, packets, "--history", path], stdout=subprocess.DEVNULL, check=True)
+    return str(path)
 
 
 def live(lines: list[str]) -> str:

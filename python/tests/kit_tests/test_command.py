@@ -17,6 +17,7 @@ from kit import folder
 from hinge import command
 
 CLEARED = "\r\x1b[K"
+ENVIRONMENT = {**os.environ, "PYTHONPATH": os.pathsep.join(sys.path)}
 
 
 class Terminal(io.StringIO):
@@ -117,7 +118,11 @@ class Streams(unittest.TestCase):
             "made = os.open('stream', os.O_CREAT | os.O_RDWR); "
             "print('told', file=sys.stderr, flush=True); os.write(made, b'%d' % made)"
         )
-        env = {**os.environ, "PYTHONPATH": os.pathsep.join(sys.path)}
         words = ["sh", "-c", 'exec "$0" -c "$1" <&- >&- 2>&-', sys.executable, script]
-        subprocess.run(words, cwd=folder(), env=env, check=True)
+        subprocess.run(words, cwd=folder(), env=ENVIRONMENT, check=True)
         self.assertGreater(int((folder() / "stream").read_text()), 2)
+
+    def test_a_closed_one_is_no_empty_capture(self) -> None:
+        words = ["sh", "-c", 'exec "$0" -m hinge packets - <&-', sys.executable]
+        done = subprocess.run(words, cwd=folder(), env=ENVIRONMENT, capture_output=True, text=True)
+        self.assertEqual((done.returncode, done.stdout, done.stderr), (6, "", "hinge packets: standard input is closed\n"))

@@ -11,7 +11,7 @@ import numpy as np
 from kit import folder, mixed, needs_tshark, replay, rows_of, run, write
 
 from hinge.captures.packet_rows import HEADER
-from hinge.pictures.figures import exact_sum, jitter, mean, percentile
+from hinge.pictures.figures import exact_sum, jitter, jitter_after, mean, percentiles
 from hinge.program import dummynet
 from hinge.replays.units import packets, rows
 
@@ -50,31 +50,12 @@ class ByHand(unittest.TestCase):
         )
         config = write("hand.config", "pipe 1 config bw 8Mbit/s queue 1\n")
         row = table(packets, report, "--config", config)["udp 10.0.0.1:1 > 10.0.0.2:2"]
-        self.assertEqual(
-            row,
-            {
-                "flow": "udp 10.0.0.1:1 > 10.0.0.2:2",
-                "packets": "5",
-                "bytes": "5000",
-                "offered_mbit_s": "20.000000",
-                "carried_mbit_s": "12.000000",
-                "out": "3",
-                "lost": "0",
-                "full": "1",
-                "none": "1",
-                "held": "0",
-                "min_ns": "1000000",
-                "mean_ns": "1666666",
-                "p50_ns": "2000000",
-                "p95_ns": "2000000",
-                "p99_ns": "2000000",
-                "max_ns": "2000000",
-                "jitter_ns": "58593",
-                "queueing_ns": "666666",
-                "transmission_ns": "1000000",
-                "link_delay_ns": "0",
-            },
+        names = (
+            "flow,packets,bytes,offered_mbit_s,carried_mbit_s,out,lost,full,none,held,min_ns,mean_ns,p50_ns,p95_ns,p99_ns,max_ns,"
         )
+        times = "1000000,1666666,2000000,2000000,2000000,2000000,58593,666666,1000000,0"
+        self.assertEqual(",".join(row), f"{names}jitter_ns,queueing_ns,transmission_ns,link_delay_ns")
+        self.assertEqual(",".join(row.values()), f"udp 10.0.0.1:1 > 10.0.0.2:2,5,5000,20.000000,12.000000,3,0,1,1,0,{times}")
         done = run("look", packets, report, "--by", "target")
         self.assertIn("1 rows went to pipe 9, which isn't configured", done.stderr)
         lines = done.stdout.splitlines()
@@ -110,10 +91,8 @@ class ByHand(unittest.TestCase):
         )
 
     def test_percentiles_by_nearest_rank(self) -> None:
-        ordered = np.arange(1, 201)
-        self.assertEqual([percentile(ordered, part) for part in (50, 95, 99)], [100, 190, 198])
-        self.assertEqual([percentile(ordered[:1], part) for part in (50, 99)], [1, 1])
-        self.assertIsNone(percentile(ordered[:0], 50))
+        for count, wanted in ((200, [100, 190, 198]), (1, [1, 1, 1]), (0, [None] * 3)):
+            self.assertEqual(list(percentiles(np.arange(count, 0, -1)).values()), wanted)
 
     def test_sums_beyond_63_bits(self) -> None:
         column = np.full(5, 2**62, np.int64)
@@ -125,6 +104,12 @@ class ByHand(unittest.TestCase):
         self.assertEqual(jitter(np.array([0, 16_000_000])), 1_000_000)
         self.assertEqual([jitter(np.array([0, *[24] * steady])) for steady in (1, 8, 9)], [1, 1, 0])
         self.assertIsNone(jitter(np.array([7])))
+
+    def test_jitter_of_many(self) -> None:
+        """The last packets of many tell it, or all of them where it depends on all."""
+        random = np.random.default_rng(3).integers(0, 10**9, 30_000)
+        for took in (random, np.arange(30_000), np.append(0, np.full(30_000, 24)), np.arange(30_000) % 2 * 10**9):
+            self.assertEqual(jitter(took), jitter_after(0, took.tolist()))
 
 
 @needs_tshark

@@ -1,0 +1,151 @@
+"""Histories, transcripts and packet files of each form, however their bytes come in blocks."""
+
+from __future__ import annotations
+
+import random
+import subprocess
+import unittest
+from unittest.mock import patch
+
+import numpy as np
+
+from hinge.program import dummynet
+from hinge.replays import columns, record_lines
+from hinge.replays.history import read_history
+from hinge.replays.replay import NONE, OUT, Replay, read_packets, read_report
+from kit import folder, mixed, run, write
+from looked import history_of, live
+
+SUBMIT = "c,0,submit,pipe,1,10.0.0.1,10.0.0.2,17,1,2,1000,0,"
+
+
+class Forms(unittest.TestCase):
+    def test_a_text_as_long_as_a_file(self) -> None:
+        """A lawful history may have a configuration line of any length, in quotes."""
+        text = live(["pipe 1 config bw 8Mbit/s", f"{SUBMIT}0", "c,0,collect,5000000"])
+        path = write("long.history", text.replace("pipe 1 config", f'"pipe{" " * 200_000}1 config').replace("bit/s", 'bit/s"'))
+        self.assertEqual(subprocess.run([dummynet(), "audit", path], capture_output=True).returncode, 0)
+        done = run("look", "long.history")
+        self.assertEqual((done.returncode, done.stderr), (0, ""))
+
+    def test_a_transcript_that_was_cut_anywhere(self) -> None:
+        """What stands in it is looked at: as many packets as there are calls with a reply, those out that were
+        delivered."""
+        submits = [f"c,0,submit,pipe,1,10.0.0.{row % 3},10.0.0.2,17,1,2,1000,0,{row * 700_000}" for row in range(8)]
+        configured, collects = "pipe 1 config bw 8Mbit/s queue 3", ["c,0,collect,2500000", "c,0,collect,90000000"]
+        whole = live([configured, *submits[:4], "next", collects[0], *submits[4:], collects[1]])
+        self.assertIn("#,next,", whole)
+        rng = random.Random(5)
+        for cut in sorted(rng.sample(range(len("dummynet-history,3\n"), len(whole)), 60)):
+            text = whole[:cut]
+            told = read_history(str(write("cut.history", text)))
+            kept = [line for line in text.split("\n")[:-1] if line and line[0] != "#"]
+            wanted = [sum(line.startswith(begin) for line in kept) for begin in (("r,queued", "r,full"), "d,")]
+            self.assertEqual([len(told.replay.packets), int(told.replay.is_out.sum())], wanted, text)
+            self.assertEqual(told.cut is None, kept[-1].startswith("end,"))
+        done = run("look", write("cut.history", whole[: -len("end,11")]))
+        self.assertEqual(done.returncode, 0)
+        told_end = "has no end behind line 32: the session was killed, or still goes on; it is looked at up to there"
+        self.assertIn(told_end, done.stderr)
+
+    def test_a_transcript_of_each_form(self) -> None:
+        """Under either first record, with remarks and empty lines between entries, quotes and other line ends, of any
+        caller."""
+        other = SUBMIT.replace("c,0", "c,15").replace("pipe,1", "queue,9")
+        whole = live(["pipe 1 config bw 8Mbit/s", f"{SUBMIT}5", f"{other}6", "c,3,collect,5000000", "c,3,show"])
+        forms = [
+            whole,
+            whole.replace("dummynet-history,3", "dummynet-live,1"),
+            whole.replace("\nc,", "\n#,next,7\n\nc,"),
+            whole.replace("\n", "\r\n"),
+            whole.replace("pipe,1", '"pipe","1"'),
+        ]
+        for form in forms:
+            (folder() / "form.history").write_bytes(form.encode())
+            told = read_history(str(folder() / "form.history"))
+            columns = [getattr(told.replay, name).tolist() for name in ("event", "at", "due")]
+            self.assertEqual(columns, [[OUT, NONE], [5, 6], [1_000_005, -1]])
+            self.assertEqual((told.configuration is None, told.cut), (False, None))
+            self.assertEqual(told.replay.packets.targets, [("pipe", 1), ("queue", 9)])
+
+    def test_ipv6_addresses_that_the_host_names(self) -> None:
+        whole = live(["pipe 1 config", "c,0,submit,pipe,1,240.0.0.0,240.0.0.1,17,1,2,1000,0,0"])
+        remark = "#,address,240.0.0.{},2001:0db8:0000:0000:0000:0000:0000:000{}\n"
+        path = write("six.history", whole.replace("\nc,0,submit", f"\n{remark.format(0, 1)}{remark.format(1, 2)}c,0,submit"))
+        self.assertIn("udp [2001:db8::1]:1 > [2001:db8::2]:2 ", run("look", path).stdout)
+
+    def test_commands_as_a_host_spells_them(self) -> None:
+        """Any line that asks for a command may stand in its place."""
+        whole = live(["pipe 1 config bw 8Mbit/s delay 20 queue 3", f"{SUBMIT}0", "c,0,collect,21000000"])
+        canonical, other = "configure,pipe 1 config bw 8000000bit/s delay 20 queue 3", "configure,ipfw pipe 1 config bw 8Mbit/s"
+        self.assertIn(canonical, whole)
+        told = run("look", write("spelled.history", whole.replace(canonical, f"{other} delay 20ms queue 3 # slow")), "--why", 1)
+        self.assertEqual(told.returncode, 0, told.stderr)
+        self.assertIn("(1,000 bytes at 8,000,000 bit/s). The link's delay was 20.000000 ms.", told.stdout)
+        path = write("spelled.history", whole.replace(canonical, "configure,pipe 1 config bw 8Mbps"))
+        self.assertEqual(run("look", path).returncode, 4)
+
+    def test_faults(self) -> None:
+        for text, told in (
+            ("x\n", "line 1: no history of dummynet, and no live session"),
+            ("dummynet-history,3\nc,0,submit,pipe\nr,queued,0,0,0\n", "line 2: not as a history has it"),
+            ("dummynet-history,3\nc,0,show\nc,0,show\nr,status,0\n", "line 3: not as a history has it"),
+            (f"dummynet-history,3\n{SUBMIT}0\nr,exhausted\n", "line 3: not as a history has it"),
+            (f"dummynet-history,3\n{SUBMIT}0\nr,queued,0,0,-1\nd,5\n", "line 3: not as a history has it"),
+            (f"dummynet-history,3\n{SUBMIT}0,0\nr,queued,0,0,0\nd,5\n", "line 2: not as a history has it"),
+            ("dummynet-history,3\nc,0,collect,5\nr,delivered,5,1\nd,7,0,0,5\nend,1\n", "line 4: no packet 7 was queued"),
+        ):
+            path = write("bad.history", text)
+            done = run("look", path)
+            self.assertEqual((done.returncode, done.stderr), (4, f"hinge look: {path} {told}\n"))
+
+
+def told(replay: Replay) -> object:
+    packets = replay.packets
+    numbers = [getattr(replay, name).tolist() for name in ("event", "flow", "packet", "at", "start", "due")]
+    rows = [getattr(packets, name).tolist() for name in ("moment", "target", "five_tuple", "length", "word")]
+    return numbers, rows, packets.targets, packets.tuples
+
+
+class Blocks(unittest.TestCase):
+    """What a file tells doesn't depend on where its blocks end."""
+
+    def test_replays(self) -> None:
+        for name in ("dsl", "shared"):
+            _, packets, report = mixed(name)
+            path = history_of(name)
+            wanted = told(read_history(path).replay), told(read_report(str(report), read_packets(str(packets))))
+            for size in (5_000, 60_001):
+                with patch.object(record_lines, "BLOCK", size):
+                    found = told(read_history(path).replay), told(read_report(str(report), read_packets(str(packets))))
+                self.assertEqual(found, wanted, (name, size))
+
+    def test_a_transcript(self) -> None:
+        """Its changes, remarks, line ends and quotes, and a block that ends between a call and its reply."""
+        lines = [f"pipe 1 config bw 8Mbit/s delay {row}\n{SUBMIT}{row * 900_000}\nc,0,show" for row in range(6)]
+        text = live([*lines, "next", "c,0,collect,9000000"]).replace("\nend,", "\n#,late,1000000000,5,6,7,8\n#,seed,5\nend,")
+        path = folder() / "blocks.history"
+        for form in (text, text.replace("\n", "\r\n"), text.replace("pipe,1", '"pipe","1"'), text[:-6], text + "\n\n"):
+            path.write_bytes(form.encode())
+            one = read_history(str(path))
+            for size in (7, 40, 111, 300, 1000):
+                with patch.object(record_lines, "BLOCK", size):
+                    other = read_history(str(path))
+                self.assertEqual(told(other.replay), told(one.replay), size)
+                for name in ("changes", "cut", "seed", "is_history", "configuration"):
+                    self.assertEqual(getattr(other, name), getattr(one, name), (name, size))
+                self.assertEqual(other.most_late("late"), one.most_late("late"))
+
+    def test_numbers_of_combinations(self) -> None:
+        """By a table whose slots several share, and where that fails one by one."""
+        rng = np.random.default_rng(7)
+        for rows, values in ((0, 1), (1, 1), (50, 3), (4000, 2), (4000, 40), (4000, 10**6)):
+            keys = [rng.integers(0, values, rows) for _ in range(3)]
+            wanted = [column.tolist() for column in columns.numbered_one_by_one(*keys)]
+            self.assertEqual([column.tolist() for column in columns.numbered_at_once(*keys) or ()], wanted)
+            with patch.object(columns, "MOST_ROUNDS", 0):
+                self.assertEqual([column.tolist() for column in columns.numbered(*keys)], wanted)
+
+
+if __name__ == "__main__":
+    unittest.main()
