@@ -25,10 +25,7 @@ def series_of(sources: list[Source], by: str, top: Optional[int], step_ms: Optio
     most = min(top or MOST_FLOWS, MOST_FLOWS)
     flows = [group(replay, by).largest(replay.packets.length, most) for replay in (replays if by == "flow" else replays[:1])]
     each = zip(sources, flows * (len(sources) // len(flows)))
-    return [
-        series(source.replay, result, step_ns, span, source.changes, source.lateness, source.bounds or ())
-        for source, result in each
-    ]
+    return [series(one.replay, groups, step_ns, span, one.changes, one.lateness, one.bounds or ()) for one, groups in each]
 
 
 def provenance_of(sources: list[Source]) -> list[str]:

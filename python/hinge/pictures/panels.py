@@ -150,11 +150,8 @@ class Panels:
         items: list[Item] = [
             Line(flow.name, flow.delays, flow.ranks, color, number) for number, flow, color in self.flows() if len(flow.delays)
         ]
-        return (
-            Panel("Distribution of the delay", "ms", "part of what arrived", items, from_zero=False, has_time=False, most=1.02)
-            if items
-            else None
-        )
+        panel = Panel("Distribution of the delay", "ms", "part of what arrived", items, from_zero=False, has_time=False, most=1.02)
+        return panel if items else None
 
     def waiting(self) -> Optional[Panel]:
         """The packets that wait for each pipe or queue, and its limit."""
@@ -234,10 +231,5 @@ def drawing(flows_in_time: Series, below: Optional[list[str]] = None) -> Drawing
     """The picture of a replay; `below` is written under it."""
     panels = Panels(flows_in_time)
     keys = [panels.key(number, flow) for number, flow in enumerate(flows_in_time.flows)]
-    return Drawing(
-        [make(panels) for make in ORDER],
-        keys,
-        Path(flows_in_time.replay.path).name,
-        flows_in_time.steps.span / NS_PER_S,
-        below or [],
-    )
+    name, span = Path(flows_in_time.replay.path).name, flows_in_time.steps.span / NS_PER_S
+    return Drawing([make(panels) for make in ORDER], keys, name, span, below or [])

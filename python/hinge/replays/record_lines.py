@@ -17,8 +17,7 @@ csv.field_size_limit(sys.maxsize)  # a field may be as long as its file
 
 BYTE_ORDER_MARK = b"\xef\xbb\xbf"
 COMMA, LINE_FEED, REMARK = b",\n#"
-BLOCK = 1 << 19  # bytes of a file that are read together
-PIECE = 1 << 17  # bytes that the processor has at hand
+BLOCK, PIECE = 1 << 19, 1 << 17  # bytes of a file that are read together, and that the processor has at hand
 BEGINNINGS = (b"dummynet-history,", b"dummynet-live,")
 
 

@@ -125,7 +125,9 @@ class Rows:
 
 
 def read_packets(path: str) -> Packets:
-    return read_table(path, PACKET_COLUMNS, Rows()).packets(path, read_addresses(path))
+    rows = Rows()
+    read_table(path, PACKET_COLUMNS, rows.add_rows)
+    return rows.packets(path, read_addresses(path))
 
 
 def read_report(path: str, packets: Packets) -> Replay:

@@ -7,23 +7,13 @@ import io
 from contextlib import suppress
 from itertools import islice
 from pathlib import Path
-from typing import Callable, Protocol, TypeVar
+from typing import Callable
 
 from hinge.border.files import opened, read_again, untrusted
 from hinge.command import ROWS, Fault, working
 from hinge.lazy import Integers
 from hinge.replays.columns import Bad, Column, Fields
 from hinge.replays.record_lines import LINE_FEED, Records, blocks_of, joined
-
-
-class Table(Protocol):
-    """What takes the rows of a file."""
-
-    def add_rows(self, rows: Records) -> None:
-        """Takes some rows, which have as many fields as the header. Bad: a field isn't of its kind."""
-
-
-T = TypeVar("T", bound=Table)
 
 
 class Columns:
@@ -78,8 +68,8 @@ def located(name: str, path: str, columns: dict[str, Column], place: int) -> Fau
     return Fault(f"{name} line {reader.line_num}: {fault}" if fault else f"{name}: can't be read", ROWS)
 
 
-def with_rows(name: str, path: str, columns: dict[str, Column], table: T, errors: str) -> T:
-    """The table with the rows of a file. Fault: it has another header, or a row can't be read."""
+def add_rows(name: str, path: str, columns: dict[str, Column], add: Callable[[Records], None], errors: str) -> None:
+    """Adds the rows of a file to a table. Fault: it has another header, or a row can't be read."""
     header, count = ",".join(columns), -1
     for text in blocks_of(path, errors):
         rows = lines_of(text)
@@ -88,23 +78,22 @@ def with_rows(name: str, path: str, columns: dict[str, Column], table: T, errors
                 raise Fault(f"{name} line 1: the header isn't {header}", ROWS)
             rows, count = rows.of(slice(1, None)), 0
         try:
-            table.add_rows(rows.counted(len(columns)))
+            add(rows.counted(len(columns)))
         except Bad:
             reads = Columns(columns).add_rows
             place = first_bad(len(rows), lambda low, high: reads(rows.of(slice(low, high)).counted(len(columns))))
             raise located(name, path, columns, count + place) from None
         count += len(rows)
-    return table
 
 
-def read_table(path: str, columns: dict[str, Column], table: T) -> T:
-    """The table with the rows of a file whose header has these names."""
+def read_table(path: str, columns: dict[str, Column], add: Callable[[Records], None]) -> None:
+    """Adds the rows of a file whose header has these names to a table. Fault: it is another file."""
     with untrusted(path), working(f"reading {Path(path).name}"), read_again(path) as file:
         try:
-            table.add_rows(Records.of_text(b""))
+            add(Records.of_text(b""))
             with suppress(UnicodeDecodeError):
-                return with_rows(path, file.path, columns, table, "strict")
-            with_rows(path, file.path, columns, Columns(columns), "replace")
+                return add_rows(path, file.path, columns, add, "strict")
+            add_rows(path, file.path, columns, Columns(columns).add_rows, "replace")
         except csv.Error as error:
             raise Fault(f"{path}: {error}", ROWS) from None
     raise Fault(f"{path}: can't be read", ROWS)
@@ -112,4 +101,6 @@ def read_table(path: str, columns: dict[str, Column], table: T) -> T:
 
 def read_columns(path: str, columns: dict[str, Column]) -> dict[str, Integers]:
     """The columns of a file whose header has these names."""
-    return read_table(path, columns, Columns(columns)).by_name()
+    table = Columns(columns)
+    read_table(path, columns, table.add_rows)
+    return table.by_name()
