@@ -2,7 +2,7 @@
 
     python3 tools/gate/laws.py SEED
 
-Of six rows that the seed chooses, refuted_laws.py asks that the prover refutes the law. A law that is false has no proof, so
+Of six or seven rows that the seed chooses, refuted_laws.py asks that the prover refutes the law. A law that is false has no proof, so
 wrong_definitions.py, which asks that the law's proof is refused, is run only for a row without a refutation. With the seeds 0 to
 24 each row is tried. The scripts call the prover as RT, which is `rt` without it.
 """
