@@ -14,10 +14,10 @@
 #define FIRST_RECORD "dummynet-live,1\n"
 
 struct writer {
-    FILE *file;
+    int file;
     unsigned char *records; /* that have no lines yet: the last one may be in part */
-    uint8_t *lines;         /* of one record */
-    size_t held, room, line_room;
+    uint8_t *lines;         /* that aren't written yet */
+    size_t held, room, made, line_room;
     uint64_t entries;
 };
 
@@ -27,8 +27,8 @@ static uint32_t make_lines(struct writer *writer, const struct record *record, u
     const struct dn_packet *packet = body;
     const uint64_t *number = body;
     const void *rest = number + 1;
-    size_t rest_size = record->size - sizeof *number, room = writer->line_room;
-    uint8_t *lines = writer->lines;
+    size_t rest_size = record->size - sizeof *number, room = writer->line_room - writer->made;
+    uint8_t *lines = writer->lines + writer->made;
     char *text = (char *)lines;
     struct dn_fault none; /* a line that is kept was answered, so it has no fault */
     switch (record->kind) {
@@ -43,14 +43,16 @@ static uint32_t make_lines(struct writer *writer, const struct record *record, u
     return *length < room ? DN_OK : DN_ROOM;
 }
 
-/* Adds the lines of a record to the file, and returns how many bytes they have. */
+/* Adds the lines of a record, and returns how many bytes they have. */
 static uint64_t add_lines(struct writer *writer, const struct record *record) {
     uint64_t length;
     uint32_t status;
-    while ((status = make_lines(writer, record, &length)) == DN_ROOM) writer->lines = grown(writer->lines, writer->line_room = 2 * length);
+    while ((status = make_lines(writer, record, &length)) == DN_ROOM)
+        writer->lines = grown(writer->lines, writer->line_room = writer->made + 2 * length);
     if (status != DN_OK) fail("the transcript", "out of memory");
     writer->entries += record->kind <= CONFIGURE && length > 0;
-    return fwrite_unlocked(writer->lines, 1, length, writer->file);
+    writer->made += length;
+    return length;
 }
 
 /* The bytes of the record at a place, as far as they are known. */
@@ -71,16 +73,18 @@ static uint64_t take_records(struct writer *writer) {
     return spared;
 }
 
-static void write_lines(const struct writer *writer, const char *path) {
-    if (fflush(writer->file) || ferror(writer->file)) fail(path, strerror(errno));
+static void write_lines(struct writer *writer, const char *path) {
+    ssize_t len;
+    for (size_t at = 0; at < writer->made; at += (size_t)len)
+        if ((len = write(writer->file, writer->lines + at, writer->made - at)) < 0) fail(path, strerror(errno));
+    writer->made = 0;
 }
 
 _Noreturn void write_part(int pipe, int file, const char *path, _Atomic uint64_t *spared) {
-    struct writer writer = {.file = fdopen(file, "w"), .room = 1 << 16, .line_room = 256};
+    struct writer writer = {.file = file, .room = 1 << 16, .made = strlen(FIRST_RECORD), .line_room = TIMES << 16};
     writer.records = grown(NULL, writer.room);
     writer.lines = grown(NULL, writer.line_room);
-    setvbuf(writer.file, NULL, _IOFBF, 2 * writer.room);
-    fputs(FIRST_RECORD, writer.file);
+    memcpy(writer.lines, FIRST_RECORD, writer.made);
     for (ssize_t len; (len = read(pipe, writer.records + writer.held, writer.room - writer.held)) > 0;) {
         writer.held += (size_t)len;
         *spared += take_records(&writer);

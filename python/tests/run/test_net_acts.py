@@ -40,8 +40,8 @@ class OfHosts(InAFolder):
         command = f"while :; do echo on >> {self.folder}/told; sleep 0.05; done"
         count = f"wc -l < {self.folder}/told"
         done = self.net(
-            f"host a {command}\nmain c sleep 0.8; {count}; sleep 0.5; {count}; sleep 1; {count}\n{TWO}"
-            "at 500ms stop a\nat 1500ms cont a\nat 2200ms stop a\n"
+            f"host a {command}\nmain c sleep 1.6; {count}; sleep 1; {count}; sleep 2; {count}\n{TWO}"
+            "at 500ms stop a\nat 3200ms cont a\nat 4400ms stop a\n"
         )
         before, meanwhile, after = map(int, done.stdout.split())
         self.assertTrue(before == meanwhile < after, done.stdout)
