@@ -55,9 +55,6 @@ CONTROLS = {
     ],
     "dn_wf2q/left_in_waiting_heap": [("leave(&mut self.waiting, first);", "let _ = self.waiting.moves();")],
     "dn_wf2q/picks_ineligible": [("top.tag() * 0", "top.tag() * 1")],
-    "dn_wf2q/weight_at_the_pick": [
-        ("self.behind.in_force.max(next.weight.min(0))", "next.weight.max(self.behind.in_force.min(0))")
-    ],
     "dn_wf2q/without_the_least_key": [
         ("use dn_heap::PlacedHeap;", IS_LEAST + "ghost use Rattle.dn_wf2q.specs.Rank.{rank_cmp}; use dn_heap::PlacedHeap;"),
         ("ensures keys {", LEAST % "rank_cmp"),
@@ -98,10 +95,7 @@ CONTROLS = {
         ("ensures pending {", "ensures value { result ≡ due_first at self.old.pending } ensures pending {"),
     ],
     "dn_shaper/without_which_is_picked": [
-        (
-            "ghost use Rattle.dn_types.specs.Wf2q.{pick};",
-            "ghost use Rattle.std.specs.Option.{option_map}; ghost use Rattle.dn_types.specs.Wf2q.{pick};",
-        ),
+        ("Wf2q.{raised};", "Wf2q.{pick, raised};"),
         (
             "ensures picks { ⊤ }",
             "ensures picks { result ≡ option_map (λ h. h.flow) (pick self.old.virtual_time (heads_of self.old.flows)) }",

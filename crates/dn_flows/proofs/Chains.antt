@@ -1,6 +1,6 @@
 -- The queues in the store: what a change of the store leaves of a chain of packets.
 use Rattle.std.proofs.Common.{◌≡◌, ◌∙◌, ℕ, zero, suc, ◌+◌, ◌<◌, ◌≤◌, true, false, List, ◌∷◌, refl, ap, sym, subst, arith}
-use Rattle.std.specs.Prelude.{Some, None, is_some, sum}
+use Rattle.std.specs.Prelude.{Some, None, is_some, slice_get, sum}
 use Rattle.dn_flows.specs.Packets.{Packets, StoredPacket, ContainsKey, get}
 use Rattle.dn_flows.specs.declared.flow_queue.FlowQueue.{FlowQueue}
 use Rattle.dn_flows.specs.declared.waiting.Waiting.{Waiting}
@@ -157,6 +157,27 @@ module _ (owner behind : ℕ → ℕ) (store : Packets) (flow : ℕ) (q : FlowQu
           let first = lengths-cons (stored_at store q.front).waiting (waiting_from store (stored_at store q.front).next n) in
           omega arith
 
+  -- The packet that the first one names is held too.
+  pub held-second : (first : StoredPacket) → 2 ≤ q.len → get store q.front ≡ Some first → ContainsKey store first.next
+  held-second first two here = by q.len refl
+    where
+      by : (n : ℕ) → q.len ≡ n → ContainsKey store first.next
+      by zero few = absurd (omega arith)
+      by (suc zero) few = absurd (omega arith)
+      by (suc (suc n)) e =
+          let c = subst (λ n. IsChain owner behind store flow q.front n) e is.chain in
+          let same : c.0 ≡ first = ap stored_or (sym c.1 ∙ here) in
+          subst (λ (s : StoredPacket). ContainsKey store s.next) same (ap is_some (c.4).1)
+
+-- ---- The second packet of so many from a key on
+
+pub second-waits : (store : Packets) (key n : ℕ) (first second : StoredPacket) → 2 ≤ n → get store key ≡ Some first → get store first.next ≡ Some second
+    → slice_get (waiting_from store key n) 1 ≡ Some second.waiting
+second-waits store key zero first second two here there = absurd (omega arith)
+second-waits store key (suc zero) first second two here there = absurd (omega arith)
+second-waits store key (suc (suc n)) first second two here there =
+    ap (λ (s : StoredPacket). Some (stored_at store s.next).waiting) (ap stored_or here) ∙ ap (λ (s : StoredPacket). Some s.waiting) (ap stored_or there)
+
 -- A queue with the same packets, whatever it counted.
 abbrev pub SamePackets : FlowQueue → FlowQueue → Type 0
 SamePackets q q' = (q'.front ≡ q.front) × (q'.back ≡ q.back) × (q'.len ≡ q.len) × (q'.bytes ≡ q.bytes)
@@ -176,6 +197,7 @@ shortens-none store q = record {
   len = refl;
   capacity = refl;
   counts = (refl, refl);
+  home = refl;
   flags = (refl, refl, refl);
 }
 
@@ -194,6 +216,7 @@ shortens-more old mid new first q q₁ q' s t len capacity = record {
     ap (λ (x : FlowQueue). x.reserved) t.queue_is.2 ∙ s.counts.0,
     ap (λ (x : FlowQueue). x.started) t.queue_is.2 ∙ s.counts.1,
   );
+  home = ap (λ (x : FlowQueue). x.home) t.queue_is.2 ∙ s.home;
   flags = (
     ap (λ (x : FlowQueue). x.active) t.queue_is.2 ∙ s.flags.0,
     ap (λ (x : FlowQueue). x.on_pipe) t.queue_is.2 ∙ s.flags.1,

@@ -18,11 +18,12 @@ pub record Keeps (s t : FlowState) : Type 0 where
   pub reserved : s.reserved ≡ t.reserved
   pub active : s.active ≡ t.active
   pub started : s.started ≡ t.started
+  pub home : s.home ≡ t.home
 
 pub kept : (states : List FlowState) (unsent : List Unsent) (flow : ℕ) → Keeps (flow_at (all_with_unsent states unsent) flow) (flow_at states flow)
-kept [] unsent flow = record { backlog = refl; reserved = refl; active = refl; started = refl }
-kept (s ∷ states) [] flow = record { backlog = refl; reserved = refl; active = refl; started = refl }
-kept (s ∷ states) (u ∷ unsent) zero = record { backlog = refl; reserved = refl; active = refl; started = refl }
+kept [] unsent flow = record { backlog = refl; reserved = refl; active = refl; started = refl; home = refl }
+kept (s ∷ states) [] flow = record { backlog = refl; reserved = refl; active = refl; started = refl; home = refl }
+kept (s ∷ states) (u ∷ unsent) zero = record { backlog = refl; reserved = refl; active = refl; started = refl; home = refl }
 kept (s ∷ states) (u ∷ unsent) (suc flow) = kept states unsent flow
 
 -- A change of one flow that leaves the counts.

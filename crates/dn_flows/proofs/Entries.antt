@@ -1,5 +1,5 @@
 -- Each flow stays in the lists in which its queue says it is, whatever a call does to one queue and to the lists.
-use Rattle.std.proofs.Common.{◌≡◌, ◌≢◌, ◌∙◌, ◌⊎◌, ◌||◌, ◌<◌, ℕ, zero, suc, Bool, true, false, cond, List, [], ◌∷◌, ◌++◌, length, map, set, take, refl, ap, sym, subst, arith, inl, inr}
+use Rattle.std.proofs.Common.{◌≡◌, ◌≢◌, ◌∙◌, ◌⊎◌, ◌||◌, ◌<◌, ℕ, zero, suc, Bool, true, false, List, [], ◌∷◌, ◌++◌, length, set, take, refl, ap, sym, subst, arith, inl, inr}
 use Rattle.std.specs.Prelude.{Some, None, nat_eq, slice_get}
 use Rattle.std.specs.List.{list_any}
 use Rattle.std.proofs.lemmas.Bool.{cases_eq, eqb-true}
@@ -271,7 +271,7 @@ lets-go target keys queues queues' m m' flow a keeps others go idle = listed-but
 
 pub keep-none : (queues : List FlowQueue) → KeepQueues queues queues
 keep-none queues = record {
-  each = λ flow q e. (q, e, record { front = refl; back = refl; len = refl; bytes = refl; active = refl; started = refl; reserved = λ on. refl });
+  each = λ flow q e. (q, e, record { front = refl; back = refl; len = refl; bytes = refl; active = refl; started = refl; home = refl; reserved = λ on. refl });
   many = refl;
 }
 
@@ -289,6 +289,7 @@ keep-more old mid new a b = record {
           bytes = y.2.bytes ∙ x.2.bytes;
           active = y.2.active ∙ x.2.active;
           started = y.2.started ∙ x.2.started;
+          home = y.2.home ∙ x.2.home;
           reserved = λ on. y.2.reserved (x.2.active ∙ on) ∙ x.2.reserved on;
         },
       );
@@ -296,14 +297,14 @@ keep-more old mid new a b = record {
 }
 
 without-keeps : (target : Target) (q : FlowQueue) → q.active ≡ false → KeepsQueue q (without_list target q)
-without-keeps (ToPipe p) q e = record { front = refl; back = refl; len = refl; bytes = refl; active = refl; started = refl; reserved = λ on. absurd cc }
-without-keeps (ToQueue n) q e = record { front = refl; back = refl; len = refl; bytes = refl; active = refl; started = refl; reserved = λ on. absurd cc }
+without-keeps (ToPipe p) q e = record { front = refl; back = refl; len = refl; bytes = refl; active = refl; started = refl; home = refl; reserved = λ on. absurd cc }
+without-keeps (ToQueue n) q e = record { front = refl; back = refl; len = refl; bytes = refl; active = refl; started = refl; home = refl; reserved = λ on. absurd cc }
 
 pub keep-let : (target : Target) (flow : ℕ) (old new : List FlowQueue) → LetsGo target flow old new → KeepQueues old new
 keep-let target flow old new go = record { each = λ g q' e. by g q' e (cases_eq g flow); many = go.many }
   where
     same : (q : FlowQueue) → KeepsQueue q q
-    same q = record { front = refl; back = refl; len = refl; bytes = refl; active = refl; started = refl; reserved = λ on. refl }
+    same q = record { front = refl; back = refl; len = refl; bytes = refl; active = refl; started = refl; home = refl; reserved = λ on. refl }
 
     kept : (q q' : FlowQueue) → ((q.active ≡ true) × (q' ≡ q)) ⊎ ((q.active ≡ false) × (q' ≡ without_list target q)) → KeepsQueue q q'
     kept q q' (inl e) = subst (KeepsQueue q) (sym e.1) (same q)

@@ -49,7 +49,7 @@ stay-queue owner behind owner' behind' old new flow q is stay = (
     last = λ n e. same.keys n (omega arith) ∙ is.last n e;
     counts = subst (λ (ws : List Waiting). IsCounted ws q.len q.bytes) (sym same.waiting) is.counts;
   },
-  λ i. record { backlog = same.waiting i; reserved = q.reserved; active = q.active; lost = 0; full = 0; started = q.started; discarded = 0 },
+  λ i. record { backlog = same.waiting i; reserved = q.reserved; active = q.active; lost = 0; full = 0; started = q.started; discarded = 0; home = q.home },
 )
   where
     same : Same owner behind owner' behind' old new flow q.front q.len
@@ -201,7 +201,7 @@ module _ {old : Packets} {queues : List FlowQueue} {unsent : List Unsent} {flow 
       a : After new q' (flow_at seen flow)
       a = counting new q' (λ s. s) (λ u s. refl) same-packets
           (ap (λ (x : FlowQueue). x.front) is, ap (λ (x : FlowQueue). x.back) is, ap (λ (x : FlowQueue). x.len) is, ap (λ (x : FlowQueue). x.bytes) is)
-          (λ i. record { backlog = waiting_from old (is i).front (is i).len; reserved = (is i).reserved; active = (is i).active; lost = 0; full = 0; started = (is i).started; discarded = 0 })
+          (λ i. record { backlog = waiting_from old (is i).front (is i).len; reserved = (is i).reserved; active = (is i).active; lost = 0; full = 0; started = (is i).started; discarded = 0; home = (is i).home })
 
   -- A place is reserved for it.
   pub placing : (new : Packets) (q' : FlowQueue) → q' ≡ record q { on_pipe = q'.on_pipe; of_queue = q'.of_queue } → ((key : ℕ) → get new key ≡ get old key)
@@ -209,7 +209,7 @@ module _ {old : Packets} {queues : List FlowQueue} {unsent : List Unsent} {flow 
   placing new q' is same-packets =
       counting new (record q' { reserved = true }) with_place (λ u s. refl) same-packets
       (ap (λ (x : FlowQueue). x.front) is, ap (λ (x : FlowQueue). x.back) is, ap (λ (x : FlowQueue). x.len) is, ap (λ (x : FlowQueue). x.bytes) is)
-      (λ i. record { backlog = waiting_from old (is i).front (is i).len; reserved = true; active = (is i).active; lost = 0; full = 0; started = (is i).started; discarded = 0 })
+      (λ i. record { backlog = waiting_from old (is i).front (is i).len; reserved = true; active = (is i).active; lost = 0; full = 0; started = (is i).started; discarded = 0; home = (is i).home })
 
   -- A packet joins.
   pub pushing : (new : Packets) (w : Waiting) (q' : FlowQueue) → Appends w old q new q' → 1 ≤ w.len → w.len ≤ 65535
@@ -227,6 +227,7 @@ module _ {old : Packets} {queues : List FlowQueue} {unsent : List Unsent} {flow 
         full = 0;
         started = (a.queue_is i).started;
         discarded = 0;
+        home = (a.queue_is i).home;
       }))
     where
       now : Appended are.owner are.behind old new w q q' flow a queue-is
@@ -253,7 +254,7 @@ module _ {old : Packets} {queues : List FlowQueue} {unsent : List Unsent} {flow 
 
   -- The first packet starts.
   pub popping : (new : Packets) (first : Waiting) (q' q'' : FlowQueue) → TakesFront first old q new q' → SamePackets q' q''
-      → (q''.reserved ≡ q.reserved) × (q''.started ≡ q.started + 1) × (q''.active ≡ q.active) → After new q'' (popped (flow_at seen flow))
+      → (q''.reserved ≡ q.reserved) × (q''.started ≡ q.started + 1) × (q''.active ≡ q.active) × (q''.home ≡ q.home) → After new q'' (popped (flow_at seen flow))
   popping new first q' q'' t same counts = after new q'' popped start-leaves
       (changed old new queues flow q q'' are are.owner are.behind there
       (λ g n ne. others-stay-taken are.owner are.behind old new first q q' flow t queue-is g n ne)
@@ -266,6 +267,7 @@ module _ {old : Packets} {queues : List FlowQueue} {unsent : List Unsent} {flow 
         full = 0;
         started = counts.1 i;
         discarded = 0;
+        home = counts.3 i;
       }) ∙ sym (ap (λ ws. popped_from ws (state_of old q)) (taken are.owner are.behind old new first q q' flow t queue-is).waiting))
 
   -- Where none waits nothing changes.
@@ -303,6 +305,7 @@ module _ {old : Packets} {queues : List FlowQueue} {unsent : List Unsent} {flow 
           full = u.full;
           started = (ap (λ (x : FlowQueue). x.started) after ∙ s.counts.1) i;
           discarded = u.discarded + queue-is.counts.many i;
+          home = (ap (λ (x : FlowQueue). x.home) after ∙ s.home) i;
         }) ∙ ap (λ (t : FlowState). emptied (with_unsent u t)) (sym read-state) ∙ ap emptied (sym (read-counts (map (state_of old) queues) unsent flow u as-many here.within is))),
   )
     where

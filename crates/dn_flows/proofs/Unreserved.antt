@@ -1,5 +1,5 @@
 -- The table where flows only leave lists, and let go of the places that were reserved.
-use Rattle.std.proofs.Common.{◌≡◌, ◌∙◌, ◌<◌, ℕ, zero, suc, true, List, [], ◌∷◌, map, length, refl, ap, sym, subst, arith}
+use Rattle.std.proofs.Common.{◌≡◌, ◌∙◌, ℕ, zero, suc, List, [], ◌∷◌, map, refl, ap, sym, subst, arith}
 use Rattle.std.specs.Prelude.{Some, slice_get}
 use Rattle.dn_flows.specs.Packets.{Packets}
 use Rattle.dn_flows.specs.declared.flow_queue.FlowQueue.{FlowQueue}
@@ -21,13 +21,13 @@ still-stored store old new k are = record {
 }
 
 same-state : (s : FlowState) → OnlyUnreserves s s
-same-state s = record { backlog = refl; active = refl; lost = refl; full = refl; started = refl; discarded = refl; reserved = λ on. refl }
+same-state s = record { backlog = refl; active = refl; lost = refl; full = refl; started = refl; discarded = refl; home = refl; reserved = λ on. refl }
 
 state-kept : (store : Packets) (q q' : FlowQueue) → KeepsQueue q q' → OnlyUnreserves (state_of store q) (state_of store q')
-state-kept store q q' k = record { backlog = λ i. waiting_from store (k.front i) (k.len i); active = k.active; lost = refl; full = refl; started = k.started; discarded = refl; reserved = k.reserved }
+state-kept store q q' k = record { backlog = λ i. waiting_from store (k.front i) (k.len i); active = k.active; lost = refl; full = refl; started = k.started; discarded = refl; home = k.home; reserved = k.reserved }
 
 with-counts : (u : Unsent) (s t : FlowState) → OnlyUnreserves s t → OnlyUnreserves (with_unsent u s) (with_unsent u t)
-with-counts u s t o = record { backlog = o.backlog; active = o.active; lost = refl; full = refl; started = o.started; discarded = refl; reserved = o.reserved }
+with-counts u s t o = record { backlog = o.backlog; active = o.active; lost = refl; full = refl; started = o.started; discarded = refl; home = o.home; reserved = o.reserved }
 
 first-kept : (q q' : FlowQueue) (old new : List FlowQueue) → KeepQueues (q ∷ old) (q' ∷ new) → KeepsQueue q q'
 first-kept q q' old new k =

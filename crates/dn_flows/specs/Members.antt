@@ -68,6 +68,7 @@ pub record KeepsQueue (q q' : FlowQueue) : Type 0 where
   pub bytes : q'.bytes ≡ q.bytes
   pub active : q'.active ≡ q.active
   pub started : q'.started ≡ q.started
+  pub home : q'.home ≡ q.home
   pub reserved : q.active ≡ true → q'.reserved ≡ q.reserved
 
 pub record KeepQueues (old new : List FlowQueue) : Type 0 where

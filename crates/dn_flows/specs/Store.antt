@@ -9,7 +9,7 @@ use Rattle.dn_flows.specs.declared.unsent.Unsent.{Unsent}
 use Rattle.dn_flows.specs.declared.waiting.Waiting.{Waiting}
 use Rattle.dn_types.specs.declared.target.Target.{Target}
 use Rattle.dn_types.specs.declared.target.Target.TheVariants.{Pipe as ToPipe, Queue as ToQueue}
-use Rattle.dn_flows.specs.Table.{FlowState, lengths}
+use Rattle.dn_flows.specs.Table.{FlowState, lengths, no_home}
 
 -- Each packet has 1 to 65535 bytes.
 abbrev pub AreShort : List Waiting → Type 0
@@ -25,7 +25,7 @@ pub record IsCounted (backlog : List Waiting) (len bytes : ℕ) : Type 0 where
 
 -- The packet under a key, and what it names as the next. Where the store has none, any will do.
 abbrev pub stored_or : Option StoredPacket → StoredPacket
-stored_or None = record { waiting = record { packet = 0; len = 1 }; next = 0 }
+stored_or None = record { waiting = record { packet = 0; len = 1; weight = 1 }; next = 0 }
 stored_or (Some stored) = stored
 
 abbrev pub stored_at : Packets → ℕ → StoredPacket
@@ -43,15 +43,15 @@ key_after store key (suc n) = key_after store ((stored_at store key).next) n
 
 -- The queue without a packet, and none of whose packets started.
 abbrev pub new_queue : FlowQueue
-new_queue = record { front = 0; back = 0; len = 0; bytes = 0; reserved = false; active = false; on_pipe = false; of_queue = false; started = 0 }
+new_queue = record { front = 0; back = 0; len = 0; bytes = 0; reserved = false; active = false; on_pipe = false; of_queue = false; started = 0; home = no_home }
 
 -- What callers see of the flow with the queue, but for the counts of packets that are never sent.
 abbrev pub state_of : Packets → FlowQueue → FlowState
-state_of store q = record { backlog = waiting_from store q.front q.len; reserved = q.reserved; active = q.active; lost = 0; full = 0; started = q.started; discarded = 0 }
+state_of store q = record { backlog = waiting_from store q.front q.len; reserved = q.reserved; active = q.active; lost = 0; full = 0; started = q.started; discarded = 0; home = q.home }
 
 -- What callers see of a flow with these counts, and of all flows by the counts that lie beside them.
 abbrev pub with_unsent : Unsent → FlowState → FlowState
-with_unsent u s = record { backlog = s.backlog; reserved = s.reserved; active = s.active; lost = u.lost; full = u.full; started = s.started; discarded = u.discarded }
+with_unsent u s = record { backlog = s.backlog; reserved = s.reserved; active = s.active; lost = u.lost; full = u.full; started = s.started; discarded = u.discarded; home = s.home }
 
 abbrev pub all_with_unsent : List FlowState → List Unsent → List FlowState
 all_with_unsent [] unsent = []
@@ -133,4 +133,5 @@ pub record Shortens (old : Packets) (q : FlowQueue) (new : Packets) (q' : FlowQu
   pub len : new.len + q.len ≡ old.len + q'.len
   pub capacity : new.capacity ≡ old.capacity
   pub counts : (q'.reserved ≡ q.reserved) × (q'.started ≡ q.started)
+  pub home : q'.home ≡ q.home
   pub flags : (q'.active ≡ q.active) × (q'.on_pipe ≡ q.on_pipe) × (q'.of_queue ≡ q.of_queue)

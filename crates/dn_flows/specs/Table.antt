@@ -10,13 +10,14 @@ use Rattle.dn_types.specs.declared.flow_status.FlowStatus.{FlowStatus}
 use Rattle.dn_types.specs.declared.limit.Limit.{Limit}
 use Rattle.dn_types.specs.declared.target.Target.{Target}
 use Rattle.dn_types.specs.declared.target.Target.TheVariants.{Pipe as ToPipe, Queue as ToQueue}
+use Rattle.dn_flows.specs.declared.home.Home.{Home}
 use Rattle.dn_flows.specs.declared.waiting.Waiting.{Waiting}
 use Rattle.dn_flows.specs.declared.verdict.Verdict.{Verdict}
 use Rattle.dn_flows.specs.declared.verdict.Verdict.TheVariants.{Take, Lost, Full}
 
 -- One flow: the packets that wait, in order, whether a place for one more is reserved, and the counts of its packets
 -- that were lost, refused by a full queue, started, and discarded by a delete. It is active where a packet joined since its
--- packets were last discarded.
+-- packets were last discarded. Its home is what the caller gave it.
 pub record FlowState : Type 0 where
   pub backlog : List Waiting
   pub reserved : Bool
@@ -25,6 +26,7 @@ pub record FlowState : Type 0 where
   pub full : ℕ
   pub started : ℕ
   pub discarded : ℕ
+  pub home : Home
 
 -- So many new flows find room in the table. Of the room for their packets, and in the lists that a delete goes through, it says nothing.
 pub record Table : Type 0 where
@@ -32,9 +34,13 @@ pub record Table : Type 0 where
   pub flows : List FlowState
   pub spare : ℕ
 
+-- The home of a flow that was given none.
+abbrev pub no_home : Home
+no_home = record { place = 0; slot = 0 }
+
 -- A flow without a packet and with no count.
 abbrev pub new_flow : FlowState
-new_flow = record { backlog = []; reserved = false; active = false; lost = 0; full = 0; started = 0; discarded = 0 }
+new_flow = record { backlog = []; reserved = false; active = false; lost = 0; full = 0; started = 0; discarded = 0; home = no_home }
 
 -- The flow with a number, which for a number that no flow has is a new flow.
 abbrev pub flow_at : List FlowState → ℕ → FlowState
@@ -69,30 +75,34 @@ verdict_of loss limit word backlog = cond (is_lost loss word) Lost (cond (is_ful
 
 -- The flow with a place reserved.
 abbrev pub with_place : FlowState → FlowState
-with_place s = record { backlog = s.backlog; reserved = true; active = s.active; lost = s.lost; full = s.full; started = s.started; discarded = s.discarded }
+with_place s = record { backlog = s.backlog; reserved = true; active = s.active; lost = s.lost; full = s.full; started = s.started; discarded = s.discarded; home = s.home }
 
 -- The flow after a packet joined its queue, in the place that was reserved.
 abbrev pub pushed : Waiting → FlowState → FlowState
-pushed w s = record { backlog = s.backlog ++ w ∷ []; reserved = false; active = true; lost = s.lost; full = s.full; started = s.started; discarded = s.discarded }
+pushed w s = record { backlog = s.backlog ++ w ∷ []; reserved = false; active = true; lost = s.lost; full = s.full; started = s.started; discarded = s.discarded; home = s.home }
 
 -- The flow after the start of its first packet. Where none waits it is as it was.
 abbrev pub popped_from : List Waiting → FlowState → FlowState
 popped_from [] s = s
-popped_from (w ∷ ws) s = record { backlog = ws; reserved = s.reserved; active = s.active; lost = s.lost; full = s.full; started = s.started + 1; discarded = s.discarded }
+popped_from (w ∷ ws) s = record { backlog = ws; reserved = s.reserved; active = s.active; lost = s.lost; full = s.full; started = s.started + 1; discarded = s.discarded; home = s.home }
 
 abbrev pub popped : FlowState → FlowState
 popped s = popped_from s.backlog s
 
 -- The flow after one more of its packets was lost, or refused by its full queue.
 abbrev pub one_lost : FlowState → FlowState
-one_lost s = record { backlog = s.backlog; reserved = s.reserved; active = s.active; lost = s.lost + 1; full = s.full; started = s.started; discarded = s.discarded }
+one_lost s = record { backlog = s.backlog; reserved = s.reserved; active = s.active; lost = s.lost + 1; full = s.full; started = s.started; discarded = s.discarded; home = s.home }
 
 abbrev pub one_full : FlowState → FlowState
-one_full s = record { backlog = s.backlog; reserved = s.reserved; active = s.active; lost = s.lost; full = s.full + 1; started = s.started; discarded = s.discarded }
+one_full s = record { backlog = s.backlog; reserved = s.reserved; active = s.active; lost = s.lost; full = s.full + 1; started = s.started; discarded = s.discarded; home = s.home }
 
 -- The flow after a delete discarded all packets that waited.
 abbrev pub emptied : FlowState → FlowState
-emptied s = record { backlog = []; reserved = s.reserved; active = false; lost = s.lost; full = s.full; started = s.started; discarded = s.discarded + length s.backlog }
+emptied s = record { backlog = []; reserved = s.reserved; active = false; lost = s.lost; full = s.full; started = s.started; discarded = s.discarded + length s.backlog; home = s.home }
+
+-- The flow with another home.
+abbrev pub with_home : Home → FlowState → FlowState
+with_home h s = record { backlog = s.backlog; reserved = s.reserved; active = s.active; lost = s.lost; full = s.full; started = s.started; discarded = s.discarded; home = h }
 
 -- What is told of the flow with a number and a key.
 abbrev pub status_of : ℕ → FlowKey → FlowState → FlowStatus
@@ -118,4 +128,5 @@ pub record OnlyUnreserves (old new : FlowState) : Type 0 where
   pub full : new.full ≡ old.full
   pub started : new.started ≡ old.started
   pub discarded : new.discarded ≡ old.discarded
+  pub home : new.home ≡ old.home
   pub reserved : old.active ≡ true → new.reserved ≡ old.reserved

@@ -1,11 +1,12 @@
-ghost use Rattle.std.specs.Prelude.{◌≡◌, ◌+◌, ◌≤◌, ◌<◌, ◌^◌, List, sum, true, false, IfSome, IfNone, OnSome};
+ghost use Rattle.std.specs.Prelude.{◌≡◌, ◌+◌, ◌≤◌, ◌<◌, ◌^◌, List, sum, true, false, slice_get, IfSome, IfNone, OnSome};
 ghost use Rattle.dn_types.specs.Drops.{is_full};
 ghost use Rattle.dn_flows.specs.Packets.{ContainsKey, HasRoomFor};
-ghost use Rattle.dn_flows.specs.Store.{Appends, IsCounted, Lies, Shortens, TakesFront, new_queue, reserved_one, stored_at, without_list};
+ghost use Rattle.dn_flows.specs.Store.{Appends, IsCounted, Lies, Shortens, TakesFront, new_queue, reserved_one, stored_at, waiting_from, without_list};
 ghost use Rattle.dn_flows.specs.Table.{lengths, verdict_of};
 ghost use Rattle.dn_flows.specs.declared.waiting.Waiting.{Waiting as WaitingValue};
 
 use crate::drop_rule::DropRule;
+use crate::home::Home;
 use crate::packet_store::PacketStore;
 use crate::stored::Stored;
 use crate::verdict::Verdict;
@@ -36,6 +37,7 @@ pub struct FlowQueue {
     /// Whether it is in the list of its queue, or of none.
     pub of_queue: bool,
     pub started: u64,
+    pub home: Home,
 }
 
 impl FlowQueue {
@@ -53,6 +55,7 @@ impl FlowQueue {
             on_pipe: false,
             of_queue: false,
             started: 0,
+            home: Home { place: 0, slot: 0 },
         }
     }
 
@@ -141,6 +144,18 @@ impl FlowQueue {
         self.len -= 1;
         self.bytes -= u32::from(waiting.len.get());
         Some(waiting)
+    }
+
+    /// The packet behind the first one, if there is one.
+    pub fn second(&self, store: &PacketStore) -> Option<Waiting>
+        requires { Lies store.now self.now }
+        ensures { result ≡ slice_get (waiting_from store.now self.now.front self.now.len) 1 }
+    {
+        if self.len < 2 {
+            return None;
+        }
+        let first = store.get(self.front);
+        Some(store.get(first.next()).waiting())
     }
 
     /// Takes all packets out.

@@ -4,8 +4,10 @@ ghost use Rattle.dn_flows.specs.Table.{flow_at, is_known, flows_with, IsUnused, 
 
 mod active;
 mod find;
+mod homes;
 mod pass;
 mod places;
+mod second;
 
 use crate::drop_rule::DropRule;
 use crate::flow_queue::FlowQueue;

@@ -102,6 +102,14 @@ impl PacketStore {
         key
     }
 
+    /// The packet that lies under the key.
+    pub fn get(&self, key: u32) -> Stored
+        requires { ContainsKey self.now key }
+        ensures { get self.now key ≡ Some result }
+    {
+        self.places[key as usize]
+    }
+
     /// Takes the packet out that lies under the key, which is free from then on.
     pub fn remove(&mut self, key: u32) -> Stored
         requires { ContainsKey self.old key }

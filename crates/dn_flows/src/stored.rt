@@ -2,7 +2,7 @@ ghost use Rattle.std.specs.Prelude.{◌≡◌};
 ghost use Rattle.dn_flows.specs.Packets.{with_next};
 
 use crate::waiting::Waiting;
-use dn_types::Len;
+use dn_types::{Len, Weight};
 use std::marker::Model;
 
 /// A packet in the store of all queues, with the key of the packet behind it in its queue.
@@ -15,6 +15,7 @@ pub struct Stored {
     packet: u64,
     next: u32,
     len: Len,
+    weight: Weight,
 }
 
 impl Model for Stored {
@@ -22,9 +23,9 @@ impl Model for Stored {
 
     ghost Value = { StoredPacket };
 
-    ghost view = { λ a. record { waiting = record { packet = a.packet; len = a.len }; next = a.next } };
+    ghost view = { λ a. record { waiting = record { packet = a.packet; len = a.len; weight = a.weight }; next = a.next } };
 
-    ghost inverse = { λ s. record { packet = s.waiting.packet; next = s.next; len = s.waiting.len } };
+    ghost inverse = { λ s. record { packet = s.waiting.packet; next = s.next; len = s.waiting.len; weight = s.waiting.weight } };
 }
 
 impl Stored {
@@ -36,6 +37,7 @@ impl Stored {
             packet: waiting.packet,
             next: 0,
             len: waiting.len,
+            weight: waiting.weight,
         }
     }
 
@@ -46,6 +48,7 @@ impl Stored {
         Waiting {
             packet: self.packet,
             len: self.len,
+            weight: self.weight,
         }
     }
 

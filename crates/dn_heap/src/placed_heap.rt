@@ -10,19 +10,22 @@ mod ends;
 mod push_pop;
 mod sift;
 
+/// How many numbers a heap has places for, so that a place takes four bytes.
+const NUMBERS: usize = 1 << 32;
+
 /// A heap with the least key on top, which knows where its keys are: a key is taken out by its number, wherever it is.
 ///
 /// No two keys in it have one number. Memory is taken by `reserve_numbers` alone, which makes a place for each number.
 #[derive(Drop)]
 pub struct PlacedHeap<K: Ord + Copy + Numbered> {
     keys: Vec<K>,
-    /// Where in `keys` the key of a number is, if there is one.
-    places: Vec<usize>,
+    /// Where in `keys` the key of a number is, if there is one. There are at most 2^32 keys.
+    places: Vec<u32>,
     moves: u64,
 }
 
 impl<K: Ord + Copy + Numbered> Model for PlacedHeap<K> {
-    ghost use Rattle.std.specs.Prelude.{◌-◌, ◌≤◌};
+    ghost use Rattle.std.specs.Prelude.{◌-◌, ◌≤◌, ◌^◌};
     ghost use Rattle.std.specs.Vec.{vec_capacity, vec_len};
     ghost use Rattle.std_alloc.specs.BinaryHeap.{IsHeap};
     ghost use Rattle.dn_heap.specs.Heap.{Heap};
@@ -32,7 +35,7 @@ impl<K: Ord + Copy + Numbered> Model for PlacedHeap<K> {
 
     ghost view = { λ h. record { keys = h.keys.items; room = vec_len h.places - vec_len h.keys; moves = h.moves } };
 
-    ghost invariant = { λ h. (vec_len h.keys ≤ vec_len h.places) × (vec_len h.places ≤ vec_capacity h.keys) × IsHeap (back K.cmp) h.keys.items × ArePlaced K.number h.keys.items h.places.items };
+    ghost invariant = { λ h. (vec_len h.keys ≤ vec_len h.places) × (vec_len h.places ≤ vec_capacity h.keys) × (vec_len h.places ≤ 2 ^ 32) × IsHeap (back K.cmp) h.keys.items × ArePlaced K.number h.keys.items h.places.items };
 }
 
 impl<K: Ord + Copy + Numbered> PlacedHeap<K> {
@@ -51,7 +54,7 @@ impl<K: Ord + Copy + Numbered> PlacedHeap<K> {
 
     /// Makes a place for each number below `numbers`; places that are there already count.
     ///
-    /// A refusal by the allocator changes nothing.
+    /// A refusal by the allocator changes nothing. There are at most 2^32 numbers, and more are refused as out of memory.
     pub fn reserve_numbers(&mut self, numbers: usize) -> Result<(), AllocError>
         ensures succeeds { numbers ≤ length self.old.keys + self.old.room → IsOk result }
         ensures ok { OnOk result (length self.new.keys + self.new.room ≡ max (length self.old.keys + self.old.room) numbers) }
@@ -61,6 +64,9 @@ impl<K: Ord + Copy + Numbered> PlacedHeap<K> {
     {
         if numbers <= self.places.len() {
             return Ok(());
+        }
+        if numbers > NUMBERS {
+            return Err(AllocError);
         }
         self.keys.reserve(numbers - self.keys.len())?;
         self.places.resize(numbers, 0)?;

@@ -10,8 +10,8 @@ use Rattle.dn_service.specs.Callers.{CallerView, IsSameCaller, Answered, having_
 use Rattle.dn_service.specs.Histories.{entry_of, AreBelow}
 use Rattle.dn_service.specs.Rule.{Follows}
 use Rattle.dn_service.specs.Pasts.{Past, BookView}
-use Rattle.dn_service.specs.Accounts.{Has, Each, up_to_date, faces, front_in, own_in, lost_in, faced_in}
-use Rattle.dn_service.specs.Seats.{SeatState, SeatView, Slot, sitting, with_taken, with_loss, with_faced, with_history}
+use Rattle.dn_service.specs.Accounts.{Has, Each, up_to_date, front_in, own_in, lost_in, faced_in}
+use Rattle.dn_service.specs.Seats.{SeatState, SeatView, Slot, sitting, with_taken, with_loss, with_history}
 use Rattle.dn_service.proofs.HistoryLaws.{own-more, below_more}
 use Rattle.dn_service.proofs.Taking.{slot_in}
 
@@ -62,12 +62,6 @@ pub now_sitting : (k : ℕ) (m m' : SeatState) (x : SeatView) (past : Past) (f :
     → m' ≡ (with_history x f later, []) → m' ≡ (sitting m.0.count k later (own_entries k later) (lost_in m.0.accounts) (f k), [])
 now_sitting k m m' x past f later is at told = told ∙ (λ i. (with_history (at i) f later, []))
     ∙ (λ i. (record { count = m.0.count; accounts = map (up_to_date later f) (accounts_is k m is i); taken = None; seen = seen_nothing k m is i; shed = shed_nothing k m is i }, []))
-
--- the seat after the book was given back as it was
-pub still_sitting : (k : ℕ) (m m' : SeatState) (x : SeatView) (past : Past) (f : ℕ → ℕ) → IsSitting k m → x ≡ with_taken m.0 (Some past)
-    → m' ≡ (with_faced x f, []) → m' ≡ (sitting m.0.count k (front_in m.0.accounts) (own_in m.0.accounts) (lost_in m.0.accounts) (f k), [])
-still_sitting k m m' x past f is at told = told ∙ (λ i. (with_faced (at i) f, []))
-    ∙ (λ i. (record { count = m.0.count; accounts = map (faces f) (accounts_is k m is i); taken = None; seen = seen_nothing k m is i; shed = shed_nothing k m is i }, []))
 
 -- the seat after its try found caller j in a call
 pub lost_sitting : (k : ℕ) (m m' : SeatState) (j : ℕ) → IsSitting k m → m' ≡ (with_loss m.0 j, m.1)

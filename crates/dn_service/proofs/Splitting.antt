@@ -9,10 +9,12 @@ use prog.Atomic.{either}
 use Rattle.atomic_table.specs.Table.{Splits, Joins, opening}
 use Rattle.atomic_table.proofs.Lists.{at_set, set_else, at_longer, at_last}
 use Rattle.dn_types.specs.declared.entry.Entry.{Entry}
+use Rattle.dn_service.specs.Histories.{StartsWith}
 use Rattle.dn_service.specs.Pasts.{Past, BookView, Keeps, no_past}
 use Rattle.dn_service.specs.Rule.{Sits, Faces, SeatFits, SeatRule}
 use Rattle.dn_service.specs.Accounts.{Account, Each, Has, new_accounts}
-use Rattle.dn_service.specs.Seats.{SeatView, first_seat, seat_with, keeping, spent}
+use Rattle.dn_service.specs.Seats.{SeatView, first_seat, met_in_all, seat_with, keeping, spent}
+use Rattle.dn_service.specs.Tokens.{witness}
 use Rattle.dn_service.proofs.Accounts.{each_join, has_left, has_right, has_new}
 use Rattle.dn_service.proofs.HistoryLaws.{below_none, starts_none}
 use Rattle.dn_service.proofs.Losses.{met_set, met_last, met_join, met_new, faces_new}
@@ -53,6 +55,40 @@ module _ (n : ℕ) where
   pub seat_below : (s : TableState) (r : SeatRule n s) (k : ℕ) → k < n → r.seat_of k < length s.views
   seat_below s r k l = let h = r.held k l in at_inside s.views (r.seat_of k) h.0 h.1
 
+  -- the same table with other seats, of which the rule's parts that are of seats hold
+  pub reseated : (s : TableState) (r : SeatRule n s) (seat_of : ℕ → ℕ) (views : List SeatView) → ((k : ℕ) → met_in_all k views ≡ r.tally k)
+      → ((j : ℕ) (v : SeatView) → get_elem? views j ≡ some v → SeatFits n (get_or s.words 0 0) r.tally r.past seat_of j v)
+      → ((k : ℕ) → k < n → (v : SeatView) × (get_elem? views (seat_of k) ≡ some v) × Has k v.accounts)
+      → SeatRule n record { words = s.words; homes = s.homes; views = views }
+  reseated s r seat_of views met seats held = record {
+    past = r.past;
+    seat_of = seat_of;
+    tally = r.tally;
+    met = met;
+    one_word = r.one_word;
+    one_slot = r.one_slot;
+    word = r.word;
+    lawful = r.lawful;
+    below = r.below;
+    home = r.home;
+    seats = seats;
+    held = held;
+  }
+
+  -- a seat that stands for no caller, and so hasn't taken the book
+  pub fits_witness : (w : ℕ) (tally : ℕ → ℕ) (past : Past) (seat_of : ℕ → ℕ) (seat count : ℕ) (seen : List Entry) → StartsWith past.history seen
+      → ((k : ℕ) → w ≡ k + 1 → seat_of k ≡ seat → (witness count seen).taken ≡ Some past) → SeatFits n w tally past seat_of seat (witness count seen)
+  fits_witness w tally past seat_of seat count seen h taken = record {
+    count = λ l. absurd (omega arith);
+    accounts = tt;
+    faced = tt;
+    free = λ _. refl;
+    taken = taken;
+    idle = λ _ _ _. refl;
+    seen = h;
+    shed = λ s' e. absurd (cc);
+  }
+
   -- the seat's first caller goes to a new seat
   pub splits : (id m : ℕ) (out : List Entry) (x : Account) (xs : List Account) → ¬ Has x.number xs → Splits (SeatRule n) id (keeping m out (x ∷ xs)) (keeping m out xs) (seat_with m (x ∷ []))
   splits id m out x xs once s r at =
@@ -88,23 +124,14 @@ module _ (n : ℕ) where
         idle = λ _ _ _. refl;
         seen = starts_none r.past.history;
         shed = λ s' e. absurd (cc);
-      } in record {
-        past = r.past;
-        seat_of = seat_of;
-        tally = r.tally;
-        met = λ k. let e = met_last k vs w in let d = met_set k s.views id (keeping m out (x ∷ xs)) u at in let f = r.met k in omega arith;
-        one_word = r.one_word;
-        one_slot = r.one_slot;
-        word = r.word;
-        lawful = r.lawful;
-        below = r.below;
-        home = r.home;
-        seats = added_last vs w (SeatFits n (get_or s.words 0 0) r.tally r.past seat_of) fits fresh;
-        held = λ k l. dite (ℕ_discrete k x.number)
-            (λ e. (w, subst (λ (z : ℕ). get_elem? (vs ++ w ∷ []) z ≡ some w) (sym (new_seat_of k e)) (at_last vs w new refl), inl (sym e)))
-            (λ ne. let t = held_set s.views id (keeping m out (x ∷ xs)) u at (r.seat_of k) k (λ has. ⊎_elim (λ (e : x.number ≡ k). absurd (ne (sym e))) (λ (h : Has k xs). h) has) (r.held k l) in
-            (t.0, at_longer vs (w ∷ []) (seat_of k) t.0 (ap (get_elem? vs) (same_seat_of k ne) ∙ t.1), t.2));
-      }
+      } in
+      reseated s r seat_of (vs ++ w ∷ [])
+      (λ k. let e = met_last k vs w in let d = met_set k s.views id (keeping m out (x ∷ xs)) u at in let f = r.met k in omega arith)
+      (added_last vs w (SeatFits n (get_or s.words 0 0) r.tally r.past seat_of) fits fresh)
+      (λ k l. dite (ℕ_discrete k x.number)
+      (λ e. (w, subst (λ (z : ℕ). get_elem? (vs ++ w ∷ []) z ≡ some w) (sym (new_seat_of k e)) (at_last vs w new refl), inl (sym e)))
+      (λ ne. let t = held_set s.views id (keeping m out (x ∷ xs)) u at (r.seat_of k) k (λ has. ⊎_elim (λ (e : x.number ≡ k). absurd (ne (sym e))) (λ (h : Has k xs). h) has) (r.held k l) in
+      (t.0, at_longer vs (w ∷ []) (seat_of k) t.0 (ap (get_elem? vs) (same_seat_of k ne) ∙ t.1), t.2)))
 
   -- the other's callers go to the seat
   pub joins : (id a other b : ℕ) (out : List Entry) (ys zs : List Account) → 0 < length zs → Joins (SeatRule n) id (keeping a out ys) other (seat_with b zs) (keeping b out (ys ++ zs)) spent
@@ -132,39 +159,21 @@ module _ (n : ℕ) where
         seen = f.seen;
         shed = f.shed;
       } in
-      let gone : SeatFits n x r.tally r.past seat_of other spent = record {
-        count = λ l. absurd (omega arith);
-        accounts = tt;
-        faced = tt;
-        free = λ _. refl;
-        taken = λ k e h. g.taken k e (sym (at_word k e) ∙ h);
-        idle = λ _ _ _. refl;
-        seen = starts_none r.past.history;
-        shed = λ s' e. absurd (cc);
-      } in record {
-        past = r.past;
-        seat_of = seat_of;
-        tally = r.tally;
-        met = λ k. let e = met_set k vs other w spent there in let d = met_set k s.views id v u at in let f = met_join k ys zs in let g = r.met k in omega arith;
-        one_word = r.one_word;
-        one_slot = r.one_slot;
-        word = r.word;
-        lawful = r.lawful;
-        below = r.below;
-        home = r.home;
-        seats =
-            seats_set (SeatFits n x r.tally r.past seat_of) vs other spent gone (λ j c ne e. seats_two (SeatFits n x r.tally r.past seat_of) j c ne e
-            mine
-            (λ i d not_id not_other e'. refit x r.tally r.past r.seat_of seat_of i d at_word (λ k q. same_seat_of k (λ z. not_other (sym q ∙ z)) ∙ q) (r.seats i d e')));
-        held = λ k l. dite (ℕ_discrete (r.seat_of k) other)
-            (λ e. (
-              u,
-              subst (λ (z : ℕ). get_elem? (set vs other spent) z ≡ some u) (sym (new_seat_of k e)) (set_else vs other id spent (λ q. apart (sym q)) ∙ set_there s.views id v u at),
-              has_right ys zs k (let t = r.held k l in subst (λ (z : SeatView). Has k z.accounts) (some-injective t.0 w (sym t.1 ∙ (ap (get_elem? s.views) e ∙ there'))) t.2),
-            ))
-            (λ ne. let t = held_set s.views id v u at (r.seat_of k) k (has_left ys zs k) (r.held k l) in
-            (t.0, subst (λ (z : ℕ). get_elem? (set vs other spent) z ≡ some t.0) (sym (same_seat_of k ne)) (set_else vs other (r.seat_of k) spent ne ∙ t.1), t.2));
-      }
+      let gone : SeatFits n x r.tally r.past seat_of other spent =
+      fits_witness x r.tally r.past seat_of other 0 [] (starts_none r.past.history) (λ k e h. g.taken k e (sym (at_word k e) ∙ h)) in
+      reseated s r seat_of (set vs other spent)
+      (λ k. let e = met_set k vs other w spent there in let d = met_set k s.views id v u at in let f = met_join k ys zs in let g = r.met k in omega arith)
+      (seats_set (SeatFits n x r.tally r.past seat_of) vs other spent gone (λ j c ne e. seats_two (SeatFits n x r.tally r.past seat_of) j c ne e
+      mine
+      (λ i d not_id not_other e'. refit x r.tally r.past r.seat_of seat_of i d at_word (λ k q. same_seat_of k (λ z. not_other (sym q ∙ z)) ∙ q) (r.seats i d e'))))
+      (λ k l. dite (ℕ_discrete (r.seat_of k) other)
+      (λ e. (
+        u,
+        subst (λ (z : ℕ). get_elem? (set vs other spent) z ≡ some u) (sym (new_seat_of k e)) (set_else vs other id spent (λ q. apart (sym q)) ∙ set_there s.views id v u at),
+        has_right ys zs k (let t = r.held k l in subst (λ (z : SeatView). Has k z.accounts) (some-injective t.0 w (sym t.1 ∙ (ap (get_elem? s.views) e ∙ there'))) t.2),
+      ))
+      (λ ne. let t = held_set s.views id v u at (r.seat_of k) k (has_left ys zs k) (r.held k l) in
+      (t.0, subst (λ (z : ℕ). get_elem? (set vs other spent) z ≡ some t.0) (sym (same_seat_of k ne)) (set_else vs other (r.seat_of k) spent ne ∙ t.1), t.2)))
     where
       seats_two : (K : ℕ → SeatView → Type 0) (j : ℕ) (c : SeatView) → j ≢ other
           → get_elem? (set s.views id (keeping b out (ys ++ zs))) j ≡ some c → K id (keeping b out (ys ++ zs))

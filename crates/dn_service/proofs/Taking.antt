@@ -89,6 +89,32 @@ module _ (n : ℕ) where
       (λ here. (k, is, here, same_past v.taken r.past past (f.taken k is here) took))
       (λ there. let e = f.idle k is there in absurd (cc)))
 
+  -- while the seat that took the book gives it back, the other seats stay as they are
+  pub others_fit : (s : TableState) (r : SeatRule n s) (id : ℕ) (v : SeatView) (was : Past) → get_elem? s.views id ≡ some v → v.taken ≡ Some was
+      → (j : ℕ) (u : SeatView) → j ≢ id → get_elem? s.views j ≡ some u → SeatFits n 0 r.tally r.past r.seat_of j u
+  others_fit s r id v was at took j u other there =
+      let b = has_book s r id v was at took in let g = r.seats j u there in record {
+        count = g.count;
+        accounts = g.accounts;
+        faced = faces_free n (get_or s.words 0 0) b.0 r.past.history r.tally r.seat_of id j u.accounts b.1 b.2 other g.accounts g.faced;
+        free = λ _. g.idle b.0 b.1 (λ e. other (sym e ∙ b.2));
+        taken = λ i e h. absurd (omega arith);
+        idle = λ i e h. absurd (omega arith);
+        seen = g.seen;
+        shed = g.shed;
+      }
+
+  -- the table after the seat gave the book back, with this view and this past
+  pub given_back : (s : TableState) (r : SeatRule n s) (id : ℕ) (me : SeatState) (w : SeatView) (now : Past) (book : BookView) → get_elem? s.views id ≡ some me.0
+      → me.1 ≡ (0, Some book) ∷ [] → AreBelow n now.history → Keeps now book
+      → SeatFits n 0 r.tally now r.seat_of id w → ((j : ℕ) (u : SeatView) → j ≢ id → get_elem? s.views j ≡ some u → SeatFits n 0 r.tally now r.seat_of j u)
+      → ((k : ℕ) → Has k me.0.accounts → Has k w.accounts) → ((k : ℕ) → met_in_all k (set s.views id w) ≡ r.tally k)
+      → SeatRule n (stepped s 0 0 id me.1 w gives)
+  given_back s r id me w now book at carried below kept mine theirs keep met =
+      subst (λ (cs : List (ℕ × Slot)). SeatRule n (stepped s 0 0 id cs w gives)) (sym carried)
+      (moved s r id me.0 w 0 (set s.homes 0 (some (Some book))) now r.tally at (omega arith) (length-set s.homes 0 (some (Some book)) ∙ r.one_slot) kept.lawful below
+      (λ _. (book, one_home s.homes (some (Some book)) r.one_slot, kept)) mine theirs keep met)
+
   -- what holds of the other seats is kept
   sits_on : (history later : List Entry) (seat_of : ℕ → ℕ) (seat : ℕ) (xs : List Account)
       → ((x : Account) → seat_of x.number ≡ seat → Follows history x → Follows later x) → Each (Sits n history seat_of seat) xs
@@ -207,9 +233,7 @@ module _ (n : ℕ) where
         w,
         gives,
         tt,
-        subst (λ (cs : List (ℕ × Slot)). SeatRule n (stepped s 0 0 id cs w gives)) (sym carried)
-            (moved s r id me.0 w 0 (set s.homes 0 (some (Some book))) r.past r.tally at (omega arith) (length-set s.homes 0 (some (Some book)) ∙ r.one_slot) r.lawful r.below
-            (λ _. (book, one_home s.homes (some (Some book)) r.one_slot, subst (λ (p : Past). Keeps p book) (sym b.3) kept))
+        given_back s r id me w r.past book at carried r.below (subst (λ (p : Past). Keeps p book) (sym b.3) kept)
             record {
               count = λ l. f.count (faced_some r.tally me.0.accounts l);
               accounts = faced_sit n r.past.history r.seat_of id r.tally me.0.accounts f.accounts;
@@ -220,18 +244,9 @@ module _ (n : ℕ) where
               seen = f.seen;
               shed = f.shed;
             }
-            (λ j u other there. let g = r.seats j u there in record {
-              count = g.count;
-              accounts = g.accounts;
-              faced = faces_free n (get_or s.words 0 0) b.0 r.past.history r.tally r.seat_of id j u.accounts b.1 b.2 other g.accounts g.faced;
-              free = λ _. g.idle b.0 b.1 (λ e. other (sym e ∙ b.2));
-              taken = λ i e h. absurd (omega arith);
-              idle = λ i e h. absurd (omega arith);
-              seen = g.seen;
-              shed = g.shed;
-            })
+            (others_fit s r id me.0 was at took)
             (λ j h. has_faced r.tally me.0.accounts j h)
-            (λ j. met_kept j s.views id me.0 w at (met_map j (faces r.tally) me.0.accounts (λ _. refl)) ∙ r.met j)),
+            (λ j. met_kept j s.views id me.0 w at (met_map j (faces r.tally) me.0.accounts (λ _. refl)) ∙ r.met j),
         (r.tally, refl),
       )
 
@@ -252,11 +267,7 @@ module _ (n : ℕ) where
         w,
         gives,
         tt,
-        subst (λ (cs : List (ℕ × Slot)). SeatRule n (stepped s 0 0 id cs w gives)) (sym carried)
-            (moved s r id me.0 w 0 (set s.homes 0 (some (Some book))) now r.tally at (omega arith)
-            (length-set s.homes 0 (some (Some book)) ∙ r.one_slot) kept.lawful
-            (subst (AreBelow n) more (below_more n r.past.history e r.below small))
-            (λ _. (book, one_home s.homes (some (Some book)) r.one_slot, kept))
+        given_back s r id me w now book at carried (subst (AreBelow n) more (below_more n r.past.history e r.below small)) kept
             record {
               count = λ l. f.count (updated_some now.history r.tally me.0.accounts l);
               accounts = updated_sit r.past.history now.history r.tally r.seat_of id me.0.accounts f.accounts;
@@ -267,22 +278,22 @@ module _ (n : ℕ) where
               seen = longer me.0.seen f.seen;
               shed = λ s' q. let h = f.shed s' q in (h.0, h.1 ∙ shed);
             }
-            (λ j u other there. let g = r.seats j u there in record {
+            (λ j u other there. let g = others_fit s r id me.0 was at took j u other there in record {
               count = g.count;
               accounts = sits_on r.past.history now.history r.seat_of j u.accounts
                   (λ y at_j t. subst (λ (h : List Entry). Follows h y) more record {
                     front = starts_more r.past.history y.front e t.front;
                     own = t.own ∙ sym (own-other y.number r.past.history e (λ q. other (sym at_j ∙ (ap r.seat_of (sym q) ∙ seated))));
                   }) g.accounts;
-              faced = faces_free n (get_or s.words 0 0) b.0 r.past.history r.tally r.seat_of id j u.accounts b.1 b.2 other g.accounts g.faced;
-              free = λ _. g.idle b.0 b.1 (λ q. other (sym q ∙ b.2));
+              faced = g.faced;
+              free = g.free;
               taken = λ i q h. absurd (omega arith);
               idle = λ i q h. absurd (omega arith);
               seen = longer u.seen g.seen;
               shed = λ s' q. let h = g.shed s' q in (h.0, h.1 ∙ shed);
             })
             (λ j h. has_updated now.history r.tally me.0.accounts j h)
-            (λ j. met_kept j s.views id me.0 w at (met_map j (up_to_date now.history r.tally) me.0.accounts (λ _. refl)) ∙ r.met j)),
+            (λ j. met_kept j s.views id me.0 w at (met_map j (up_to_date now.history r.tally) me.0.accounts (λ _. refl)) ∙ r.met j),
         (
           r.tally,
           λ was' book' is is'.
@@ -305,11 +316,7 @@ module _ (n : ℕ) where
         w,
         gives,
         tt,
-        subst (λ (cs : List (ℕ × Slot)). SeatRule n (stepped s 0 0 id cs w gives)) (sym carried)
-            (moved s r id me.0 w 0 (set s.homes 0 (some (Some book))) now r.tally at (omega arith)
-            (length-set s.homes 0 (some (Some book)) ∙ r.one_slot) kept.lawful
-            (subst (AreBelow n) still r.below)
-            (λ _. (book, one_home s.homes (some (Some book)) r.one_slot, kept))
+        given_back s r id me w now book at carried (subst (AreBelow n) still r.below) kept
             record {
               count = λ l. f.count (updated_some now.history r.tally me.0.accounts l);
               accounts = updated_sit r.past.history now.history r.tally r.seat_of id me.0.accounts f.accounts;
@@ -320,18 +327,18 @@ module _ (n : ℕ) where
               seen = subst (λ (l : List Entry). StartsWith l me.0.seen) still f.seen;
               shed = λ s' q. (first, sym (same_shed (Some now.history) now.history s' refl q));
             }
-            (λ j u other there. let g = r.seats j u there in record {
+            (λ j u other there. let g = others_fit s r id me.0 was at took j u other there in record {
               count = g.count;
               accounts = sits_on r.past.history now.history r.seat_of j u.accounts (λ y _ t. subst (λ (h : List Entry). Follows h y) still t) g.accounts;
-              faced = faces_free n (get_or s.words 0 0) b.0 r.past.history r.tally r.seat_of id j u.accounts b.1 b.2 other g.accounts g.faced;
-              free = λ _. g.idle b.0 b.1 (λ q. other (sym q ∙ b.2));
+              faced = g.faced;
+              free = g.free;
               taken = λ i q h. absurd (omega arith);
               idle = λ i q h. absurd (omega arith);
               seen = subst (λ (l : List Entry). StartsWith l u.seen) still g.seen;
               shed = λ s' q. absurd (other ((g.shed s' q).0 ∙ sym first));
             })
             (λ j h. has_updated now.history r.tally me.0.accounts j h)
-            (λ j. met_kept j s.views id me.0 w at (met_map j (up_to_date now.history r.tally) me.0.accounts (λ _. refl)) ∙ r.met j)),
+            (λ j. met_kept j s.views id me.0 w at (met_map j (up_to_date now.history r.tally) me.0.accounts (λ _. refl)) ∙ r.met j),
         (
           r.tally,
           λ was' is. let same_was : was' ≡ was = same_past me.0.taken was' was is took in

@@ -17,7 +17,7 @@ use Rattle.dn_service.specs.Steps.{learnt, vacant}
 use Rattle.dn_service.proofs.Accounts.{each_map}
 use Rattle.dn_service.proofs.HistoryLaws.{starts_none}
 use Rattle.dn_service.proofs.Losses.{met_last, met_kept, met_map, faces_learned}
-use Rattle.dn_service.proofs.Splitting.{seat_below}
+use Rattle.dn_service.proofs.Splitting.{fits_witness, reseated, seat_below}
 use Rattle.dn_service.proofs.Taking.{TableState, moved}
 use Rattle.dn_service.proofs.Views.{seats_set, held_set, added_last}
 
@@ -41,33 +41,16 @@ module _ (n : ℕ) where
   -- a seat that stands for no caller comes to the table
   newcomer : (s : TableState) (r : SeatRule n s) (count : ℕ) (seen : List Entry) → StartsWith r.past.history seen
       → SeatFits n (get_or s.words 0 0) r.tally r.past r.seat_of (length s.views) (witness count seen)
-  newcomer s r count seen h = record {
-    count = λ l. absurd (omega arith);
-    accounts = tt;
-    faced = tt;
-    free = λ _. refl;
-    taken = λ k e q. let b = r.word in let l = seat_below n s r k (omega arith) in absurd (omega arith);
-    idle = λ _ _ _. refl;
-    seen = h;
-    shed = λ s' e. absurd (cc);
-  }
+  newcomer s r count seen h = fits_witness n (get_or s.words 0 0) r.tally r.past r.seat_of (length s.views) count seen h
+      (λ k e q. let b = r.word in let l = seat_below n s r k (omega arith) in absurd (omega arith))
 
   comes : (s : TableState) (r : SeatRule n s) (count : ℕ) (seen : List Entry) → StartsWith r.past.history seen
       → SeatRule n record { words = s.words; homes = s.homes; views = s.views ++ witness count seen ∷ [] }
-  comes s r count seen h = let w : SeatView = witness count seen in record {
-    past = r.past;
-    seat_of = r.seat_of;
-    tally = r.tally;
-    met = λ k. let e = met_last k s.views w in let f = r.met k in omega arith;
-    one_word = r.one_word;
-    one_slot = r.one_slot;
-    word = r.word;
-    lawful = r.lawful;
-    below = r.below;
-    home = r.home;
-    seats = added_last s.views w (SeatFits n (get_or s.words 0 0) r.tally r.past r.seat_of) r.seats (newcomer s r count seen h);
-    held = λ k l. let t = r.held k l in (t.0, at_longer s.views (w ∷ []) (r.seat_of k) t.0 t.1, t.2);
-  }
+  comes s r count seen h =
+      let w : SeatView = witness count seen in
+      reseated n s r r.seat_of (s.views ++ w ∷ []) (λ k. let e = met_last k s.views w in let f = r.met k in omega arith)
+      (added_last s.views w (SeatFits n (get_or s.words 0 0) r.tally r.past r.seat_of) r.seats (newcomer s r count seen h))
+      (λ k l. let t = r.held k l in (t.0, at_longer s.views (w ∷ []) (r.seat_of k) t.0 t.1, t.2))
 
   pub vacates : (slots : ℕ) (m : SeatState) → Enters (SeatRule n) slots 0 (λ x w. vacant (step slots 0 0 0 none) m x (w, []))
   vacates slots m s r deep _ = (spent, comes s r 0 [] (starts_none r.past.history), refl)
@@ -94,33 +77,13 @@ module _ (n : ℕ) where
         seen = g.seen;
         shed = f.shed;
       } in
-      let gone : SeatFits n x r.tally r.past r.seat_of other spent = record {
-        count = λ l. absurd (omega arith);
-        accounts = tt;
-        faced = tt;
-        free = λ _. refl;
-        taken = g.taken;
-        idle = λ _ _ _. refl;
-        seen = starts_none r.past.history;
-        shed = λ s' e. absurd (cc);
-      } in record {
-        past = r.past;
-        seat_of = r.seat_of;
-        tally = r.tally;
-        met = λ k. met_kept k vs other w spent there refl ∙ (met_kept k s.views id v u at refl ∙ r.met k);
-        one_word = r.one_word;
-        one_slot = r.one_slot;
-        word = r.word;
-        lawful = r.lawful;
-        below = r.below;
-        home = r.home;
-        seats =
-            seats_set (SeatFits n x r.tally r.past r.seat_of) vs other spent gone
-            (λ j c _ e. seats_set (SeatFits n x r.tally r.past r.seat_of) s.views id u mine (λ i d _ q. r.seats i d q) j c e);
-        held = λ k l. let t = r.held k l in dite (ℕ_discrete (r.seat_of k) other)
-            (λ e. absurd (subst (λ (z : SeatView). Has k z.accounts) (some-injective t.0 w (sym t.1 ∙ (ap (get_elem? s.views) e ∙ there'))) t.2))
-            (λ ne. let h = held_set s.views id v u at (r.seat_of k) k (λ q. q) t in (h.0, set_else vs other (r.seat_of k) spent ne ∙ h.1, h.2));
-      }
+      let gone : SeatFits n x r.tally r.past r.seat_of other spent = fits_witness n x r.tally r.past r.seat_of other 0 [] (starts_none r.past.history) g.taken in
+      reseated n s r r.seat_of (set vs other spent) (λ k. met_kept k vs other w spent there refl ∙ (met_kept k s.views id v u at refl ∙ r.met k))
+      (seats_set (SeatFits n x r.tally r.past r.seat_of) vs other spent gone
+      (λ j c _ e. seats_set (SeatFits n x r.tally r.past r.seat_of) s.views id u mine (λ i d _ q. r.seats i d q) j c e))
+      (λ k l. let t = r.held k l in dite (ℕ_discrete (r.seat_of k) other)
+      (λ e. absurd (subst (λ (z : SeatView). Has k z.accounts) (some-injective t.0 w (sym t.1 ∙ (ap (get_elem? s.views) e ∙ there'))) t.2))
+      (λ ne. let h = held_set s.views id v u at (r.seat_of k) k (λ q. q) t in (h.0, set_else vs other (r.seat_of k) spent ne ∙ h.1, h.2)))
 
   learned_sit : (past seen : List Entry) (seat_of : ℕ → ℕ) (id : ℕ) (xs : List Account) → StartsWith past seen → Each (Sits n past seat_of id) xs
       → Each (Sits n past seat_of id) (map (having_seen seen) xs)

@@ -1,8 +1,8 @@
 -- A caller asks when the next packet is due or starts: the step that gives the book back as it was, and what the caller has then seen.
-use Rattle.std.proofs.Common.{◌≡◌, ℕ, List, [], ◌∷◌, length-set, get_or, set, sym, refl, ◌∙◌, subst, arith, Option, Some}
-use mathlib.Core.Option.{none, some}
+use Rattle.std.proofs.Common.{◌≡◌, ℕ, List, [], ◌∷◌, sym, refl, ◌∙◌, subst, arith, Option, Some}
+use mathlib.Core.Option.{none}
 use Rattle.atomic_table.specs.Seated.{TableId}
-use Rattle.atomic_table.specs.Table.{step, gives, stepped, Allows, rest}
+use Rattle.atomic_table.specs.Table.{step, gives, Allows, rest}
 use Rattle.dn_types.specs.History.{IsLawful, own_entries}
 use Rattle.dn_types.specs.declared.entry.Entry.{Entry}
 use Rattle.dn_types.specs.declared.rule.Rule.TheVariants.{Ordered}
@@ -10,14 +10,13 @@ use Rattle.dn_service.specs.Histories.{AreBelow}
 use Rattle.dn_service.specs.Pasts.{Past, BookView, Keeps}
 use Rattle.dn_service.specs.Rule.{Follows, SeatRule}
 use Rattle.dn_service.specs.Accounts.{Each, up_to_date, lost_in}
-use Rattle.dn_service.specs.Seats.{SeatState, SeatView, Slot, sitting, with_history}
+use Rattle.dn_service.specs.Seats.{SeatState, SeatView, sitting, with_history}
 use Rattle.dn_service.specs.Steps.{read}
 use Rattle.dn_service.specs.Wakes.{IsWakeOf, Wakes}
 use Rattle.dn_service.proofs.Accounts.{has_updated}
 use Rattle.dn_service.proofs.Calling.{IsSitting, seen_from, has_seen}
-use Rattle.dn_service.proofs.Losses.{met_kept, met_map, faces_now, faces_free}
-use Rattle.dn_service.proofs.Taking.{moved, has_book, updated_some, updated_sit, same_past}
-use Rattle.dn_service.proofs.Views.{one_home}
+use Rattle.dn_service.proofs.Losses.{met_kept, met_map, faces_now}
+use Rattle.dn_service.proofs.Taking.{given_back, has_book, others_fit, updated_some, updated_sit, same_past}
 
 pub reads : (n slots id : ℕ) (me : SeatState) (was : Past) (book : BookView) → me.0.taken ≡ Some was → me.1 ≡ (0, Some book) ∷ [] → Keeps was book
     → Allows (SeatRule n) slots id me 0 (λ _. 0) (λ _. read (step slots 0 0 0 none) me 0)
@@ -27,9 +26,7 @@ reads n slots id me was book took carried kept s r deep at _ =
       w,
       gives,
       tt,
-      subst (λ (cs : List (ℕ × Slot)). SeatRule n (stepped s 0 0 id cs w gives)) (sym carried)
-          (moved n s r id me.0 w 0 (set s.homes 0 (some (Some book))) r.past r.tally at (omega arith) (length-set s.homes 0 (some (Some book)) ∙ r.one_slot) r.lawful r.below
-          (λ _. (book, one_home s.homes (some (Some book)) r.one_slot, subst (λ (p : Past). Keeps p book) (sym b.3) kept))
+      given_back n s r id me w r.past book at carried r.below (subst (λ (p : Past). Keeps p book) (sym b.3) kept)
           record {
             count = λ l. f.count (updated_some r.past.history r.tally me.0.accounts l);
             accounts = updated_sit n r.past.history r.past.history r.tally r.seat_of id me.0.accounts f.accounts;
@@ -40,18 +37,9 @@ reads n slots id me was book took carried kept s r deep at _ =
             seen = f.seen;
             shed = f.shed;
           }
-          (λ j u other there. let g = r.seats j u there in record {
-            count = g.count;
-            accounts = g.accounts;
-            faced = faces_free n (get_or s.words 0 0) b.0 r.past.history r.tally r.seat_of id j u.accounts b.1 b.2 other g.accounts g.faced;
-            free = λ _. g.idle b.0 b.1 (λ e. other (sym e ∙ b.2));
-            taken = λ i e h. absurd (omega arith);
-            idle = λ i e h. absurd (omega arith);
-            seen = g.seen;
-            shed = g.shed;
-          })
+          (others_fit n s r id me.0 was at took)
           (λ j h. has_updated r.past.history r.tally me.0.accounts j h)
-          (λ j. met_kept j s.views id me.0 w at (met_map j (up_to_date r.past.history r.tally) me.0.accounts (λ _. refl)) ∙ r.met j)),
+          (λ j. met_kept j s.views id me.0 w at (met_map j (up_to_date r.past.history r.tally) me.0.accounts (λ _. refl)) ∙ r.met j),
       (
         r.tally,
         λ was' is. let same : r.past ≡ was' = b.3 ∙ same_past me.0.taken was was' took is in

@@ -15,7 +15,7 @@ use Rattle.dn_types.specs.Trace.{Link, Event, arrived, started, links, with_link
 use Rattle.dn_types.specs.declared.limit.Limit.TheVariants.{Slots}
 use Rattle.dn_types.specs.declared.packet.Packet.{Packet}
 use Rattle.dn_shaper.specs.declared.links.next_start.NextStart.{NextStart}
-use Rattle.dn_shaper.specs.declared.links.home.Home.{Home}
+use Rattle.dn_flows.specs.declared.home.Home.{Home}
 use Rattle.dn_shaper.specs.declared.links.link_parts.LinkParts.{LinkParts}
 use Rattle.dn_shaper.specs.declared.links.parts.Parts.{Parts}
 use Rattle.dn_shaper.specs.Refinement.Agreement.{AgreesWith, Agrees, GivesRates, link_names}
@@ -24,7 +24,7 @@ use Rattle.dn_shaper.specs.Refinement.NextStarts.{Holds}
 use Rattle.dn_shaper.specs.Refinement.Settling.{AreInStep}
 use Rattle.dn_shaper.specs.Refinement.Starting.{Within, StartsAt}
 use Rattle.dn_shaper.specs.Refinement.Submitting.{MayAccept}
-use Rattle.dn_shaper.specs.Refinement.Views.{LinkView, queue_lengths, view_of, views_of, home, next_starts, next_start_of}
+use Rattle.dn_shaper.specs.Refinement.Views.{homes_of, LinkView, queue_lengths, view_of, views_of, home, next_starts, next_start_of}
 use Rattle.std.proofs.lemmas.List.{set-set}
 use Rattle.dn_shaper.proofs.Arriving.{set-self, link-home, arrives-agree, next-alone, starts-at-once, arrives-nexts, arrives-names, arrives-within}
 use Rattle.std.proofs.lemmas.List.{length-set}
@@ -49,7 +49,7 @@ pub same-view : {at : ℕ} {h : Home} {flow len weight : ℕ} {idle : Bool} {old
 same-view s {v = v} there = let both : Some s.view ≡ Some v = sym s.there ∙ there in cc
 
 module _ {settings : Settings} {at : ℕ} {h : Home} {flow len weight : ℕ} {idle : Bool} {old mid : Parts} {heap : Heap NextStart} (may : MayAccept settings at flow old heap)
-    (at_home : slice_get old.homes.items flow ≡ Some h) (s : ArrivesAt at h flow len weight idle old mid) where
+    (at_home : slice_get (homes_of old.flows.flows) flow ≡ Some h) (s : ArrivesAt at h flow len weight idle old mid) where
   home-is : home old.flows.keys flow ≡ s.view.link
   home-is = link-home settings at h flow len weight idle old mid s may.settled.0 may.settled.1 may.settled.2 may.within at_home
 

@@ -11,7 +11,7 @@ use Rattle.dn_heap.specs.Heap.{Heap}
 use Rattle.dn_types.specs.Configuration.{Settings}
 use Rattle.dn_types.specs.Trace.{Link, own, shared}
 use Rattle.dn_shaper.specs.declared.links.next_start.NextStart.{NextStart}
-use Rattle.dn_shaper.specs.declared.links.home.Home.{Home}
+use Rattle.dn_flows.specs.declared.home.Home.{Home}
 use Rattle.dn_shaper.specs.declared.links.parts.Parts.{Parts}
 use Rattle.dn_shaper.specs.declared.links.link_parts.LinkParts.{LinkParts}
 use Rattle.dn_shaper.specs.Refinement.Agreement.{Agrees}
@@ -19,7 +19,8 @@ use Rattle.dn_shaper.specs.Refinement.Arriving.{CanJoin}
 use Rattle.dn_shaper.specs.Refinement.NextStarts.{next_at, keys_at, Holds, one_backlogged, backlogged}
 use Rattle.dn_shaper.specs.Refinement.Starting.{Within}
 use Rattle.dn_shaper.specs.Refinement.Submitting.{MayAccept}
-use Rattle.dn_shaper.specs.Refinement.Views.{LinkView, queue_lengths, view_of, views_of, next_start_of}
+use Rattle.dn_shaper.specs.Refinement.Views.{homes_of, LinkView, queue_lengths, view_of, views_of, next_start_of}
+use Rattle.dn_flows.specs.Table.{flow_at}
 use Rattle.dn_shaper.proofs.HomeRead.{at-home, link-there}
 use Rattle.dn_shaper.proofs.NextStarts.{same_place, other_place, pushed, none_standing}
 
@@ -108,8 +109,8 @@ module _ {settings : Settings} {at flow : ℕ} {p : Parts} {heap : Heap NextStar
   pub may-agree : Agrees p
   may-agree = (may.settled.0, may.settled.1, may.settled.2)
 
-  module _ {h : Home} (read : h ≡ get_or p.homes.items flow h) where
-    pub home-at : slice_get p.homes.items flow ≡ Some h
+  module _ {h : Home} (read : h ≡ (flow_at p.flows.flows flow).home) where
+    pub home-at : slice_get (homes_of p.flows.flows) flow ≡ Some h
     home-at = at-home p may-agree may.within read
 
     module _ {link : LinkParts} (read-link : link ≡ get_or p.links.items h.place link) where

@@ -14,12 +14,12 @@ use Rattle.dn_types.specs.declared.packet.Packet.{Packet}
 use Rattle.dn_flows.specs.Table.{FlowState, flow_at, places, pushed}
 use Rattle.dn_flows.specs.declared.waiting.Waiting.{Waiting}
 use Rattle.dn_wf2q.specs.Schedule.{Flow, Schedule, flow_at as slot_at, waiting_of as waiting_in, joined_by, stamped}
-use Rattle.dn_shaper.specs.declared.links.home.Home.{Home}
+use Rattle.dn_flows.specs.declared.home.Home.{Home}
 use Rattle.dn_shaper.specs.declared.links.parts.Parts.{Parts}
 use Rattle.dn_shaper.specs.Refinement.Agreement.{AgreesWith, IsAt, IsHomeOf, link_names}
 use Rattle.dn_shaper.specs.Refinement.Arriving.{begun_flows, begun_time, ArrivesInSchedule, ArrivesOn, ArrivesAt}
 use Rattle.dn_shaper.specs.Refinement.Starting.{AreCountsWithin, Within}
-use Rattle.dn_shaper.specs.Refinement.Views.{LinkView, views_of, home, as_queued, stamped_of, slotted, next_starts, next_start_of}
+use Rattle.dn_shaper.specs.Refinement.Views.{homes_of, LinkView, views_of, home, as_queued, stamped_of, slotted, next_starts, next_start_of}
 use Rattle.dn_shaper.proofs.Arrived.{arrived-agrees}
 use Rattle.dn_shaper.proofs.HomeRead.{home-of}
 use Rattle.dn_shaper.proofs.Next.{home-here, next_exists}
@@ -57,7 +57,7 @@ begun_view idle v = record {
 
 module _ (settings : Settings) (at : ℕ) (h : Home) (flow len weight : ℕ) (idle : Bool) (old new : Parts) (s : ArrivesAt at h flow len weight idle old new)
     (more : List Link) (trace : List Event) (a : AgreesWith old more trace)
-    (within : flow < length old.flows.keys) (at_home : slice_get old.homes.items flow ≡ Some h) where
+    (within : flow < length old.flows.keys) (at_home : slice_get (homes_of old.flows.flows) flow ≡ Some h) where
   the_home : IsHomeOf flow (home old.flows.keys flow) (views_of old) h
   the_home = home-of old a within at_home
 
@@ -68,7 +68,7 @@ module _ (settings : Settings) (at : ℕ) (h : Home) (flow len weight : ℕ) (id
   link-home = sym the_home.link_is ∙ ap (λ (v : LinkView). v.link) same_view
 
   pub slot-home : (pipe : ℕ) → s.view.link ≡ shared pipe → slice_get s.view.slots h.slot ≡ Some flow
-  slot-home pipe is = (home-here old.rule old.accepted old.flows.keys old.homes.items
+  slot-home pipe is = (home-here old.rule old.accepted old.flows.keys (homes_of old.flows.flows)
       (views_of old) old.flows.flows old.line.pending more trace a h.place s.view s.there flow h the_home link-home).1 pipe is
 
   abbrev l : Link
@@ -84,15 +84,15 @@ module _ (settings : Settings) (at : ℕ) (h : Home) (flow len weight : ℕ) (id
   before_is = ap (λ b. cond b (opened l ∷ trace) trace) (sym opens_there)
 
   opened_if : (b : Bool) →
-      IsAt old.rule old.accepted old.flows.keys old.homes.items (set (views_of old) h.place (begun_view b s.view)) old.flows.flows old.line.pending more (cond b (opened l ∷ trace) trace)
-  opened_if true = opened-agrees old.rule old.accepted old.flows.keys old.homes.items
+      IsAt old.rule old.accepted old.flows.keys (homes_of old.flows.flows) (set (views_of old) h.place (begun_view b s.view)) old.flows.flows old.line.pending more (cond b (opened l ∷ trace) trace)
+  opened_if true = opened-agrees old.rule old.accepted old.flows.keys (homes_of old.flows.flows)
       (views_of old) old.flows.flows old.line.pending more trace a h.place s.view s.there (begun_view true s.view) refl refl refl refl (λ pipe is. (refl, refl))
-  opened_if false = subst (λ (vs : List LinkView). IsAt old.rule old.accepted old.flows.keys old.homes.items vs old.flows.flows old.line.pending more trace)
+  opened_if false = subst (λ (vs : List LinkView). IsAt old.rule old.accepted old.flows.keys (homes_of old.flows.flows) vs old.flows.flows old.line.pending more trace)
       (sym (set-self (views_of old) h.place s.view s.there)) a
 
-  opened_now : IsAt old.rule old.accepted old.flows.keys old.homes.items (set (views_of old) h.place (begun_view idle s.view)) old.flows.flows old.line.pending more before
+  opened_now : IsAt old.rule old.accepted old.flows.keys (homes_of old.flows.flows) (set (views_of old) h.place (begun_view idle s.view)) old.flows.flows old.line.pending more before
   opened_now = subst
-      (λ (t : List Event). IsAt old.rule old.accepted old.flows.keys old.homes.items (set (views_of old) h.place (begun_view idle s.view)) old.flows.flows old.line.pending more t)
+      (λ (t : List Event). IsAt old.rule old.accepted old.flows.keys (homes_of old.flows.flows) (set (views_of old) h.place (begun_view idle s.view)) old.flows.flows old.line.pending more t)
       (sym before_is) (opened_if idle)
 
   links_before : (b : Bool) → links (cond b (opened l ∷ trace) trace) ≡ links trace
@@ -163,10 +163,10 @@ module _ (settings : Settings) (at : ℕ) (h : Home) (flow len weight : ℕ) (id
         ∙ made
         ∙ ap (λ (ls : List Link). with_link l ls) (sym (ap links before_is ∙ links_before idle))
 
-    base : IsAt old.rule (old.accepted + 1) old.flows.keys old.homes.items (set (set (views_of old) h.place (begun_view idle s.view)) h.place s.view')
+    base : IsAt old.rule (old.accepted + 1) old.flows.keys (homes_of old.flows.flows) (set (set (views_of old) h.place (begun_view idle s.view)) h.place s.view')
         (set old.flows.flows flow (pushed (as_queued the_packet) (flow_at old.flows.flows flow))) old.line.pending [] (arrived the_packet ∷ before)
     base =
-        arrived-agrees old.rule old.accepted old.flows.keys old.homes.items
+        arrived-agrees old.rule old.accepted old.flows.keys (homes_of old.flows.flows)
         (set (views_of old) h.place (begun_view idle s.view)) old.flows.flows old.line.pending more before opened_now h.place (begun_view idle s.view)
         (get-set (views_of old) h.place s.view (begun_view idle s.view) s.there)
         flow within link-home made_then the_packet refl refl (sym opened_now.accepted_is) s.view' s.joins.link s.joins.value s.joins.waits s.joins.slots arrival
@@ -174,8 +174,8 @@ module _ (settings : Settings) (at : ℕ) (h : Home) (flow len weight : ℕ) (id
     -- All parts agree with the arrival.
     pub arrives-agree : AgreesWith new [] (arrived the_packet ∷ before)
     arrives-agree =
-        let w : as_queued the_packet ≡ record { packet = old.accepted; len = len } = λ i. record { packet = sym opened_now.accepted_is i; len = len_is i } in
-        agrees-as new s.rule s.accepted s.keys (ap (λ hs. hs.items) s.homes) (s.views_are ∙ sym (set-set (views_of old) h.place (begun_view idle s.view) s.view'))
+        let w : as_queued the_packet ≡ record { packet = old.accepted; len = len; weight = weight } = λ i. record { packet = sym opened_now.accepted_is i; len = len_is i; weight = weight_is i } in
+        agrees-as new s.rule s.accepted s.keys s.homes (s.views_are ∙ sym (set-set (views_of old) h.place (begun_view idle s.view) s.view'))
         (s.flows_are ∙ ap (λ (x : Waiting). set old.flows.flows flow (pushed x (flow_at old.flows.flows flow))) (sym w)) (ap (λ l. l.pending) s.line) base
 
     -- Where the link was idle, the packet is the next one.
@@ -195,7 +195,7 @@ module _ (settings : Settings) (at : ℕ) (h : Home) (flow len weight : ℕ) (id
   not-free some none = by (nat_le (free l trace) at) refl
     where
       p : (x : Accepted) × (next_packet l trace ≡ Some x)
-      p = next_exists old.rule old.accepted old.flows.keys old.homes.items (views_of old) old.flows.flows old.line.pending more trace a h.place s.view s.there some
+      p = next_exists old.rule old.accepted old.flows.keys (homes_of old.flows.flows) (views_of old) old.flows.flows old.line.pending more trace a h.place s.view s.there some
 
       by : (b : Bool) → nat_le (free l trace) at ≡ b → nat_le (free l trace) at ≡ false
       by false e = e
@@ -223,7 +223,7 @@ module _ (settings : Settings) (at : ℕ) (h : Home) (flow len weight : ℕ) (id
 
 module _ (at : ℕ) (h : Home) (flow len weight : ℕ) (idle : Bool) (old new : Parts) (s : ArrivesAt at h flow len weight idle old new) where
   abbrev packet : Waiting
-  packet = record { packet = old.accepted; len = len }
+  packet = record { packet = old.accepted; len = len; weight = weight }
 
   pub arrives-waiting : waits_in_all (views_of new) ≡ waits_in_all (views_of old) + 1
   arrives-waiting =

@@ -15,7 +15,7 @@ use Rattle.dn_shaper.specs.Refinement.Settings.{at_number, settings_of}
 use Rattle.dn_shaper.specs.Refinement.Sound.{IsIndexed, IsSound}
 use Rattle.dn_shaper.specs.Standing.{StandsAt}
 use Rattle.dn_shaper.specs.Refinement.Starting.{AreCountsWithin, Within}
-use Rattle.dn_shaper.specs.Refinement.Views.{LinkView, queue_lengths, view_of, views_of, next_starts, waits_in_all}
+use Rattle.dn_shaper.specs.Refinement.Views.{homes_of, LinkView, queue_lengths, view_of, views_of, next_starts, waits_in_all}
 use Rattle.dn_shaper.proofs.OnePlace.{agrees-as}
 
 nothing-agrees : (rule : Rule) → IsAt rule 0 [] [] [] [] [] [] []
@@ -35,7 +35,7 @@ nothing-agrees rule = record {
   accepted_is = refl;
 }
 
-module _ (s : State) (accepted : s.parts.accepted ≡ 0) (keys : s.parts.flows.keys ≡ []) (flows : s.parts.flows.flows ≡ []) (homes : s.parts.homes.items ≡ [])
+module _ (s : State) (accepted : s.parts.accepted ≡ 0) (keys : s.parts.flows.keys ≡ []) (flows : s.parts.flows.flows ≡ [])
     (links : s.parts.links.items ≡ []) (waiting : s.parts.waiting ≡ 0)
     (shared : s.shared ≡ []) (pending : s.parts.line.pending ≡ []) (pushed : s.parts.line.pushed ≡ 0) (empty : s.heap.keys ≡ []) (moves : s.heap.moves ≡ 0)
     (none : (t : Target) → settings_of s.configured t ≡ None) (now : s.now ≡ 0) (calls : s.calls ≡ 0) where
@@ -43,7 +43,7 @@ module _ (s : State) (accepted : s.parts.accepted ≡ 0) (keys : s.parts.flows.k
   views = ap (map (view_of (queue_lengths s.parts.flows.flows))) links
 
   agrees : AgreesWith s.parts [] []
-  agrees = agrees-as s.parts refl accepted keys homes views flows pending (nothing-agrees s.parts.rule)
+  agrees = agrees-as s.parts refl accepted keys (ap homes_of flows) views flows pending (nothing-agrees s.parts.rule)
 
   pub begins : (rule : Rule) → s.parts.rule ≡ rule → StandsAt rule s []
   begins rule is = record { rule_is = is; calls_are = calls; now_is = now; settings_are = λ i t. none t i; keys_are = keys; agrees = agrees }

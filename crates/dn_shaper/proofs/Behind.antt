@@ -7,7 +7,7 @@ use Rattle.dn_flows.specs.declared.waiting.Waiting.{Waiting}
 use Rattle.dn_flows.proofs.Places.{eq-no, get-map}
 use Rattle.dn_shaper.specs.declared.links.link_parts.Carries.{Carries}
 use Rattle.dn_shaper.specs.declared.links.link_parts.Carries.TheVariants.{Own, Shared}
-use Rattle.dn_shaper.specs.declared.links.home.Home.{Home}
+use Rattle.dn_flows.specs.declared.home.Home.{Home}
 use Rattle.dn_shaper.specs.declared.links.link_parts.LinkParts.{LinkParts}
 use Rattle.dn_shaper.specs.declared.links.parts.Parts.{Parts}
 use Rattle.dn_shaper.specs.Refinement.Agreement.{AgreesWith, IsHomeOf}
@@ -22,7 +22,7 @@ there-under f [] k y e = absurd cc
 there-under f (x ∷ xs) zero y e = let same : f x ≡ y = cc in (x, refl, same)
 there-under f (x ∷ xs) (suc k) y e = there-under f xs k y e
 
-module _ (at weight : ℕ) {flow len : ℕ} {old new : Parts} (j : JoinsQueue flow len old new) {more : List Link} {trace : List Event}
+module _ (at : ℕ) {flow len weight : ℕ} {old new : Parts} (j : JoinsQueue flow len weight old new) {more : List Link} {trace : List Event}
     (a : AgreesWith old more trace) {h : Home} (is : IsHomeOf flow (home old.flows.keys flow) (views_of old) h) {pipe : ℕ}
     (owned : home old.flows.keys flow ≡ own pipe flow)
     (within : flow < length old.flows.flows) (some : 0 < queue_lengths old.flows.flows flow) where
@@ -33,7 +33,7 @@ module _ (at weight : ℕ) {flow len : ℕ} {old new : Parts} (j : JoinsQueue fl
   after = queue_lengths new.flows.flows
 
   abbrev packet : Waiting
-  packet = record { packet = old.accepted; len = len }
+  packet = record { packet = old.accepted; len = len; weight = weight }
 
   found : (l : LinkParts) × (slice_get old.links.items h.place ≡ Some l) × (view_of before l ≡ is.view)
   found = there-under (view_of before) old.links.items h.place is.view is.there

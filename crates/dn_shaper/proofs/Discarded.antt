@@ -10,7 +10,7 @@ use Rattle.dn_types.specs.declared.flow_key.FlowKey.{FlowKey}
 use Rattle.dn_types.specs.declared.rule.Rule.{Rule}
 use Rattle.dn_flows.specs.Table.{FlowState, flow_at, emptied}
 use Rattle.dn_flows.specs.declared.waiting.Waiting.{Waiting}
-use Rattle.dn_shaper.specs.declared.links.home.Home.{Home}
+use Rattle.dn_flows.specs.declared.home.Home.{Home}
 use Rattle.dn_shaper.specs.Refinement.Views.{LinkView, home, as_queued, stamped_of, slotted}
 use Rattle.dn_shaper.specs.Refinement.Agreement.{AreDistinct, IsAt, IsLinkAt, IsFlowAt, IsScheduleAt, is_active, link_names}
 use Rattle.std.proofs.lemmas.List.{length-set}

@@ -7,13 +7,13 @@ use Rattle.dn_types.specs.Wf2q.{Stamped}
 use Rattle.dn_flows.specs.Table.{FlowState, flow_at, emptied, places}
 use Rattle.dn_flows.specs.declared.waiting.Waiting.{Waiting}
 use Rattle.dn_wf2q.specs.Schedule.{Schedule}
-use Rattle.dn_shaper.specs.declared.links.home.Home.{Home}
+use Rattle.dn_flows.specs.declared.home.Home.{Home}
 use Rattle.dn_shaper.specs.declared.links.parts.Parts.{Parts}
 use Rattle.dn_shaper.specs.Refinement.Agreement.{Agrees, IsHomeOf, link_names}
 use Rattle.dn_shaper.specs.Refinement.Arriving.{KeepsFlows}
 use Rattle.dn_shaper.specs.Refinement.Discarding.{DiscardsOn, DiscardsAt, DiscardsFlow, HoldsCount}
 use Rattle.dn_shaper.specs.Refinement.Starting.{AreCountsWithin, Within}
-use Rattle.dn_shaper.specs.Refinement.Views.{LinkView, IsAlone, views_of, home, as_queued, slotted, next_starts, next_start_of, stamped_of, waits_in_all}
+use Rattle.dn_shaper.specs.Refinement.Views.{homes_of, LinkView, IsAlone, views_of, home, as_queued, slotted, next_starts, next_start_of, stamped_of, waits_in_all}
 use Rattle.dn_shaper.proofs.Accepting.{next-some}
 use Rattle.dn_shaper.proofs.Alone.{is-alone}
 use Rattle.dn_shaper.proofs.Discarded.{discarded-agrees}
@@ -28,7 +28,7 @@ module _ {p : Parts} (bound : Within (2 ^ 62) p) (agrees : Agrees p) {flow : ℕ
   pub few-there : (flow_at p.flows.flows flow).discarded + length (flow_at p.flows.flows flow).backlog ≤ 2 ^ 62
   few-there = let i = (bound.flows_are flow).2 in omega arith
 
-  module _ {h : Home} (at_home : slice_get p.homes.items flow ≡ Some h) where
+  module _ {h : Home} (at_home : slice_get (homes_of p.flows.flows) flow ≡ Some h) where
     pub is-home : IsHomeOf flow (home p.flows.keys flow) (views_of p) h
     is-home = home-of p agrees.2 within at_home
 
@@ -65,19 +65,19 @@ module _ {p : Parts} (bound : Within (2 ^ 62) p) (agrees : Agrees p) {flow : ℕ
     enough-all = let e = enough in let le = sum-le (λ (v : LinkView). v.waits) (views_of p) h.place is-home.view is-home.there in let is = bound.waiting_is in omega arith
 
 module _ {h : Home} {flow : ℕ} {old new : Parts} (bound : Within (2 ^ 62) old) (agrees : Agrees old) (within : flow < length old.flows.keys)
-    (at_home : slice_get old.homes.items flow ≡ Some h) (s : DiscardsAt h flow old new) where
+    (at_home : slice_get (homes_of old.flows.flows) flow ≡ Some h) (s : DiscardsAt h flow old new) where
   pub discards-agree : DiscardsFlow flow old new
   discards-agree more trace a =
       let is = home-of old a within at_home in
       let view_both : Some is.view ≡ Some s.view = sym is.there ∙ s.there in
       let view_is : is.view ≡ s.view = cc in
       let here : home old.flows.keys flow ≡ s.view.link = sym is.link_is ∙ ap (λ (v : LinkView). v.link) view_is in
-      agrees-as new s.rule s.accepted s.keys (ap (λ hs. hs.items) s.homes) s.views_are s.flows_are (ap (λ l. l.pending) s.line)
-      (discarded-agrees old.rule old.accepted old.flows.keys old.homes.items
+      agrees-as new s.rule s.accepted s.keys s.homes s.views_are s.flows_are (ap (λ l. l.pending) s.line)
+      (discarded-agrees old.rule old.accepted old.flows.keys (homes_of old.flows.flows)
       (views_of old) old.flows.flows old.line.pending more trace a h.place s.view s.there flow within here s.view' s.leaves.link s.leaves.value s.leaves.waits s.leaves.slots
       (λ pipe e.
       let r = subst (DiscardsOn h.slot s.view s.view') e s.leaves.discards in
-      let here' = home-here old.rule old.accepted old.flows.keys old.homes.items (views_of old) old.flows.flows old.line.pending more trace a h.place s.view s.there flow h is here in
+      let here' = home-here old.rule old.accepted old.flows.keys (homes_of old.flows.flows) (views_of old) old.flows.flows old.line.pending more trace a h.place s.view s.there flow h is here in
       (h.slot, here'.1 pipe e, r.0, r.1)))
 
   pub discards-waiting : waits_in_all (views_of new) + length (flow_at old.flows.flows flow).backlog ≡ waits_in_all (views_of old)

@@ -1,18 +1,20 @@
 -- A flow's home is read, and the link there: both are those that the parts agree on.
-use Rattle.std.proofs.Common.{◌≡◌, ◌∙◌, ◌<◌, ℕ, List, get_or, sym, subst, length, arith}
+use Rattle.std.proofs.Common.{◌≡◌, ◌∙◌, ◌<◌, ℕ, List, get_or, ap, sym, subst, length, arith}
 use Rattle.std.specs.Prelude.{Some, slice_get}
 use Rattle.dn_types.specs.Trace.{Link, Event}
-use Rattle.dn_shaper.specs.declared.links.home.Home.{Home}
+use Rattle.dn_flows.specs.declared.home.Home.{Home}
 use Rattle.dn_shaper.specs.declared.links.link_parts.LinkParts.{LinkParts}
 use Rattle.dn_shaper.specs.declared.links.parts.Parts.{Parts}
 use Rattle.dn_shaper.specs.Refinement.Agreement.{Agrees, AgreesWith, IsHomeOf}
-use Rattle.dn_shaper.specs.Refinement.Views.{IsAlone, home, queue_lengths, view_of, views_of}
+use Rattle.dn_shaper.specs.Refinement.Views.{homes_of, IsAlone, home, queue_lengths, view_of, views_of}
+use Rattle.dn_flows.specs.Table.{flow_at}
 use Rattle.dn_shaper.proofs.Alone.{is-alone}
-use Rattle.dn_flows.proofs.Places.{get-below, get-below-map, get-map, get-read, viewed}
+use Rattle.dn_shaper.proofs.HomesOf.{home-get}
+use Rattle.dn_flows.proofs.Places.{get-below-map, get-map, viewed}
 
 -- What stands at the flow's place among the homes is its home.
 pub home-of : (p : Parts) {more : List Link} {trace : List Event} → AgreesWith p more trace → {flow : ℕ} → flow < length p.flows.keys → {h : Home} →
-    slice_get p.homes.items flow ≡ Some h → IsHomeOf flow (home p.flows.keys flow) (views_of p) h
+    slice_get (homes_of p.flows.flows) flow ≡ Some h → IsHomeOf flow (home p.flows.keys flow) (views_of p) h
 home-of p a {flow = flow} within {h = h} at =
     let its = a.homes_are flow within in
     let both : Some its.0 ≡ Some h = sym its.1 ∙ at in
@@ -20,18 +22,15 @@ home-of p a {flow = flow} within {h = h} at =
     subst (λ (x : Home). IsHomeOf flow (home p.flows.keys flow) (views_of p) x) same its.2
 
 module _ (p : Parts) (agrees : Agrees p) {flow : ℕ} (within : flow < length p.flows.keys) where
-  pub home-there : (h : Home) × (slice_get p.homes.items flow ≡ Some h) × IsHomeOf flow (home p.flows.keys flow) (views_of p) h
+  pub home-there : (h : Home) × (slice_get (homes_of p.flows.flows) flow ≡ Some h) × IsHomeOf flow (home p.flows.keys flow) (views_of p) h
   home-there = agrees.2.homes_are flow within
-
-  pub home-below : flow < length p.homes.items
-  home-below = get-below p.homes.items flow home-there.0 home-there.1
 
   pub in-table : flow < length p.flows.flows
   in-table = let m = agrees.2.as_many in omega arith
 
-  module _ {h : Home} (read : h ≡ get_or p.homes.items flow h) where
-    pub at-home : slice_get p.homes.items flow ≡ Some h
-    at-home = get-read p.homes.items flow h home-below read
+  module _ {h : Home} (read : h ≡ (flow_at p.flows.flows flow).home) where
+    pub at-home : slice_get (homes_of p.flows.flows) flow ≡ Some h
+    at-home = home-get p.flows.flows flow in-table ∙ ap Some (sym read)
 
     pub is-home : IsHomeOf flow (home p.flows.keys flow) (views_of p) h
     is-home = home-of p agrees.2 within at-home

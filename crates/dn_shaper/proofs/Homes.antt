@@ -4,7 +4,7 @@ use Rattle.std.specs.Prelude.{Some, slice_get}
 use Rattle.std.proofs.lemmas.Bool.{cases_eq, cases_lt}
 use Rattle.dn_types.specs.Trace.{Link}
 use Rattle.dn_types.specs.declared.flow_key.FlowKey.{FlowKey}
-use Rattle.dn_shaper.specs.declared.links.home.Home.{Home}
+use Rattle.dn_flows.specs.declared.home.Home.{Home}
 use Rattle.dn_shaper.specs.Refinement.Slots.{Ascends}
 use Rattle.dn_shaper.specs.Refinement.Views.{LinkView, home}
 use Rattle.dn_shaper.specs.Refinement.Agreement.{IsHomeOf, AreSlotsAtHome}

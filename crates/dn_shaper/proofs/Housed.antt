@@ -1,28 +1,29 @@
 -- What holds after a new flow got its home, whichever it is.
-use Rattle.std.proofs.Common.{◌≡◌, ◌∙◌, ◌≤◌, ◌<◌, ◌^◌, ℕ, ◌+◌, true, cond, List, [], ◌∷◌, ◌++◌, refl, ap, sym, subst, length, arith}
+use Rattle.std.proofs.Common.{◌≡◌, ◌∙◌, ◌≤◌, ◌<◌, ◌^◌, ℕ, ◌+◌, true, cond, List, [], ◌∷◌, ◌++◌, refl, ap, sym, set, subst, length, arith}
 use Rattle.std.specs.Prelude.{Some, slice_get}
 use Rattle.dn_types.specs.Trace.{Link, shared, Event}
 use Rattle.dn_types.specs.declared.delivery.Delivery.{Delivery}
 use Rattle.dn_types.specs.declared.flow_key.FlowKey.{FlowKey}
-use Rattle.dn_flows.specs.Table.{FlowState, Table, new_flow, flow_at, with_place}
+use Rattle.dn_flows.specs.Table.{FlowState, Table, new_flow, flow_at, with_home, with_place}
 use Rattle.dn_flows.proofs.Views.{flow_after_set}
 use Rattle.dn_wf2q.specs.Schedule.{room_at}
 use Rattle.dn_shaper.specs.declared.links.next_start.NextStart.{NextStart}
-use Rattle.dn_shaper.specs.declared.links.home.Home.{Home}
+use Rattle.dn_flows.specs.declared.home.Home.{Home}
 use Rattle.dn_shaper.specs.declared.state.State.{State}
 use Rattle.dn_shaper.specs.Refinement.Agreement.{AgreesWith, IsAt, link_names}
 use Rattle.dn_shaper.specs.Refinement.NextStarts.{Holds}
 use Rattle.dn_shaper.specs.Refinement.Homing.{GivesHome}
-use Rattle.dn_shaper.specs.Refinement.Making.{SameFlow}
+use Rattle.dn_shaper.specs.Refinement.Making.{KeepsPlaces, SameFlow}
 use Rattle.dn_shaper.specs.Refinement.Sound.{IsIndexed, IsSound}
 use Rattle.dn_shaper.specs.Refinement.Starting.{IsReady, KeepsReady, Within}
-use Rattle.dn_shaper.specs.Refinement.Views.{LinkView, views_of, next_starts, waits_in_all}
+use Rattle.dn_shaper.specs.Refinement.Views.{homes_of, LinkView, views_of, next_starts, waits_in_all}
 use Rattle.std.proofs.lemmas.List.{length-set}
 use Rattle.dn_flows.proofs.Places.{eq-yes, get-below, get-kept, get-last, length-more}
 use Rattle.dn_flows.proofs.Reservations.{reserved-below}
+use Rattle.dn_shaper.proofs.HomesOf.{homes-last}
 use Rattle.dn_shaper.proofs.OnePlace.{agrees-as}
 use Rattle.dn_shaper.proofs.Preparing.{IsOneMore, flow-more, with_flows}
-use Rattle.dn_shaper.proofs.Reserving.{place-reserved, placed-keeps, same-within}
+use Rattle.dn_shaper.proofs.Reserving.{same-within, set-keeps, set-same}
 
 module _ (old new : State) (t : Table) (key : FlowKey) (one : IsOneMore key old.parts.flows t) (g : GivesHome key (length old.parts.flows.keys) (with_flows old t) new) where
   abbrev flow : ℕ
@@ -32,6 +33,10 @@ module _ (old new : State) (t : Table) (key : FlowKey) (one : IsOneMore key old.
   keys-are = g.keys ∙ one.keys
 
   module _ (as_many : length old.parts.flows.flows ≡ length old.parts.flows.keys) where
+    -- The last flow as it is left.
+    abbrev last : FlowState
+    last = with_home g.home (with_place (flow_at t.flows flow))
+
     inside : flow < length t.flows
     inside = let m = ap {B = ℕ} (λ (fs : List FlowState). length fs) one.flows ∙ length-more old.parts.flows.flows new_flow in omega arith
 
@@ -39,12 +44,12 @@ module _ (old new : State) (t : Table) (key : FlowKey) (one : IsOneMore key old.
     same-flows f =
         subst (λ (x : FlowState × List FlowState). SameFlow x.0 (flow_at x.1 f))
         (λ i. ((ap (λ (fs : List FlowState). flow_at fs f) one.flows ∙ flow-more old.parts.flows.flows f) i, sym g.flows i))
-        (place-reserved t.flows flow f inside)
+        (set-same t.flows flow f last inside (record { backlog = refl; lost = refl; full = refl; started = refl; discarded = refl; active = refl }))
 
     pub many-flows : length new.parts.flows.flows ≡ length old.parts.flows.keys + 1
     many-flows =
         ap (λ (fs : List FlowState). length fs) g.flows
-        ∙ length-set t.flows flow (with_place (flow_at t.flows flow))
+        ∙ length-set t.flows flow last
         ∙ ap (λ (fs : List FlowState). length fs) one.flows
         ∙ length-more old.parts.flows.flows new_flow
         ∙ ap (λ n. n + 1) as_many
@@ -52,17 +57,23 @@ module _ (old new : State) (t : Table) (key : FlowKey) (one : IsOneMore key old.
     reserved-now : (flow_at new.parts.flows.flows flow).reserved ≡ true
     reserved-now =
         ap (λ (fs : List FlowState). (flow_at fs flow).reserved) g.flows
-        ∙ ap (λ (s : FlowState). s.reserved) (flow_after_set t.flows flow flow (with_place (flow_at t.flows flow)) inside)
-        ∙ ap (λ b. (cond b (with_place (flow_at t.flows flow)) (flow_at t.flows flow)).reserved) (eq-yes flow flow refl)
+        ∙ ap (λ (s : FlowState). s.reserved) (flow_after_set t.flows flow flow last inside)
+        ∙ ap (λ b. (cond b last (flow_at t.flows flow)).reserved) (eq-yes flow flow refl)
+
+    places-kept : KeepsPlaces t.flows new.parts.flows.flows
+    places-kept = subst (KeepsPlaces t.flows) (sym g.flows) (set-keeps t.flows flow last inside refl)
+
+    homes-now : homes_of new.parts.flows.flows ≡ homes_of old.parts.flows.flows ++ g.home ∷ []
+    homes-now = ap homes_of g.flows ∙ ap (λ (fs : List FlowState). homes_of (set fs flow last)) one.flows ∙ homes-last old.parts.flows.flows new_flow last flow as_many
 
     -- ---- What holds on either home
 
     pub ready-by : (room : (v : LinkView) (pipe : ℕ) → slice_get (views_of new.parts) g.home.place ≡ Some v → v.link ≡ shared pipe → 0 < room_at v.schedule.room g.home.slot) →
-        length old.parts.homes.items ≡ flow → IsReady flow new.parts
+        length (homes_of old.parts.flows.flows) ≡ flow → IsReady flow new.parts
     ready-by room many = record {
       place = reserved-now;
       slot = λ h v pipe at e is.
-          let last : slice_get new.parts.homes.items flow ≡ Some g.home = (λ i. slice_get (g.homes i) (sym many i)) ∙ get-last old.parts.homes.items g.home in
+          let last : slice_get (homes_of new.parts.flows.flows) flow ≡ Some g.home = (λ i. slice_get (homes-now i) (sym many i)) ∙ get-last (homes_of old.parts.flows.flows) g.home in
           let both : Some g.home ≡ Some h = sym last ∙ at in
           let same : g.home ≡ h = cc in
           subst (λ (x : Home). 0 < room_at v.schedule.room x.slot) same (room v pipe (ap (λ (x : Home). slice_get (views_of new.parts) x.place) same ∙ e) is);
@@ -74,12 +85,12 @@ module _ (old new : State) (t : Table) (key : FlowKey) (one : IsOneMore key old.
         → (w : LinkView) × (slice_get (views_of old.parts) k ≡ Some w) × (v.link ≡ w.link) × ((slot : ℕ) → room_at w.schedule.room slot ≤ room_at v.schedule.room slot))
         → KeepsReady old.parts new.parts
     leaves-by more trace a roomy f ready = record {
-      place = placed-keeps t.flows inside g.flows f
+      place = places-kept f
           (ap (λ (fs : List FlowState). (flow_at fs f).reserved) one.flows ∙ ap (λ (s : FlowState). s.reserved) (flow-more old.parts.flows.flows f) ∙ ready.place);
       slot = λ h v pipe at there is.
           let below = reserved-below old.parts.flows.flows f ready.place in
           let its = a.homes_are f (omega arith) in
-          let both : Some its.0 ≡ Some h = sym (get-kept old.parts.homes.items g.home its.0 f its.1) ∙ (λ i. slice_get (sym g.homes i) f) ∙ at in
+          let both : Some its.0 ≡ Some h = sym (get-kept (homes_of old.parts.flows.flows) g.home its.0 f its.1) ∙ (λ i. slice_get (sym homes-now i) f) ∙ at in
           let same : its.0 ≡ h = cc in
           let before = ap (λ (x : Home). slice_get (views_of old.parts) x.place) (sym same) ∙ its.2.there in
           let w = roomy h.place v (get-below (views_of old.parts) h.place its.2.view before) there in
@@ -119,7 +130,7 @@ module _ (old new : State) (t : Table) (key : FlowKey) (one : IsOneMore key old.
 
     -- The parts from their pieces.
     pub agrees-by : (more : List Link) (trace : List Event) (h : Home) (views : List LinkView) → g.home ≡ h → views_of new.parts ≡ views →
-        IsAt old.parts.rule old.parts.accepted (old.parts.flows.keys ++ key ∷ []) (old.parts.homes.items ++ h ∷ []) views new.parts.flows.flows old.parts.line.pending more trace →
+        IsAt old.parts.rule old.parts.accepted (old.parts.flows.keys ++ key ∷ []) (homes_of old.parts.flows.flows ++ h ∷ []) views new.parts.flows.flows old.parts.line.pending more trace →
         AgreesWith new.parts more trace
     agrees-by more trace h views same_home same_views a =
-        agrees-as new.parts g.keeps.rule g.accepted keys-are (g.homes ∙ ap (λ (y : Home). old.parts.homes.items ++ y ∷ []) same_home) same_views refl g.pending a
+        agrees-as new.parts g.keeps.rule g.accepted keys-are (homes-now ∙ ap (λ (y : Home). homes_of old.parts.flows.flows ++ y ∷ []) same_home) same_views refl g.pending a

@@ -5,7 +5,7 @@ use Rattle.std.proofs.lemmas.List.{length-map}
 use Rattle.std.proofs.lemmas.List.Sorted.{length_permutation}
 use Rattle.dn_flows.proofs.Places.{get-set}
 use Rattle.dn_heap.specs.Heap.{Heap}
-use Rattle.dn_shaper.specs.declared.links.home.Home.{Home}
+use Rattle.dn_flows.specs.declared.home.Home.{Home}
 use Rattle.dn_shaper.specs.declared.links.next_start.NextStart.{NextStart}
 use Rattle.dn_shaper.specs.declared.links.parts.Parts.{Parts}
 use Rattle.dn_types.specs.Trace.{discarded}
@@ -13,7 +13,7 @@ use Rattle.dn_shaper.specs.Refinement.Agreement.{Agrees}
 use Rattle.dn_shaper.specs.Refinement.Discarding.{DiscardsAt}
 use Rattle.dn_shaper.specs.Refinement.NextStarts.{next_at, keys_at, Holds}
 use Rattle.dn_shaper.specs.Refinement.Settling.{AreInStep}
-use Rattle.dn_shaper.specs.Refinement.Views.{LinkView, views_of, next_start_of, next_starts}
+use Rattle.dn_shaper.specs.Refinement.Views.{homes_of, LinkView, views_of, next_start_of, next_starts}
 use Rattle.dn_shaper.proofs.Accepting.{next-listed, next-none, next-some}
 use Rattle.dn_shaper.proofs.Arriving.{set-self}
 use Rattle.dn_shaper.proofs.Discarding.{discards-agree, discards-nexts, discards-within, next-then}
@@ -25,7 +25,7 @@ pub link-after : {h : Home} {flow : ℕ} {old new : Parts} (s : DiscardsAt h flo
 link-after {h = h} {old = old} s = ap (λ (vs : List LinkView). slice_get vs h.place) s.views_are ∙ get-set (views_of old) h.place s.view s.view' s.there
 
 module _ {h : Home} {flow : ℕ} {old new : Parts} {heap : Heap NextStart} (kept : AreInStep old heap) (within : flow < length old.flows.keys)
-    (at_home : slice_get old.homes.items flow ≡ Some h) (s : DiscardsAt h flow old new) where
+    (at_home : slice_get (homes_of old.flows.flows) flow ≡ Some h) (s : DiscardsAt h flow old new) where
   nexts-then : next_starts (views_of new) ≡ set (next_starts (views_of old)) h.place (next_start_of s.view')
   nexts-then = discards-nexts kept.within kept.agrees within at_home s
 

@@ -32,9 +32,6 @@ left-is E k e = moment-is (next_at E k.place) k.moment e
 pub is-moment : (m : ℕ) → is_moment (Some m) m ≡ true
 is-moment m = grind (arith, nat_tests)
 
-pub is-left : (E : List (Option ℕ)) (k : NextStart) → next_at E k.place ≡ Some k.moment → is_left E k ≡ true
-is-left E k e = ap (λ (o : Option ℕ). is_moment o k.moment) e ∙ is-moment k.moment
-
 pub none-left : (E : List (Option ℕ)) (k : NextStart) → next_at E k.place ≡ None → is_left E k ≡ false
 none-left E k e = ap (λ (o : Option ℕ). is_moment o k.moment) e
 

@@ -13,16 +13,6 @@ use Rattle.dn_shaper.proofs.LeavesKey.{leaves-held}
 use Rattle.dn_shaper.proofs.LeftKeys.{alike-first, alike-held, back-fewer, back-first, back-held, back-keys, back-not, cleared-first, cleared-held}
 use Rattle.dn_shaper.proofs.LeftKeys.{cleared-keys, counted-lengths, left-once, none-at, none-left, one-least, with-first, with-held, with-keys, without-held}
 
--- A heap without a key, and no place.
-pub nothing-tidy : (heap : Heap NextStart) (E : List (Option ℕ)) → heap.keys ≡ [] → heap.room ≡ 0 → E ≡ [] → IsTidy heap E
-nothing-tidy heap E empty none is =
-    let free : (place : ℕ) → next_at E place ≡ None = λ place. ap (λ (l : List (Option ℕ)). next_at l place) is in
-    let l = ap {B = ℕ} (λ (ks : List NextStart). length ks) empty in
-    record {
-      kept = record { left = cleared-held E free heap.keys; places = omega arith };
-      first = cleared-first E free heap.keys;
-    }
-
 module _ (heap : Heap NextStart) (E : List (Option ℕ)) (key : NextStart) (heap' : Heap NextStart) where
   -- ---- A key that counts comes or leaves
 

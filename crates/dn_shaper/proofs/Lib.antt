@@ -20,6 +20,7 @@ pub mod HeldCounts
 pub mod Holding
 pub mod HomeRead
 pub mod Homes
+pub mod HomesOf
 pub mod Housed
 pub mod Indexed
 pub mod KeyCounts
@@ -45,6 +46,7 @@ pub mod Passing
 pub mod Preparing
 pub mod Putting
 pub mod QueueCounts
+pub mod Queued
 pub mod Quiet
 pub mod Reached
 pub mod Reordered

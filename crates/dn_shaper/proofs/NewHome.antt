@@ -18,7 +18,7 @@ use Rattle.dn_shaper.specs.Refinement.Slots.{Ascends, top}
 use Rattle.dn_shaper.specs.Refinement.Sound.{IsIndexed, IsSound}
 use Rattle.dn_shaper.specs.Refinement.Starting.{IsReady, KeepsReady, Within}
 use Rattle.dn_shaper.specs.Refinement.Submitting.{IsMade}
-use Rattle.dn_shaper.specs.Refinement.Views.{LinkView, views_of, home, home_by, next_starts, next_start_of, queue_lengths, waits_in_all}
+use Rattle.dn_shaper.specs.Refinement.Views.{homes_of, LinkView, views_of, home, home_by, next_starts, next_start_of, queue_lengths, waits_in_all}
 use Rattle.std.proofs.lemmas.List.{append-nil}
 use Rattle.dn_shaper.proofs.Indexed.{noted-more, unnoted-unknown}
 use Rattle.dn_shaper.proofs.Made.{linked-agrees}
@@ -61,7 +61,7 @@ module _ (old new : State) (t : Table) (key : FlowKey) (one : IsOneMore key old.
       opened-agrees =
           agrees-by old new t key one g as_many (link ∷ []) trace (record { place = length (views_of old.parts); slot = 0 }) (views_of old.parts ++ s.view ∷ [])
           (λ i. record { place = s.place_is i; slot = s.slot_is i }) s.views_are
-          (linked-agrees old.parts.rule old.parts.accepted old.parts.flows.keys old.parts.homes.items
+          (linked-agrees old.parts.rule old.parts.accepted old.parts.flows.keys (homes_of old.parts.flows.flows)
           (views_of old.parts) old.parts.flows.flows old.parts.line.pending trace a key new.parts.flows.flows (same-flows old new t key one g as_many)
           (many-flows old new t key one g as_many) s.view s.is_new.link_is unknown s.is_new.free s.is_new.last_due s.is_new.waits s.is_new.schedule.virtual_time s.is_new.schedule.flows
           (λ slot f e. only-one slot f (ap (λ (fs : List ℕ). slice_get fs slot) (sym s.is_new.slots) ∙ e))
@@ -89,7 +89,7 @@ module _ (old new : State) (t : Table) (key : FlowKey) (one : IsOneMore key old.
         let both : Some s.view ≡ Some v = sym (get-last (views_of old.parts) s.view) ∙ ap (λ (vs : List LinkView). slice_get vs (length (views_of old.parts))) (sym s.views_are) ∙ e in
         cc
 
-    pub opened-ready : length old.parts.homes.items ≡ flow → IsReady flow new.parts
+    pub opened-ready : length (homes_of old.parts.flows.flows) ≡ flow → IsReady flow new.parts
     opened-ready many = ready-by old new t key one g as_many (λ v pipe e is.
         let same = view-last v (ap (slice_get (views_of new.parts)) (sym s.place_is) ∙ e) in
         let room : HasSlotRoom 0 v v.link = subst (λ (x : LinkView). HasSlotRoom 0 x x.link) same s.is_new.room in

@@ -12,7 +12,7 @@ use Rattle.dn_types.specs.declared.rule.Rule.{Rule}
 use Rattle.dn_flows.specs.Table.{FlowState, flow_at}
 use Rattle.dn_flows.specs.declared.waiting.Waiting.{Waiting}
 use Rattle.dn_wf2q.specs.Schedule.{heads_of}
-use Rattle.dn_shaper.specs.declared.links.home.Home.{Home}
+use Rattle.dn_flows.specs.declared.home.Home.{Home}
 use Rattle.dn_shaper.specs.Refinement.Views.{LinkView, home, as_queued, IsNextToSend, CanSend, next_start_of, next_starts}
 use Rattle.dn_shaper.specs.Refinement.Agreement.{IsAt, IsHomeOf, IsScheduleAt, link_names}
 use Rattle.dn_shaper.proofs.Alone.{own-home}

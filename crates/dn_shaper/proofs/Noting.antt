@@ -3,17 +3,20 @@ use Rattle.std.proofs.Common.{◌≡◌, ◌∙◌, ◌<◌, ◌+◌, ◌^◌, �
 use Rattle.std.specs.Prelude.{slice_get}
 use Rattle.dn_types.specs.Trace.{Link, Event}
 use Rattle.dn_heap.specs.Heap.{Heap}
+use Rattle.dn_flows.specs.declared.home.Home.{Home}
 use Rattle.dn_flows.specs.Table.{FlowState, Table, flow_at}
 use Rattle.dn_shaper.specs.declared.links.next_start.NextStart.{NextStart}
 use Rattle.dn_shaper.specs.declared.links.parts.Parts.{Parts}
-use Rattle.dn_shaper.specs.Refinement.Agreement.{AgreesWith, IsAt}
+use Rattle.dn_shaper.specs.Refinement.Agreement.{AgreesWith, IsAt, link_names}
+use Rattle.dn_shaper.specs.Refinement.Arriving.{KeepsFlows}
 use Rattle.dn_shaper.specs.Refinement.NextStarts.{Holds}
 use Rattle.dn_shaper.specs.Refinement.Settling.{AreInStep}
 use Rattle.dn_shaper.specs.Refinement.Starting.{AreCountsWithin, KeepsReady, Within}
 use Rattle.dn_shaper.specs.Refinement.Submitting.{CanSee, IsMade, Sees}
-use Rattle.dn_shaper.specs.Refinement.Views.{LinkView, home, next_starts, queue_lengths, views_of}
+use Rattle.dn_shaper.specs.Refinement.Views.{homes_of, LinkView, home, next_starts, queue_lengths, views_of}
 use Rattle.dn_shaper.proofs.Accepting.{within-more}
 use Rattle.dn_shaper.proofs.Alone.{all-seen-same, lengths-same}
+use Rattle.dn_shaper.proofs.HomesOf.{homes-set}
 use Rattle.dn_shaper.proofs.OnePlace.{agrees-as, each-flow}
 use Rattle.dn_shaper.proofs.Preparing.{with_table}
 use Rattle.dn_shaper.proofs.Submitting.{noted-within}
@@ -25,10 +28,11 @@ pub record IsNoted (event : Link → ℕ → Event) (p : Parts) (flow : ℕ) (no
   pub keys : t.keys ≡ p.flows.keys
   pub flows : t.flows ≡ set p.flows.flows flow noted
   pub placed : noted.reserved ≡ (flow_at p.flows.flows flow).reserved
+  pub housed : noted.home ≡ (flow_at p.flows.flows flow).home
   pub same : length noted.backlog ≡ queue_lengths p.flows.flows flow
   pub few : (n : ℕ) → AreCountsWithin n (flow_at p.flows.flows flow) → AreCountsWithin (n + 1) noted
   pub agrees : (more : List Link) (trace : List Event) → AgreesWith p more trace → IsMade flow p trace →
-      IsAt p.rule p.accepted p.flows.keys p.homes.items (views_of p) (set p.flows.flows flow noted) p.line.pending [] (event (home p.flows.keys flow) flow ∷ trace)
+      IsAt p.rule p.accepted p.flows.keys (homes_of p.flows.flows) (views_of p) (set p.flows.flows flow noted) p.line.pending [] (event (home p.flows.keys flow) flow ∷ trace)
 
 module _ {event : Link → ℕ → Event} {p : Parts} {flow : ℕ} {noted : FlowState} {t : Table} (is : IsNoted event p flow noted t) where
   inside : flow < length p.flows.flows
@@ -37,18 +41,24 @@ module _ {event : Link → ℕ → Event} {p : Parts} {flow : ℕ} {noted : Flow
   same-views : views_of (with_table p t) ≡ views_of p
   same-views = all-seen-same p.links.items (queue_lengths p.flows.flows) (queue_lengths t.flows) (lengths-same p.flows.flows flow inside noted t.flows is.flows is.same)
 
+  same-homes : homes_of t.flows ≡ homes_of p.flows.flows
+  same-homes = ap homes_of is.flows ∙ homes-set p.flows.flows flow noted is.housed
+
   pub noted-sees : Sees flow event p (with_table p t)
-  noted-sees more trace a made = agrees-as (with_table p t) refl refl is.keys refl same-views is.flows refl (is.agrees more trace a made)
+  noted-sees more trace a made = agrees-as (with_table p t) refl refl is.keys same-homes same-views is.flows refl (is.agrees more trace a made)
 
   pub noted-counts : (n : ℕ) → Within n p → Within (n + 1) (with_table p t)
   noted-counts n w = noted-within n flow noted p (with_table p t) inside is.flows (is.few n (w.flows_are flow)) is.placed same-views refl refl refl w
+
+  pub noted-keeps : KeepsFlows p (with_table p t)
+  noted-keeps = record { rule = refl; keys = is.keys; homes = same-homes; names = ap link_names same-views }
 
   pub noted-ready : KeepsReady p (with_table p t)
   noted-ready g ready = record {
     place = subst (λ (fs : List FlowState). (flow_at fs g).reserved ≡ true) (sym is.flows)
         (each-flow (λ (f : ℕ) (s : FlowState). (flow_at p.flows.flows f).reserved ≡ true → s.reserved ≡ true) p.flows.flows flow noted inside
         (λ had. is.placed ∙ had) (λ f ne had. had) g ready.place);
-    slot = λ h v pipe at there on. ready.slot h v pipe at (ap (λ (vs : List LinkView). slice_get vs h.place) (sym same-views) ∙ there) on;
+    slot = λ h v pipe at there on. ready.slot h v pipe (ap (λ (hs : List Home). slice_get hs g) (sym same-homes) ∙ at) (ap (λ (vs : List LinkView). slice_get vs h.place) (sym same-views) ∙ there) on;
   }
 
   pub noted-in-step : (limit : (n : ℕ) × (n < 2 ^ 62) × Within n p) → (heap : Heap NextStart) → AreInStep p heap → AreInStep (with_table p t) heap

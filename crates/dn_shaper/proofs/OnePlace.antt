@@ -9,10 +9,10 @@ use Rattle.dn_types.specs.declared.rule.Rule.{Rule}
 use Rattle.dn_flows.specs.Table.{FlowState, flow_at}
 use Rattle.dn_flows.proofs.Places.{eq-no, eq-yes, get-set, get-set-other}
 use Rattle.dn_flows.proofs.Views.{flow_after_set}
-use Rattle.dn_shaper.specs.declared.links.home.Home.{Home}
+use Rattle.dn_flows.specs.declared.home.Home.{Home}
 use Rattle.dn_shaper.specs.declared.links.parts.Parts.{Parts}
 use Rattle.dn_shaper.specs.Refinement.Agreement.{AgreesWith, IsAt}
-use Rattle.dn_shaper.specs.Refinement.Views.{LinkView, views_of}
+use Rattle.dn_shaper.specs.Refinement.Views.{homes_of, LinkView, views_of}
 
 pub each-set : {X : Type 0} (P : ℕ → X → Type 0) (xs : List X) (k : ℕ) (x : X) → slice_get xs k ≡ Some x → (y : X) → P k y →
     ((j : ℕ) (w : X) → slice_get xs j ≡ Some w → (j ≡ k → ⊥) → P j w) → (j : ℕ) (w : X) → slice_get (set xs k y) j ≡ Some w → P j w
@@ -38,7 +38,7 @@ each-flow P flows flow s inside here other g = by (cases_eq flow g)
 
 -- Parts agree with a trace if what they hold does.
 pub agrees-as : (p : Parts) {rule : Rule} {accepted : ℕ} {keys : List FlowKey} {homes : List Home} {views : List LinkView} {flows : List FlowState} {pending : List Delivery}
-    {more : List Link} {trace : List Event} → p.rule ≡ rule → p.accepted ≡ accepted → p.flows.keys ≡ keys → p.homes.items ≡ homes → views_of p ≡ views →
+    {more : List Link} {trace : List Event} → p.rule ≡ rule → p.accepted ≡ accepted → p.flows.keys ≡ keys → (homes_of p.flows.flows) ≡ homes → views_of p ≡ views →
     p.flows.flows ≡ flows → p.line.pending ≡ pending → IsAt rule accepted keys homes views flows pending more trace → AgreesWith p more trace
 agrees-as p {more = more} {trace = trace} rule accepted keys homes views flows pending a =
     subst (λ (x : Rule × ℕ × List FlowKey × List Home × List LinkView × List FlowState × List Delivery). IsAt x.0 x.1 x.2 x.3 x.4 x.5 x.6 more trace)

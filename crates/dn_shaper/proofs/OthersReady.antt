@@ -8,13 +8,13 @@ use Rattle.dn_flows.specs.Table.{FlowState, flow_at, pushed}
 use Rattle.dn_flows.proofs.Reservations.{reserved-below}
 use Rattle.dn_wf2q.specs.Schedule.{Schedule, room_at}
 use Rattle.dn_shaper.specs.declared.links.next_start.NextStart.{NextStart}
-use Rattle.dn_shaper.specs.declared.links.home.Home.{Home}
+use Rattle.dn_flows.specs.declared.home.Home.{Home}
 use Rattle.dn_shaper.specs.declared.links.parts.Parts.{Parts}
 use Rattle.dn_shaper.specs.Refinement.Agreement.{Agrees}
 use Rattle.dn_shaper.specs.Refinement.Arriving.{ArrivesAt, ArrivesOn}
 use Rattle.dn_shaper.specs.Refinement.Starting.{IsReady, KeepsOthersReady, StartsAt}
 use Rattle.dn_shaper.specs.Refinement.Submitting.{MayAccept}
-use Rattle.dn_shaper.specs.Refinement.Views.{LinkView, views_of}
+use Rattle.dn_shaper.specs.Refinement.Views.{homes_of, LinkView, views_of}
 use Rattle.dn_shaper.proofs.Accepting.{may-agree}
 use Rattle.dn_shaper.proofs.HomeRead.{home-of, in-table}
 use Rattle.dn_shaper.proofs.OnePlace.{each-flow, each-set}
@@ -29,7 +29,7 @@ known-ready p agrees flow ready =
 
 -- No two flows have a slot of a shared link.
 slots-apart : (p : Parts) (agrees : Agrees p) (flow other : ℕ) (h k : Home) (v : LinkView) (pipe : ℕ) → flow < length p.flows.keys → other < length p.flows.keys
-    → slice_get p.homes.items flow ≡ Some h → slice_get p.homes.items other ≡ Some k → h.place ≡ k.place → slice_get (views_of p) h.place ≡ Some v → v.link ≡ shared pipe
+    → slice_get (homes_of p.flows.flows) flow ≡ Some h → slice_get (homes_of p.flows.flows) other ≡ Some k → h.place ≡ k.place → slice_get (views_of p) h.place ≡ Some v → v.link ≡ shared pipe
     → k.slot ≡ h.slot → other ≡ flow
 slots-apart p agrees flow other h k v pipe within within' at at' place there is slot =
     let its = home-of p agrees.2 within at in
@@ -45,7 +45,7 @@ slots-apart p agrees flow other h k v pipe within within' at at' place there is 
     cc
 
 module _ {settings : Settings} {at : ℕ} {h : Home} {flow len weight : ℕ} {idle : Bool} {old mid : Parts} {heap : Heap NextStart} (may : MayAccept settings at flow old heap)
-    (at_home : slice_get old.homes.items flow ≡ Some h) (s : ArrivesAt at h flow len weight idle old mid) where
+    (at_home : slice_get (homes_of old.flows.flows) flow ≡ Some h) (s : ArrivesAt at h flow len weight idle old mid) where
   more-room : (l : Link) → ArrivesOn h.slot len weight idle s.view s.view' l → (slot : ℕ) → ((pipe : ℕ) → l ≡ shared pipe → slot ≡ h.slot → ⊥)
       → room_at s.view.schedule.room slot ≤ room_at s.view'.schedule.room slot
   more-room (own pipe f) r slot ne = let e = ap {B = ℕ} (λ (x : Schedule). room_at x.room slot) r in omega arith
@@ -55,10 +55,10 @@ module _ {settings : Settings} {at : ℕ} {h : Home} {flow len weight : ℕ} {id
   arrives-leaves other ne ready = record {
     place = subst (λ (fs : List FlowState). (flow_at fs other).reserved ≡ true) (sym s.flows_are)
         (each-flow (λ (g : ℕ) (x : FlowState). (g ≡ flow → ⊥) → (flow_at old.flows.flows g).reserved ≡ true → x.reserved ≡ true) old.flows.flows flow
-        (pushed (record { packet = old.accepted; len = len }) (flow_at old.flows.flows flow)) (in-table old (may-agree may) may.within)
+        (pushed (record { packet = old.accepted; len = len; weight = weight }) (flow_at old.flows.flows flow)) (in-table old (may-agree may) may.within)
         (λ n had. absurd (n refl)) (λ g n apart had. had) other ne ready.place);
     slot = λ k v pipe there e is.
-        let before : slice_get old.homes.items other ≡ Some k = (λ i. slice_get (sym s.homes i).items other) ∙ there in
+        let before : slice_get (homes_of old.flows.flows) other ≡ Some k = (λ i. slice_get (sym s.homes i) other) ∙ there in
         each-set (λ (j : ℕ) (x : LinkView). j ≡ k.place → x.link ≡ shared pipe → 0 < room_at x.schedule.room k.slot) (views_of old) h.place s.view s.there s.view'
         (λ here on.
         let was = ready.slot k s.view pipe before (ap (slice_get (views_of old)) (sym here) ∙ s.there) (sym s.joins.link ∙ on) in

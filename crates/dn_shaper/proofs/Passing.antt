@@ -16,7 +16,7 @@ use Rattle.dn_flows.proofs.Places.{eq-yes, get-below, get-map, get-read, get-set
 use Rattle.dn_flows.proofs.Views.{flow_after_set}
 use Rattle.dn_link.specs.LinkState.{LinkState}
 use Rattle.dn_wf2q.specs.Schedule.{IsIdle, KeepsRoom, Passes as PassesIn, arrived, room_at}
-use Rattle.dn_shaper.specs.declared.links.home.Home.{Home}
+use Rattle.dn_flows.specs.declared.home.Home.{Home}
 use Rattle.dn_shaper.specs.declared.links.link_parts.Carries.{Carries}
 use Rattle.dn_shaper.specs.declared.links.link_parts.Carries.TheVariants.{Own, Shared}
 use Rattle.dn_shaper.specs.declared.links.link_parts.LinkParts.{LinkParts}
@@ -28,11 +28,12 @@ use Rattle.dn_shaper.specs.Refinement.Arriving.{ArrivesAt, Joins}
 use Rattle.dn_shaper.specs.Refinement.Passing.{CanPass, HasFlowAt, IsIdleAt, PassesLink}
 use Rattle.dn_shaper.specs.Refinement.Starting.{CanStart, StartsOn, Within}
 use Rattle.dn_shaper.specs.Refinement.Submitting.{MayAccept}
-use Rattle.dn_shaper.specs.Refinement.Views.{IsAlone, LinkView, TakesNext, as_queued, home, queue_lengths, view_of, views_of}
+use Rattle.dn_shaper.specs.Refinement.Views.{homes_of, IsAlone, LinkView, TakesNext, as_queued, home, queue_lengths, view_of, views_of}
 use Rattle.dn_shaper.proofs.Accepted.{idle-is, mid-agrees, mid-all}
 use Rattle.dn_shaper.proofs.Accepting.{can-join, home-at, may-agree}
 use Rattle.dn_shaper.proofs.Alone.{one-more-at, push-longer, set-seen}
 use Rattle.std.proofs.lemmas.List.{set-set}
+use Rattle.dn_shaper.proofs.HomesOf.{homes-set, popped-home}
 use Rattle.dn_shaper.proofs.HomeRead.{home-alone, in-table, is-home}
 use Rattle.dn_shaper.proofs.Scheduled.{waits_forgotten}
 use Rattle.dn_shaper.proofs.Starting.{alone-at}
@@ -120,10 +121,17 @@ module _ (flows : List FlowState) (flow : ℕ) (w : Waiting) where
     left-then : {after : List FlowState} → after ≡ slice_set flows flow (popped came) → after ≡ slice_set joined flow (popped (flow_at joined flow))
     left-then is = is ∙ sym (set-set flows flow came (popped came)) ∙ ap (λ (s : FlowState). slice_set joined flow (popped s)) (sym now)
 
+-- The flow that came and left keeps its home.
+pub homes-passed : (flows : List FlowState) (flow : ℕ) (w : Waiting) {after : List FlowState} → after ≡ slice_set flows flow (popped (pushed w (flow_at flows flow)))
+    → homes_of after ≡ homes_of (slice_set flows flow (pushed w (flow_at flows flow)))
+homes-passed flows flow w is =
+    ap homes_of is ∙ homes-set flows flow (popped (pushed w (flow_at flows flow))) (popped-home (pushed w (flow_at flows flow)))
+    ∙ sym (homes-set flows flow (pushed w (flow_at flows flow)) refl)
+
 -- ---- The link at the flow's home is idle
 
 module _ {settings : Settings} {at : ℕ} {h : Home} {flow : ℕ} {old : Parts} {heap : Heap NextStart} (may : MayAccept settings at flow old heap)
-    (read : h ≡ get_or old.homes.items flow h) (is : IsIdleAt at h.place old) where
+    (read : h ≡ (flow_at old.flows.flows flow).home) (is : IsIdleAt at h.place old) where
   inside : flow < length old.flows.flows
   inside = in-table old (may-agree may) may.within
 
@@ -179,7 +187,7 @@ module _ {settings : Settings} {at : ℕ} {h : Home} {flow : ℕ} {old : Parts} 
 
   module _ {len weight : ℕ} {new : LinkParts} (p : PassesLink h.slot len weight is.link new) where
     abbrev w : Waiting
-    w = record { packet = old.accepted; len = len }
+    w = record { packet = old.accepted; len = len; weight = weight }
 
     -- The parts once the packet has arrived.
     abbrev pub mid : Parts
@@ -209,7 +217,7 @@ module _ {settings : Settings} {at : ℕ} {h : Home} {flow : ℕ} {old : Parts} 
       rule = refl;
       accepted = refl;
       keys = refl;
-      homes = refl;
+      homes = homes-set old.flows.flows flow (came old.flows.flows flow w) refl;
       line = refl;
       waiting = refl;
     }

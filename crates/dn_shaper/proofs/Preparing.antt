@@ -22,12 +22,13 @@ use Rattle.dn_shaper.specs.Refinement.Settling.{AreInStep}
 use Rattle.dn_shaper.specs.Refinement.Sound.{IsSound}
 use Rattle.dn_shaper.specs.Refinement.Starting.{HoldsPlaces, KeepsReady, Within}
 use Rattle.dn_shaper.specs.Refinement.Submitting.{IsMade}
-use Rattle.dn_shaper.specs.Refinement.Views.{LinkView, view_of, views_of, next_starts, home, queue_lengths}
+use Rattle.dn_shaper.specs.Refinement.Views.{homes_of, LinkView, view_of, views_of, next_starts, home, queue_lengths}
 use Rattle.dn_shaper.specs.Refinement.Settings.{at_number}
 use Rattle.dn_shaper.proofs.Alone.{all-seen-same}
 use Rattle.std.proofs.lemmas.List.{append-nil}
 use Rattle.dn_flows.proofs.Places.{length-more}
 use Rattle.dn_flows.proofs.Reservations.{places-before, places-take}
+use Rattle.dn_shaper.proofs.HomesOf.{homes-take}
 use Rattle.dn_shaper.proofs.Reserved.{reserved-names, reserves-agree, reserves-kept, reserves-within}
 use Rattle.dn_shaper.proofs.Reserving.{same-flow}
 use Rattle.dn_types.proofs.Settled.{link_eq-refl}
@@ -138,7 +139,7 @@ pub lengths-more : (key : FlowKey) (old t : Table) → IsOneMore key old t → (
 lengths-more key old t one f = ap (λ (fs : List FlowState). queue_lengths fs f) one.flows ∙ ap (λ (s : FlowState). length s.backlog) (flow-more old.flows f)
 
 abbrev pub with_table : Parts → Table → Parts
-with_table p t = record { rule = p.rule; accepted = p.accepted; flows = t; homes = p.homes; links = p.links; waiting = p.waiting; line = p.line }
+with_table p t = record { rule = p.rule; accepted = p.accepted; flows = t; links = p.links; waiting = p.waiting; line = p.line }
 
 abbrev pub with_flows : State → Table → State
 with_flows s t = record { parts = with_table s.parts t; heap = s.heap; shared = s.shared; configured = s.configured; now = s.now; calls = s.calls }
@@ -286,7 +287,7 @@ module _ (old mid : State) (o : OnlyReserves old mid) (t : Table) (keys : t.keys
       rule = o.parts.rule;
       accepted = o.parts.accepted;
       keys = keys ∙ ap (λ (ks : List FlowKey). take (length ks - 1) ks) o.parts.keys;
-      homes = o.parts.homes;
+      homes = ap homes_of flows-are ∙ homes-take most mid.parts.flows.flows ∙ ap (take most) o.parts.homes ∙ sym (homes-take most old.parts.flows.flows);
       waiting = o.parts.waiting;
       pending = o.parts.pending;
       pushed = o.parts.pushed;
@@ -314,7 +315,7 @@ module _ (old mid : State) (o : OnlyReserves old mid) (t : Table) (keys : t.keys
 pub table-ready : (p : Parts) (t : Table) → t.flows ≡ p.flows.flows → KeepsReady p (with_table p t)
 table-ready p t same flow ready = record {
   place = subst (λ (fs : List FlowState). (flow_at fs flow).reserved ≡ true) (sym same) ready.place;
-  slot = λ h v pipe at there is. ready.slot h v pipe at (ap (λ (fs : List FlowState). slice_get (map (view_of (queue_lengths fs)) p.links.items) h.place) (sym same) ∙ there) is;
+  slot = λ h v pipe at there is. ready.slot h v pipe (ap (λ (fs : List FlowState). slice_get (homes_of fs) flow) (sym same) ∙ at) (ap (λ (fs : List FlowState). slice_get (map (view_of (queue_lengths fs)) p.links.items) h.place) (sym same) ∙ there) is;
 }
 
 -- ---- What a result says

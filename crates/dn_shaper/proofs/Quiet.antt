@@ -10,7 +10,7 @@ use Rattle.dn_types.specs.declared.delivery.Delivery.{Delivery}
 use Rattle.dn_types.specs.declared.flow_key.FlowKey.{FlowKey}
 use Rattle.dn_types.specs.declared.rule.Rule.{Rule}
 use Rattle.dn_flows.specs.Table.{FlowState, flow_at, one_lost, one_full}
-use Rattle.dn_shaper.specs.declared.links.home.Home.{Home}
+use Rattle.dn_flows.specs.declared.home.Home.{Home}
 use Rattle.dn_shaper.specs.Refinement.Views.{LinkView, home, slotted, stamped_of}
 use Rattle.dn_shaper.specs.Refinement.Agreement.{IsAt, IsFlowAt, link_names}
 use Rattle.std.proofs.lemmas.List.{append-nil, length-set}

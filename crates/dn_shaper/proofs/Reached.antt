@@ -1,11 +1,11 @@
 -- The flows that a delete reaches are discarded one by one.
-use Rattle.std.proofs.Common.{◌≡◌, ◌∙◌, ◌<◌, ℕ, zero, suc, ◌+◌, true, false, cond, List, [], ◌∷◌, set, refl, ap, sym, subst, length, arith}
+use Rattle.std.proofs.Common.{◌≡◌, ◌∙◌, ◌<◌, ℕ, zero, suc, ◌+◌, true, cond, List, [], ◌∷◌, set, refl, ap, sym, subst, length, arith}
 use Rattle.std.specs.Prelude.{Some, slice_get}
 use Rattle.std.specs.List.{count_by}
 use Rattle.std.proofs.lemmas.List.Sums.{sum_by-cons}
 use Rattle.dn_flows.specs.Table.{FlowState, emptied, flow_at}
 use Rattle.dn_types.specs.Calls.{reaches, discard_reached}
-use Rattle.dn_types.specs.Trace.{Link, Event, discarded}
+use Rattle.dn_types.specs.Trace.{discarded}
 use Rattle.dn_types.specs.declared.command.Command.{Command}
 use Rattle.dn_types.specs.declared.flow_key.FlowKey.{FlowKey}
 use Rattle.dn_shaper.specs.declared.links.parts.Parts.{Parts}
@@ -15,7 +15,7 @@ use Rattle.dn_shaper.specs.Refinement.Configuring.{DiscardsReached}
 use Rattle.dn_shaper.specs.Refinement.Discarding.{DiscardsFlow}
 use Rattle.dn_shaper.specs.Refinement.Making.{OnlyMakesRoom}
 use Rattle.dn_shaper.specs.Refinement.Reordering.{DiscardsSome, NoneActive, ReadsSame}
-use Rattle.dn_shaper.specs.Refinement.Views.{views_of}
+use Rattle.dn_shaper.specs.Refinement.Views.{homes_of, views_of}
 use Rattle.dn_shaper.proofs.Reordered.{agrees-same, none-active-reads, reached-once, same-reads, then-reads}
 use Rattle.dn_shaper.proofs.Reserved.{reserved-names, reserves-agree}
 
@@ -48,9 +48,9 @@ all-done command old new keys done none more trace a =
     let from-0 : (place : ℕ) → 0 + place ≡ place = λ place. omega arith in
     let idle = λ (place : ℕ) (key : FlowKey) (there : slice_get old.flows.keys place ≡ Some key) (reaches-it : reaches command key ≡ true).
     ap (λ (n : ℕ). is_active n d.0) (from-0 place) ∙ sym (d.1.flows_are place).active_is ∙ none place key (ap (λ (ks : List FlowKey). slice_get ks place) keys ∙ there) reaches-it in
-    agrees-same new.rule new.accepted new.flows.keys new.homes.items (views_of new) new.flows.flows new.line.pending more
+    agrees-same new.rule new.accepted new.flows.keys (homes_of new.flows.flows) (views_of new) new.flows.flows new.line.pending more
     (discard_reached command 0 old.flows.keys d.0) (discard_reached command 0 old.flows.keys trace) d.2
-    (agrees-same new.rule new.accepted new.flows.keys new.homes.items (views_of new) new.flows.flows new.line.pending more d.0 (discard_reached command 0 old.flows.keys d.0)
+    (agrees-same new.rule new.accepted new.flows.keys (homes_of new.flows.flows) (views_of new) new.flows.flows new.line.pending more d.0 (discard_reached command 0 old.flows.keys d.0)
     (none-active-reads command 0 old.flows.keys d.0 idle) d.1)
 
 -- ---- How many flows are active
@@ -92,8 +92,8 @@ fewer-active (s ∷ flows) (suc flow) lt is = fewer-rest s flows (set flows flow
 
 -- ---- Only room changes
 
-pub room-keeps : (old new : Parts) → OnlyMakesRoom old new → new.homes ≡ old.homes → KeepsFlows old new
-room-keeps old new r homes = record { rule = r.rule; keys = r.keys; homes = homes; names = reserved-names old new r }
+pub room-keeps : (old new : Parts) → OnlyMakesRoom old new → KeepsFlows old new
+room-keeps old new r = record { rule = r.rule; keys = r.keys; homes = r.homes; names = reserved-names old new r }
 
 pub keeps-none : (p : Parts) → KeepsFlows p p
 keeps-none p = record { rule = refl; keys = refl; homes = refl; names = refl }

@@ -14,7 +14,7 @@ use Rattle.dn_types.specs.declared.flow_key.FlowKey.{FlowKey}
 use Rattle.dn_types.specs.declared.rule.Rule.{Rule}
 use Rattle.dn_types.proofs.Settling.{and-no}
 use Rattle.dn_flows.specs.Table.{FlowState}
-use Rattle.dn_shaper.specs.declared.links.home.Home.{Home}
+use Rattle.dn_flows.specs.declared.home.Home.{Home}
 use Rattle.dn_shaper.specs.Refinement.Agreement.{IsAt, is_active}
 use Rattle.dn_shaper.specs.Refinement.Reordering.{ReadsSame}
 use Rattle.dn_shaper.specs.Refinement.Views.{LinkView, as_queued, home, slotted, stamped_of}

@@ -13,7 +13,7 @@ use Rattle.dn_types.specs.declared.delivery.Delivery.{Delivery}
 use Rattle.dn_types.specs.declared.rule.Rule.{Rule}
 use Rattle.dn_wf2q.specs.Schedule.{Flow}
 use Rattle.dn_shaper.specs.declared.links.next_start.NextStart.{NextStart}
-use Rattle.dn_shaper.specs.declared.links.home.Home.{Home}
+use Rattle.dn_flows.specs.declared.home.Home.{Home}
 use Rattle.dn_shaper.specs.declared.links.parts.Parts.{Parts}
 use Rattle.dn_shaper.specs.Refinement.Agreement.{AgreesWith, AreDistinct, IsAt, IsHomeOf, IsLinkAt, link_names}
 use Rattle.dn_shaper.specs.Refinement.NextStarts.{Holds}
@@ -21,7 +21,7 @@ use Rattle.dn_shaper.specs.Refinement.Making.{KeepsLink, KeepsAt, KeepsPlaces, O
 use Rattle.dn_shaper.specs.Refinement.Settling.{AreInStep}
 use Rattle.dn_shaper.specs.Refinement.Slots.{Ascends, top}
 use Rattle.dn_shaper.specs.Refinement.Starting.{KeepsReady, Within}
-use Rattle.dn_shaper.specs.Refinement.Views.{LinkView, views_of, home, next_starts, next_start_of, waits_in_all}
+use Rattle.dn_shaper.specs.Refinement.Views.{homes_of, LinkView, views_of, home, next_starts, next_start_of, waits_in_all}
 use Rattle.dn_shaper.proofs.OnePlace.{agrees-as}
 use Rattle.dn_shaper.proofs.Reserving.{same-within}
 
@@ -95,7 +95,7 @@ module _ (old new : Parts) (r : OnlyMakesRoom old new) where
           let w = is-there (slice_get (views_of old) h.place) (slice_get (views_of new) h.place) (r.views h.place) is.view is.there in
           record { view = w.0; there = w.1; link_is = w.2.link ∙ is.link_is; slot_is = λ pipe e. ap (λ (fs : List ℕ). slice_get fs h.slot) w.2.slots ∙ is.slot_is pipe e }
 
-      base : IsAt old.rule old.accepted old.flows.keys old.homes.items (views_of new) new.flows.flows old.line.pending more trace
+      base : IsAt old.rule old.accepted old.flows.keys (homes_of old.flows.flows) (views_of new) new.flows.flows old.line.pending more trace
       base = record {
         links_are = reserved-names ∙ a.links_are;
         distinct = subst AreDistinct (sym reserved-names) a.distinct;

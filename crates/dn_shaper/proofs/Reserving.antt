@@ -35,11 +35,18 @@ pub same-at : (o : Option LinkView) → KeepsAt o o
 same-at None = tt
 same-at (Some v) = same-link v
 
+-- One flow changes, but for its packets and counts.
+pub set-same : (flows : List FlowState) (flow g : ℕ) (s : FlowState) → flow < length flows → SameFlow (flow_at flows flow) s → SameFlow (flow_at flows g) (flow_at (set flows flow s) g)
+set-same flows flow g s lt same = each-flow (λ g t. SameFlow (flow_at flows g) t) flows flow s lt same (λ g ne. same-flow (flow_at flows g)) g
+
+pub set-keeps : (flows : List FlowState) (flow : ℕ) (s : FlowState) → flow < length flows → s.reserved ≡ true → KeepsPlaces flows (set flows flow s)
+set-keeps flows flow s lt placed g had =
+    each-flow (λ (f : ℕ) (t : FlowState). (flow_at flows f).reserved ≡ true → t.reserved ≡ true) flows flow s lt (λ its. placed) (λ f ne its. its) g had
+
 -- A place is reserved in one flow's queue.
 pub place-reserved : (flows : List FlowState) (flow g : ℕ) → flow < length flows → SameFlow (flow_at flows g) (flow_at (set flows flow (with_place (flow_at flows flow))) g)
 place-reserved flows flow g lt =
-    each-flow (λ g s. SameFlow (flow_at flows g) s) flows flow (with_place (flow_at flows flow)) lt
-    (record { backlog = refl; lost = refl; full = refl; started = refl; discarded = refl; active = refl }) (λ g ne. same-flow (flow_at flows g)) g
+    set-same flows flow g (with_place (flow_at flows flow)) lt (record { backlog = refl; lost = refl; full = refl; started = refl; discarded = refl; active = refl })
 
 -- One link has more room.
 pub link-reserved : (views : List LinkView) (k : ℕ) (v w : LinkView) → slice_get views k ≡ Some v → KeepsLink v w → (place : ℕ) → KeepsAt (slice_get views place) (slice_get (set views k w) place)
@@ -80,9 +87,7 @@ module _ (flows : List FlowState) {flow : ℕ} (inside : flow < length flows) {n
   flows-placed g = subst (λ (fs : List FlowState). SameFlow (flow_at flows g) (flow_at fs g)) (sym is) (place-reserved flows flow g inside)
 
   pub placed-keeps : KeepsPlaces flows now
-  placed-keeps g had = subst (λ (fs : List FlowState). (flow_at fs g).reserved ≡ true) (sym is)
-      (each-flow (λ (f : ℕ) (s : FlowState). (flow_at flows f).reserved ≡ true → s.reserved ≡ true) flows flow (with_place (flow_at flows flow)) inside
-      (λ its. refl) (λ f ne its. its) g had)
+  placed-keeps = subst (KeepsPlaces flows) (sym is) (set-keeps flows flow (with_place (flow_at flows flow)) inside refl)
 
   -- A flow that has a place gets no other.
   pub places-placed : (flow_at flows flow).reserved ≡ true → places (set flows flow (with_place (flow_at flows flow))) ≡ places flows

@@ -31,7 +31,7 @@ keeps-room old new same keys ready = (
 )
 
 -- The delay line is another.
-pub with-line : (p : Parts) (line : Line) → KeepsReady p (record { rule = p.rule; accepted = p.accepted; flows = p.flows; homes = p.homes; links = p.links; waiting = p.waiting; line = line })
+pub with-line : (p : Parts) (line : Line) → KeepsReady p (record { rule = p.rule; accepted = p.accepted; flows = p.flows; links = p.links; waiting = p.waiting; line = line })
 with-line p line flow ready = record { place = ready.place; slot = ready.slot }
 
 pub leaves-of : (call named : Call) (old s new : State) → named ≡ call → old ≡ s → LeavesRoom call old new → LeavesRoom named s new

@@ -19,7 +19,7 @@ use Rattle.dn_shaper.specs.declared.links.link_parts.Carries.{Carries}
 use Rattle.dn_shaper.specs.declared.links.link_parts.LinkParts.{LinkParts}
 use Rattle.dn_shaper.specs.declared.links.link_parts.Carries.TheVariants.{Own, Shared}
 use Rattle.dn_shaper.specs.declared.links.parts.Parts.{Parts}
-use Rattle.dn_shaper.specs.Refinement.Views.{LinkView, queue_lengths, view_of, views_of, next_starts, next_start_of, carried_link}
+use Rattle.dn_shaper.specs.Refinement.Views.{homes_of, LinkView, queue_lengths, view_of, views_of, next_starts, next_start_of, carried_link}
 use Rattle.dn_shaper.specs.Refinement.Agreement.{GivesRates, AgreesWith, Agrees, AreDistinct, link_names}
 use Rattle.dn_shaper.specs.Refinement.NextStarts.{next_start_cmp, next_at, Holds}
 use Rattle.dn_shaper.specs.Refinement.Starting.{CanStart, StartsAt}
@@ -114,7 +114,7 @@ module _ (settings : Settings) (at : ℕ) (p : Parts) (heap : Heap NextStart) (k
       ∙ first_start-more settings at trace (links trace) more (λ i l e. none-unknown settings at l trace (unseen (links trace) more (subst AreDistinct a.links_are a.distinct) i l e))
 
   nexts_are : next_starts (views_of p) ≡ map (moment_of_next trace) (link_names (views_of p))
-  nexts_are = nexts-agree p.rule p.accepted p.flows.keys p.homes.items (views_of p) p.flows.flows p.line.pending more trace a
+  nexts_are = nexts-agree p.rule p.accepted p.flows.keys (homes_of p.flows.flows) (views_of p) p.flows.flows p.line.pending more trace a
 
   pub no-first : All (λ k. at < k.moment) heap.keys → first_start settings at (links trace) trace ≡ None
   no-first late = sym same_first ∙ none_next settings at trace (link_names (views_of p)) (next_starts (views_of p)) nexts_are heap.keys kept.held late

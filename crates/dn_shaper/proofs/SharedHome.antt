@@ -14,7 +14,7 @@ use Rattle.dn_shaper.specs.Refinement.Homing.{GivesHome, Shares, place_for}
 use Rattle.dn_shaper.specs.Refinement.Sound.{IsIndexed, IsSound}
 use Rattle.dn_shaper.specs.Refinement.Starting.{IsReady, KeepsReady, Within}
 use Rattle.dn_shaper.specs.Refinement.Submitting.{IsMade}
-use Rattle.dn_shaper.specs.Refinement.Views.{LinkView, views_of, next_starts, next_start_of, waits_in_all}
+use Rattle.dn_shaper.specs.Refinement.Views.{homes_of, LinkView, views_of, next_starts, next_start_of, waits_in_all}
 use Rattle.dn_shaper.specs.Refinement.Settings.{at_number}
 use Rattle.std.proofs.lemmas.List.{length-set}
 use Rattle.dn_shaper.proofs.Indexed.{noted-found}
@@ -54,7 +54,7 @@ module _ (old new : State) (t : Table) (key : FlowKey) (one : IsOneMore key old.
         (set (views_of old.parts) place (record { link = s.view.link; value = s.view.value; waits = s.view.waits; schedule = s.view'.schedule; slots = s.view.slots ++ flow ∷ [] }))
         (λ i. record { place = s.place_is i; slot = s.slot_is i })
         (s.views_are ∙ (λ i. set (views_of old.parts) place (record { link = s.takes.link i; value = s.takes.value i; waits = s.takes.waits i; schedule = s.view'.schedule; slots = s.takes.slots i })))
-        (joined-agrees old.parts.rule old.parts.accepted old.parts.flows.keys old.parts.homes.items
+        (joined-agrees old.parts.rule old.parts.accepted old.parts.flows.keys (homes_of old.parts.flows.flows)
         (views_of old.parts) old.parts.flows.flows old.parts.line.pending trace a key new.parts.flows.flows (same-flows old new t key one g as_many)
         (many-flows old new t key one g as_many) place s.view s.there here s.view'.schedule s.takes.schedule.virtual_time s.takes.schedule.flows)
 
@@ -69,7 +69,7 @@ module _ (old new : State) (t : Table) (key : FlowKey) (one : IsOneMore key old.
         let both : Some s.view' ≡ Some v = sym (get-set (views_of old.parts) place s.view s.view' s.there) ∙ ap (λ (vs : List LinkView). slice_get vs place) (sym s.views_are) ∙ e in
         cc
 
-    pub shared-ready : length old.parts.homes.items ≡ flow → IsReady flow new.parts
+    pub shared-ready : length (homes_of old.parts.flows.flows) ≡ flow → IsReady flow new.parts
     shared-ready many = ready-by old new t key one g as_many
         (λ v pipe e is. subst (λ (x : LinkView × ℕ). 0 < room_at x.0.schedule.room x.1)
         (λ i. (view-now v (ap (slice_get (views_of new.parts)) (sym s.place_is) ∙ e) i, sym s.slot_is i)) s.takes.room) many

@@ -6,7 +6,7 @@ use Rattle.dn_types.specs.Calls.{link_of}
 use Rattle.dn_types.specs.Trace.{Link}
 use Rattle.dn_types.specs.declared.flow_key.FlowKey.{FlowKey}
 use Rattle.dn_shaper.specs.declared.links.next_start.NextStart.{NextStart}
-use Rattle.dn_shaper.specs.declared.links.home.Home.{Home}
+use Rattle.dn_flows.specs.declared.home.Home.{Home}
 use Rattle.dn_shaper.specs.declared.links.link_parts.LinkParts.{LinkParts}
 use Rattle.dn_shaper.specs.Refinement.Agreement.{link_names}
 use Rattle.dn_shaper.specs.Refinement.Homing.{Houses, NotesFor, Opens, Shares}

@@ -26,7 +26,7 @@ use Rattle.dn_shaper.specs.Refinement.Calls.{Does}
 use Rattle.dn_shaper.specs.Refinement.Sound.{IsSound}
 use Rattle.dn_shaper.specs.Standing.{StandsAt}
 use Rattle.dn_shaper.specs.Refinement.Starting.{Within}
-use Rattle.dn_shaper.specs.Refinement.Views.{views_of}
+use Rattle.dn_shaper.specs.Refinement.Views.{homes_of, views_of}
 use Rattle.dn_shaper.proofs.Accepting.{within-more}
 use Rattle.dn_shaper.proofs.Noted.{indexed-still}
 use Rattle.dn_shaper.proofs.Quiet.{collected-agrees}
@@ -75,10 +75,10 @@ module _ (old : State) (parts : Parts) (heap : Heap NextStart) (at moment : ℕ)
 
   module _ (line : Line) (rest : line.pending ≡ filter (λ d. nat_lt at d.due) parts.line.pending) (room : parts.line.room ≤ line.room) (pushed : line.pushed ≡ parts.line.pushed) where
     abbrev pub after : Parts
-    after = record { rule = parts.rule; accepted = parts.accepted; flows = parts.flows; homes = parts.homes; links = parts.links; waiting = parts.waiting; line = line }
+    after = record { rule = parts.rule; accepted = parts.accepted; flows = parts.flows; links = parts.links; waiting = parts.waiting; line = line }
 
     after-agrees : (more : List Link) (trace : List Event) → AgreesWith parts more trace → AgreesWith after more (collected at ∷ trace)
-    after-agrees more trace a = collected-agrees parts.rule parts.accepted parts.flows.keys parts.homes.items (views_of parts) parts.flows.flows parts.line.pending more trace a at line.pending rest
+    after-agrees more trace a = collected-agrees parts.rule parts.accepted parts.flows.keys (homes_of parts.flows.flows) (views_of parts) parts.flows.flows parts.line.pending more trace a at line.pending rest
 
     pub collects : (list : List Delivery) → list ≡ filter (λ d. nat_le d.due at) parts.line.pending →
         Does (Collect moment) old (record { parts = after; heap = heap; shared = old.shared; configured = old.configured; now = at; calls = old.calls + 1 }) (Delivered at list)

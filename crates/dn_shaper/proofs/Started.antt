@@ -16,7 +16,7 @@ use Rattle.dn_flows.specs.Table.{FlowState, flow_at, popped, popped_from}
 use Rattle.dn_flows.specs.declared.waiting.Waiting.{Waiting}
 use Rattle.dn_flows.proofs.Views.{popped_backlog}
 use Rattle.dn_wf2q.specs.Schedule.{Flow, flow_at as slot_at, heads_of, no_packets, without_head}
-use Rattle.dn_shaper.specs.declared.links.home.Home.{Home}
+use Rattle.dn_flows.specs.declared.home.Home.{Home}
 use Rattle.dn_shaper.specs.Refinement.Slots.{Ascends, top}
 use Rattle.dn_shaper.specs.Refinement.Views.{LinkView, home, as_queued, stamped_of, slotted, IsNextToSend}
 use Rattle.dn_shaper.specs.Refinement.Agreement.{AreDistinct, IsAt, IsLinkAt, IsFlowAt, IsScheduleAt, HasSentNothing, link_names}

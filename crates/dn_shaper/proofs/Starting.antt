@@ -15,7 +15,7 @@ use Rattle.dn_flows.proofs.Views.{popped_backlog}
 use Rattle.dn_wf2q.specs.Schedule.{room_at}
 use Rattle.dn_shaper.specs.declared.links.link_parts.LinkParts.{LinkParts}
 use Rattle.dn_shaper.specs.declared.links.parts.Parts.{Parts}
-use Rattle.dn_shaper.specs.Refinement.Views.{LinkView, CanSend, IsAlone, IsNextToSend, home, next_start_of, next_starts, queue_lengths, view_of, views_of, as_queued, waits_in_all}
+use Rattle.dn_shaper.specs.Refinement.Views.{homes_of, LinkView, CanSend, IsAlone, IsNextToSend, home, next_start_of, next_starts, queue_lengths, view_of, views_of, as_queued, waits_in_all}
 use Rattle.dn_shaper.specs.Refinement.Agreement.{GivesRates, AgreesWith, Agrees, IsAt}
 use Rattle.dn_shaper.specs.Refinement.Starting.{HasFront, AreCountsWithin, Within, IsReady, CanStart, StartsAt}
 use Rattle.dn_shaper.proofs.Alone.{is-alone, own-slot}
@@ -47,12 +47,12 @@ module _ {p : Parts} (within : Within (2 ^ 62) p) (agrees : Agrees p) {place mom
   link-read {link = link} read = viewed (view_of (queue_lengths p.flows.flows)) p.links.items place link can.view can.there read
 
   pub sends-at : CanSend can.view can.view.link
-  sends-at = can_send p.rule p.accepted p.flows.keys p.homes.items (views_of p) p.flows.flows p.line.pending agrees.0 agrees.1 agrees.2 place can.view can.there can.some
+  sends-at = can_send p.rule p.accepted p.flows.keys (homes_of p.flows.flows) (views_of p) p.flows.flows p.line.pending agrees.0 agrees.1 agrees.2 place can.view can.there can.some
 
   pub front-at : HasFront can.view p.flows.flows
   front-at flow v' takes =
-      let t = taken p.rule p.accepted p.flows.keys p.homes.items (views_of p) p.flows.flows p.line.pending agrees.0 agrees.1 agrees.2 place can.view can.there flow v' can.some takes.sends in
-      let f = front p.rule p.accepted p.flows.keys p.homes.items (views_of p) p.flows.flows p.line.pending agrees.0 agrees.1 agrees.2 place can.view can.there flow t.0 t.2 in
+      let t = taken p.rule p.accepted p.flows.keys (homes_of p.flows.flows) (views_of p) p.flows.flows p.line.pending agrees.0 agrees.1 agrees.2 place can.view can.there flow v' can.some takes.sends in
+      let f = front p.rule p.accepted p.flows.keys (homes_of p.flows.flows) (views_of p) p.flows.flows p.line.pending agrees.0 agrees.1 agrees.2 place can.view can.there flow t.0 t.2 in
       (as_queued t.0, f.0, f.1, few flow (as_queued t.0) f.0)
     where
       few : (flow : ℕ) (w : Waiting) → slice_get (flow_at p.flows.flows flow).backlog 0 ≡ Some w → (flow_at p.flows.flows flow).started < 2 ^ 62
@@ -96,16 +96,16 @@ module _ (place moment bandwidth delay : ℕ) (old new : Parts) (s : StartsAt pl
   pub starts-agree : (settings : Settings) (more : List Link) (trace : List Event) → GivesRates settings (pipe_of s.view.link) bandwidth delay → AgreesWith old more trace →
       (p : Accepted) × (next_packet s.view.link trace ≡ Some p) × AgreesWith new more (started (start_at settings s.view.link p moment) ∷ trace)
   starts-agree settings more trace rates a =
-      let t = taken old.rule old.accepted old.flows.keys old.homes.items
+      let t = taken old.rule old.accepted old.flows.keys (homes_of old.flows.flows)
       (views_of old) old.flows.flows old.line.pending more trace a place s.view s.there s.starts.flow s.view' some-waited s.starts.sends in
-      let f = front old.rule old.accepted old.flows.keys old.homes.items (views_of old) old.flows.flows old.line.pending more trace a place s.view s.there s.starts.flow t.0 t.2 in
+      let f = front old.rule old.accepted old.flows.keys (homes_of old.flows.flows) (views_of old) old.flows.flows old.line.pending more trace a place s.view s.there s.starts.flow t.0 t.2 in
       let both : Some s.starts.packet ≡ Some (as_queued t.0) = sym s.starts.front ∙ f.0 in
       let packet : s.starts.packet ≡ as_queued t.0 = cc in
       (t.0, t.1, after t.0 t.2 packet)
     where
       after : (p : Accepted) → slice_get (backlog s.view.link s.starts.flow trace) 0 ≡ Some p → s.starts.packet ≡ as_queued p →
           AgreesWith new more (started (start_at settings s.view.link p moment) ∷ trace)
-      after p first packet = agrees-as new s.rule s.accepted s.keys (ap (λ hs. hs.items) s.homes) s.views_are s.starts.flows_are pending_is base
+      after p first packet = agrees-as new s.rule s.accepted s.keys s.homes s.views_are s.starts.flows_are pending_is base
         where
           transmission_is : transmission_time bandwidth s.starts.packet.len ≡ (start_at settings s.view.link p moment).transmission
           transmission_is = ap (λ (w : Waiting). transmission_time bandwidth w.len) packet ∙ ap (λ b. transmission_time b p.stamped.len) (sym rates.bandwidth_is)
@@ -113,11 +113,11 @@ module _ (place moment bandwidth delay : ℕ) (old new : Parts) (s : StartsAt pl
           pending_is : new.line.pending ≡ in_order (record { due = s.view'.value.last_due; packet = p.packet; flow = s.starts.flow; start = moment }) old.line.pending
           pending_is = s.starts.pending_is ∙ ap (λ (w : Waiting). in_order (record { due = s.view'.value.last_due; packet = w.packet; flow = s.starts.flow; start = moment }) old.line.pending) packet
 
-          base : IsAt old.rule old.accepted old.flows.keys old.homes.items (set (views_of old) place s.view')
+          base : IsAt old.rule old.accepted old.flows.keys (homes_of old.flows.flows) (set (views_of old) place s.view')
               (set old.flows.flows s.starts.flow (popped (flow_at old.flows.flows s.starts.flow)))
               (in_order (record { due = s.view'.value.last_due; packet = p.packet; flow = s.starts.flow; start = moment }) old.line.pending) more
               (started (start_at settings s.view.link p moment) ∷ trace)
-          base = start-agrees old.rule old.accepted old.flows.keys old.homes.items
+          base = start-agrees old.rule old.accepted old.flows.keys (homes_of old.flows.flows)
               (views_of old) old.flows.flows old.line.pending more trace a place s.view s.there s.starts.flow
               (start_at settings s.view.link p moment) first s.view' s.starts.link s.starts.slots s.starts.sends
               (s.starts.free ∙ ap (λ x. moment + x) transmission_is)
@@ -180,7 +180,7 @@ module _ (place moment bandwidth delay : ℕ) (old new : Parts) (s : StartsAt pl
         (each-flow (λ (g : ℕ) (x : FlowState). (flow_at old.flows.flows g).reserved ≡ true → x.reserved ≡ true) old.flows.flows s.starts.flow
         (popped (flow_at old.flows.flows s.starts.flow)) flow-there (λ kept. popped_reserved (flow_at old.flows.flows s.starts.flow) ∙ kept) (λ g ne kept. kept) flow r.place);
     slot = λ h v pipe at e is.
-        let home_before : slice_get old.homes.items flow ≡ Some h = (λ i. slice_get (sym s.homes i).items flow) ∙ at in
+        let home_before : slice_get (homes_of old.flows.flows) flow ≡ Some h = (λ i. slice_get (sym s.homes i) flow) ∙ at in
         each-set (λ (j : ℕ) (v : LinkView). j ≡ h.place → v.link ≡ shared pipe → 0 < room_at v.schedule.room h.slot) (views_of old) place s.view s.there s.view'
         (λ here is.
         let before = r.slot h s.view pipe home_before (ap (slice_get (views_of old)) (sym here) ∙ s.there) (sym s.starts.link ∙ is) in

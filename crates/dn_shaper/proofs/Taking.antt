@@ -1,6 +1,7 @@
 -- A link takes the flow that it sends next.
-use Rattle.std.proofs.Common.{◌≡◌, ◌∙◌, ◌<◌, ◌+◌, ℕ, zero, suc, cond, List, [], ◌∷◌, get_or, slice_set, drop, length, refl, ap, sym, subst, arith, Box, Global}
-use Rattle.std.specs.Prelude.{◌*◌, Option, Some, None, IsSome, slice_get, option_map, IfSome}
+use Rattle.std.proofs.Common.{◌≡◌, ◌∙◌, ◌<◌, ◌+◌, ℕ, zero, suc, cond, List, [], ◌∷◌, map, get_or, slice_set, drop, length, refl, ap, sym, subst, arith, Box, Global}
+use Rattle.std.specs.Prelude.{◌*◌, Option, Some, None, IfSome, IsSome, slice_get}
+use Rattle.std.specs.Option.{option_map}
 use Rattle.dn_types.specs.Deliveries.{in_order}
 use Rattle.dn_types.specs.Links.{transmission_time, due_by}
 use Rattle.dn_types.specs.Trace.{Link, own, shared}
@@ -10,14 +11,15 @@ use Rattle.dn_types.specs.declared.rule.Rule.{Rule}
 use Rattle.dn_link.specs.LinkState.{LinkState}
 use Rattle.dn_flows.specs.Table.{FlowState, flow_at, popped}
 use Rattle.dn_flows.specs.declared.waiting.Waiting.{Waiting}
-use Rattle.dn_flows.proofs.Places.{eq-yes}
+use Rattle.dn_flows.proofs.Places.{eq-yes, get-below}
 use Rattle.dn_flows.proofs.Views.{backlog_after_pop}
-use Rattle.dn_wf2q.specs.Schedule.{Schedule, heads_of, waiting_of as waiting_in, Picks}
+use Rattle.dn_wf2q.specs.Schedule.{KeepsRoom, Picks, Schedule, heads_of, next_of}
 use Rattle.dn_shaper.specs.declared.links.link_parts.Carries.{Carries}
 use Rattle.dn_shaper.specs.declared.links.link_parts.Carries.TheVariants.{Own, Shared}
 use Rattle.dn_shaper.specs.declared.links.link_parts.LinkParts.{LinkParts}
 use Rattle.dn_shaper.specs.declared.links.shared_link.SharedLink.{SharedLink}
-use Rattle.dn_shaper.specs.Refinement.Starting.{StartsOn}
+use Rattle.dn_shaper.specs.Refinement.Sending.{CanPick, HasQueues, HoldsQueues, PicksFlow, cost_of, stamped_cost_of}
+use Rattle.dn_shaper.specs.Refinement.Starting.{KeepsSchedule, StartsOn}
 use Rattle.dn_shaper.specs.Refinement.Views.{LinkView, TakesNext, IsNextToSend, CanSend, carried_link, carried_waits, queue_lengths, view_of}
 
 pub some-is : {X : Type 0} (o : Option X) (x : X) → o ≡ Some x → IsSome o
@@ -29,56 +31,70 @@ read-is [] i d x e = absurd cc
 read-is (y ∷ xs) zero d x e = let same : y ≡ x = cc in same
 read-is (y ∷ xs) (suc i) d x e = read-is xs i d x e
 
--- The scheduler's pick is the flow at its slot.
-takes-shared : (v : LinkView) (schedule : Schedule) (waits pipe slot flow : ℕ) → v.link ≡ shared pipe → CanSend v (shared pipe) →
-    Some slot ≡ option_map (λ h. h.flow) (pick v.schedule.virtual_time (heads_of v.schedule.flows)) →
-    IfSome (pick v.schedule.virtual_time (heads_of v.schedule.flows)) (λ h. Picks h v.schedule schedule) →
-    flow ≡ get_or v.slots slot flow →
-    TakesNext flow v (record { link = v.link; value = v.value; waits = waits; schedule = schedule; slots = v.slots })
-takes-shared v schedule waits pipe slot flow is can picked some read = record {
-  link = refl;
-  value = refl;
-  slots = refl;
-  sends = subst (IsNextToSend flow v (record { link = v.link; value = v.value; waits = waits; schedule = schedule; slots = v.slots })) (sym is)
-      (go (pick v.schedule.virtual_time (heads_of v.schedule.flows)) refl);
-}
+-- What is behind the first packet of a flow's queue is behind the first at its slot.
+pub behind-slot : (ps : List Stamped) (ws : List Waiting) → map stamped_cost_of ps ≡ map cost_of ws → option_map cost_of (slice_get ws 1) ≡ next_of (drop 1 ps)
+behind-slot ps ws same = in-queue ws ∙ ap (λ (cs : List (ℕ × ℕ)). slice_get cs 1) (sym same) ∙ at-slot ps
   where
-    go : (o : Option Stamped) → pick v.schedule.virtual_time (heads_of v.schedule.flows) ≡ o →
-        (h : Stamped) × (pick v.schedule.virtual_time (heads_of v.schedule.flows) ≡ Some h) × (slice_get v.slots h.flow ≡ Some flow) × Picks h v.schedule schedule
-    go None e = let none : Some slot ≡ None = picked ∙ ap (option_map (λ (h : Stamped). h.flow)) e in absurd cc
-    go (Some h) e =
-        let one : Some slot ≡ Some h.flow = picked ∙ ap (option_map (λ (x : Stamped). x.flow)) e in
-        let slot_is : slot ≡ h.flow = cc in
-        let two : Some can.0 ≡ Some h = sym can.2 ∙ e in
-        let same : can.0 ≡ h = cc in
-        let at : slice_get v.slots h.flow ≡ Some can.1 = ap (λ (x : Stamped). slice_get v.slots x.flow) (sym same) ∙ can.3 in
-        let flow_is : flow ≡ can.1 = read ∙ ap (λ i. get_or v.slots i flow) slot_is ∙ read-is v.slots h.flow flow can.1 at in
-        (h, e, at ∙ ap (λ f. Some f) (sym flow_is), subst (λ (o : Option Stamped). IfSome o (λ x. Picks x v.schedule schedule)) e some)
+    in-queue : (ws : List Waiting) → option_map cost_of (slice_get ws 1) ≡ slice_get (map cost_of ws) 1
+    in-queue [] = refl
+    in-queue (w ∷ []) = refl
+    in-queue (w ∷ v ∷ ws) = refl
 
--- The link after the pick is in the block t, and before it in the block s, which holds d.
-module _ (pipe : ℕ) (value : LinkState) where
+    at-slot : (ps : List Stamped) → slice_get (map stamped_cost_of ps) 1 ≡ next_of (drop 1 ps)
+    at-slot [] = refl
+    at-slot (p ∷ []) = refl
+    at-slot (p ∷ q ∷ ps) = refl
+
+-- The scheduler's answer is the slot of the flow that can be picked.
+module _ (slots : List ℕ) (old : Schedule) (can : CanPick slots old) (slot : ℕ)
+    (answer : Some slot ≡ option_map (λ (h : Stamped). h.flow) (pick old.virtual_time (heads_of old.flows))) where
+  slot-is : slot ≡ (can.0).flow
+  slot-is = let one : Some slot ≡ Some (can.0).flow = answer ∙ ap (option_map (λ (h : Stamped). h.flow)) can.2 in cc
+
+  slot-there : slice_get slots slot ≡ Some can.1
+  slot-there = ap (slice_get slots) slot-is ∙ can.3
+
+  pub slot-within : slot < length slots
+  slot-within = get-below slots slot can.1 slot-there
+
+  pub flow-there : (flow : ℕ) → flow ≡ get_or slots slot flow → slice_get slots slot ≡ Some flow
+  flow-there flow read = slot-there ∙ ap (λ n. Some n) (sym (read ∙ read-is slots slot flow can.1 slot-there))
+
+  pub picks-flow : (flow : ℕ) (new : Schedule) → slice_get slots slot ≡ Some flow → IfSome (pick old.virtual_time (heads_of old.flows)) (λ h. Picks h old new) → PicksFlow flow slots old new
+  picks-flow flow new at some = (can.0, can.2, ap (slice_get slots) (sym slot-is) ∙ at, subst (λ (o : Option Stamped). IfSome o (λ x. Picks x old new)) can.2 some)
+
+-- A link that carries what is in a block, from which a flow's packet may be sent.
+module _ (pipe : ℕ) (value : LinkState) (carries : Carries) (s : Box SharedLink Global) (d : SharedLink) (is : carries ≡ Shared s) (at : d ≡ s.value) where
   abbrev with_carries : (ℕ → ℕ) → Carries → LinkView
   with_carries queues x = view_of queues (record { pipe = pipe; times = value; carries = x })
 
-  abbrev seen : Schedule → List ℕ → LinkView
-  seen schedule slots = record { link = shared pipe; value = value; waits = waiting_in schedule.flows; schedule = schedule; slots = slots }
+  pub picks-of : (queues : ℕ → ℕ) × CanSend (with_carries queues carries) (with_carries queues carries).link → CanPick d.flows.items d.sched
+  picks-of can =
+      subst (λ (x : SharedLink). CanPick x.flows.items x.sched) (sym at)
+      (subst (λ (x : Carries). CanSend (with_carries can.0 x) (with_carries can.0 x).link) is can.1)
 
-  pub takes-of : (carries : Carries) (s t : Box SharedLink Global) (d : SharedLink) (schedule : Schedule) (slot flow : ℕ) → carries ≡ Shared s → d ≡ s.value →
-      t.value ≡ record { sched = schedule; flows = d.flows } →
-      (queues : ℕ → ℕ) × CanSend (with_carries queues carries) (with_carries queues carries).link →
-      Some slot ≡ option_map (λ h. h.flow) (pick d.sched.virtual_time (heads_of d.sched.flows)) →
-      IfSome (pick d.sched.virtual_time (heads_of d.sched.flows)) (λ h. Picks h d.sched schedule) →
-      flow ≡ get_or d.flows.items slot flow →
+  pub queues-of : (flows : List FlowState) → (queues : ℕ → ℕ) × HasQueues (with_carries queues carries) flows (with_carries queues carries).link → HoldsQueues d.flows.items d.sched flows
+  queues-of flows has =
+      subst (λ (x : SharedLink). HoldsQueues x.flows.items x.sched flows) (sym at)
+      (subst (λ (x : Carries). HasQueues (with_carries has.0 x) flows (with_carries has.0 x).link) is has.1)
+
+  pub takes-of : (t : Box SharedLink Global) (flow : ℕ) → t.value.flows ≡ d.flows → PicksFlow flow d.flows.items d.sched t.value.sched →
       (before after : ℕ → ℕ) → TakesNext flow (with_carries before carries) (with_carries after (Shared t))
-  takes-of carries s t d schedule slot flow is at made can picked some read before after =
-      subst (λ (x : LinkView × LinkView). TakesNext flow x.0 x.1) (λ i. (seen-before before i, seen-after i))
-      (takes-shared (seen d.sched d.flows.items) schedule (waiting_in schedule.flows) pipe slot flow refl (subst (λ (x : LinkView). CanSend x x.link) (sym (seen-before can.0)) can.1) picked some read)
-    where
-      seen-before : (queues : ℕ → ℕ) → seen d.sched d.flows.items ≡ with_carries queues carries
-      seen-before queues = ap (λ (x : SharedLink). seen x.sched x.flows.items) at ∙ ap (λ (x : Carries). with_carries queues x) (sym is)
+  takes-of t flow kept sends before after =
+      subst (λ (x : Carries). TakesNext flow (with_carries before x) (with_carries after (Shared t))) (sym is) (record {
+        link = refl;
+        value = refl;
+        slots = ap (λ v. v.items) kept ∙ ap (λ (x : SharedLink). x.flows.items) at;
+        sends = subst (λ (x : SharedLink). PicksFlow flow x.flows.items x.sched t.value.sched) at sends;
+      })
 
-      seen-after : seen schedule d.flows.items ≡ with_carries after (Shared t)
-      seen-after = ap (λ (x : SharedLink). seen x.sched x.flows.items) (sym made)
+  pub keeps-of : (t : Box SharedLink Global) → t.value.sched.arrivals ≡ d.sched.arrivals → KeepsRoom d.sched t.value.sched →
+      (before after : ℕ → ℕ) → KeepsSchedule (with_carries before carries) (with_carries after (Shared t))
+  keeps-of t arrivals room before after =
+      subst (λ (x : Carries). KeepsSchedule (with_carries before x) (with_carries after (Shared t))) (sym is) (record {
+        room = subst (λ (x : SharedLink). KeepsRoom x.sched t.value.sched) at room;
+        arrivals = arrivals ∙ ap (λ (x : SharedLink). x.sched.arrivals) at;
+      })
 
 -- What is sent rests on the schedules alone.
 pub sends-on : (flow : ℕ) (old new new' : LinkView) → new'.schedule ≡ new.schedule → (l : Link) → IsNextToSend flow old new l → IsNextToSend flow old new' l

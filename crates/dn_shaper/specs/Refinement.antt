@@ -12,6 +12,7 @@ pub mod NextStarts
 pub mod Passing
 pub mod QueueCounts
 pub mod Reordering
+pub mod Sending
 pub mod Settings
 pub mod Settling
 pub mod Slots

@@ -1,10 +1,8 @@
 ghost use Rattle.std.specs.Prelude.{◌≡◌, ℕ, ◌<◌, ◌≤◌, ◌^◌, List, [], ◌∷◌, length, max, true, false, IfSome, IfOk, OnErr, IsOk};
-ghost use Rattle.std.specs.Option.{option_map};
 ghost use Rattle.std.specs.Vec.{vec_capacity};
 ghost use Rattle.dn_types.specs.Calls.{trace_of};
 ghost use Rattle.dn_types.specs.Clock.{call_limit, counted, effective_moment};
-ghost use Rattle.dn_types.specs.Configuration.{settings};
-ghost use Rattle.dn_types.specs.Flows.{key_of, keys, treatment};
+ghost use Rattle.dn_types.specs.Flows.{keys};
 ghost use Rattle.dn_types.specs.Replies.{reply};
 ghost use Rattle.dn_types.specs.declared.call.Call.{Call as CallValue};
 ghost use Rattle.dn_types.specs.declared.call.Call.TheVariants.{Advance, Collect, Show, Submit};
@@ -23,7 +21,7 @@ use crate::links::wake::{earlier, first_free};
 use crate::room::reserve_packet::reserve_packet;
 use crate::state::{State, new_state};
 use dn_flows::HashKey;
-use dn_types::{Call, Delivery, FlowKey, Moment, Packet, Reply, Rule, Target};
+use dn_types::{Call, Delivery, Moment, Packet, Reply, Rule, Target};
 use std::alloc::{AllocError, Global};
 use std::marker::Model;
 use std::mem;
@@ -168,13 +166,6 @@ impl Shaper {
         if let Reply::Delivered { at: _, list } = reply {
             self.given = list.into_vec();
         }
-    }
-
-    /// The key of the flow of such a packet to the target, or None if that isn't configured. It is no call.
-    pub fn flow_key(&self, target: Target, packet: &Packet) -> Option<FlowKey>
-        ensures { (rule : RuleValue) (calls : List CallValue) → StandsAfter rule self.now calls → result ≡ option_map (key_of target packet.now.tuple) (treatment (settings (counted calls) target)) }
-    {
-        self.state.configured.flow_key(target, packet)
     }
 
     /// The count of the calls that were answered, but for those that were answered Exhausted.

@@ -35,7 +35,6 @@ pub fn new_state(alloc: Global, rule: Rule, key: HashKey) -> State
             rule,
             accepted: 0,
             flows: Flows::with_key(alloc, key),
-            homes: Vec::new(alloc),
             links: Vec::new(alloc),
             waiting: 0,
             line: DelayLine::new(alloc),

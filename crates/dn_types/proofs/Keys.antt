@@ -2,7 +2,7 @@
 use Rattle.std.proofs.Common.{◌≡◌, ◌∙◌, ⊎_elim, ℕ, zero, suc, Bool, true, false, cond, ◌&&◌, ◌||◌, List, [], ◌∷◌, ◌++◌, refl, ap, sym, arith}
 use Rattle.std.specs.Prelude.{Option, Some, None, nat_eq, slice_get, ⊤}
 use Rattle.std.specs.List.{list_any}
-use Rattle.std.proofs.lemmas.Bool.{eqb-true, eq-eqb, and_from}
+use Rattle.std.proofs.lemmas.Bool.{eqb-true, eq-eqb, and_from, and_parts}
 use Rattle.std.proofs.lemmas.Option.{slice_get_within}
 use Rattle.dn_types.specs.Configuration.{settings, target_eq}
 use Rattle.dn_types.specs.Flows.{Treatment, treatment, tuple_eq, mask_eq, key_eq, key_of, with_key, keys_with, keys}
@@ -14,43 +14,38 @@ use Rattle.dn_types.specs.declared.mask.Mask.{Mask}
 use Rattle.dn_types.specs.declared.target.Target.{Target}
 use Rattle.dn_types.specs.declared.target.Target.TheVariants.{Pipe as ToPipe, Queue as ToQueue}
 use Rattle.dn_types.proofs.InForce.{target_eq-true}
-use Rattle.dn_types.proofs.Settled.{and-left, true_or_false}
-use Rattle.dn_types.proofs.Settling.{and-right}
+use Rattle.dn_types.proofs.Settled.{true_or_false}
 
 -- ---- Equal keys
 
+all-five : (a b c d e a' b' c' d' e' : ℕ) → (nat_eq a a' && nat_eq b b' && nat_eq c c' && nat_eq d d' && nat_eq e e') ≡ true
+    → (a ≡ a') × (b ≡ b') × (c ≡ c') × (d ≡ d') × (e ≡ e')
+all-five a b c d e a' b' c' d' e' all =
+    let four = and_parts (nat_eq a a' && nat_eq b b' && nat_eq c c' && nat_eq d d') (nat_eq e e') all in
+    let three = and_parts (nat_eq a a' && nat_eq b b' && nat_eq c c') (nat_eq d d') four.0 in
+    let two = and_parts (nat_eq a a' && nat_eq b b') (nat_eq c c') three.0 in
+    let one = and_parts (nat_eq a a') (nat_eq b b') two.0 in
+    (eqb-true a a' one.0, eqb-true b b' one.1, eqb-true c c' two.1, eqb-true d d' three.1, eqb-true e e' four.1)
+
 tuple_eq-true : (a b : FiveTuple) → tuple_eq a b ≡ true → a ≡ b
 tuple_eq-true a b e =
-    let four = and-left (nat_eq a.src b.src && nat_eq a.dst b.dst && nat_eq a.proto b.proto && nat_eq a.sport b.sport) (nat_eq a.dport b.dport) e in
-    let three = and-left (nat_eq a.src b.src && nat_eq a.dst b.dst && nat_eq a.proto b.proto) (nat_eq a.sport b.sport) four in
-    let two = and-left (nat_eq a.src b.src && nat_eq a.dst b.dst) (nat_eq a.proto b.proto) three in
-    let src = eqb-true a.src b.src (and-left (nat_eq a.src b.src) (nat_eq a.dst b.dst) two) in
-    let dst = eqb-true a.dst b.dst (and-right (nat_eq a.src b.src) (nat_eq a.dst b.dst) two) in
-    let proto = eqb-true a.proto b.proto (and-right (nat_eq a.src b.src && nat_eq a.dst b.dst) (nat_eq a.proto b.proto) three) in
-    let sport = eqb-true a.sport b.sport (and-right (nat_eq a.src b.src && nat_eq a.dst b.dst && nat_eq a.proto b.proto) (nat_eq a.sport b.sport) four) in
-    let dport = eqb-true a.dport b.dport (and-right (nat_eq a.src b.src && nat_eq a.dst b.dst && nat_eq a.proto b.proto && nat_eq a.sport b.sport) (nat_eq a.dport b.dport) e) in
+    let (src, dst, proto, sport, dport) = all-five a.src a.dst a.proto a.sport a.dport b.src b.dst b.proto b.sport b.dport e in
     (λ i. record { src = src i; dst = dst i; proto = proto i; sport = sport i; dport = dport i })
 
 mask_eq-true : (a b : Mask) → mask_eq a b ≡ true → a ≡ b
 mask_eq-true a b e =
-    let four = and-left (nat_eq a.src b.src && nat_eq a.dst b.dst && nat_eq a.proto b.proto && nat_eq a.sport b.sport) (nat_eq a.dport b.dport) e in
-    let three = and-left (nat_eq a.src b.src && nat_eq a.dst b.dst && nat_eq a.proto b.proto) (nat_eq a.sport b.sport) four in
-    let two = and-left (nat_eq a.src b.src && nat_eq a.dst b.dst) (nat_eq a.proto b.proto) three in
-    let src = eqb-true a.src b.src (and-left (nat_eq a.src b.src) (nat_eq a.dst b.dst) two) in
-    let dst = eqb-true a.dst b.dst (and-right (nat_eq a.src b.src) (nat_eq a.dst b.dst) two) in
-    let proto = eqb-true a.proto b.proto (and-right (nat_eq a.src b.src && nat_eq a.dst b.dst) (nat_eq a.proto b.proto) three) in
-    let sport = eqb-true a.sport b.sport (and-right (nat_eq a.src b.src && nat_eq a.dst b.dst && nat_eq a.proto b.proto) (nat_eq a.sport b.sport) four) in
-    let dport = eqb-true a.dport b.dport (and-right (nat_eq a.src b.src && nat_eq a.dst b.dst && nat_eq a.proto b.proto && nat_eq a.sport b.sport) (nat_eq a.dport b.dport) e) in
+    let (src, dst, proto, sport, dport) = all-five a.src a.dst a.proto a.sport a.dport b.src b.dst b.proto b.sport b.dport e in
     (λ i. record { src = src i; dst = dst i; proto = proto i; sport = sport i; dport = dport i })
 
 pub key_eq-true : (a b : FlowKey) → key_eq a b ≡ true → a ≡ b
 key_eq-true a b e =
-    let three = and-left (target_eq a.target b.target && nat_eq a.pipe b.pipe && mask_eq a.mask b.mask) (tuple_eq a.tuple b.tuple) e in
-    let two = and-left (target_eq a.target b.target && nat_eq a.pipe b.pipe) (mask_eq a.mask b.mask) three in
-    let target = target_eq-true a.target b.target (and-left (target_eq a.target b.target) (nat_eq a.pipe b.pipe) two) in
-    let pipe = eqb-true a.pipe b.pipe (and-right (target_eq a.target b.target) (nat_eq a.pipe b.pipe) two) in
-    let mask = mask_eq-true a.mask b.mask (and-right (target_eq a.target b.target && nat_eq a.pipe b.pipe) (mask_eq a.mask b.mask) three) in
-    let tuple = tuple_eq-true a.tuple b.tuple (and-right (target_eq a.target b.target && nat_eq a.pipe b.pipe && mask_eq a.mask b.mask) (tuple_eq a.tuple b.tuple) e) in
+    let three = and_parts (target_eq a.target b.target && nat_eq a.pipe b.pipe && mask_eq a.mask b.mask) (tuple_eq a.tuple b.tuple) e in
+    let two = and_parts (target_eq a.target b.target && nat_eq a.pipe b.pipe) (mask_eq a.mask b.mask) three.0 in
+    let one = and_parts (target_eq a.target b.target) (nat_eq a.pipe b.pipe) two.0 in
+    let target = target_eq-true a.target b.target one.0 in
+    let pipe = eqb-true a.pipe b.pipe one.1 in
+    let mask = mask_eq-true a.mask b.mask two.1 in
+    let tuple = tuple_eq-true a.tuple b.tuple three.1 in
     (λ i. record { target = target i; pipe = pipe i; mask = mask i; tuple = tuple i })
 
 same : (n : ℕ) → nat_eq n n ≡ true
@@ -63,7 +58,7 @@ target_eq-refl (ToQueue n) = same n
 five : (a b c d e : ℕ) → (nat_eq a a && nat_eq b b && nat_eq c c && nat_eq d d && nat_eq e e) ≡ true
 five a b c d e = and_from _ _ (and_from _ _ (and_from _ _ (and_from _ _ (same a) (same b)) (same c)) (same d)) (same e)
 
-key_eq-refl : (k : FlowKey) → key_eq k k ≡ true
+pub key_eq-refl : (k : FlowKey) → key_eq k k ≡ true
 key_eq-refl k =
     and_from _ _ (and_from _ _ (and_from _ _ (target_eq-refl k.target) (same k.pipe)) (five k.mask.src k.mask.dst k.mask.proto k.mask.sport k.mask.dport))
     (five k.tuple.src k.tuple.dst k.tuple.proto k.tuple.sport k.tuple.dport)

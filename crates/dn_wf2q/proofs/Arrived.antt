@@ -1,5 +1,5 @@
 -- A packet arrives.
-use Rattle.std.proofs.Common.{◌≡◌, ℕ, ◌+◌, ◌^◌, ◌==◌, ◌<◌, ◌≤◌, cond, max, Bool, true, false, Some, None, List, [], ◌∷◌, ◌++◌, length, map, All, refl, sym, ap}
+use Rattle.std.proofs.Common.{◌≡◌, ℕ, ◌+◌, ◌^◌, ◌==◌, ◌<◌, ◌≤◌, cond, max, Bool, true, false, Some, None, List, [], ◌∷◌, ◌++◌, length, All, refl, sym, ap}
 use Rattle.std.proofs.Common.{◌∙◌, subst, arith, inl, inr, slice_index_or, get_or, set, sum_by, nat_lt}
 use Rattle.std.proofs.lemmas.List.{get_or-set_same, get_or-set_other, length-set, length-map, map-append, length_push}
 use Rattle.std.proofs.lemmas.List.Sums.{sum_by-set}
@@ -13,13 +13,13 @@ use Rattle.dn_wf2q.specs.declared.tagged_packet.TaggedPacket.{TaggedPacket}
 use Rattle.dn_wf2q.specs.declared.tagged_queue.TaggedQueue.{TaggedQueue}
 use Rattle.dn_wf2q.specs.declared.sched_parts.SchedParts.{SchedParts}
 use Rattle.dn_wf2q.specs.Rank.{RankView}
-use Rattle.dn_wf2q.specs.Schedule.{Flow, flow_at, no_packets, room_at, stamped, joined_by, after_arrival}
-use Rattle.dn_wf2q.specs.Queue.{arriving, last_finish_tag_in, packets_of, places, IsQueueKept, last_tag}
+use Rattle.dn_wf2q.specs.Schedule.{Flow, flow_at, no_packets, stamped, joined_by, after_arrival}
+use Rattle.dn_wf2q.specs.Queue.{arriving, last_finish_tag_in, packets_of, IsQueueKept, last_tag}
 use Rattle.dn_wf2q.specs.Kept.{Kept, IsSchedKept, IsKeptWithout, IsEligible, IsWaiting, IsWithin, AreTagsWithin, flows_of, seen, tagged, by_slot, presence}
 use Rattle.dn_wf2q.specs.Kept.{behind, head_weight, bound, none_absent, only_absent}
 use Rattle.dn_wf2q.specs.Steps.{ArrivesAtSlot}
 use Rattle.dn_wf2q.proofs.BySlot.{length-by_slot, by_slot-set}
-use Rattle.dn_wf2q.proofs.Heads.{head_stays, presence_grows, presence_begins, head_begins, flow_within, flow_within_more, cond-le, flow_at_seen, room_listed, room_of_others}
+use Rattle.dn_wf2q.proofs.Heads.{head_stays, presence_grows, presence_begins, head_begins, flow_within, flow_within_more, cond-le, flow_at_seen}
 use Rattle.dn_wf2q.proofs.Counts.{waiting-set}
 use Rattle.dn_wf2q.proofs.Ranks.{absent_same, absent_other}
 use Rattle.dn_wf2q.proofs.Sent.{scaled-le}
@@ -145,10 +145,7 @@ answered b a h e = elim b as (λ v. cond v (Some a) None ≡ Some h → (v ≡ t
 pub unanswered : (b : Bool) (a : TaggedPacket) → cond b (Some a) None ≡ None → b ≡ false
 unanswered b a e = elim b as (λ v. cond v (Some a) None ≡ None → v ≡ false) [ true ↦ λ e. absurd (cc) | false ↦ λ e. refl ] e
 
-module _ (p : SchedParts) (kept : IsSchedKept p) (slot len weight : ℕ) (short : len < 65536) (some : 0 < weight) (most : weight ≤ 100) (room : 0 < room_at (map places p.flows.items) slot) where
-  pub listed : slot < length p.flows.items
-  listed = room_listed p.flows.items slot room
-
+module _ (p : SchedParts) (kept : IsSchedKept p) (slot len weight : ℕ) (short : len < 65536) (some : 0 < weight) (most : weight ≤ 100) (listed : slot < length p.flows.items) where
   listed' : slot < length (flows_of p)
   listed' = let l = length-by_slot (seen p.busy_from) p.flows.items in omega (arith, listed)
 
@@ -197,7 +194,6 @@ module _ (p : SchedParts) (kept : IsSchedKept p) (slot len weight : ℕ) (short 
                 let s = waiting-set (flows_of p) slot (joined_by f y) listed' in
                 let t = length_push f.backlog y in
                 rw fs (omega (arith, s, t));
-            room = λ g n. rw nf (room_of_others p.flows.items slot r g n);
           }
 
       all_arrived : All (λ y. y.arrived ≤ p.arrivals + 1) (set p.flows.items slot r)

@@ -12,7 +12,7 @@ use Rattle.dn_wf2q.specs.declared.sched_parts.SchedParts.{SchedParts}
 use Rattle.dn_wf2q.specs.Rank.{RankView}
 use Rattle.dn_wf2q.specs.Schedule.{Flow, flow_at, no_packets, IsIdle, forgotten, without_tag}
 use Rattle.dn_wf2q.specs.Kept.{Kept, IsSchedKept, AreTagsWithin, flows_of, seen, tagged, by_slot, presence, behind, head_weight, bound, none_absent}
-use Rattle.dn_wf2q.specs.Queue.{behind_of, packets_of, IsQueueKept}
+use Rattle.dn_wf2q.specs.Queue.{packets_of, IsQueueKept}
 use Rattle.dn_wf2q.proofs.BySlot.{length-by_slot}
 use Rattle.dn_wf2q.proofs.Heads.{flow_at_seen}
 use Rattle.dn_wf2q.proofs.Counts.{idle_no_heads, waiting_is}
@@ -84,7 +84,7 @@ idle_queues p idle h a = λ i d l.
     let same = ap (λ (fl : Flow). length fl.backlog) (flow_at_seen p.busy_from p.flows.items i d l) in
     let count = length-map (packets_of q) (tagged i) in
     let kept = h i d l in
-    (unchained p.busy_from a q.arrived q.arrived q.finish_tag (behind_of q.behind) q.head (omega (arith, one, all, idle, same, count)) kept.0, kept.1)
+    unchained p.busy_from a q.arrived q.arrived q.finish_tag q.behind.packets q.head (omega (arith, one, all, idle, same, count)) kept
 
 pub begun : (p : SchedParts) → IsSchedKept p → IsIdle (flows_of p) → IsSchedKept (record p { virtual_time = 0; busy_from = p.arrivals })
 begun p kept idle = record {

@@ -1,14 +1,13 @@
 -- What holds between calls, and what a pick does beside sending a head.
-use Rattle.std.proofs.Common.{◌≡◌, ℕ, ◌+◌, ◌<◌, ◌≤◌, Option, Some, None, List, [], ◌∷◌, map, take, All, IfSome, IsPermutation, refl, ap, ◌∙◌, subst, arith}
+use Rattle.std.proofs.Common.{◌≡◌, ℕ, ◌+◌, ◌<◌, Option, Some, None, List, [], ◌∷◌, take, All, IfSome, IsPermutation, refl, ap, ◌∙◌, subst, arith}
 use Rattle.std.proofs.lemmas.List.Sorted.{All-permutation}
 use Rattle.std.proofs.lemmas.List.Elements.{All-cons, All-tail}
 use Rattle.dn_types.specs.Wf2q.{Stamped, first_to_go, is_eligible, scaled, weight_sum}
 use Rattle.std.specs.List.{filter}
 use Rattle.dn_wf2q.specs.declared.sched_parts.SchedParts.{SchedParts}
 use Rattle.dn_wf2q.specs.Rank.{RankView}
-use Rattle.dn_wf2q.specs.Schedule.{Flow, IsIdle, after_pick, flow_at, heads_of, room_at, waiting_of}
-use Rattle.dn_wf2q.specs.Queue.{places}
-use Rattle.dn_wf2q.specs.Kept.{IsSchedKept, flows_of}
+use Rattle.dn_wf2q.specs.Schedule.{Flow, IsIdle, after_pick, flow_at, heads_of, one_each, waiting_of}
+use Rattle.dn_wf2q.specs.Kept.{IsSchedKept, flows_of, schedule_of}
 use Rattle.dn_wf2q.specs.Steps.{OnlyHeaps, SendsHead}
 use Rattle.dn_wf2q.proofs.Counts.{idle_no_heads}
 
@@ -22,12 +21,26 @@ entered_late v e ws ws' perm late all = All-permutation (λ k. v < k.tag) (e ∷
 pub left_late : (v : ℕ) (e : RankView) (ws ws' : List RankView) → IsPermutation ws (e ∷ ws') → All (λ k. v < k.tag) ws → All (λ k. v < k.tag) ws'
 left_late v e ws ws' perm all = All-tail (λ k. v < k.tag) e ws' (All-permutation (λ k. v < k.tag) ws (e ∷ ws') perm all)
 
-if_some : {X : Type 0} (o : Option X) (P Q : X → Type 0) → ((x : X) → P x → Q x) → IfSome o P → IfSome o Q
+pub if_some : {X : Type 0} (o : Option X) (P Q : X → Type 0) → ((x : X) → P x → Q x) → IfSome o P → IfSome o Q
 if_some None P Q w h = h
 if_some (Some x) P Q w h = w x h
 
-flows_same : (a b : SchedParts) → OnlyHeaps a b → flows_of b ≡ flows_of a
+pub flows_same : (a b : SchedParts) → OnlyHeaps a b → flows_of b ≡ flows_of a
 flows_same a b s = rw (s.flows, s.busy_from) refl
+
+-- The parts raise virtual time to v.
+pub raises : (v : ℕ) (a b : SchedParts) → OnlyHeaps (record a { virtual_time = v }) b
+    → schedule_of b ≡ record (schedule_of a) { virtual_time = v; moves = b.eligible.moves + b.waiting.moves }
+raises v a b same =
+    let flows = flows_same (record a { virtual_time = v }) b same in
+    λ i. record {
+      flows = flows i;
+      virtual_time = same.virtual_time i;
+      room = one_each (flows i);
+      arrivals = same.arrivals i;
+      picks = same.picks i;
+      moves = b.eligible.moves + b.waiting.moves;
+    }
 
 -- The heaps may change before and after.
 module _ (a b c d : SchedParts) (v : ℕ) (before : OnlyHeaps (record a { virtual_time = v }) b) (after : OnlyHeaps c d) where
@@ -46,7 +59,6 @@ module _ (a b c d : SchedParts) (v : ℕ) (before : OnlyHeaps (record a { virtua
         let y = s.one_fewer in
         let z = ap waiting_of were in
         omega arith;
-    room = rw (after.flows) (subst (λ fs. (slot : ℕ) → room_at (map places fs) slot ≤ room_at (map places c.flows.items) slot) (λ i. (before.flows i).items) s.room);
   }
 
   pub picked_sends : IfSome (first_to_go (filter (is_eligible b.virtual_time) (heads_of (flows_of b)))) (λ h. SendsHead h b.virtual_time b c)

@@ -1,7 +1,7 @@
 -- The packets of a slot are discarded.
 use Rattle.std.proofs.Common.{◌≡◌, ℕ, ◌+◌, ◌-◌, ◌<◌, ◌≤◌, List, [], ◌∷◌, length, Option, Some, None, IfSome, IfNone, All, Contains, IsPermutation, refl, sym}
 use Rattle.std.proofs.Common.{ap, ◌∙◌, subst, arith, inl, inr, slice_index_or, get_or, set, sum_by, nat_lt}
-use Rattle.std.proofs.lemmas.List.{get_or-set_same, get_or-set_other, length-set, get_or_read, get_or_past, set_past}
+use Rattle.std.proofs.lemmas.List.{get_or-set_same, get_or-set_other, length-set, get_or_past, set_past}
 use Rattle.std.proofs.lemmas.List.Sorted.{length_permutation, All-permutation}
 use Rattle.std.proofs.lemmas.List.Sums.{sum_by-set, get_or-le-sum_by}
 use Rattle.std.proofs.lemmas.List.Elements.{All-nil, All-tail, All-set, All-contains, Contains-get_or}
@@ -14,12 +14,12 @@ use Rattle.dn_wf2q.specs.declared.tagged_queue.TaggedQueue.{TaggedQueue}
 use Rattle.dn_wf2q.specs.declared.sched_parts.SchedParts.{SchedParts}
 use Rattle.dn_wf2q.specs.Rank.{RankView}
 use Rattle.dn_wf2q.specs.Schedule.{Flow, flow_at, no_packets, after_discard}
-use Rattle.dn_wf2q.specs.Queue.{first_packet, places, packets_of, IsQueueKept, last_tag}
+use Rattle.dn_wf2q.specs.Queue.{first_packet, packets_of, IsQueueKept, last_tag}
 use Rattle.dn_wf2q.specs.Kept.{Kept, IsSchedKept, NoneDue, HeadIs, IsEligible, IsWaiting, IsWithin, AreTagsWithin, presence, behind, head_weight, ranks_at}
 use Rattle.dn_wf2q.specs.Kept.{bound, flows_of, seen, tagged, by_slot, none_absent}
 use Rattle.dn_wf2q.specs.Steps.{DiscardsSlot}
 use Rattle.dn_wf2q.proofs.BySlot.{length-by_slot, by_slot-set}
-use Rattle.dn_wf2q.proofs.Heads.{head_says, head_there, head_both, head_weighs, presence-le, flow_at_seen, room_grows, cond_zero, next_is}
+use Rattle.dn_wf2q.proofs.Heads.{head_says, head_there, head_both, head_weighs, presence-le, flow_at_seen, cond_zero, next_is}
 use Rattle.dn_wf2q.proofs.Counts.{waiting-set}
 use Rattle.dn_wf2q.proofs.Ranks.{ranks_at_popped, rank_at_same, rank_at_other, no_rank_at, some_rank_at}
 
@@ -171,12 +171,11 @@ beyond p slot l =
       arrivals = refl;
       picks = refl;
       moves = refl;
-      room = λ g. omega arith;
     }
 
 module _ (p : SchedParts) (kept : IsSchedKept p) (slot : ℕ) (listed : slot < length p.flows.items) (q : TaggedQueue)
     (at : q ≡ get_or p.flows.items slot q) (r : TaggedQueue) (packets : packets_of r ≡ []) (last : last_tag r ≡ 0)
-    (arrived : r.arrived ≡ q.arrived) (whole : (b : ℕ) → IsQueueKept b r) (room : places q ≤ places r) where
+    (arrived : r.arrived ≡ q.arrived) (whole : (b : ℕ) → IsQueueKept b r) where
   same_flow : flow_at (flows_of p) slot ≡ seen p.busy_from slot q
   same_flow = flow_at_seen p.busy_from p.flows.items slot q listed ∙ ap (seen p.busy_from slot) (sym at)
 
@@ -201,7 +200,6 @@ module _ (p : SchedParts) (kept : IsSchedKept p) (slot : ℕ) (listed : slot < l
         arrivals = na;
         picks = np;
         moves = nm;
-        room = rw nf (room_grows p.flows.items slot r (λ d l. let e = get_or_read p.flows.items slot q listed at d in rw (← e) room));
       }
 
   abbrev pub left_parts : Heap RankView → Heap RankView → ℕ → SchedParts

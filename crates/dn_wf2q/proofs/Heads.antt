@@ -6,8 +6,8 @@ use Rattle.std.proofs.lemmas.Bool.{cases_lt, cases_eq}
 use Rattle.dn_types.specs.Wf2q.{Stamped}
 use Rattle.dn_wf2q.specs.declared.tagged_packet.TaggedPacket.{TaggedPacket}
 use Rattle.dn_wf2q.specs.declared.tagged_queue.TaggedQueue.{TaggedQueue}
-use Rattle.dn_wf2q.specs.Schedule.{Flow, flow_at, no_packets, room_at}
-use Rattle.dn_wf2q.specs.Queue.{first_packet, places}
+use Rattle.dn_wf2q.specs.Schedule.{Flow, flow_at, no_packets}
+use Rattle.dn_wf2q.specs.Queue.{first_packet}
 use Rattle.dn_wf2q.specs.Kept.{HeadIs, seen, tagged, by_slot, IsWithin, AreTagsWithin, presence, behind, head_weight}
 use Rattle.dn_wf2q.proofs.BySlot.{by_slot_at}
 
@@ -39,6 +39,10 @@ head_grows P (p ∷ q) r h = h
 pub head_there : (P : Stamped → Type 0) (q : List Stamped) → HeadIs P q → presence q ≡ 1
 head_there P [] h = absurd h
 head_there P (p ∷ q) h = refl
+
+pub head_waits : (P : Stamped → Type 0) (q : List Stamped) → HeadIs P q → 0 < length q
+head_waits P [] h = absurd h
+head_waits P (p ∷ q) h = omega arith
 
 pub presence-le : (q : List Stamped) → presence q ≤ 1
 presence-le [] = omega arith
@@ -82,15 +86,6 @@ within_more b c p l h = let a = h.0 in let f = h.1 in (omega arith, omega arith,
 pub flow_within_more : (b c : ℕ) (fl : Flow) → b ≤ c → AreTagsWithin b fl → AreTagsWithin c fl
 flow_within_more b c fl l h = let a = h.0 in (omega arith, All-weaker (IsWithin b) (IsWithin c) (λ p w. within_more b c p l w) fl.backlog h.1)
 
--- one flow gets more room
-pub room_grows : (qs : List TaggedQueue) (f : ℕ) (q : TaggedQueue) → ((d : TaggedQueue) → f < length qs → places (get_or qs f d) ≤ places q)
-    → (g : ℕ) → room_at (map places qs) g ≤ room_at (map places (set qs f q)) g
-room_grows [] f q h g = omega arith
-room_grows (x ∷ xs) zero q h zero = h x (omega arith)
-room_grows (x ∷ xs) zero q h (suc g) = omega arith
-room_grows (x ∷ xs) (suc f) q h zero = omega arith
-room_grows (x ∷ xs) (suc f) q h (suc g) = room_grows xs f q (λ d l. h d (omega arith)) g
-
 pub next_is : (slot : ℕ) (q : List TaggedPacket) (h : TaggedPacket) → first_packet q ≡ Some h → HeadIs (λ p. p ≡ tagged slot h) (map (tagged slot) q)
 next_is slot [] h e = absurd (cc)
 next_is slot (p ∷ q) h e = let same : p ≡ h = cc in ap (tagged slot) same
@@ -133,20 +128,6 @@ presence_begins (p ∷ q) x e = absurd (omega arith)
 pub head_begins : (P : Stamped → Type 0) (q : List Stamped) (x : Stamped) → length q ≡ 0 → P x → HeadIs P (q ++ x ∷ [])
 head_begins P [] x e h = h
 head_begins P (p ∷ q) x e h = absurd (omega arith)
-
--- a flow with room is in the list
-pub room_listed : (qs : List TaggedQueue) (f : ℕ) → 0 < room_at (map places qs) f → f < length qs
-room_listed [] f h = absurd (omega arith)
-room_listed (x ∷ xs) zero h = omega arith
-room_listed (x ∷ xs) (suc f) h = let l = room_listed xs f h in omega arith
-
--- a flow whose room may change does not matter to the others
-pub room_of_others : (qs : List TaggedQueue) (f : ℕ) (q : TaggedQueue) (g : ℕ) → (g ≡ f → ⊥) → room_at (map places qs) g ≤ room_at (map places (set qs f q)) g
-room_of_others [] f q g n = omega arith
-room_of_others (x ∷ xs) zero q zero n = absurd (n refl)
-room_of_others (x ∷ xs) zero q (suc g) n = omega arith
-room_of_others (x ∷ xs) (suc f) q zero n = omega arith
-room_of_others (x ∷ xs) (suc f) q (suc g) n = room_of_others xs f q g (λ e. n (omega arith))
 
 -- The head of what a queue stands for is its first packet.
 pub some_packets : (P : Stamped → Type 0) (slot : ℕ) (q : List TaggedPacket) → HeadIs P (map (tagged slot) q) → 0 < length q

@@ -1,6 +1,7 @@
 pub mod Queues
 pub mod BySlot
 pub mod Heads
+pub mod Rooms
 pub mod Ranks
 pub mod Payable
 pub mod Counts
@@ -16,3 +17,5 @@ pub mod Passed
 pub mod Reserved
 pub mod Calm
 pub mod Discarded
+pub mod Sending
+pub mod Stored

@@ -1,5 +1,5 @@
 -- A packet comes where none waits, and is sent at once.
-use Rattle.std.proofs.Common.{◌≡◌, ◌∙◌, ℕ, zero, suc, ◌+◌, ◌^◌, ◌<◌, ◌≤◌, max, Some, None, List, [], ◌∷◌, ◌++◌, length, map, take, All}
+use Rattle.std.proofs.Common.{◌≡◌, ◌∙◌, ℕ, zero, suc, ◌+◌, ◌^◌, ◌<◌, ◌≤◌, max, Some, None, List, [], ◌∷◌, ◌++◌, length, take, All}
 use Rattle.std.proofs.Common.{IsPermutation, refl, sym, ap, subst, arith, inl, inr, true, get_or, set, sum_by, nat_lt}
 use Rattle.std.proofs.lemmas.Bool.{cases_eq, cases_lt}
 use Rattle.std.proofs.lemmas.Bool.Decides.{nat_tests}
@@ -13,12 +13,12 @@ use Rattle.dn_heap.specs.Heap.{Heap}
 use Rattle.dn_wf2q.specs.declared.tagged_queue.TaggedQueue.{TaggedQueue}
 use Rattle.dn_wf2q.specs.declared.sched_parts.SchedParts.{SchedParts}
 use Rattle.dn_wf2q.specs.Rank.{RankView}
-use Rattle.dn_wf2q.specs.Schedule.{Flow, IsIdle, Passes, after_arrival, after_pick, flow_at, forgotten, heads_of, joined_by, no_packets, room_at, stamped, waiting_of, without_head, without_tag}
-use Rattle.dn_wf2q.specs.Queue.{behind_of, packets_of, places, IsQueueKept}
+use Rattle.dn_wf2q.specs.Schedule.{Flow, IsIdle, Passes, after_arrival, after_pick, flow_at, forgotten, heads_of, joined_by, no_packets, stamped, waiting_of, without_head, without_tag}
+use Rattle.dn_wf2q.specs.Queue.{packets_of, IsQueueKept}
 use Rattle.dn_wf2q.specs.Kept.{Kept, IsSchedKept, AreTagsWithin, IsWithin, by_slot, flows_of, seen, tagged, presence, behind, head_weight, bound, none_absent, ranks_at, schedule_of}
 use Rattle.dn_wf2q.specs.Steps.{PassesSlot}
 use Rattle.dn_wf2q.proofs.BySlot.{length-by_slot, by_slot-set}
-use Rattle.dn_wf2q.proofs.Heads.{flow_at_seen, flow_within_more, room_grows, room_listed}
+use Rattle.dn_wf2q.proofs.Heads.{flow_at_seen, flow_within_more}
 use Rattle.dn_wf2q.proofs.Counts.{first_packets, heads_are, heads_of_idle, idle_no_heads, no_heads_idle, waiting_is, waiting-set}
 use Rattle.dn_wf2q.proofs.Begun.{begun, flows_forgotten, forgotten_at, sum_forgotten}
 use Rattle.dn_wf2q.proofs.Queues.{emptied, unchained}
@@ -67,7 +67,7 @@ idle_slot fls idle slot = elim (cases_lt slot (length fls)) [
 ]
 
 -- Each flow of an idle schedule is as one that has had no packet, once a busy period has begun.
-idle_at : (fls : List Flow) → IsIdle fls → (slot : ℕ) → flow_at (forgotten fls) slot ≡ no_packets
+pub idle_at : (fls : List Flow) → IsIdle fls → (slot : ℕ) → flow_at (forgotten fls) slot ≡ no_packets
 idle_at fls idle slot =
     let none = idle_slot fls idle slot in
     forgotten_at fls slot ∙ ap (λ (q : List Stamped). record { backlog = q; last_finish_tag = 0 }) (no_packet (flow_at fls slot).backlog (omega arith))
@@ -163,15 +163,12 @@ no_ranks g (k ∷ ks) e = absurd (omega arith)
 -- ---- The parts
 
 module _ (p : SchedParts) (kept : IsSchedKept p) (idle : IsIdle (flows_of p)) (slot len weight : ℕ) (short : len < 65536)
-    (room : 0 < room_at (map places p.flows.items) slot) where
+    (listed_queue : slot < length p.flows.items) where
   abbrev fls : List Flow
   fls = forgotten (flows_of p)
 
   same : by_slot (seen p.arrivals) p.flows.items ≡ fls
   same = flows_forgotten p.busy_from p.arrivals p.flows.items kept.arrived
-
-  pub listed_queue : slot < length p.flows.items
-  listed_queue = room_listed p.flows.items slot room
 
   listed_flow : slot < length (flows_of p)
   listed_flow = omega (arith, length-by_slot (seen p.busy_from) p.flows.items, listed_queue)
@@ -208,7 +205,7 @@ module _ (p : SchedParts) (kept : IsSchedKept p) (idle : IsIdle (flows_of p)) (s
 
   module _ (q : TaggedQueue) (at : q ≡ get_or p.flows.items slot q) (tag : ℕ) (tag_is : tag ≡ scaled len weight) where
     abbrev r : TaggedQueue
-    r = record { finish_tag = tag; arrived = p.arrivals + 1; head = q.head; alone = q.alone; behind = q.behind }
+    r = record { finish_tag = tag; arrived = p.arrivals + 1; head = q.head; behind = q.behind }
 
     seen_was : seen p.arrivals slot q ≡ no_packets
     seen_was =
@@ -226,8 +223,8 @@ module _ (p : SchedParts) (kept : IsSchedKept p) (idle : IsIdle (flows_of p)) (s
     whole_was : IsQueueKept p.arrivals q
     whole_was = subst (IsQueueKept p.arrivals) (sym at) (began.queues slot q listed_queue)
 
-    blank_was : (q.head ≡ None) × (behind_of q.behind ≡ [])
-    blank_was = emptied p.arrivals q.arrived q.finish_tag (behind_of q.behind) q.head no_wait_at whole_was.0
+    blank_was : (q.head ≡ None) × (q.behind.packets ≡ [])
+    blank_was = emptied p.arrivals q.arrived q.finish_tag q.behind.packets q.head no_wait_at whole_was
 
     seen_is : seen p.arrivals slot r ≡ left fls slot len weight listed_now empty_now
     seen_is =
@@ -246,13 +243,7 @@ module _ (p : SchedParts) (kept : IsSchedKept p) (idle : IsIdle (flows_of p)) (s
       virtual_time = nt ∙ tag_is;
       arrivals = na;
       picks = np;
-      room = rw nf (room_grows p.flows.items slot r (λ d l. subst (λ (x : TaggedQueue). places x ≤ places q) (at ∙ sym (get_or_any p.flows.items slot q d l)) (omega arith)));
     }
-      where
-        get_or_any : (qs : List TaggedQueue) (i : ℕ) (a b : TaggedQueue) → i < length qs → get_or qs i b ≡ get_or qs i a
-        get_or_any [] i a b l = absurd (omega arith)
-        get_or_any (x ∷ xs) zero a b l = refl
-        get_or_any (x ∷ xs) (suc i) a b l = get_or_any xs i a b (omega arith)
 
     module _ (es : Heap RankView) (gone : length es.keys ≡ 0) (moved : es.moves ≡ p.eligible.moves + 1) (places' : es.room ≡ p.eligible.room) where
       abbrev now : Flow
@@ -326,4 +317,4 @@ module _ (p : SchedParts) (kept : IsSchedKept p) (idle : IsIdle (flows_of p)) (s
       }
         where
           whole : IsQueueKept p.arrivals r
-          whole = (unchained p.arrivals p.arrivals q.arrived (p.arrivals + 1) q.finish_tag (behind_of q.behind) q.head no_wait_at whole_was.0, whole_was.1)
+          whole = unchained p.arrivals p.arrivals q.arrived (p.arrivals + 1) q.finish_tag q.behind.packets q.head no_wait_at whole_was

@@ -1,5 +1,5 @@
 -- The packets of a queue, by the head's finish tag and those behind it.
-use Rattle.std.proofs.Common.{◌≡◌, ℕ, ◌+◌, ◌^◌, ◌==◌, ◌<◌, cond, true, false, is_some, Some, None, IfNone, Option, List, [], ◌∷◌, ◌++◌, length, All, refl, ap, ◌∙◌, arith, nat_lt, option_to_list}
+use Rattle.std.proofs.Common.{◌≡◌, ℕ, ◌+◌, ◌^◌, ◌==◌, ◌<◌, drop, slice_get, cond, true, false, is_some, Some, None, IfNone, Option, List, [], ◌∷◌, ◌++◌, length, All, refl, ap, ◌∙◌, arith, nat_lt, option_to_list}
 use Rattle.std.proofs.lemmas.List.Elements.{All-head, All-tail}
 use Rattle.std.proofs.lemmas.Bool.Decides.{nat_tests}
 use Rattle.dn_types.specs.Wf2q.{scaled, start_tag_on_arrival}
@@ -52,11 +52,6 @@ pub unchained : (a b c d f : ℕ) (behind : List QueuedPacket) (head : Option Qu
 unchained a b c d f behind None e k = k
 unchained a b c d f behind (Some h) e k = absurd (omega arith)
 
--- A packet stands behind once one has joined.
-pub not_alone : (behind : List QueuedPacket) (p : QueuedPacket) → false ≡ (length (behind ++ p ∷ []) == 0)
-not_alone [] p = refl
-not_alone (x ∷ behind) p = grind (arith, nat_tests)
-
 -- What a head that is there says.
 module _ (head : Option QueuedPacket) (h : QueuedPacket) (is : head ≡ Some h) (f : ℕ) (behind : List QueuedPacket) where
   pub headed : stamped_from head f behind ≡ finishing f h ∷ stamped_behind f behind
@@ -67,6 +62,15 @@ module _ (head : Option QueuedPacket) (h : QueuedPacket) (is : head ≡ Some h) 
 
   pub behind_payable : All IsPayable (stamped_from head f behind) → All IsPayable (stamped_behind f behind)
   behind_payable all = All-tail IsPayable (finishing f h) (stamped_behind f behind) (rw is at all)
+
+-- The first of some packets, where there is one, and the others.
+pub first_and_rest : (ps qs : List QueuedPacket) (o : Option QueuedPacket) → o ≡ slice_get ps 0 → qs ≡ drop 1 ps → ps ≡ option_to_list o ++ qs
+first_and_rest [] qs o first rest = rw (first, rest) refl
+first_and_rest (p ∷ ps) qs o first rest = rw (first, rest) refl
+
+pub none_behind : (ps qs : List QueuedPacket) (o : Option QueuedPacket) → o ≡ slice_get ps 0 → qs ≡ drop 1 ps → IfNone o (qs ≡ [])
+none_behind [] qs o first rest = rw (first, rest) refl
+none_behind (p ∷ ps) qs o first rest = rw first tt
 
 -- The first of the packets behind a head.
 module _ (f : ℕ) (ps qs : List QueuedPacket) (o : Option QueuedPacket) (p : QueuedPacket) (is : ps ≡ option_to_list o ++ qs) (some : o ≡ Some p) where

@@ -1,21 +1,20 @@
 -- Room is made, for a queue that is there or by adding queues without a packet.
-use Rattle.std.proofs.Common.{◌^◌, ◌≡◌, ℕ, zero, suc, ◌+◌, ◌-◌, ◌<◌, ◌≤◌, List, [], ◌∷◌, ◌++◌, length, map, All, refl, sym, ap, ◌∙◌, subst, arith, max}
-use Rattle.std.proofs.Common.{slice_index_or, get_or, set, sum_by, replicate, nat_lt, Result, Ok, Err, OnOk, OnErr}
-use Rattle.std.proofs.lemmas.List.{append_assoc, append-nil, length-append, length-replicate, set-get_or, get_or-map, get_or-set_same, get_or_read, length-set}
+use Rattle.std.proofs.Common.{◌^◌, ◌≡◌, ℕ, zero, suc, ◌+◌, ◌-◌, ◌<◌, ◌≤◌, List, [], ◌∷◌, ◌++◌, length, All, refl, sym, ap, ◌∙◌, arith, max}
+use Rattle.std.proofs.Common.{slice_index_or, sum_by, replicate, nat_lt, Result, Ok, Err, OnErr}
+use Rattle.std.proofs.lemmas.List.{append_assoc, append-nil, length-append, length-replicate}
 use Rattle.std.proofs.lemmas.List.Sums.{sum_by-append}
 use Rattle.std.proofs.lemmas.List.Folds.{sum_by-replicate}
-use Rattle.std.proofs.lemmas.List.Elements.{All-nil, All-append, All-replicate, All-weaker, All-push, All-set}
-use Rattle.std.specs.Vec.{with_item}
+use Rattle.std.proofs.lemmas.List.Elements.{All-nil, All-append, All-replicate, All-weaker, All-push}
 use Rattle.dn_heap.specs.Heap.{Heap}
 use Rattle.dn_wf2q.specs.declared.tagged_queue.TaggedQueue.{TaggedQueue}
 use Rattle.dn_wf2q.specs.declared.sched_parts.SchedParts.{SchedParts}
 use Rattle.dn_wf2q.specs.Rank.{RankView}
-use Rattle.dn_wf2q.specs.Schedule.{Flow, flow_at, no_packets, padded, room_at}
-use Rattle.dn_wf2q.specs.Queue.{places, packets_of, IsQueueKept, last_tag}
+use Rattle.dn_wf2q.specs.Schedule.{Flow, flow_at, no_packets, padded}
+use Rattle.dn_wf2q.specs.Queue.{IsQueueKept}
 use Rattle.dn_wf2q.specs.Kept.{Kept, IsSchedKept, IsWithin, AreTagsWithin, flows_of, seen, by_slot, presence, behind, head_weight, bound, none_absent}
-use Rattle.dn_wf2q.specs.Steps.{MakesRoom, IsBlank, IsExtended}
-use Rattle.dn_wf2q.proofs.BySlot.{length-by_slot, by_slot-set, by_slot-append}
-use Rattle.dn_wf2q.proofs.Heads.{flow_at_seen, room_grows, cond_zero}
+use Rattle.dn_wf2q.specs.Steps.{IsBlank, IsExtended}
+use Rattle.dn_wf2q.proofs.BySlot.{length-by_slot, by_slot-append}
+use Rattle.dn_wf2q.proofs.Heads.{cond_zero}
 
 -- Places for n keys, those that are in with them.
 pub grown : (keys keys' : List RankView) (room room' n : ℕ) → keys' ≡ keys → length keys' + room' ≡ max (length keys + room) n → (room ≤ room') × (n ≤ length keys' + room')
@@ -39,15 +38,10 @@ extended_arrived : (a : ℕ) (xs ys : List TaggedQueue) → IsExtended xs ys →
 extended_arrived a xs ys e h = rw e.is (All-append (λ q. q.arrived ≤ a) xs e.more h (All-weaker IsBlank (λ q. q.arrived ≤ a) (λ q b. let z = b.3 in omega arith) e.more e.blank))
 
 blank_kept : (b : ℕ) (q : TaggedQueue) → IsBlank q → IsQueueKept b q
-blank_kept b q blank = (rw blank.0 blank.1, rw (blank.1, blank.4) refl)
+blank_kept b q blank = rw blank.0 blank.1
 
 extended_kept : (b : ℕ) (xs ys : List TaggedQueue) → IsExtended xs ys → All (IsQueueKept b) xs → All (IsQueueKept b) ys
 extended_kept b xs ys e h = rw e.is (All-append (IsQueueKept b) xs e.more h (All-weaker IsBlank (IsQueueKept b) (λ q blank. blank_kept b q blank) e.more e.blank))
-
-room_extended : (xs ms : List TaggedQueue) (g : ℕ) → room_at (map places xs) g ≤ room_at (map places (xs ++ ms)) g
-room_extended [] ms g = omega arith
-room_extended (x ∷ xs) ms zero = omega arith
-room_extended (x ∷ xs) ms (suc g) = room_extended xs ms g
 
 flow_at-replicate : (n g : ℕ) → flow_at (replicate n no_packets) g ≡ no_packets
 flow_at-replicate zero g = refl
@@ -108,72 +102,16 @@ module _ {flows : List Flow} {eligible waiting : Heap RankView} {virtual_time we
         waiting_room = omega arith;
       }
 
-pub on_ok_always : {T E : Type 0} (r : Result T E) (Q : Type 0) → Q → OnOk r Q
-on_ok_always (Ok x) Q q = q
-on_ok_always (Err e) Q q = tt
-
-pub on_ok : {T E : Type 0} (r : Result T E) (P Q : Type 0) → (P → Q) → OnOk r P → OnOk r Q
-on_ok (Ok x) P Q f h = f h
-on_ok (Err e) P Q f h = h
-
 pub on_err_always : {T E : Type 0} (r : Result T E) (Q : Type 0) → Q → OnErr r Q
 on_err_always (Ok x) Q q = tt
 on_err_always (Err e) Q q = q
 
--- A queue that is there gets room.
-module _ (p : SchedParts) (kept : IsSchedKept p) (slot : ℕ) (listed : slot < length p.flows.items) (q : TaggedQueue) (at : q ≡ get_or p.flows.items slot q) where
-  room_is : room_at (map places p.flows.items) slot ≡ places q
-  room_is = get_or-map places p.flows.items slot q 0 listed ∙ ap places (sym at)
-
-  pub has_place : 0 < room_at (map places p.flows.items) slot → 0 < places q
-  has_place h = rw room_is at h
-
-  module _ (r : TaggedQueue) (packets : packets_of r ≡ packets_of q) (last : last_tag r ≡ last_tag q) (arrived : r.arrived ≡ q.arrived)
-      (whole : (b : ℕ) → IsQueueKept b q → IsQueueKept b r) (room : places q ≤ places r) where
-    seen_is : seen p.busy_from slot r ≡ flow_at (flows_of p) slot
-    seen_is =
-        let a : seen p.busy_from slot r ≡ seen p.busy_from slot q = rw (packets, last, arrived) refl in
-        a ∙ sym (flow_at_seen p.busy_from p.flows.items slot q listed ∙ ap (seen p.busy_from slot) (sym at))
-
-    pub flows_same : by_slot (seen p.busy_from) (set p.flows.items slot r) ≡ flows_of p
-    flows_same = by_slot-set (seen p.busy_from) p.flows.items slot r ∙ ap (λ x. set (flows_of p) slot x) seen_is ∙ set-get_or (flows_of p) slot no_packets
-
-    pub padded_same : padded (flows_of p) (slot + 1) ≡ flows_of p
-    padded_same =
-        let l = length-by_slot (seen p.busy_from) p.flows.items in
-        let z : slot + 1 - length (flows_of p) ≡ 0 = omega (arith, l) in
-        rw z (append-nil (flows_of p))
-
-    pub place_same : 0 < places r → 0 < room_at (map places (set p.flows.items slot r)) slot
-    place_same h =
-        let l = length-set p.flows.items slot r in
-        rw (get_or-map places (set p.flows.items slot r) slot r 0 (omega (arith, l)), get_or-set_same p.flows.items slot r r listed) h
-
-    pub reserves_same : (new : SchedParts) → new.flows.items ≡ set p.flows.items slot r → new.virtual_time ≡ p.virtual_time
-        → new.arrivals ≡ p.arrivals → new.picks ≡ p.picks → new.eligible.moves ≡ p.eligible.moves → new.waiting.moves ≡ p.waiting.moves
-        → MakesRoom p new
-    reserves_same new nf nt na np ne nw = record {
-      virtual_time = nt;
-      arrivals = na;
-      picks = np;
-      eligible = ne;
-      waiting = nw;
-      room = rw nf (room_grows p.flows.items slot r (λ d l. let e = get_or_read p.flows.items slot q listed at d in rw (← e) room));
-    }
-
-    abbrev roomy : SchedParts
-    roomy = record p { flows = with_item p.flows slot r }
-
-    pub kept_same : IsSchedKept roomy
-    kept_same = record {
-      kept = rw flows_same kept.kept;
-      few = kept.few;
-      began = kept.began;
-      arrived = All-set (λ x. x.arrived ≤ p.arrivals) p.flows.items slot r (rw (arrived, at) (kept.arrived slot q listed)) kept.arrived;
-      queues = All-set (IsQueueKept p.busy_from) p.flows.items slot r
-          (whole p.busy_from (subst (IsQueueKept p.busy_from) (sym at) (kept.queues slot q listed))) kept.queues;
-      slots = let s = kept.slots in let l = length-set p.flows.items slot r in omega arith;
-    }
+-- There is a queue at the slot.
+pub padded_same : (p : SchedParts) (slot : ℕ) → slot < length p.flows.items → padded (flows_of p) (slot + 1) ≡ flows_of p
+padded_same p slot listed =
+    let l = length-by_slot (seen p.busy_from) p.flows.items in
+    let z : slot + 1 - length (flows_of p) ≡ 0 = omega (arith, l) in
+    rw z (append-nil (flows_of p))
 
 -- Queues are added.
 pub kept_extended : (p new : SchedParts) → IsSchedKept p → (n : ℕ) → IsExtended p.flows.items new.flows.items → length new.flows.items ≡ n
@@ -196,12 +134,3 @@ kept_extended p new kept n e l le few ek wk em wm er wr ee ww nt nw nb na np =
       queues = rw nb (extended_kept p.busy_from p.flows.items new.flows.items e kept.queues);
       slots = omega arith;
     }
-
-pub room_added : (xs ys : List TaggedQueue) → IsExtended xs ys → (g : ℕ) → room_at (map places xs) g ≤ room_at (map places ys) g
-room_added xs ys e g = rw e.is (room_extended xs e.more g)
-
--- A slot beyond the queues has no room.
-pub no_place : (qs : List TaggedQueue) (slot : ℕ) → length qs ≤ slot → 0 < room_at (map places qs) slot → ⊥
-no_place [] slot l h = absurd (omega arith)
-no_place (q ∷ qs) zero l h = absurd (omega arith)
-no_place (q ∷ qs) (suc slot) l h = no_place qs slot (omega arith) h

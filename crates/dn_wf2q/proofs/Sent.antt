@@ -1,26 +1,28 @@
 -- The head of a flow is sent.
-use Rattle.std.proofs.Common.{◌^◌, ◌≡◌, ℕ, ◌+◌, ◌-◌, ◌*◌, ◌==◌, ◌<◌, ◌≤◌, cond, Some, List, [], ◌∷◌, length, map, take, All, IsPermutation, refl, sym, ap, ◌∙◌}
+use Rattle.std.proofs.Common.{◌^◌, ◌≡◌, ℕ, ◌+◌, ◌-◌, ◌*◌, ◌==◌, ◌<◌, ◌≤◌, cond, Option, Some, None, IfSome, List, [], ◌∷◌, length, map, take, drop, slice_get, All, IsPermutation, refl, sym, ap, ◌∙◌}
 use Rattle.std.proofs.Common.{subst, arith, inl, inr, slice_index_or, get_or, set, sum_by}
-use Rattle.std.proofs.lemmas.List.{get_or-set_same, get_or-set_other, length-set, get_or_read}
+use Rattle.std.proofs.lemmas.List.{get_or-set_same, get_or-set_other, length-set}
 use Rattle.std.proofs.lemmas.List.Elements.{All-set, All-head, All-tail, All-weaker}
 use Rattle.std.proofs.lemmas.List.Sorted.{All-permutation, length_permutation}
 use Rattle.std.proofs.lemmas.List.Sums.{sum_by-set, get_or-le-sum_by}
 use Rattle.std.proofs.lemmas.Bool.{cases_eq}
 use Rattle.std.proofs.Math.Nat.{div-le_self}
+use Rattle.std.specs.Option.{option_map}
 use Rattle.std.specs.Vec.{with_item}
 use Rattle.dn_types.specs.Wf2q.{Stamped, scaled, weight_sum}
 use Rattle.dn_heap.specs.Heap.{Heap}
 use Rattle.dn_wf2q.specs.declared.tagged_packet.TaggedPacket.{TaggedPacket}
+use Rattle.dn_wf2q.specs.declared.queued_packet.QueuedPacket.{QueuedPacket}
 use Rattle.dn_wf2q.specs.declared.tagged_queue.TaggedQueue.{TaggedQueue}
 use Rattle.dn_wf2q.specs.declared.sched_parts.SchedParts.{SchedParts}
 use Rattle.dn_wf2q.specs.Rank.{RankView}
-use Rattle.dn_wf2q.specs.Schedule.{Flow, flow_at, no_packets, heads_of, after_pick, without_head}
-use Rattle.dn_wf2q.specs.Queue.{first_packet, is_alone, places, packets_of, IsQueueKept, last_tag}
+use Rattle.dn_wf2q.specs.Schedule.{Flow, next_of, flow_at, no_packets, heads_of, after_pick, without_head}
+use Rattle.dn_wf2q.specs.Queue.{first_packet, next_behind, packets_of, stamped_behind, stamped_from, untagged, IsFirst, IsQueueKept, last_tag}
 use Rattle.dn_wf2q.specs.Kept.{Kept, IsSchedKept, IsKeptBut, IsKeptWithout, HeadIs, IsEligible, IsWaiting, IsWithin, AreTagsWithin, flows_of, seen, tagged}
 use Rattle.dn_wf2q.specs.Kept.{presence, behind, head_weight, ranks_at, bound, none_absent, only_absent}
 use Rattle.dn_wf2q.specs.Steps.{SendsHead}
 use Rattle.dn_wf2q.proofs.BySlot.{length-by_slot, by_slot-set}
-use Rattle.dn_wf2q.proofs.Heads.{head_listed, head_weaker, flow_at_seen, some_packets, flow_within, within_more, flow_within_more, length-split, room_grows, first_facts, cond_zero}
+use Rattle.dn_wf2q.proofs.Heads.{head_listed, head_weaker, flow_at_seen, some_packets, flow_within, within_more, flow_within_more, length-split, first_facts, cond_zero}
 use Rattle.dn_wf2q.proofs.Counts.{length_of_first, weight_of_first, weights_are, waiting-set}
 use Rattle.dn_wf2q.proofs.Ranks.{ranks_at_popped, no_rank_at, rank_at_same, rank_at_other, absent_same, absent_other}
 use Rattle.dn_wf2q.proofs.Steps.{all_in}
@@ -129,6 +131,34 @@ module _ {flows : List Flow} {eligible waiting : Heap RankView} {virtual_time we
         waiting_room = let c = kept.waiting_room in omega arith;
       }
 
+abbrev size_or_none : Option (ℕ × ℕ) → ℕ × ℕ
+size_or_none None = (0, 0)
+size_or_none (Some size) = size
+
+-- A packet is known by its length and weight.
+same_packet : (a b : Option QueuedPacket) → option_map untagged a ≡ option_map untagged b → a ≡ b
+same_packet None None e = refl
+same_packet None (Some b) e = absurd cc
+same_packet (Some a) None e = absurd cc
+same_packet (Some a) (Some b) e =
+    let same : untagged a ≡ untagged b = ap size_or_none e in
+    λ i. Some (record { len = (same i).0; weight = (same i).1 })
+
+first_behind : (slot f : ℕ) (ps : List QueuedPacket) → next_of (map (tagged slot) (stamped_behind f ps)) ≡ option_map untagged (slice_get ps 0)
+first_behind slot f [] = refl
+first_behind slot f (p ∷ ps) = refl
+
+-- Behind a head the first packet is the first of those behind.
+untagged_next : (slot : ℕ) (head : Option QueuedPacket) (f : ℕ) (ps : List QueuedPacket) → 0 < length (stamped_from head f ps)
+    → next_of (drop 1 (map (tagged slot) (stamped_from head f ps))) ≡ option_map untagged (slice_get ps 0)
+untagged_next slot None f ps l = absurd (omega arith)
+untagged_next slot (Some h) f ps l = first_behind slot f ps
+
+-- What holds of the pick's slot holds of the slot that is picked.
+pub at_slot : (P : ℕ → Type 0) (slot : ℕ) (o : Option Stamped) → Some slot ≡ option_map (λ h. h.flow) o → IfSome o (λ h. P h.flow) → P slot
+at_slot P slot None e h = absurd cc
+at_slot P slot (Some s) e h = let same : slot ≡ s.flow = cc in subst P (sym same) h
+
 -- The parts, where the key k left the eligible heap.
 module _ (p : SchedParts) (kept : IsSchedKept p) (k : RankView) (es : Heap RankView) (perm : IsPermutation p.eligible.keys (k ∷ es.keys)) where
   ready : HeadIs (λ x. (k.tag ≡ x.finish_tag) × (x.start_tag ≤ p.virtual_time)) (flow_at (flows_of p) k.slot).backlog
@@ -149,12 +179,13 @@ module _ (p : SchedParts) (kept : IsSchedKept p) (k : RankView) (es : Heap RankV
     was_whole : IsQueueKept p.busy_from q
     was_whole = subst (IsQueueKept p.busy_from) (sym at) (kept.queues k.slot q listed)
 
-    pub alone_is : q.alone ≡ is_alone q
-    alone_is = was_whole.1
+    -- The packet behind the head is the one that is told.
+    pub next_is : (next : Option QueuedPacket) → IsFirst next (drop 1 (flow_at (flows_of p) k.slot).backlog) → next ≡ next_behind q
+    next_is next first = same_packet next (next_behind q) (rw same_flow at first ∙ untagged_next k.slot q.head q.finish_tag q.behind.packets has_head)
 
     module _ (r : TaggedQueue) (sent : TaggedPacket) (is : packets_of q ≡ sent ∷ packets_of r)
         (last : last_tag r ≡ last_tag q) (arrived : r.arrived ≡ q.arrived)
-        (whole : (b : ℕ) → IsQueueKept b q → IsQueueKept b r) (room : places r ≡ places q + 1) where
+        (whole : (b : ℕ) → IsQueueKept b q → IsQueueKept b r) where
       abbrev head : Stamped
       head = tagged k.slot sent
 
@@ -196,7 +227,6 @@ module _ (p : SchedParts) (kept : IsSchedKept p) (k : RankView) (es : Heap RankV
                 let s = waiting-set (flows_of p) k.slot (without_head (flow_at (flows_of p) k.slot)) l in
                 let t : length (flow_at (flows_of p) k.slot).backlog ≡ length (without_head (flow_at (flows_of p) k.slot)).backlog + 1 = rw rest_is (omega arith) in
                 rw fs (omega (arith, s, t));
-            room = rw nf (room_grows p.flows.items k.slot r (λ d l. let e = get_or_read p.flows.items k.slot q listed at d in rw (← e) (omega arith)));
           }
 
       old_last : (seen p.busy_from k.slot r).last_finish_tag ≤ bound p.arrivals p.picks

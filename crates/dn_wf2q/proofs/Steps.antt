@@ -1,10 +1,11 @@
 -- What raising virtual time and moving a flow between the heaps keep, and what the heaps say of the scan.
-use Rattle.std.proofs.Common.{◌≡◌, ℕ, ◌+◌, ◌*◌, ◌<◌, ◌≤◌, max, List, [], ◌∷◌, length, All, IsPermutation, refl, sym, subst, arith, inl, inr, slice_index_or, Some, None}
+use Rattle.std.proofs.Common.{◌≡◌, ℕ, ◌+◌, ◌*◌, ◌<◌, ◌≤◌, max, List, [], ◌∷◌, length, All, IsPermutation, refl, sym, ap, subst, arith, inl, inr, slice_index_or, Some, None}
 use Rattle.std.proofs.lemmas.List.Sorted.{length_permutation, All-permutation}
 use Rattle.std.proofs.lemmas.List.Sums.{sum_by-le}
 use Rattle.std.proofs.lemmas.List.Elements.{All-cons, All-head, All-tail, All-weaker, All-contains}
 use Rattle.std.proofs.lemmas.Bool.{cases_lt}
 use Rattle.std.specs.List.{Contains, filter}
+use Rattle.std.specs.Option.{option_map}
 use Rattle.dn_types.specs.Wf2q.{Stamped, raised, first_to_go, is_eligible, weight_sum}
 use Rattle.dn_heap.specs.Heap.{Heap, IsLeast}
 use Rattle.dn_wf2q.specs.Rank.{RankView, rank_cmp}
@@ -108,6 +109,13 @@ module _ {flows : List Flow} {eligible waiting : Heap RankView} {virtual_time we
       raised_stays virtual_time flows k.slot
       (head_weaker (λ p. (k.tag ≡ p.finish_tag) × (p.start_tag ≤ virtual_time)) (λ p. p.start_tag ≤ virtual_time) (λ p x. x.1) (flow_at flows k.slot).backlog (kept.ready 0 no_key l))
 
+  -- A key that leaves the eligible heap is its flow's finish tag.
+  pub popped_ready : (k : RankView) (es : List RankView) → IsPermutation eligible.keys (k ∷ es) → IsEligible flows virtual_time k
+  popped_ready k es p = All-head (IsEligible flows virtual_time) k es (All-permutation (IsEligible flows virtual_time) eligible.keys (k ∷ es) p kept.ready)
+
+  pub held_ready : (k : RankView) → Contains eligible.keys k → IsEligible flows virtual_time k
+  held_ready k held = All-contains (IsEligible flows virtual_time) eligible.keys k kept.ready held
+
   -- No key of the waiting heap is above the bound.
   pub top_within : (top : RankView) → Contains waiting.keys top → top.tag ≤ bound arrivals picks
   top_within top c =
@@ -156,12 +164,11 @@ module _ {flows : List Flow} {eligible waiting : Heap RankView} {virtual_time we
   head_when A P R (p ∷ q) h r = r
 
   -- The least key of the eligible heap belongs to the scan's pick.
-  pub picked_is : ((g : ℕ) → All (λ p. p.flow ≡ g) (flow_at flows g).backlog) → (k : RankView) (es : List RankView)
-      → IsPermutation eligible.keys (k ∷ es) → IsLeast rank_cmp k eligible.keys → All (λ e. virtual_time < e.tag) waiting.keys
+  pub picked_is : ((g : ℕ) → All (λ p. p.flow ≡ g) (flow_at flows g).backlog) → (k : RankView) → IsEligible flows virtual_time k
+      → IsLeast rank_cmp k eligible.keys → All (λ e. virtual_time < e.tag) waiting.keys
       → (h : Stamped) → HeadIs (λ p. p ≡ h) (flow_at flows k.slot).backlog
       → first_to_go (filter (is_eligible virtual_time) (heads_of flows)) ≡ Some h
-  picked_is own k es p least late h is =
-      let ready = All-head (IsEligible flows virtual_time) k es (All-permutation (IsEligible flows virtual_time) eligible.keys (k ∷ es) p kept.ready) in
+  picked_is own k ready least late h is =
       let backlog = (flow_at flows k.slot).backlog in
       let mine =
       head_both (λ x. x ≡ h) (λ x. (k.tag ≡ x.finish_tag) × (x.start_tag ≤ virtual_time))
@@ -188,6 +195,18 @@ module _ {flows : List Flow} {eligible waiting : Heap RankView} {virtual_time we
       (λ i d l. let e = slice_index_or waiting.keys i d in
       let t = late i d l in
       head_weaker (λ x. e.tag ≡ x.start_tag) (YieldsTo virtual_time h) (λ x a. λ low. absurd (omega arith)) (flow_at flows e.slot).backlog (kept.waits i d l)))
+
+  pub picked_slot : ((g : ℕ) → All (λ p. p.flow ≡ g) (flow_at flows g).backlog) → (k : RankView) → IsEligible flows virtual_time k
+      → IsLeast rank_cmp k eligible.keys → All (λ e. virtual_time < e.tag) waiting.keys
+      → Some k.slot ≡ option_map (λ h. h.flow) (first_to_go (filter (is_eligible virtual_time) (heads_of flows)))
+  picked_slot own k ready least late = at (flow_at flows k.slot).backlog refl ready
+    where
+      at : (q : List Stamped) → (flow_at flows k.slot).backlog ≡ q → HeadIs (λ p. (k.tag ≡ p.finish_tag) × (p.start_tag ≤ virtual_time)) q
+          → Some k.slot ≡ option_map (λ h. h.flow) (first_to_go (filter (is_eligible virtual_time) (heads_of flows)))
+      at [] is ready = absurd ready
+      at (h ∷ q) is ready =
+          let here : h.flow ≡ k.slot = All-head (λ p. p.flow ≡ k.slot) h q (rw is at (own k.slot)) in
+          rw (picked_is own k (rw is ready) least late h (rw is refl)) (ap (λ g. Some g) (sym here))
 
   -- Nothing is eligible.
   pub picked_none : length eligible.keys ≡ 0 → All (λ e. virtual_time < e.tag) waiting.keys → first_to_go (filter (is_eligible virtual_time) (heads_of flows)) ≡ None

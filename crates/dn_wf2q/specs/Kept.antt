@@ -7,8 +7,8 @@ use Rattle.dn_wf2q.specs.declared.tagged_packet.TaggedPacket.{TaggedPacket}
 use Rattle.dn_wf2q.specs.declared.tagged_queue.TaggedQueue.{TaggedQueue}
 use Rattle.dn_wf2q.specs.declared.sched_parts.SchedParts.{SchedParts}
 use Rattle.dn_wf2q.specs.Rank.{RankView}
-use Rattle.dn_wf2q.specs.Schedule.{Flow, Schedule, flow_at}
-use Rattle.dn_wf2q.specs.Queue.{packets_of, places, last_finish_tag_in, IsQueueKept}
+use Rattle.dn_wf2q.specs.Schedule.{Flow, Schedule, flow_at, one_each}
+use Rattle.dn_wf2q.specs.Queue.{packets_of, last_finish_tag_in, IsQueueKept}
 
 -- A packet of the queue at a slot.
 abbrev pub tagged : ℕ → TaggedPacket → Stamped
@@ -30,7 +30,7 @@ abbrev pub schedule_of : SchedParts → Schedule
 schedule_of p = record {
   flows = flows_of p;
   virtual_time = p.virtual_time;
-  room = map places p.flows.items;
+  room = one_each (flows_of p);
   arrivals = p.arrivals;
   picks = p.picks;
   moves = p.eligible.moves + p.waiting.moves;

@@ -3,3 +3,4 @@ pub mod Rank
 pub mod Queue
 pub mod Kept
 pub mod Steps
+pub mod Stored

@@ -1,25 +1,19 @@
--- What the queue of one flow stands for: the packets that wait, each with its tags. Kept are the head's finish tag, and
--- of each packet its length and weight.
-use Rattle.std.specs.Prelude.{◌≡◌, ℕ, ◌+◌, ◌-◌, ◌^◌, ◌<◌, ◌==◌, nat_lt, cond, Bool, List, [], ◌∷◌, length, Option, Some, None, Box}
-use Rattle.std.specs.Global.{Global}
-use Rattle.std.specs.VecDeque.{deque_items, deque_len, deque_capacity}
-use Rattle.dn_types.specs.Wf2q.{scaled, start_tag_on_arrival}
+-- What the queue of one flow stands for: the packets that wait, each with its tags. Kept are the head, with its finish
+-- tag, and for proofs alone the length and weight of each packet behind it.
+use Rattle.std.specs.Prelude.{◌≡◌, ℕ, ◌+◌, ◌-◌, ◌^◌, ◌<◌, ◌==◌, nat_lt, cond, List, [], ◌∷◌, ◌++◌, drop, length, slice_get, Option, Some, None}
+use Rattle.std.specs.Option.{option_map}
+use Rattle.dn_types.specs.Wf2q.{Stamped, scaled, start_tag_on_arrival}
+use Rattle.dn_wf2q.specs.Schedule.{IsNext}
 use Rattle.dn_wf2q.specs.declared.queued_packet.QueuedPacket.{QueuedPacket}
 use Rattle.dn_wf2q.specs.declared.tagged_packet.TaggedPacket.{TaggedPacket}
-use Rattle.dn_wf2q.specs.declared.behind.Behind.{Behind}
+use Rattle.dn_wf2q.specs.declared.behind.Change.{Change}
+use Rattle.dn_wf2q.specs.declared.behind.Change.TheVariants.{FirstLeaves, Joins}
 use Rattle.dn_wf2q.specs.declared.tagged_queue.TaggedQueue.{TaggedQueue}
 
--- What is read of a block of memory, where there is one.
-abbrev pub in_block : {X Y : Type 0} → (X → Y) → Y → Option (Box X Global) → Y
-in_block read without None = without
-in_block read without (Some block) = read block.value
-
--- The packets behind the head, and for how many more there is room.
-abbrev pub behind_of : Behind → List QueuedPacket
-behind_of b = in_block deque_items [] b.packets
-
-abbrev pub spare_of : Behind → ℕ
-spare_of b = in_block (λ queue. deque_capacity queue - deque_len queue) 0 b.packets
+-- What becomes of the packets behind a head: a packet joins them, or the first of them leaves.
+abbrev pub changed : Change → List QueuedPacket → List QueuedPacket
+changed (Joins packet) packets = packets ++ packet ∷ []
+changed FirstLeaves packets = drop 1 packets
 
 -- A packet with its tags, by its finish tag.
 abbrev pub finishing : ℕ → QueuedPacket → TaggedPacket
@@ -46,16 +40,19 @@ stamped_from (Some head) finish behind = finishing finish head ∷ stamped_behin
 
 -- The packets of a queue with their tags, oldest first.
 abbrev pub packets_of : TaggedQueue → List TaggedPacket
-packets_of q = stamped_from q.head q.finish_tag (behind_of q.behind)
+packets_of q = stamped_from q.head q.finish_tag q.behind.packets
 
--- The head's own place is one.
-abbrev pub head_spare : Option QueuedPacket → ℕ
-head_spare None = 1
-head_spare (Some head) = 0
+-- A packet's length and weight.
+abbrev pub untagged : QueuedPacket → ℕ × ℕ
+untagged p = (p.len, p.weight)
 
--- For how many packets a queue has room.
-abbrev pub places : TaggedQueue → ℕ
-places q = head_spare q.head + spare_of q.behind
+-- The first of these packets is this one, or there is none.
+abbrev pub IsFirst : Option QueuedPacket → List Stamped → Type 0
+IsFirst first packets = IsNext (option_map untagged first) packets
+
+-- The packet behind the head, where there is one.
+abbrev pub next_behind : TaggedQueue → Option QueuedPacket
+next_behind q = slice_get q.behind.packets 0
 
 -- Nothing waits behind no head, and a head arrived in this busy period.
 abbrev pub IsChained : ℕ → ℕ → List QueuedPacket → Option QueuedPacket → Type 0
@@ -64,15 +61,11 @@ IsChained busy_from arrived behind (Some head) = busy_from < arrived
 
 -- The finish tag of the last packet that came: behind the head that of the last one there, and without a head the one that is kept.
 abbrev pub last_tag : TaggedQueue → ℕ
-last_tag q = last_behind q.finish_tag (behind_of q.behind)
-
--- Whether no packet stands behind the head.
-abbrev pub is_alone : TaggedQueue → Bool
-is_alone q = length (behind_of q.behind) == 0
+last_tag q = last_behind q.finish_tag q.behind.packets
 
 -- What holds of a queue, where the busy period began after so many arrivals.
 abbrev pub IsQueueKept : ℕ → TaggedQueue → Type 0
-IsQueueKept busy_from q = IsChained busy_from q.arrived (behind_of q.behind) q.head × (q.alone ≡ is_alone q)
+IsQueueKept busy_from q = IsChained busy_from q.arrived q.behind.packets q.head
 
 -- The last finish tag of a queue, where the busy period began after so many arrivals: an older tag counts for 0.
 abbrev pub last_finish_tag_in : ℕ → TaggedQueue → ℕ

@@ -1,5 +1,5 @@
 -- A scheduler as callers see it: for each slot the packets that wait, with their tags, and the last finish tag.
-use Rattle.std.specs.Prelude.{◌≡◌, ℕ, ◌+◌, ◌-◌, ◌≤◌, ◌==◌, List, [], ◌∷◌, ◌++◌, length, map, take, drop, slice_index_or, slice_set, replicate, Some}
+use Rattle.std.specs.Prelude.{◌≡◌, ℕ, ◌+◌, ◌-◌, ◌≤◌, ◌==◌, List, [], ◌∷◌, ◌++◌, length, map, take, drop, slice_index_or, slice_set, replicate, Option, Some, None}
 use Rattle.dn_types.specs.Wf2q.{Stamped, scaled, start_tag_on_arrival, heads, total, grown, pick}
 
 -- A flow: the packets that wait, oldest first, and the finish tag of the flow's last packet in this busy period (0 where
@@ -29,6 +29,10 @@ flow_at flows slot = slice_index_or flows slot no_packets
 -- For how many arrivals the flow at a slot has room.
 abbrev pub room_at : List ℕ → ℕ → ℕ
 room_at room slot = slice_index_or room slot 0
+
+-- Room for one arrival at each slot, which an arrival doesn't use up.
+abbrev pub one_each : List Flow → List ℕ
+one_each flows = map (λ flow. 1) flows
 
 -- The first packet of each backlog, in order of slots.
 abbrev pub heads_of : List Flow → List Stamped
@@ -85,6 +89,21 @@ pub record Picks (h : Stamped) (old new : Schedule) : Type 0 where
   pub virtual_time : new.virtual_time ≡ grown old.virtual_time (heads_of old.flows) h.len
   pub picks : new.picks ≡ old.picks + 1
   pub one_fewer : waiting_of new.flows + 1 ≡ waiting_of old.flows
+
+-- The packet that the schedule picks is the first at this slot.
+pub record SendsFirst (slot : ℕ) (schedule : Schedule) : Type 0 where
+  pub packet : Stamped
+  pub picked : pick schedule.virtual_time (heads_of schedule.flows) ≡ Some packet
+  pub here : packet.flow ≡ slot
+
+-- The length and weight of the first of some packets.
+abbrev pub next_of : List Stamped → Option (ℕ × ℕ)
+next_of [] = None
+next_of (p ∷ ps) = Some (p.len, p.weight)
+
+-- The first of these packets has this length and weight, or there is none.
+abbrev pub IsNext : Option (ℕ × ℕ) → List Stamped → Type 0
+IsNext next packets = next ≡ next_of packets
 
 -- The schedule between the arrival of a packet at an idle one, with which a busy period begins, and its pick.
 abbrev pub arrived : ℕ → ℕ → ℕ → Schedule → Schedule → Schedule

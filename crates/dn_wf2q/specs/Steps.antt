@@ -1,11 +1,10 @@
 -- What each step of a call changes.
-use Rattle.std.specs.Prelude.{◌≡◌, ℕ, ◌+◌, ◌<◌, ◌≤◌, true, List, [], ◌∷◌, ◌++◌, length, map, slice_set, take, None}
+use Rattle.std.specs.Prelude.{◌≡◌, ℕ, ◌+◌, ◌<◌, List, [], ◌∷◌, ◌++◌, length, slice_set, take, None}
 use Rattle.std.specs.List.{All}
 use Rattle.dn_types.specs.Wf2q.{Stamped, scaled, weight_sum}
 use Rattle.dn_wf2q.specs.declared.tagged_queue.TaggedQueue.{TaggedQueue}
 use Rattle.dn_wf2q.specs.declared.sched_parts.SchedParts.{SchedParts}
-use Rattle.dn_wf2q.specs.Schedule.{flow_at, no_packets, room_at, heads_of, waiting_of, after_arrival, after_pick, after_discard, forgotten}
-use Rattle.dn_wf2q.specs.Queue.{behind_of, places}
+use Rattle.dn_wf2q.specs.Schedule.{flow_at, no_packets, heads_of, waiting_of, after_arrival, after_pick, after_discard, forgotten}
 use Rattle.dn_wf2q.specs.Kept.{flows_of}
 
 -- Only the heaps and the running sum of weights change.
@@ -16,10 +15,6 @@ pub record OnlyHeaps (old new : SchedParts) : Type 0 where
   pub arrivals : new.arrivals ≡ old.arrivals
   pub picks : new.picks ≡ old.picks
 
--- No queue has less room than before.
-abbrev pub QueuesKeepRoom : SchedParts → SchedParts → Type 0
-QueuesKeepRoom old new = (slot : ℕ) → room_at (map places old.flows.items) slot ≤ room_at (map places new.flows.items) slot
-
 -- The packet h, the first at its slot, is sent at the raised virtual time v.
 pub record SendsHead (h : Stamped) (v : ℕ) (old new : SchedParts) : Type 0 where
   pub head : take 1 (flow_at (flows_of old) h.flow).backlog ≡ h ∷ []
@@ -28,7 +23,6 @@ pub record SendsHead (h : Stamped) (v : ℕ) (old new : SchedParts) : Type 0 whe
   pub arrivals : new.arrivals ≡ old.arrivals
   pub picks : new.picks ≡ old.picks + 1
   pub one_fewer : waiting_of (flows_of new) + 1 ≡ waiting_of (flows_of old)
-  pub room : QueuesKeepRoom old new
 
 -- A packet arrives at a slot.
 pub record ArrivesAtSlot (slot len weight : ℕ) (old new : SchedParts) : Type 0 where
@@ -37,7 +31,6 @@ pub record ArrivesAtSlot (slot len weight : ℕ) (old new : SchedParts) : Type 0
   pub arrivals : new.arrivals ≡ old.arrivals + 1
   pub picks : new.picks ≡ old.picks
   pub one_more : waiting_of (flows_of new) ≡ waiting_of (flows_of old) + 1
-  pub room : (other : ℕ) → (other ≡ slot → ⊥) → room_at (map places old.flows.items) other ≤ room_at (map places new.flows.items) other
 
 -- A packet comes where none waits: a busy period begins, the packet arrives and is sent.
 pub record PassesSlot (slot len weight : ℕ) (old new : SchedParts) : Type 0 where
@@ -47,7 +40,6 @@ pub record PassesSlot (slot len weight : ℕ) (old new : SchedParts) : Type 0 wh
   pub virtual_time : new.virtual_time ≡ scaled len weight
   pub arrivals : new.arrivals ≡ old.arrivals + 1
   pub picks : new.picks ≡ old.picks + 1
-  pub room : QueuesKeepRoom old new
 
 -- The packets of a slot leave.
 pub record DiscardsSlot (slot : ℕ) (old new : SchedParts) : Type 0 where
@@ -57,7 +49,6 @@ pub record DiscardsSlot (slot : ℕ) (old new : SchedParts) : Type 0 where
   pub arrivals : new.arrivals ≡ old.arrivals
   pub picks : new.picks ≡ old.picks
   pub moves : new.eligible.moves + new.waiting.moves ≡ old.eligible.moves + old.waiting.moves
-  pub room : QueuesKeepRoom old new
 
 -- A busy period begins.
 pub record Begins (old new : SchedParts) : Type 0 where
@@ -71,7 +62,7 @@ pub record Begins (old new : SchedParts) : Type 0 where
 
 -- A queue that has had no packet.
 abbrev pub IsBlank : TaggedQueue → Type 0
-IsBlank q = (q.head ≡ None) × (behind_of q.behind ≡ []) × (q.finish_tag ≡ 0) × (q.arrived ≡ 0) × (q.alone ≡ true)
+IsBlank q = (q.head ≡ None) × (q.behind.packets ≡ []) × (q.finish_tag ≡ 0) × (q.arrived ≡ 0)
 
 -- The second list is the first and then such queues.
 pub record IsExtended (xs ys : List TaggedQueue) : Type 0 where
@@ -79,11 +70,10 @@ pub record IsExtended (xs ys : List TaggedQueue) : Type 0 where
   pub is : ys ≡ xs ++ more
   pub blank : All IsBlank more
 
--- Only room is made.
-pub record MakesRoom (old new : SchedParts) : Type 0 where
+-- Only slots are added.
+pub record AddsSlots (old new : SchedParts) : Type 0 where
   pub virtual_time : new.virtual_time ≡ old.virtual_time
   pub arrivals : new.arrivals ≡ old.arrivals
   pub picks : new.picks ≡ old.picks
   pub eligible : new.eligible.moves ≡ old.eligible.moves
   pub waiting : new.waiting.moves ≡ old.waiting.moves
-  pub room : QueuesKeepRoom old new

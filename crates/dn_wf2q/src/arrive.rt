@@ -1,6 +1,4 @@
-ghost use Rattle.std.specs.Prelude.{◌≡◌, ◌<◌, ◌≤◌, ◌^◌, map};
-ghost use Rattle.dn_wf2q.specs.Schedule.{room_at};
-ghost use Rattle.dn_wf2q.specs.Queue.{places};
+ghost use Rattle.std.specs.Prelude.{◌≡◌, ◌<◌, ◌≤◌, ◌^◌, length};
 ghost use Rattle.dn_wf2q.specs.Kept.{IsSchedKept, IsKeptWithout, NoneDue};
 ghost use Rattle.dn_wf2q.specs.Steps.{ArrivesAtSlot, OnlyHeaps};
 
@@ -12,7 +10,7 @@ impl SchedParts {
     /// A packet joins the queue at a slot.
     pub(crate) fn arrive(&mut self, slot: usize, len: u16, weight: u8)
         requires kept { IsSchedKept self.old }
-        requires room { 0 < room_at (map places self.old.flows.items) slot }
+        requires listed { slot < length self.old.flows.items }
         requires few { self.old.arrivals < 2 ^ 62 }
         requires some { 0 < weight }
         requires in_range { weight ≤ 100 }

@@ -4,6 +4,8 @@
 mod arrive;
 mod behind;
 mod discard;
+mod head_sched;
+mod packet_queues;
 mod pass;
 mod pick;
 mod queued_packet;
@@ -15,4 +17,5 @@ mod sched_parts;
 mod tagged_packet;
 mod tagged_queue;
 
+pub use head_sched::HeadSched;
 pub use sched::Sched;

@@ -1,6 +1,5 @@
-ghost use Rattle.std.specs.Prelude.{◌≡◌, ◌<◌, ◌≤◌, ◌^◌, map};
-ghost use Rattle.dn_wf2q.specs.Schedule.{IsIdle, room_at};
-ghost use Rattle.dn_wf2q.specs.Queue.{places};
+ghost use Rattle.std.specs.Prelude.{◌≡◌, ◌<◌, ◌≤◌, ◌^◌, length};
+ghost use Rattle.dn_wf2q.specs.Schedule.{IsIdle};
 ghost use Rattle.dn_wf2q.specs.Kept.{IsSchedKept, NoneDue, flows_of};
 ghost use Rattle.dn_wf2q.specs.Steps.{PassesSlot};
 
@@ -16,7 +15,7 @@ impl SchedParts {
     pub(crate) fn pass(&mut self, slot: usize, len: u16, weight: u8)
         requires kept { IsSchedKept self.old }
         requires idle { IsIdle (flows_of self.old) }
-        requires room { 0 < room_at (map places self.old.flows.items) slot }
+        requires listed { slot < length self.old.flows.items }
         requires few { self.old.arrivals < 2 ^ 62 }
         requires some { 0 < weight }
         requires in_range { weight ≤ 100 }

@@ -1,46 +1,44 @@
-ghost use Rattle.std.specs.Prelude.{◌≡◌, ◌+◌, ◌<◌, ◌≤◌, length, map, IsOk, OnOk, OnErr};
+ghost use Rattle.std.specs.Prelude.{◌≡◌, ◌+◌, ◌<◌, ◌≤◌, length, IsOk, OnOk, OnErr};
 ghost use Rattle.std.specs.Vec.{vec_len, vec_capacity};
-ghost use Rattle.dn_wf2q.specs.Schedule.{padded, room_at};
-ghost use Rattle.dn_wf2q.specs.Queue.{places};
+ghost use Rattle.dn_wf2q.specs.Schedule.{padded};
 ghost use Rattle.dn_wf2q.specs.Kept.{IsSchedKept, flows_of};
-ghost use Rattle.dn_wf2q.specs.Steps.{IsExtended, MakesRoom};
+ghost use Rattle.dn_wf2q.specs.Steps.{IsExtended, AddsSlots};
 
 use crate::rank::SLOTS;
 use crate::sched_parts::SchedParts;
 use crate::tagged_queue::TaggedQueue;
-use std::alloc::{AllocError, Global};
+use std::alloc::AllocError;
 
 impl SchedParts {
-    /// Room for one more arrival at a slot, and a queue for it where there is none.
+    /// A queue at a slot, where there is none.
     #[inline(always)]
-    pub(crate) fn reserve_flow(&mut self, alloc: Global, slot: usize) -> Result<(), AllocError>
+    pub(crate) fn reserve_flow(&mut self, slot: usize) -> Result<(), AllocError>
         requires kept { IsSchedKept self.old }
-        ensures succeeds { 0 < room_at (map places self.old.flows.items) slot → IsOk result }
+        ensures succeeds { slot < length self.old.flows.items → IsOk result }
         ensures ok { OnOk result (flows_of self.new ≡ padded (flows_of self.old) (slot + 1)) }
-        ensures place { OnOk result (0 < room_at (map places self.new.flows.items) slot) }
+        ensures listed { OnOk result (slot < length self.new.flows.items) }
         ensures err { OnErr result (flows_of self.new ≡ flows_of self.old) }
-        ensures reserves { MakesRoom self.old self.new }
+        ensures reserves { AddsSlots self.old self.new }
         ensures kept { IsSchedKept self.new }
         ensures keeps_waiting { self.new.waiting.keys ≡ self.old.waiting.keys }
     {
         if slot < self.flows.len() {
-            return self.flows[slot].reserve_place(alloc);
+            return Ok(());
         }
         self.add_flow(slot)
     }
 
-    /// A queue with room for an arrival at a slot that has none.
+    /// A queue at a slot that has none.
     ///
     /// It isn't inlined, since a slot is asked for room many times after that.
     #[inline(never)]
     fn add_flow(&mut self, slot: usize) -> Result<(), AllocError>
         requires kept { IsSchedKept self.old }
         requires above { length self.old.flows.items ≤ slot }
-        ensures succeeds { 0 < room_at (map places self.old.flows.items) slot → IsOk result }
         ensures ok { OnOk result (flows_of self.new ≡ padded (flows_of self.old) (slot + 1)) }
-        ensures place { OnOk result (0 < room_at (map places self.new.flows.items) slot) }
+        ensures listed { OnOk result (slot < length self.new.flows.items) }
         ensures err { OnErr result (flows_of self.new ≡ flows_of self.old) }
-        ensures reserves { MakesRoom self.old self.new }
+        ensures reserves { AddsSlots self.old self.new }
         ensures kept { IsSchedKept self.new }
         ensures keeps_waiting { self.new.waiting.keys ≡ self.old.waiting.keys }
     {
@@ -65,7 +63,6 @@ fn add_queues(flows: &mut Vec<TaggedQueue>, slot: usize)
     requires room { slot < vec_capacity flows.old }
     ensures extended { IsExtended flows.old.items flows.new.items }
     ensures len { length flows.new.items ≡ slot + 1 }
-    ensures place { 0 < room_at (map places flows.new.items) slot }
 {
     'blanks: while flows.len() < slot {
         flows.push_reserved(TaggedQueue::new());

@@ -3,39 +3,35 @@ ghost use Rattle.std.specs.Option.{option_map};
 ghost use Rattle.dn_types.specs.Wf2q.{pick};
 ghost use Rattle.dn_wf2q.specs.Schedule.{Passes, Picks, KeepsCounts, KeepsRoom, IsIdle, after_arrival, after_discard, flow_at, forgotten, heads_of, padded, room_at, waiting_of};
 
-use crate::sched_parts::SchedParts;
-use dn_heap::PlacedHeap;
+use crate::head_sched::HeadSched;
+use crate::packet_queues::{add_queues, reserve_queue, take_first};
 use dn_types::{Len, Weight};
 use std::alloc::{AllocError, Global};
+use std::collections::VecDeque;
 use std::marker::Model;
 
-/// The WF2Q+ scheduler of one shared link (Bennett and Zhang 1996, 1997).
+/// A [`HeadSched`] that keeps the packets itself, so that a pick is one call.
 ///
-/// Tags and virtual time are in units of 1/65536 byte per weight.
-///
-/// A flow is named by its *slot*, its place among the flows of this link. The queues stand in one
-/// vector by slot, so the highest slot that was reserved decides the memory: about 96 bytes for
-/// each slot up to it, and a block of 56 bytes or more for each flow that had room behind a packet
-/// (4 bytes for each packet beyond four). Number the flows of a link 0, 1, 2, .. as they are first
-/// seen. Ties between finish tags go to the lower slot.
-///
-/// Memory is taken by `reserve_flow` alone. Tags and virtual time stay below 2^96 and pushes into
-/// the heaps below 2^63, since there are at most 2^62 arrivals.
+/// A slot needs some 40 bytes more than there, and from its first packet on a block of 16 bytes or more (4 bytes for each
+/// packet beyond four). Memory is taken by `reserve_flow` alone.
 #[derive(Drop)]
 pub struct Sched {
-    parts: SchedParts,
+    heads: HeadSched,
+    /// The packets that wait, by slot, oldest first.
+    queues: Vec<VecDeque<(Len, Weight)>>,
     alloc: Global,
 }
 
 impl Model for Sched {
     ghost use Rattle.dn_wf2q.specs.Schedule.{Schedule};
-    ghost use Rattle.dn_wf2q.specs.Kept.{IsCalm, schedule_of};
+    ghost use Rattle.std.specs.Prelude.{map};
+    ghost use Rattle.dn_wf2q.specs.Stored.{IsStored, spare};
 
     ghost Value = { Schedule };
 
-    ghost view = { λ s. schedule_of s.parts };
+    ghost view = { λ s. record s.heads { room = map spare s.queues.items } };
 
-    ghost invariant = { λ s. IsCalm s.parts };
+    ghost invariant = { λ s. IsStored s.heads s.queues.items };
 }
 
 impl Sched {
@@ -44,16 +40,8 @@ impl Sched {
         ensures value { result ≡ record { flows = []; virtual_time = 0; room = []; arrivals = 0; picks = 0; moves = 0 } }
     {
         Sched {
-            parts: SchedParts {
-                flows: Vec::new(alloc),
-                eligible: PlacedHeap::new(alloc),
-                waiting: PlacedHeap::new(alloc),
-                virtual_time: 0,
-                weights: 0,
-                busy_from: 0,
-                arrivals: 0,
-                picks: 0,
-            },
+            heads: HeadSched::new(alloc),
+            queues: Vec::new(alloc),
             alloc,
         }
     }
@@ -62,8 +50,7 @@ impl Sched {
     pub fn is_idle(&self) -> bool
         ensures idle { IsTrue result ↔ IsIdle self.now.flows }
     {
-        let parts = &self.parts;
-        parts.is_idle()
+        self.heads.is_idle()
     }
 
     /// Begins a busy period: virtual time and all last finish tags begin again from 0.
@@ -76,14 +63,13 @@ impl Sched {
         ensures keeps_room { self.new.room ≡ self.old.room }
         ensures keeps_counts { KeepsCounts self.old self.new }
     {
-        self.parts.begin_busy()
+        self.heads.begin_busy()
     }
 
     /// Makes room for one more arrival at a slot, which lasts until that arrival.
     ///
     /// A refusal by the allocator loses no packet, tag or room. There are at most 2^32 slots, and one beyond them is
     /// refused as out of memory.
-    #[inline(always)]
     pub fn reserve_flow(&mut self, slot: usize) -> Result<(), AllocError>
         ensures succeeds { 0 < room_at self.old.room slot → IsOk result }
         ensures ok { OnOk result (self.new.flows ≡ padded self.old.flows (slot + 1)) }
@@ -93,7 +79,13 @@ impl Sched {
         ensures keeps_counts { KeepsCounts self.old self.new }
         ensures err { OnErr result (self.new.flows ≡ self.old.flows) }
     {
-        self.parts.reserve_flow(self.alloc, slot)
+        if slot < self.queues.len() {
+            return self.queues[slot].reserve(1);
+        }
+        let queue = reserve_queue(&mut self.queues, self.alloc, slot)?;
+        self.heads.reserve_flow(slot)?;
+        add_queues(&mut self.queues, self.alloc, slot, queue);
+        Ok(())
     }
 
     /// A packet joins the backlog of a slot and gets its tags. It takes no memory.
@@ -107,7 +99,8 @@ impl Sched {
         ensures keeps_picks { self.new.picks ≡ self.old.picks }
         ensures keeps_room { (other : ℕ) → (other ≡ slot → ⊥) → room_at self.old.room other ≤ room_at self.new.room other }
     {
-        self.parts.arrive(slot, len.get(), weight.get())
+        self.queues[slot].push_back_reserved((len, weight));
+        self.heads.arrive(slot, len, weight)
     }
 
     /// A packet that comes where none waits begins a busy period and is sent at once, as by `begin_busy`, `arrive` and `pick`.
@@ -120,7 +113,7 @@ impl Sched {
         ensures passes { Passes slot len weight self.old self.new }
         ensures keeps_room { KeepsRoom self.old self.new }
     {
-        self.parts.pass(slot, len.get(), weight.get())
+        self.heads.pass(slot, len, weight)
     }
 
     /// The slot whose first packet is sent next. That packet leaves, and virtual time moves on.
@@ -132,7 +125,12 @@ impl Sched {
         ensures idle { (result ≡ None) ↔ IsIdle self.old.flows }
         ensures none { IfNone result (self.new ≡ self.old) }
     {
-        self.parts.pick()
+        let Some(slot) = self.heads.first() else {
+            return None;
+        };
+        let next = take_first(&mut self.queues[slot]);
+        self.heads.send(slot, next);
+        Some(slot)
     }
 
     /// Lets all packets of a slot go, and its last finish tag with them.
@@ -146,7 +144,11 @@ impl Sched {
         ensures keeps_room { KeepsRoom self.old self.new }
         ensures keeps_counts { KeepsCounts self.old self.new }
     {
-        self.parts.discard(slot)
+        self.heads.discard(slot);
+        if self.queues.len() <= slot {
+            return;
+        }
+        self.queues[slot].clear();
     }
 
     /// Virtual time: the progress of an ideal link that serves all backlogged flows at once.
@@ -154,7 +156,7 @@ impl Sched {
         ensures value { result ≡ self.now.virtual_time }
         ensures bound { result < 2 ^ 96 }
     {
-        self.parts.virtual_time
+        self.heads.virtual_time()
     }
 
     /// How many packets have arrived.
@@ -162,14 +164,14 @@ impl Sched {
         ensures value { result ≡ self.now.arrivals }
         ensures bound { result ≤ 2 ^ 62 }
     {
-        self.parts.arrivals
+        self.heads.arrivals()
     }
 
     /// How many picks have given a slot.
     pub fn picks(&self) -> u64
         ensures value { result ≡ self.now.picks }
     {
-        self.parts.picks
+        self.heads.picks()
     }
 
     /// How many pushes into the heaps there have been: at least one for each pick, and at most two for each arrival.
@@ -178,7 +180,6 @@ impl Sched {
         ensures least { self.now.picks ≤ result }
         ensures most { result ≤ 2 * self.now.arrivals }
     {
-        let parts = &self.parts;
-        parts.moves()
+        self.heads.moves()
     }
 }

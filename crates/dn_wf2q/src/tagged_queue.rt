@@ -1,17 +1,16 @@
-ghost use Rattle.std.specs.Prelude.{ℕ, ◌≡◌, ◌+◌, ◌<◌, ◌≤◌, ◌^◌, ◌==◌, [], ◌∷◌, ◌++◌, length, cond, option_to_list, Some, None, IsOk, IfSome, IfNone, OnOk, All};
+ghost use Rattle.std.specs.Prelude.{ℕ, ◌≡◌, ◌+◌, ◌<◌, ◌^◌, ◌==◌, [], ◌∷◌, ◌++◌, length, cond, Some, None, IfSome, All};
 ghost use Rattle.dn_wf2q.specs.Steps.{IsBlank};
-ghost use Rattle.dn_wf2q.specs.Queue.{IsPayable, IsQueueKept, arriving, behind_of, finishing, first_packet, is_alone, last_finish_tag_in, last_tag, packets_of, places, spare_of, stamped_behind};
+ghost use Rattle.dn_wf2q.specs.Queue.{IsPayable, IsQueueKept, arriving, finishing, first_packet, last_finish_tag_in, last_tag, next_behind, packets_of, stamped_behind};
 
-use crate::behind::Behind;
+use crate::behind::{Behind, Change};
 use crate::queued_packet::QueuedPacket;
 use crate::scaled::cost;
 use crate::tagged_packet::TaggedPacket;
-use std::alloc::{AllocError, Global};
 
 /// The packets of one flow that wait, oldest first.
 ///
-/// The head is here, so that a flow with one packet takes no memory of its own. The others are behind it without tags: a
-/// packet's start tag behind another is that one's finish tag, and it is told when the packet becomes the head.
+/// Only the head is here. A packet's start tag behind another is that one's finish tag, and it is told when the packet
+/// becomes the head. So a flow takes 32 bytes, however many packets wait.
 #[derive(Drop)]
 pub(crate) struct TaggedQueue {
     /// The head's finish tag, or if there is no head that of the last one.
@@ -24,10 +23,6 @@ pub(crate) struct TaggedQueue {
     /// through all flows.
     pub(crate) arrived: u64,
     pub(crate) head: Option<QueuedPacket>,
-    /// Whether no packet is behind the head.
-    ///
-    /// It lies beside the head, so that if there is none the block of those isn't read.
-    pub(crate) alone: bool,
     pub(crate) behind: Behind,
 }
 
@@ -40,26 +35,8 @@ impl TaggedQueue {
             finish_tag: 0,
             arrived: 0,
             head: None,
-            alone: true,
             behind: Behind::new(),
         }
-    }
-
-    /// Makes room for one more packet.
-    #[inline(always)]
-    pub(crate) fn reserve_place(&mut self, alloc: Global) -> Result<(), AllocError>
-        ensures succeeds { 0 < places self.old → IsOk result }
-        ensures ok { OnOk result (0 < places self.new) }
-        ensures packets { packets_of self.new ≡ packets_of self.old }
-        ensures last_finish_tag { last_tag self.new ≡ last_tag self.old }
-        ensures arrived { self.new.arrived ≡ self.old.arrived }
-        ensures room { places self.old ≤ places self.new }
-        ensures kept { (busy_from : ℕ) → IsQueueKept busy_from self.old → IsQueueKept busy_from self.new }
-    {
-        if self.head.is_none() {
-            return Ok(());
-        }
-        self.behind.reserve_place(alloc)
     }
 
     /// Puts a packet at the end, and answers it where it is the head.
@@ -71,7 +48,6 @@ impl TaggedQueue {
         len: u16,
         weight: u8,
     ) -> Option<TaggedPacket>
-        requires place { 0 < places self.old }
         requires weight { 0 < weight }
         requires virtual_time { virtual_time < 2 ^ 96 }
         requires last_finish_tag { last_finish_tag_in busy_from self.old < 2 ^ 96 }
@@ -81,14 +57,12 @@ impl TaggedQueue {
         ensures packets { packets_of self.new ≡ packets_of self.old ++ arriving busy_from self.old virtual_time len weight ∷ [] }
         ensures last_finish_tag { last_tag self.new ≡ (arriving busy_from self.old virtual_time len weight).finish_tag }
         ensures arrived { self.new.arrived ≡ arrivals }
-        ensures room { places self.new + 1 ≡ places self.old }
         ensures kept { IsQueueKept busy_from self.new }
     {
         let packet = QueuedPacket { len, weight };
         if self.head.is_some() {
             self.arrived = arrivals;
-            self.behind.push(packet);
-            self.alone = false;
+            self.behind = self.behind.then(&Change::Joins(packet));
             return None;
         }
         let start_tag = self.last_in(busy_from).max(virtual_time);
@@ -106,7 +80,7 @@ impl TaggedQueue {
 
     /// The last finish tag of a flow of which no packet waits, as it counts in a busy period that began after so many arrivals.
     fn last_in(&self, busy_from: u64) -> u128
-        requires none { behind_of self.now.behind ≡ [] }
+        requires none { self.now.behind.packets ≡ [] }
         ensures value { result ≡ last_finish_tag_in busy_from self.now }
     {
         if busy_from < self.arrived {
@@ -116,52 +90,37 @@ impl TaggedQueue {
         }
     }
 
-    /// Takes the head out, and answers it and the next one.
-    pub(crate) fn take_head(&mut self) -> (QueuedPacket, Option<TaggedPacket>)
+    /// Takes the head out, behind which is this packet, and answers it and the next head.
+    pub(crate) fn take_head(
+        &mut self,
+        next: Option<QueuedPacket>,
+    ) -> (QueuedPacket, Option<TaggedPacket>)
         requires some { 0 < length (packets_of self.old) }
         requires payable { All IsPayable (packets_of self.old) }
-        requires alone { self.old.alone ≡ is_alone self.old }
+        requires next { next ≡ next_behind self.old }
         ensures sent { packets_of self.old ≡ finishing self.old.finish_tag result.0 ∷ packets_of self.new }
         ensures next { result.1 ≡ first_packet (packets_of self.new) }
         ensures last_finish_tag { last_tag self.new ≡ last_tag self.old }
         ensures arrived { self.new.arrived ≡ self.old.arrived }
-        ensures room { places self.new ≡ places self.old + 1 }
         ensures kept { (busy_from : ℕ) → IsQueueKept busy_from self.old → IsQueueKept busy_from self.new }
     {
         let sent = self.head.unwrap();
-        (sent, self.next_head())
-    }
-
-    /// Takes the first packet behind the head out, if there is one.
-    fn pop_behind(&mut self) -> Option<QueuedPacket>
-        requires alone { self.old.alone ≡ is_alone self.old }
-        ensures packets { behind_of self.old.behind ≡ option_to_list result ++ behind_of self.new.behind }
-        ensures none { IfNone result (behind_of self.new.behind ≡ []) }
-        ensures alone { self.new.alone ≡ is_alone self.new }
-        ensures room { spare_of self.new.behind ≡ spare_of self.old.behind + length (option_to_list result) }
-        ensures others { self.new ≡ record self.old { alone = self.new.alone; behind = self.new.behind } }
-    {
-        if self.alone {
-            return None;
-        }
-        let next = self.behind.pop();
-        self.alone = self.behind.is_empty();
-        next
+        (sent, self.next_head(next))
     }
 
     /// The packet behind the head becomes the head.
-    fn next_head(&mut self) -> Option<TaggedPacket>
+    fn next_head(&mut self, next: Option<QueuedPacket>) -> Option<TaggedPacket>
         requires finish_tag { self.old.finish_tag < 2 ^ 96 }
-        requires payable { All IsPayable (stamped_behind self.old.finish_tag (behind_of self.old.behind)) }
-        requires alone { self.old.alone ≡ is_alone self.old }
+        requires payable { All IsPayable (stamped_behind self.old.finish_tag self.old.behind.packets) }
+        requires next { next ≡ next_behind self.old }
         ensures next { result ≡ first_packet (packets_of self.new) }
-        ensures packets { packets_of self.new ≡ stamped_behind self.old.finish_tag (behind_of self.old.behind) }
+        ensures packets { packets_of self.new ≡ stamped_behind self.old.finish_tag self.old.behind.packets }
         ensures last_finish_tag { last_tag self.new ≡ last_tag self.old }
         ensures arrived { self.new.arrived ≡ self.old.arrived }
-        ensures room { places self.new ≡ spare_of self.old.behind + 1 }
         ensures kept { (busy_from : ℕ) → busy_from < self.old.arrived → IsQueueKept busy_from self.new }
     {
-        self.head = self.pop_behind();
+        self.head = next;
+        self.behind = self.behind.then(&Change::FirstLeaves);
         let next = self.head?;
         let start_tag = self.finish_tag;
         self.finish_tag = start_tag + cost(next.len, next.weight) as u128;
@@ -200,12 +159,10 @@ impl TaggedQueue {
         ensures packets { packets_of self.new ≡ [] }
         ensures last_finish_tag { last_tag self.new ≡ 0 }
         ensures arrived { self.new.arrived ≡ self.old.arrived }
-        ensures room { places self.old ≤ places self.new }
         ensures kept { (busy_from : ℕ) → IsQueueKept busy_from self.new }
     {
         self.head = None;
-        self.alone = true;
-        self.behind.clear();
+        self.behind = Behind::new();
         self.finish_tag = 0;
     }
 }

@@ -102,7 +102,10 @@ fn check_fault(
     let Err(fault) = parse_line(line) else {
         panic!(rt; "the line has a fault")
     };
-    assert!(rt; fault.position() == Some(position));
+    assert!(rt; fault.position() == Some(position) && fault.word() == position);
+    let text = fault.text(alloc)?;
+    let wanted = format!(in alloc; "word {position}: {words}")?;
+    assert!(rt; text.as_str() == wanted.as_str() && fault.name() == words);
     check_shown(rt, alloc, fault, words)
 }
 
@@ -112,6 +115,6 @@ fn faults_have_words_and_positions(rt: HostRuntime) -> Result<(), AllocError> {
     for (line, words, position) in FAULTS.iter() {
         check_fault(&rt, rt.alloc(), line, words, *position)?;
     }
-    assert!(rt; LineFault::OutOfMemory.position().is_none());
+    assert!(rt; LineFault::OutOfMemory.position().is_none() && LineFault::OutOfMemory.word() == 0);
     check_shown(&rt, rt.alloc(), LineFault::OutOfMemory, "out of memory")
 }

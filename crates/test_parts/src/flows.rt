@@ -1,6 +1,6 @@
 //! Tests. A test's function makes the table and no more, since what owns a table is dear to prove.
 use crate::given::{
-    at_most, counts, discard, is_told, key, note_both, packet, pass, pop, push, verdict,
+    at_most, counts, discard, is_told, key, note_both, packet, pass, pop, push, verdict, waiting,
 };
 use dn_flows::{DropRule, Flows, HashKey, Verdict, Waiting};
 use dn_types::{Len, Limit, Loss};
@@ -102,7 +102,7 @@ fn check_byte_limit<R: Abort>(rt: &R, flows: &mut Flows) -> Result<(), AllocErro
         (0, Len::new(1_024).unwrap(), Verdict::Take),
         (1, Len::new(1).unwrap(), Verdict::Full),
     ] {
-        push(flows, flow, Waiting { packet, len })?;
+        push(flows, flow, waiting(packet, len))?;
         assert!(rt; verdict(flows, flow, &slots) == Some(Verdict::Full));
         assert!(rt; verdict(flows, flow, &bytes) == Some(by_bytes));
     }
@@ -138,7 +138,7 @@ fn take_step<R: Abort>(
     match step {
         Step::Comes(packet) => {
             let len = Len::new(100).unwrap();
-            push(flows, flow, Waiting { packet, len })?;
+            push(flows, flow, waiting(packet, len))?;
         }
         Step::Starts(number) => {
             assert!(rt; flows.has_backlog(flow) == number.is_some());
@@ -192,9 +192,9 @@ fn check_passing<R: Abort>(rt: &R, flows: &mut Flows) -> Result<(), AllocError> 
     assert!(rt; pass(flows, flow)?);
     assert!(rt; counts(flows, flow) == Some([0, 0, 0, 0, 1, 0]));
     let len = Len::new(100).unwrap();
-    push(flows, flow, Waiting { packet: 1, len })?;
+    push(flows, flow, waiting(1, len))?;
     assert!(rt; !pass(flows, flow)?);
-    assert!(rt; pop(flows, flow) == Some(Waiting { packet: 1, len }));
+    assert!(rt; pop(flows, flow) == Some(waiting(1, len)));
     assert!(rt; pass(flows, flow)?);
     assert!(rt; counts(flows, flow) == Some([0, 0, 0, 0, 3, 0]));
     Ok(())
@@ -212,8 +212,8 @@ fn passing_packets(rt: HostRuntime) -> Result<(), AllocError> {
 /// Two packets of 1,000 bytes come, and the first starts, which is answered.
 fn one_started(flows: &mut Flows, flow: usize) -> Result<Option<Waiting>, AllocError> {
     let len = Len::new(1_000).unwrap();
-    push(flows, flow, Waiting { packet: 7, len })?;
-    push(flows, flow, Waiting { packet: 8, len })?;
+    push(flows, flow, waiting(7, len))?;
+    push(flows, flow, waiting(8, len))?;
     Ok(pop(flows, flow))
 }
 
@@ -221,7 +221,7 @@ fn check_status<R: Abort>(rt: &R, flows: &mut Flows) -> Result<(), AllocError> {
     let flow = flows.find_or_make(key(2))?;
     let len = Len::new(1_000).unwrap();
     let first = one_started(flows, flow)?;
-    assert!(rt; first == Some(Waiting { packet: 7, len }));
+    assert!(rt; first == Some(waiting(7, len)));
     assert!(rt; counts(flows, flow) == Some([1, 1_000, 0, 0, 1, 0]));
     note_both(flows, flow);
     discard(flows, flow);

@@ -1,6 +1,6 @@
 //! What the tests are given: keys, packets and rules, and calls of a table, which do nothing where there is no such flow.
 use dn_flows::{DropRule, Flows, Verdict, Waiting};
-use dn_types::{FiveTuple, FlowKey, Len, Limit, Loss, Mask, Number, Packet, Target};
+use dn_types::{FiveTuple, FlowKey, Len, Limit, Loss, Mask, Number, Packet, Target, Weight};
 use std::alloc::AllocError;
 
 /// UDP from 10.0.0.1 to 10.0.0.`last`.
@@ -56,6 +56,15 @@ pub(crate) fn verdict(flows: &Flows, flow: usize, rule: &DropRule) -> Option<Ver
     Some(flows.verdict(flow, &packet(Len::new(1).unwrap(), 0), rule))
 }
 
+/// A packet of a queue of weight 1.
+pub(crate) fn waiting(packet: u64, len: Len) -> Waiting {
+    Waiting {
+        packet,
+        len,
+        weight: Weight::new(1).unwrap(),
+    }
+}
+
 /// Puts a packet into the flow's queue, where one of 100 slots takes it.
 pub(crate) fn push(flows: &mut Flows, flow: usize, waiting: Waiting) -> Result<(), AllocError> {
     if flow >= flows.len() {
@@ -71,6 +80,7 @@ pub(crate) fn push(flows: &mut Flows, flow: usize, waiting: Waiting) -> Result<(
             Waiting {
                 packet: waiting.packet,
                 len: sent.len,
+                weight: waiting.weight,
             },
         );
     }

@@ -16,7 +16,11 @@ mod flows_in_room;
 #[cfg(test)]
 mod given;
 #[cfg(test)]
+mod heads;
+#[cfg(test)]
 mod heap;
+#[cfg(test)]
+mod homes;
 #[cfg(test)]
 mod keys;
 #[cfg(test)]
@@ -35,6 +39,8 @@ mod readme;
 mod replies;
 #[cfg(test)]
 mod scheduler;
+#[cfg(test)]
+mod second;
 #[cfg(test)]
 mod text;
 #[cfg(test)]

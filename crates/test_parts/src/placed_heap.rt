@@ -30,6 +30,9 @@ fn reserve_again(heap: &mut PlacedHeap<Key>, numbers: usize) -> Result<(), Alloc
 fn check_numbers<R: Abort>(rt: &R, heap: &mut PlacedHeap<Key>) -> Result<(), AllocError> {
     check_told(rt, heap, (None, 0, 0, 0));
     assert!(rt; !push(heap, key(5, 0)));
+    // There are at most 2^32 numbers.
+    assert!(rt; heap.reserve_numbers(4_294_967_297).is_err());
+    check_told(rt, heap, (None, 0, 0, 0));
     reserve_again(heap, 4)?;
     check_told(rt, heap, (None, 0, 4, 0));
     assert!(rt; push(heap, key(5, 0)));

@@ -1,5 +1,5 @@
 //! Samples of the READMEs, each run: their lines stand between marks, and tools/gate/samples.py compares them with the pages.
-use crate::given::{at_most, key, packet};
+use crate::given::{at_most, key, packet, waiting};
 use dn_config::{
     LineFault, NumberFault, Words, number_until, parse_line, print_command, read_address,
     read_number, split_joined,
@@ -116,7 +116,7 @@ fn the_flow_table(rt: HostRuntime) -> Result<(), AllocError> {
     let rule = at_most(Limit::slots(1).unwrap());
     let outcome = first_of_flow(&mut flows, key(1), &packet(len, 0), &rule);
     drop(flows);
-    assert!(rt; outcome? == Some(Waiting { packet: 7, len }));
+    assert!(rt; outcome? == Some(waiting(7, len)));
     Ok(())
 }
 
@@ -135,7 +135,7 @@ fn first_of_flow(
     if counts.lost > 100 || counts.full > 100 || counts.started > 100 {
         return Ok(None);
     }
-    let number = 7;
+    let (number, weight) = (7, Weight::new(1).unwrap());
     // In the README of dn_flows, 1:
     match flows.verdict(flow, packet, rule) {
         Verdict::Take => flows.push_reserved(
@@ -143,6 +143,7 @@ fn first_of_flow(
             Waiting {
                 packet: number,
                 len: packet.len,
+                weight,
             },
         ),
         Verdict::Lost => flows.note_lost(flow),

@@ -1,5 +1,5 @@
 //! How a key comes into a heap that knows where its keys are, is found there, and leaves.
-ghost use Rattle.std.specs.Prelude.{◌≡◌, ℕ, ◌+◌, ◌<◌, ◌≤◌, ◌≢◌, ◌∷◌, All, IfNone, IfSome, slice_index_or, IsPermutation};
+ghost use Rattle.std.specs.Prelude.{◌≡◌, ℕ, ◌+◌, ◌<◌, ◌≤◌, ◌≢◌, ◌^◌, ◌∷◌, All, IfNone, IfSome, slice_index_or, IsPermutation};
 ghost use Rattle.std.specs.Vec.{vec_capacity, vec_len};
 ghost use Rattle.std_alloc.specs.BinaryHeap.{IsHeap, lt_by_cmp};
 ghost use Rattle.std_alloc.specs.BinaryHeap.Sift.{IsHeapWithHole};
@@ -9,8 +9,9 @@ use crate::numbered::Numbered;
 use crate::placed_heap::sift::{lift, settle};
 
 /// Puts a key in, whose number no key has.
-pub(crate) fn put<K: Ord + Copy + Numbered>(keys: &mut Vec<K>, places: &mut Vec<usize>, key: K)
+pub(crate) fn put<K: Ord + Copy + Numbered>(keys: &mut Vec<K>, places: &mut Vec<u32>, key: K)
     requires room { vec_len keys.old < vec_capacity keys.old }
+    requires few { vec_len keys.old < 2 ^ 32 }
     requires number { K.number key < vec_len places.old }
     requires free { All (λ k. K.number k ≢ K.number key) keys.old.items }
     requires placed { ArePlaced K.number keys.old.items places.old.items }
@@ -30,7 +31,7 @@ pub(crate) fn put<K: Ord + Copy + Numbered>(keys: &mut Vec<K>, places: &mut Vec<
 /// Where the key of a number is.
 pub(crate) fn find<K: Ord + Copy + Numbered>(
     keys: &Vec<K>,
-    places: &Vec<usize>,
+    places: &Vec<u32>,
     number: usize,
 ) -> Option<usize>
     requires placed { ArePlaced K.number keys.now.items places.now.items }
@@ -40,17 +41,18 @@ pub(crate) fn find<K: Ord + Copy + Numbered>(
     let Some(&at) = places.get(number) else {
         return None;
     };
-    let Some(key) = keys.get(at) else {
+    let Some(key) = keys.get(at as usize) else {
         return None;
     };
     if key.number() != number {
         return None;
     }
-    Some(at)
+    Some(at as usize)
 }
 
 /// A key came from the end to a place from which one was taken, or that was the end.
-fn mend<K: Ord + Copy + Numbered>(keys: &mut Vec<K>, places: &mut Vec<usize>, at: usize)
+fn mend<K: Ord + Copy + Numbered>(keys: &mut Vec<K>, places: &mut Vec<u32>, at: usize)
+    requires few { vec_len keys.old ≤ 2 ^ 32 }
     requires placed_but { at < vec_len keys.old → ArePlacedBut K.number keys.old.items places.old.items at }
     requires hole { at < vec_len keys.old → IsHeapWithHole (lt_by_cmp (back K.cmp)) keys.old.items at (vec_len keys.old) }
     requires placed { vec_len keys.old ≤ at → ArePlaced K.number keys.old.items places.old.items }
@@ -68,10 +70,11 @@ fn mend<K: Ord + Copy + Numbered>(keys: &mut Vec<K>, places: &mut Vec<usize>, at
 /// Takes out the key at a place.
 pub(crate) fn take_at<K: Ord + Copy + Numbered>(
     keys: &mut Vec<K>,
-    places: &mut Vec<usize>,
+    places: &mut Vec<u32>,
     at: usize,
 ) -> K
     requires at { at < vec_len keys.old }
+    requires few { vec_len keys.old ≤ 2 ^ 32 }
     requires placed { ArePlaced K.number keys.old.items places.old.items }
     requires heap { IsHeap (back K.cmp) keys.old.items }
     ensures value { result ≡ slice_index_or keys.old.items at result }

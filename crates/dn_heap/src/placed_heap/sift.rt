@@ -1,5 +1,5 @@
 //! The moves within a heap that knows where its keys are.
-ghost use Rattle.std.specs.Prelude.{◌≡◌, ℕ, ◌+◌, ◌*◌, ◌<◌, ◌≤◌, ◌≢◌, length, slice_index_or, slice_set, swap};
+ghost use Rattle.std.specs.Prelude.{◌≡◌, ℕ, ◌+◌, ◌*◌, ◌<◌, ◌≤◌, ◌≢◌, ◌^◌, length, slice_index_or, slice_set, swap};
 ghost use Rattle.std_alloc.specs.BinaryHeap.{IsHeap, lt_by_cmp};
 ghost use Rattle.std_alloc.specs.BinaryHeap.Sift.{ComparesAt, IsGreaterChild, IsHeapWithHole, SiftsUp};
 ghost use Rattle.core.specs.Slice.Heapsort.{IsHeapWithin};
@@ -13,13 +13,14 @@ use crate::numbered::Numbered;
 #[inline(always)]
 fn move_hole<K: Ord + Copy + Numbered>(
     keys: &mut [K],
-    places: &mut [usize],
+    places: &mut [u32],
     key: K,
     at: usize,
     to: usize,
 ) -> usize
     requires at { at < length keys.old }
     requires to { to < length keys.old }
+    requires few { length keys.old ≤ 2 ^ 32 }
     requires apart { to ≢ at }
     requires placed { ArePlacedBut K.number (slice_set keys.old at key) places.old at }
     ensures place { result ≡ to }
@@ -29,7 +30,7 @@ fn move_hole<K: Ord + Copy + Numbered>(
 {
     let other = keys[to];
     let number = other.number();
-    places[number] = at;
+    places[number] = at as u32;
     keys[at] = other;
     to
 }
@@ -74,11 +75,12 @@ fn lesser_child<K: Ord>(keys: &[K], at: usize, len: usize) -> usize
 /// Moves a hole up until the key before it isn't greater than the key that it stands for.
 fn rise<K: Ord + Copy + Numbered>(
     keys: &mut [K],
-    places: &mut [usize],
+    places: &mut [u32],
     key: K,
     mut at: usize,
 ) -> usize
     requires at { at < length keys.old }
+    requires few { length keys.old ≤ 2 ^ 32 }
     requires placed { ArePlacedBut K.number (slice_set keys.old at key) places.old at }
     ensures len { length keys.new ≡ length keys.old }
     ensures moved { IsMoved K.number (slice_set keys.old at key) (slice_set keys.new result key) places.old places.new result }
@@ -93,11 +95,12 @@ fn rise<K: Ord + Copy + Numbered>(
 /// Moves a hole down to a leaf, past the lesser of two children each time.
 fn fall<K: Ord + Copy + Numbered>(
     keys: &mut [K],
-    places: &mut [usize],
+    places: &mut [u32],
     key: K,
     mut at: usize,
 ) -> usize
     requires at { at < length keys.old }
+    requires few { length keys.old ≤ 2 ^ 32 }
     requires placed { ArePlacedBut K.number (slice_set keys.old at key) places.old at }
     requires hole { IsHeapWithHole (lt_by_cmp (back K.cmp)) (slice_set keys.old at key) at (length keys.old) }
     ensures len { length keys.new ≡ length keys.old }
@@ -115,20 +118,22 @@ fn fall<K: Ord + Copy + Numbered>(
 
 /// Writes the key into the hole that stands for it, and its place.
 #[inline(always)]
-fn fill<K: Ord + Copy + Numbered>(keys: &mut [K], places: &mut [usize], key: K, at: usize)
+fn fill<K: Ord + Copy + Numbered>(keys: &mut [K], places: &mut [u32], key: K, at: usize)
     requires at { at < length keys.old }
+    requires few { length keys.old ≤ 2 ^ 32 }
     requires placed { ArePlacedBut K.number (slice_set keys.old at key) places.old at }
     ensures keys { keys.new ≡ slice_set keys.old at key }
     ensures placed { ArePlaced K.number keys.new places.new }
     ensures numbers { length places.new ≡ length places.old }
 {
     keys[at] = key;
-    places[key.number()] = at;
+    places[key.number()] = at as u32;
 }
 
 /// The key at a place, which may be anything, goes to where it belongs.
-pub(crate) fn settle<K: Ord + Copy + Numbered>(keys: &mut [K], places: &mut [usize], from: usize)
+pub(crate) fn settle<K: Ord + Copy + Numbered>(keys: &mut [K], places: &mut [u32], from: usize)
     requires at { from < length keys.old }
+    requires few { length keys.old ≤ 2 ^ 32 }
     requires placed { ArePlacedBut K.number keys.old places.old from }
     requires hole { IsHeapWithHole (lt_by_cmp (back K.cmp)) keys.old from (length keys.old) }
     ensures ordered { IsOrdered K.number keys.old keys.new places.old places.new }
@@ -141,8 +146,9 @@ pub(crate) fn settle<K: Ord + Copy + Numbered>(keys: &mut [K], places: &mut [usi
 }
 
 /// The last key goes up to where it belongs.
-pub(crate) fn lift<K: Ord + Copy + Numbered>(keys: &mut [K], places: &mut [usize], last: usize)
+pub(crate) fn lift<K: Ord + Copy + Numbered>(keys: &mut [K], places: &mut [u32], last: usize)
     requires at { last + 1 ≡ length keys.old }
+    requires few { length keys.old ≤ 2 ^ 32 }
     requires placed { ArePlacedBut K.number keys.old places.old last }
     requires heap { IsHeapWithin (lt_by_cmp (back K.cmp)) keys.old 0 last }
     ensures ordered { IsOrdered K.number keys.old keys.new places.old places.new }

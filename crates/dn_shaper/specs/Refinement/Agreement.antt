@@ -13,10 +13,10 @@ use Rattle.dn_types.specs.declared.rule.Rule.{Rule}
 use Rattle.dn_types.specs.declared.target.Target.TheVariants.{Pipe as ToPipe}
 use Rattle.dn_flows.specs.Table.{FlowState, flow_at}
 use Rattle.dn_wf2q.specs.Schedule.{Flow, Schedule, flow_at as slot_at, no_packets}
-use Rattle.dn_shaper.specs.declared.links.home.Home.{Home}
+use Rattle.dn_flows.specs.declared.home.Home.{Home}
 use Rattle.dn_shaper.specs.declared.links.parts.Parts.{Parts}
 use Rattle.dn_shaper.specs.Refinement.Slots.{Ascends, top}
-use Rattle.dn_shaper.specs.Refinement.Views.{LinkView, views_of, home, as_queued, stamped_of, slotted}
+use Rattle.dn_shaper.specs.Refinement.Views.{homes_of, LinkView, views_of, home, as_queued, stamped_of, slotted}
 
 -- The settings give the pipe this bandwidth in bit/s and this delay in milliseconds.
 pub record GivesRates (settings : Settings) (pipe bandwidth delay : ℕ) : Type 0 where
@@ -98,7 +98,7 @@ pub record IsAt (rule : Rule) (accepted : ℕ) (keys : List FlowKey) (homes : Li
   pub accepted_is : accepted ≡ accepted_count trace
 
 abbrev pub AgreesWith : Parts → List Link → List Event → Type 0
-AgreesWith p more trace = IsAt p.rule p.accepted p.flows.keys p.homes.items (views_of p) p.flows.flows p.line.pending more trace
+AgreesWith p more trace = IsAt p.rule p.accepted p.flows.keys (homes_of p.flows.flows) (views_of p) p.flows.flows p.line.pending more trace
 
 -- The parts agree with some trace.
 abbrev pub Agrees : Parts → Type 0

@@ -9,9 +9,9 @@ use Rattle.dn_types.specs.Trace.{Link, own, shared, Event, links, with_link}
 use Rattle.dn_types.specs.declared.packet.Packet.{Packet}
 use Rattle.dn_flows.specs.Table.{flow_at, pushed}
 use Rattle.dn_wf2q.specs.Schedule.{Flow, Schedule, room_at, waiting_of, forgotten, after_arrival}
-use Rattle.dn_shaper.specs.declared.links.home.Home.{Home}
+use Rattle.dn_flows.specs.declared.home.Home.{Home}
 use Rattle.dn_shaper.specs.declared.links.parts.Parts.{Parts}
-use Rattle.dn_shaper.specs.Refinement.Views.{LinkView, views_of, home}
+use Rattle.dn_shaper.specs.Refinement.Views.{homes_of, LinkView, views_of, home}
 use Rattle.dn_shaper.specs.Refinement.Agreement.{AgreesWith, link_names}
 
 -- The scheduler of a shared link can take a packet at the slot.
@@ -55,13 +55,13 @@ pub record Joins (slot len weight : ℕ) (idle : Bool) (old new : LinkView) : Ty
   pub arrives : ArrivesOn slot len weight idle old new old.link
 
 -- One packet more waits in a flow's queue. The links are left as they are.
-pub record JoinsQueue (flow len : ℕ) (old new : Parts) : Type 0 where
-  pub flows_are : new.flows.flows ≡ slice_set old.flows.flows flow (pushed (record { packet = old.accepted; len = len }) (flow_at old.flows.flows flow))
+pub record JoinsQueue (flow len weight : ℕ) (old new : Parts) : Type 0 where
+  pub flows_are : new.flows.flows ≡ slice_set old.flows.flows flow (pushed (record { packet = old.accepted; len = len; weight = weight }) (flow_at old.flows.flows flow))
   pub links : new.links ≡ old.links
   pub rule : new.rule ≡ old.rule
   pub accepted : new.accepted ≡ old.accepted + 1
   pub keys : new.flows.keys ≡ old.flows.keys
-  pub homes : new.homes ≡ old.homes
+  pub homes : homes_of new.flows.flows ≡ homes_of old.flows.flows
   pub line : new.line ≡ old.line
   pub waiting : new.waiting ≡ old.waiting + 1
 
@@ -73,11 +73,11 @@ pub record ArrivesAt (at : ℕ) (h : Home) (flow len weight : ℕ) (idle : Bool)
   pub idle_is : idle ≡ is_idle at view
   pub views_are : views_of new ≡ slice_set (views_of old) h.place view'
   pub joins : Joins h.slot len weight idle view view'
-  pub flows_are : new.flows.flows ≡ slice_set old.flows.flows flow (pushed (record { packet = old.accepted; len = len }) (flow_at old.flows.flows flow))
+  pub flows_are : new.flows.flows ≡ slice_set old.flows.flows flow (pushed (record { packet = old.accepted; len = len; weight = weight }) (flow_at old.flows.flows flow))
   pub rule : new.rule ≡ old.rule
   pub accepted : new.accepted ≡ old.accepted + 1
   pub keys : new.flows.keys ≡ old.flows.keys
-  pub homes : new.homes ≡ old.homes
+  pub homes : homes_of new.flows.flows ≡ homes_of old.flows.flows
   pub line : new.line ≡ old.line
   pub waiting : new.waiting ≡ old.waiting + 1
 
@@ -97,5 +97,5 @@ CanAccept settings at flow p =
 pub record KeepsFlows (old new : Parts) : Type 0 where
   pub rule : new.rule ≡ old.rule
   pub keys : new.flows.keys ≡ old.flows.keys
-  pub homes : new.homes ≡ old.homes
+  pub homes : homes_of new.flows.flows ≡ homes_of old.flows.flows
   pub names : link_names (views_of new) ≡ link_names (views_of old)

@@ -3,10 +3,10 @@ use Rattle.std.specs.Prelude.{◌≡◌, ℕ, ◌+◌, List, ◌∷◌, length, 
 use Rattle.dn_types.specs.Trace.{Link, own, shared, Event, discarded}
 use Rattle.dn_flows.specs.Table.{flow_at, emptied}
 use Rattle.dn_wf2q.specs.Schedule.{after_discard, flow_at as slot_at}
-use Rattle.dn_shaper.specs.declared.links.home.Home.{Home}
+use Rattle.dn_flows.specs.declared.home.Home.{Home}
 use Rattle.dn_shaper.specs.declared.links.link_parts.LinkParts.{LinkParts}
 use Rattle.dn_shaper.specs.declared.links.parts.Parts.{Parts}
-use Rattle.dn_shaper.specs.Refinement.Views.{LinkView, view_of, views_of}
+use Rattle.dn_shaper.specs.Refinement.Views.{homes_of, LinkView, view_of, views_of}
 use Rattle.dn_shaper.specs.Refinement.Agreement.{AgreesWith}
 
 -- So many packets of a flow no longer wait: in its queue where the link is its own, and at its slot of a shared one.
@@ -47,7 +47,7 @@ pub record DiscardsAt (h : Home) (flow : ℕ) (old new : Parts) : Type 0 where
   pub rule : new.rule ≡ old.rule
   pub accepted : new.accepted ≡ old.accepted
   pub keys : new.flows.keys ≡ old.flows.keys
-  pub homes : new.homes ≡ old.homes
+  pub homes : homes_of new.flows.flows ≡ homes_of old.flows.flows
   pub line : new.line ≡ old.line
   pub waiting : new.waiting + length (flow_at old.flows.flows flow).backlog ≡ old.waiting
 

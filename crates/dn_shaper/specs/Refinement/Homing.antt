@@ -6,10 +6,10 @@ use Rattle.dn_types.specs.Trace.{Link, shared}
 use Rattle.dn_types.specs.declared.flow_key.FlowKey.{FlowKey}
 use Rattle.dn_types.specs.declared.target.Target.{Target}
 use Rattle.dn_types.specs.declared.target.Target.TheVariants.{Pipe as ToPipe, Queue as ToQueue}
-use Rattle.dn_flows.specs.Table.{flow_at, places, with_place}
+use Rattle.dn_flows.specs.Table.{flow_at, places, with_home, with_place}
 use Rattle.dn_wf2q.specs.Schedule.{room_at}
 use Rattle.dn_shaper.specs.declared.links.next_start.NextStart.{NextStart}
-use Rattle.dn_shaper.specs.declared.links.home.Home.{Home}
+use Rattle.dn_flows.specs.declared.home.Home.{Home}
 use Rattle.dn_shaper.specs.declared.links.link_parts.LinkParts.{LinkParts}
 use Rattle.dn_shaper.specs.declared.state.State.{State}
 use Rattle.dn_shaper.specs.Refinement.Agreement.{link_names}
@@ -99,8 +99,7 @@ KeepsLinks old new = (place : ℕ) → KeepsAt (slice_get old place) (slice_get 
 pub record GivesHome (key : FlowKey) (flow : ℕ) (old new : State) : Type 0 where
   pub home : Home
   pub houses : Houses (place_for key old.shared) key flow home (views_of old.parts) (views_of new.parts) new.heap old.shared new.shared
-  pub homes : new.parts.homes.items ≡ old.parts.homes.items ++ home ∷ []
-  pub flows : new.parts.flows.flows ≡ slice_set old.parts.flows.flows flow (with_place (flow_at old.parts.flows.flows flow))
+  pub flows : new.parts.flows.flows ≡ slice_set old.parts.flows.flows flow (with_home home (with_place (flow_at old.parts.flows.flows flow)))
   pub accepted : new.parts.accepted ≡ old.parts.accepted
   pub keys : new.parts.flows.keys ≡ old.parts.flows.keys
   pub waiting : new.parts.waiting ≡ old.parts.waiting

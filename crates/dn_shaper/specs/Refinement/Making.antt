@@ -8,7 +8,7 @@ use Rattle.dn_shaper.specs.declared.state.State.{State}
 use Rattle.dn_shaper.specs.Refinement.Agreement.{AgreesWith}
 use Rattle.dn_shaper.specs.Refinement.Starting.{HoldsPlaces}
 use Rattle.dn_shaper.specs.Refinement.Submitting.{IsMade}
-use Rattle.dn_shaper.specs.Refinement.Views.{LinkView, views_of}
+use Rattle.dn_shaper.specs.Refinement.Views.{homes_of, LinkView, views_of}
 
 -- Only room is made in the schedule.
 pub record OnlyRoom (old new : Schedule) : Type 0 where
@@ -55,7 +55,7 @@ pub record OnlyMakesRoom (old new : Parts) : Type 0 where
   pub rule : new.rule ≡ old.rule
   pub accepted : new.accepted ≡ old.accepted
   pub keys : new.flows.keys ≡ old.flows.keys
-  pub homes : new.homes.items ≡ old.homes.items
+  pub homes : homes_of new.flows.flows ≡ homes_of old.flows.flows
   pub waiting : new.waiting ≡ old.waiting
   pub pending : new.line.pending ≡ old.line.pending
   pub pushed : new.line.pushed ≡ old.line.pushed

@@ -1,7 +1,7 @@
 -- What it is for a packet to start at once on an idle link: it arrives, and then its link starts one.
 use Rattle.std.specs.Prelude.{◌≡◌, ℕ, true, List, Some, slice_get}
 use Rattle.dn_types.specs.Trace.{Link, own, shared}
-use Rattle.dn_shaper.specs.declared.links.home.Home.{Home}
+use Rattle.dn_flows.specs.declared.home.Home.{Home}
 use Rattle.dn_shaper.specs.declared.links.link_parts.LinkParts.{LinkParts}
 use Rattle.dn_shaper.specs.declared.links.parts.Parts.{Parts}
 use Rattle.dn_shaper.specs.Refinement.Arriving.{ArrivesAt, CanJoin, HasOneMore, Joins, is_idle}

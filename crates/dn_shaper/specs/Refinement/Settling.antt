@@ -6,7 +6,7 @@ use Rattle.dn_types.specs.Starts.{first_start, settled}
 use Rattle.dn_types.specs.Trace.{Link, Event, started, Start, links}
 use Rattle.dn_shaper.specs.declared.links.next_start.NextStart.{NextStart}
 use Rattle.dn_shaper.specs.declared.links.parts.Parts.{Parts}
-use Rattle.dn_shaper.specs.Refinement.Views.{views_of, next_starts}
+use Rattle.dn_shaper.specs.Refinement.Views.{homes_of, views_of, next_starts}
 use Rattle.dn_shaper.specs.Refinement.Agreement.{AgreesWith, Agrees, link_names}
 use Rattle.dn_shaper.specs.Refinement.NextStarts.{Holds}
 use Rattle.dn_shaper.specs.Refinement.Starting.{Within, IsReady}
@@ -24,7 +24,7 @@ pub record OnlyStarts (old : Parts) (heap : Heap NextStart) (new : Parts) (heap'
   pub rule : new.rule ≡ old.rule
   pub accepted : new.accepted ≡ old.accepted
   pub keys : new.flows.keys ≡ old.flows.keys
-  pub homes : new.homes ≡ old.homes
+  pub homes : homes_of new.flows.flows ≡ homes_of old.flows.flows
   pub names : link_names (views_of new) ≡ link_names (views_of old)
   pub moves : heap'.moves + new.waiting ≤ heap.moves + old.waiting
   pub places : length heap'.keys + heap'.room ≡ length heap.keys + heap.room

@@ -8,10 +8,10 @@ use Rattle.dn_types.specs.declared.rule.Rule.{Rule}
 use Rattle.dn_flows.specs.Table.{FlowState, flow_at, places, popped}
 use Rattle.dn_flows.specs.declared.waiting.Waiting.{Waiting}
 use Rattle.dn_wf2q.specs.Schedule.{room_at}
-use Rattle.dn_shaper.specs.declared.links.home.Home.{Home}
+use Rattle.dn_flows.specs.declared.home.Home.{Home}
 use Rattle.dn_shaper.specs.declared.links.link_parts.LinkParts.{LinkParts}
 use Rattle.dn_shaper.specs.declared.links.parts.Parts.{Parts}
-use Rattle.dn_shaper.specs.Refinement.Views.{LinkView, queue_lengths, view_of, views_of, waits_in_all, TakesNext, IsNextToSend}
+use Rattle.dn_shaper.specs.Refinement.Views.{homes_of, LinkView, queue_lengths, view_of, views_of, waits_in_all, TakesNext, IsNextToSend}
 
 -- The flow that the link takes next has a packet at the front of its queue.
 abbrev pub HasFront : LinkView → List FlowState → Type 0
@@ -63,7 +63,7 @@ pub record Within (n : ℕ) (p : Parts) : Type 0 where
 -- room at its slot if its link is shared.
 pub record IsReady (flow : ℕ) (p : Parts) : Type 0 where
   pub place : (flow_at p.flows.flows flow).reserved ≡ true
-  pub slot : (h : Home) (v : LinkView) (pipe : ℕ) → slice_get p.homes.items flow ≡ Some h → slice_get (views_of p) h.place ≡ Some v → v.link ≡ shared pipe → 0 < room_at v.schedule.room h.slot
+  pub slot : (h : Home) (v : LinkView) (pipe : ℕ) → slice_get (homes_of p.flows.flows) flow ≡ Some h → slice_get (views_of p) h.place ≡ Some v → v.link ≡ shared pipe → 0 < room_at v.schedule.room h.slot
 
 -- Each flow that had room has it still, or each flow but one.
 abbrev pub KeepsReady : Parts → Parts → Type 0
@@ -90,7 +90,7 @@ pub record StartsAt (place moment bandwidth delay : ℕ) (old new : Parts) : Typ
   pub rule : new.rule ≡ old.rule
   pub accepted : new.accepted ≡ old.accepted
   pub keys : new.flows.keys ≡ old.flows.keys
-  pub homes : new.homes ≡ old.homes
+  pub homes : homes_of new.flows.flows ≡ homes_of old.flows.flows
   pub waiting : new.waiting + 1 ≡ old.waiting
   pub room : new.line.room + 1 ≡ old.line.room
   pub pushed : new.line.pushed ≡ old.line.pushed + 1

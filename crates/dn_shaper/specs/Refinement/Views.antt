@@ -7,6 +7,7 @@ use Rattle.dn_types.specs.Calls.{link_of}
 use Rattle.dn_types.specs.Wf2q.{Stamped, pick}
 use Rattle.dn_types.specs.declared.flow_key.FlowKey.{FlowKey}
 use Rattle.dn_link.specs.LinkState.{LinkState}
+use Rattle.dn_flows.specs.declared.home.Home.{Home}
 use Rattle.dn_flows.specs.Table.{FlowState, flow_at}
 use Rattle.dn_flows.specs.declared.waiting.Waiting.{Waiting}
 use Rattle.dn_wf2q.specs.Schedule.{Schedule, heads_of, waiting_of as waiting_in, Picks}
@@ -37,6 +38,10 @@ carried_schedule (Shared s) = s.value.sched
 abbrev pub carried_slots : Carries → List ℕ
 carried_slots (Own flow) = flow ∷ []
 carried_slots (Shared s) = s.value.flows.items
+
+-- The homes of the flows, by number.
+abbrev pub homes_of : List FlowState → List Home
+homes_of flows = map (λ (s : FlowState). s.home) flows
 
 -- How many packets wait in each flow's queue.
 abbrev pub queue_lengths : List FlowState → ℕ → ℕ
@@ -75,7 +80,7 @@ home keys flow = home_by flow (slice_get keys flow)
 
 -- A packet as its flow's queue holds it.
 abbrev pub as_queued : Accepted → Waiting
-as_queued p = record { packet = p.packet; len = p.stamped.len }
+as_queued p = record { packet = p.packet; len = p.stamped.len; weight = p.stamped.weight }
 
 abbrev pub stamped_of : List Accepted → List Stamped
 stamped_of ps = map (λ p. p.stamped) ps

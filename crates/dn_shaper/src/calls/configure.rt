@@ -44,7 +44,6 @@ fn reached(flows: &mut Flows, command: &Command) -> Option<usize>
 /// The same among the parts, of which nothing else changes but room.
 fn next_reached(parts: &mut Parts, command: &Command) -> Option<usize>
     ensures only { OnlyMakesRoom parts.old parts.new }
-    ensures homes { parts.new.homes ≡ parts.old.homes }
     ensures count { active_flows parts.new ≡ active_flows parts.old }
     ensures within { IfSome result (λ flow. flow < length parts.new.flows.flows) }
     ensures active { IfSome result (λ flow. (flow_at parts.new.flows.flows flow).active ≡ true) }

@@ -45,11 +45,11 @@ pub fn accept(
         && parts.flows.has_backlog(flow)
     {
         // Its own link waits already, so the packet is sent in its turn and the link isn't looked at.
-        join_queue(parts, flow, len);
+        join_queue(parts, flow, len, how.weight);
         return number;
     }
-    let home = parts.homes[flow];
-    let link = &parts.links[home.place];
+    let home = parts.flows.home(flow);
+    let link = &parts.links[home.place as usize];
     let free = link.times.free();
     let waited = link.has_backlog(&parts.flows);
     let pipe = link.pipe;
@@ -62,7 +62,7 @@ pub fn accept(
         if !waited {
             heap.push_reserved(NextStart {
                 moment: free,
-                place: home.place,
+                place: home.place as usize,
             });
         }
     }

@@ -3,12 +3,11 @@ ghost use Rattle.dn_flows.specs.Table.{flow_at, lengths};
 ghost use Rattle.dn_shaper.specs.Refinement.Agreement.{Agrees};
 ghost use Rattle.dn_shaper.specs.Refinement.Arriving.{ArrivesAt, CanJoin, HasOneMore, Joins, JoinsQueue, is_idle};
 ghost use Rattle.dn_shaper.specs.Refinement.Views.{LinkView, IsAlone, queue_lengths, view_of, views_of};
-ghost use Rattle.dn_shaper.specs.declared.links.home.Home.{Home as HomeValue};
+ghost use Rattle.dn_flows.specs.declared.home.Home.{Home as HomeValue};
 
-use crate::links::home::Home;
 use crate::links::link_parts::{Carries, LinkParts};
 use crate::links::parts::Parts;
-use dn_flows::{Flows, Waiting};
+use dn_flows::{Flows, Home, Waiting};
 use dn_types::{Len, Weight};
 
 /// Whether no packet waits for the link and it is free by the moment.
@@ -32,16 +31,20 @@ fn join_link(link: &mut LinkParts, slot: usize, len: Len, weight: Weight)
 }
 
 /// A packet is accepted, and waits in its flow's queue.
-pub fn join_queue(parts: &mut Parts, flow: usize, len: Len)
+pub fn join_queue(parts: &mut Parts, flow: usize, len: Len, weight: Weight)
     requires within { flow < length parts.old.flows.flows }
     requires reserved { (flow_at parts.old.flows.flows flow).reserved ≡ true }
     requires bytes { sum (lengths (flow_at parts.old.flows.flows flow).backlog) + len < 2 ^ 32 }
     requires accepted { parts.old.accepted < 2 ^ 62 }
     requires waiting { parts.old.waiting < 2 ^ 62 }
-    ensures { JoinsQueue flow len parts.old parts.new }
+    ensures { JoinsQueue flow len weight parts.old parts.new }
 {
-    let packet = parts.accepted;
-    parts.flows.push_reserved(flow, Waiting { packet, len });
+    let waiting = Waiting {
+        packet: parts.accepted,
+        len,
+        weight,
+    };
+    parts.flows.push_reserved(flow, waiting);
     parts.accepted += 1;
     parts.waiting += 1;
 }
@@ -57,7 +60,7 @@ pub fn arrive(parts: &mut Parts, home: Home, flow: usize, len: Len, weight: Weig
     requires waiting { parts.old.waiting < 2 ^ 62 }
     ensures { (at : ℕ) (v : LinkView) → slice_get (views_of parts.old) home.place ≡ Some v → is_idle at v ≡ false → ArrivesAt at home flow len weight false parts.old parts.new }
 {
-    let link = &mut parts.links[home.place];
-    join_link(link, home.slot, len, weight);
-    join_queue(parts, flow, len);
+    let link = &mut parts.links[home.place as usize];
+    join_link(link, home.slot as usize, len, weight);
+    join_queue(parts, flow, len, weight);
 }

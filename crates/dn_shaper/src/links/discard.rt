@@ -7,11 +7,11 @@ ghost use Rattle.dn_shaper.specs.Refinement.Settling.{AreInStep};
 ghost use Rattle.dn_shaper.specs.Refinement.Starting.{Within};
 ghost use Rattle.dn_shaper.specs.Refinement.Views.{LinkView, IsAlone, view_of, views_of};
 
-use crate::links::home::Home;
 use crate::links::link_heap::LinkHeap;
 use crate::links::link_parts::{Carries, LinkParts};
 use crate::links::next_start::NextStart;
 use crate::links::parts::Parts;
+use dn_flows::Home;
 
 /// The packets at the slot no longer wait for the link, if it is shared.
 ///
@@ -34,8 +34,8 @@ fn empty_flow(parts: &mut Parts, home: Home, flow: usize, count: usize)
     requires waiting { count ≤ parts.old.waiting }
     ensures { DiscardsAt home flow parts.old parts.new }
 {
-    let link = &mut parts.links[home.place];
-    leave_link(link, home.slot);
+    let link = &mut parts.links[home.place as usize];
+    leave_link(link, home.slot as usize);
     parts.flows.discard(flow);
     parts.waiting -= count;
 }
@@ -54,18 +54,18 @@ pub fn discard_flow(parts: &mut Parts, heap: &mut LinkHeap, flow: usize)
     ensures waiting { parts.new.waiting ≤ parts.old.waiting }
     ensures keeps { KeepsFlows parts.old parts.new }
 {
-    let home = parts.homes[flow];
+    let home = parts.flows.home(flow);
     let count = parts.flows.status(flow).queued as usize;
     empty_flow(parts, home, flow, count);
     if count == 0 {
         return;
     }
-    let link = &parts.links[home.place];
+    let link = &parts.links[home.place as usize];
     if !link.has_backlog(&parts.flows) {
         let moment = link.times.free();
         heap.leave(NextStart {
             moment,
-            place: home.place,
+            place: home.place as usize,
         });
     }
 }

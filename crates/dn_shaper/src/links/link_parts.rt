@@ -16,8 +16,8 @@ pub enum Carries {
 
 /// A link, which has no count of the packets that wait for it.
 ///
-/// Those of an own link wait in its flow's queue, and those of a shared one in its scheduler. So a packet that joins others
-/// on an own link leaves the link as it is.
+/// They wait in the queues of their flows. A shared link's scheduler stores the first packet of each flow alone, and an own
+/// link stores none, so that a packet that joins others there leaves the link as it is.
 #[derive(Drop)]
 pub struct LinkParts {
     pub pipe: Number,

@@ -1,5 +1,6 @@
 //! A packet that finds its link idle.
-ghost use Rattle.std.specs.Prelude.{◌≡◌, ℕ, ◌≤◌, ◌^◌, slice_index_or};
+ghost use Rattle.std.specs.Prelude.{◌≡◌, ℕ, ◌≤◌, ◌^◌};
+ghost use Rattle.dn_flows.specs.Table.{flow_at};
 ghost use Rattle.dn_heap.specs.Heap.{Heap};
 ghost use Rattle.dn_types.specs.Configuration.{Settings};
 ghost use Rattle.dn_shaper.specs.Refinement.Passing.{CanPass, IsIdleAt, Passes, PassesLink};
@@ -7,12 +8,11 @@ ghost use Rattle.dn_shaper.specs.Refinement.Submitting.{MayAccept};
 ghost use Rattle.dn_shaper.specs.Refinement.Views.{view_of};
 ghost use Rattle.dn_shaper.specs.declared.links.next_start.NextStart.{NextStart};
 
-use crate::links::home::Home;
 use crate::links::link_parts::{Carries, LinkParts};
 use crate::links::parts::Parts;
 use crate::links::start::send;
 use crate::settings::rates::Rates;
-use dn_flows::Waiting;
+use dn_flows::{Home, Waiting};
 use dn_types::{Len, Weight};
 
 /// A packet passes the link, which is idle: it joins those that wait, and the link takes it at once.
@@ -40,7 +40,7 @@ pub fn pass(
     rates: &Rates,
 )
     requires may { (settings : Settings) × (heap : Heap NextStart) × MayAccept settings at flow parts.old heap }
-    requires home { home ≡ slice_index_or parts.old.homes.items flow home }
+    requires home { home ≡ (flow_at parts.old.flows.flows flow).home }
     requires early { at ≤ 2 ^ 62 }
     requires idle { IsIdleAt at home.place parts.old }
     ensures { Passes at home flow len weight rates.now.bandwidth rates.now.delay parts.old parts.new }
@@ -48,14 +48,18 @@ pub fn pass(
     let packet = parts.accepted;
     parts.accepted += 1;
     parts.flows.pass(flow);
-    let link = &mut parts.links[home.place];
-    pass_link(link, home.slot, len, weight);
+    let link = &mut parts.links[home.place as usize];
+    pass_link(link, home.slot as usize, len, weight);
     send(
         parts.rule,
         rates,
         &mut link.times,
         flow,
-        Waiting { packet, len },
+        Waiting {
+            packet,
+            len,
+            weight,
+        },
         at,
         &mut parts.line,
     );

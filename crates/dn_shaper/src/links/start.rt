@@ -3,6 +3,7 @@ ghost use Rattle.dn_types.specs.Deliveries.{in_order};
 ghost use Rattle.dn_types.specs.Links.{transmission_time, due_by};
 ghost use Rattle.dn_shaper.specs.Refinement.Views.{queue_lengths, view_of, TakesNext, CanSend};
 ghost use Rattle.dn_shaper.specs.Refinement.Agreement.{Agrees};
+ghost use Rattle.dn_shaper.specs.Refinement.Sending.{HasQueues};
 ghost use Rattle.dn_shaper.specs.Refinement.Starting.{HasFront, StartsOn, KeepsSchedule, Within, CanStart, StartsAt};
 
 use crate::links::link_parts::{Carries, LinkParts};
@@ -13,17 +14,15 @@ use dn_link::{DelayLine, Link, tx_time};
 use dn_types::{Delivery, Rule};
 
 /// The flow whose packet the link sends next. On a shared link that is the scheduler's pick.
-fn next_flow(link: &mut LinkParts) -> usize
-    requires { (queues : ℕ → ℕ) × CanSend (view_of queues link.old) (view_of queues link.old).link }
+fn next_flow(link: &mut LinkParts, flows: &Flows) -> usize
+    requires can { (queues : ℕ → ℕ) × CanSend (view_of queues link.old) (view_of queues link.old).link }
+    requires queues { (queues : ℕ → ℕ) × HasQueues (view_of queues link.old) flows.now.flows (view_of queues link.old).link }
     ensures takes { (before after : ℕ → ℕ) → TakesNext result (view_of before link.old) (view_of after link.new) }
     ensures keeps { (before after : ℕ → ℕ) → KeepsSchedule (view_of before link.old) (view_of after link.new) }
 {
     match &mut link.carries {
         Carries::Own(flow) => *flow,
-        Carries::Shared(shared) => {
-            let slot = shared.sched.pick().unwrap();
-            shared.flows[slot]
-        }
+        Carries::Shared(shared) => shared.send_next(flows),
     }
 }
 
@@ -73,6 +72,7 @@ fn start_one(
     line: &mut DelayLine,
 )
     requires sends { CanSend (view_of (queue_lengths flows.old.flows) link.old) (view_of (queue_lengths flows.old.flows) link.old).link }
+    requires queues { HasQueues (view_of (queue_lengths flows.old.flows) link.old) flows.old.flows (view_of (queue_lengths flows.old.flows) link.old).link }
     requires front { HasFront (view_of (queue_lengths flows.old.flows) link.old) flows.old.flows }
     requires free { link.old.times.free ≤ moment }
     requires early { moment ≤ 2 ^ 62 }
@@ -84,7 +84,7 @@ fn start_one(
     ensures room { line.new.room + 1 ≡ line.old.room }
     ensures pushed { line.new.pushed ≡ line.old.pushed + 1 }
 {
-    let flow = next_flow(link);
+    let flow = next_flow(link, flows);
     let packet = flows.pop_front(flow).unwrap();
     send(rule, rates, &mut link.times, flow, packet, moment, line);
 }

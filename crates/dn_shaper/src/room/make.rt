@@ -8,19 +8,20 @@ ghost use Rattle.dn_shaper.specs.Refinement.Homing.{GivesHome, HousesFor, IsNewL
 ghost use Rattle.dn_shaper.specs.Refinement.Making.{KeepsLink};
 ghost use Rattle.dn_shaper.specs.Refinement.Views.{queue_lengths, view_of, views_of};
 
-use crate::links::home::Home;
 use crate::links::link_heap::LinkHeap;
 use crate::links::link_parts::{Carries, LinkParts};
 use crate::links::shared_link::SharedLink;
+use crate::links::short::short;
 use crate::room::shared_places::SharedPlaces;
 use crate::state::State;
+use dn_flows::Home;
 use dn_link::Link;
 use dn_types::{FlowKey, Target};
 use std::alloc::{AllocError, Global};
 
 /// A new flow takes the next slot of a shared link, with room for a packet.
 #[tactic(auto, using(crate::proofs::Scheduled::waits_roomy))]
-fn take_slot(link: &mut LinkParts, flow: usize) -> Result<usize, AllocError>
+fn take_slot(link: &mut LinkParts, flow: usize) -> Result<u32, AllocError>
     requires is_shared { (queues : ℕ → ℕ) × (pipe : ℕ) × ((view_of queues link.old).link ≡ shared_link pipe) }
     ensures slot { (queues : ℕ → ℕ) → IfOk result (λ slot. slot ≡ length (view_of queues link.old).slots) }
     ensures takes { (queues : ℕ → ℕ) → OnOk result (TakesSlot flow (view_of queues link.old) (view_of queues link.new)) }
@@ -33,12 +34,12 @@ fn take_slot(link: &mut LinkParts, flow: usize) -> Result<usize, AllocError>
 }
 
 /// A new flow gets its home on the link at the place, which is shared.
-fn share_link(links: &mut Vec<LinkParts>, place: usize, flow: usize) -> Result<Home, AllocError>
+fn share_link(links: &mut Vec<LinkParts>, place: u32, flow: usize) -> Result<Home, AllocError>
     requires is_shared { (queues : ℕ → ℕ) × (pipe : ℕ) × (slice_get (link_names (map (view_of queues) links.old.items)) place ≡ Some (shared_link pipe)) }
     ensures shares { (queues : ℕ → ℕ) → IfOk result (λ home. Shares flow place home (map (view_of queues) links.old.items) (map (view_of queues) links.new.items)) }
     ensures err { (queues : ℕ → ℕ) → OnErr result (KeepsLinks (map (view_of queues) links.old.items) (map (view_of queues) links.new.items)) }
 {
-    let slot = take_slot(&mut links[place], flow)?;
+    let slot = take_slot(&mut links[place as usize], flow)?;
     Ok(Home { place, slot })
 }
 
@@ -78,9 +79,9 @@ fn make_link(
     ensures err { OnErr result (links.new.items ≡ links.old.items) }
     ensures unnoted { OnErr result (shared.new ≡ shared.old) }
 {
-    let place = links.len();
+    let place = short(links.len())?;
     links.reserve(1)?;
-    heap.reserve(place + 1)?;
+    heap.reserve(links.len() + 1)?;
     let link = new_link(alloc, key, flow)?;
     shared.note(key, place)?;
     links.push_reserved(link);
@@ -122,7 +123,6 @@ fn make_home(state: &mut State, alloc: Global, key: &FlowKey, flow: usize) -> Re
     let places = state.parts.flows.places_with(flow);
     state.parts.line.reserve(state.parts.waiting + places)?;
     state.parts.flows.reserve_place(flow)?;
-    state.parts.homes.reserve(1)?;
     let home = find_home(
         &mut state.parts.links,
         &mut state.heap,
@@ -131,7 +131,7 @@ fn make_home(state: &mut State, alloc: Global, key: &FlowKey, flow: usize) -> Re
         key,
         flow,
     )?;
-    state.parts.homes.push_reserved(home);
+    state.parts.flows.set_home(flow, home);
     Ok(())
 }
 

@@ -40,14 +40,14 @@ pub fn reserve_known(parts: &mut Parts, flow: usize, target: &Target) -> Result<
     ensures only { OnlyMakesRoom parts.old parts.new }
     ensures placed { KeepsPlaces parts.old.flows.flows parts.new.flows.flows }
 {
+    let home = parts.flows.home(flow);
     let places = parts.flows.places_with(flow);
     parts.line.reserve(parts.waiting + places)?;
     parts.flows.reserve_place(flow)?;
     match target {
         Target::Pipe(_) => Ok(()),
         Target::Queue(_) => {
-            let home = parts.homes[flow];
-            reserve_at(&mut parts.links[home.place], home.slot)
+            reserve_at(&mut parts.links[home.place as usize], home.slot as usize)
         }
     }
 }

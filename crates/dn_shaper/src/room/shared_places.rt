@@ -11,7 +11,7 @@ use std::marker::Model;
 /// One is found by a read at the number, so that no choice of numbers makes it dear.
 #[derive(Drop)]
 pub struct SharedPlaces {
-    places: Vec<Option<usize>>,
+    places: Vec<Option<u32>>,
 }
 
 impl Model for SharedPlaces {
@@ -33,7 +33,7 @@ impl SharedPlaces {
     }
 
     /// The place of the link that the queues on the pipe share, where they have one.
-    fn get(&self, pipe: Number) -> Option<usize>
+    fn get(&self, pipe: Number) -> Option<u32>
         ensures { result ≡ at_number self.now pipe }
     {
         match self.places.get(pipe.get() as usize) {
@@ -56,7 +56,7 @@ impl SharedPlaces {
     }
 
     /// Notes the place of a pipe's shared link.
-    fn insert(&mut self, pipe: Number, place: usize) -> Result<(), AllocError>
+    fn insert(&mut self, pipe: Number, place: u32) -> Result<(), AllocError>
         ensures inserts { OnOk result (Sets pipe (Some place) self.old self.new) }
         ensures err { OnErr result (self.new ≡ self.old) }
     {
@@ -66,7 +66,7 @@ impl SharedPlaces {
     }
 
     /// The place of the link that a flow with the key shares, if the key is a queue's and there is the link.
-    pub fn place_for(&self, key: &FlowKey) -> Option<usize>
+    pub fn place_for(&self, key: &FlowKey) -> Option<u32>
         ensures { result ≡ place_for key.now self.now }
     {
         match key.target {
@@ -76,7 +76,7 @@ impl SharedPlaces {
     }
 
     /// Notes the place of the first link of a flow with the key, where queues share it.
-    pub fn note(&mut self, key: &FlowKey, place: usize) -> Result<(), AllocError>
+    pub fn note(&mut self, key: &FlowKey, place: u32) -> Result<(), AllocError>
         ensures notes { OnOk result (NotesFor key.now.target key.now.pipe place self.old self.new) }
         ensures err { OnErr result (self.new ≡ self.old) }
     {

@@ -1,7 +1,7 @@
 ghost use Rattle.std.specs.Prelude.{◌≡◌, ℕ, List, None, IfSome, OnErr, OnOk, Some, is_some};
 ghost use Rattle.std.specs.Option.{option_copied, option_map};
 ghost use Rattle.dn_types.specs.Configuration.{command_reply, has_queues, subject};
-ghost use Rattle.dn_types.specs.Flows.{key_of, treatment};
+ghost use Rattle.dn_types.specs.Flows.{treatment};
 ghost use Rattle.dn_types.specs.declared.target.Target.{Target as TargetValue};
 ghost use Rattle.dn_shaper.specs.Refinement.Agreement.{GivesRates};
 ghost use Rattle.dn_shaper.specs.Refinement.Configuring.{IsAnswered, Lists, Puts};
@@ -14,9 +14,7 @@ use crate::settings::queue_counts::QueueCounts;
 use crate::settings::rates::Rates;
 use crate::settings::treatment::Treatment;
 use dn_flows::DropRule;
-use dn_types::{
-    Bandwidth, Buckets, Command, Delay, FlowKey, Limit, Mask, Number, Packet, Reply, Target, Weight,
-};
+use dn_types::{Bandwidth, Buckets, Command, Delay, Limit, Mask, Number, Reply, Target, Weight};
 use std::alloc::{AllocError, Global};
 use std::marker::Model;
 
@@ -149,16 +147,6 @@ impl Configured {
     {
         match self.command(target) {
             Some(command) => treatment_by(&target, command),
-            None => None,
-        }
-    }
-
-    /// The key of the flow of a packet to a target, if that is configured.
-    pub fn flow_key(&self, target: Target, packet: &Packet) -> Option<FlowKey>
-        ensures { result ≡ option_map (key_of target packet.now.tuple) (treatment (settings_of self.now target)) }
-    {
-        match self.treatment(target) {
-            Some(how) => Some(how.key(packet)),
             None => None,
         }
     }

@@ -27,6 +27,7 @@ returns-clause-appends c = elim c.if-self-eq0.branch [
       on_pipe = (w.self-is i).on_pipe;
       of_queue = (w.self-is i).of_queue;
       started = (w.self-is i).started;
+      home = (w.self-is i).home;
     };
   }
   | else-self-eq0 w ↦ record {
@@ -58,6 +59,7 @@ returns-clause-appends c = elim c.if-self-eq0.branch [
       on_pipe = (w.self-is i).on_pipe;
       of_queue = (w.self-is i).of_queue;
       started = (w.self-is i).started;
+      home = (w.self-is i).home;
     };
   }
 ]

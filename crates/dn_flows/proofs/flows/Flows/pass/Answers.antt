@@ -12,7 +12,7 @@ use Rattle.dn_flows.proofs.flows.Flows.pass.Goals as goal
 
 -- A flow with one start more, and no place reserved.
 abbrev passed : FlowState → FlowState
-passed s = record { backlog = s.backlog; reserved = false; active = true; lost = s.lost; full = s.full; started = s.started + 1; discarded = s.discarded }
+passed s = record { backlog = s.backlog; reserved = false; active = true; lost = s.lost; full = s.full; started = s.started + 1; discarded = s.discarded; home = s.home }
 
 -- Where none waits, it is the flow after a packet came and started.
 passed-is : (w : Waiting) (s : FlowState) → s.backlog ≡ [] → passed s ≡ popped (pushed w s)

@@ -20,8 +20,8 @@ same-flags t = (
 )
 
 -- the start is counted, and nothing else
-counts-after : {old new : Packets} {first : Waiting} {q q' : FlowQueue} → TakesFront first old q new q' → (q'.reserved ≡ q.reserved) × (q'.started + 1 ≡ q.started + 1) × (q'.active ≡ q.active)
-counts-after t = (ap (λ (x : FlowQueue). x.reserved) t.queue_is.2, ap (λ (x : FlowQueue). x.started + 1) t.queue_is.2, ap (λ (x : FlowQueue). x.active) t.queue_is.2)
+counts-after : {old new : Packets} {first : Waiting} {q q' : FlowQueue} → TakesFront first old q new q' → (q'.reserved ≡ q.reserved) × (q'.started + 1 ≡ q.started + 1) × (q'.active ≡ q.active) × (q'.home ≡ q.home)
+counts-after t = (ap (λ (x : FlowQueue). x.reserved) t.queue_is.2, ap (λ (x : FlowQueue). x.started + 1) t.queue_is.2, ap (λ (x : FlowQueue). x.active) t.queue_is.2, ap (λ (x : FlowQueue). x.home) t.queue_is.2)
 
 -- The queue that was read is the flow's.
 here : (c : After-index_mut-queue) → IsAt c.self.inside.packets c.self.inside.queues.items c.self.inside.unsent.items c.args.flow c.index_mut-queue.result.now

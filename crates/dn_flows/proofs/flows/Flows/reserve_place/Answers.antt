@@ -142,7 +142,7 @@ pub returns-then-queue-clause-reserved : goal.returns-then-queue-clause-reserved
 returns-then-queue-clause-reserved c =
     let q = c.index_mut-queue.result.now in
     rw (← c.self.view_is) (counting (here (goal.at.returns-then-queue-clause-reserved c).After-index_mut-queue) c.self.inside.packets q with_place (λ u s. refl) (λ key. refl) (refl, refl, refl, refl)
-    (λ i. record { backlog = waiting_from c.self.inside.packets q.front q.len; reserved = c.if-queue.true i; active = q.active; lost = 0; full = 0; started = q.started; discarded = 0 })).states
+    (λ i. record { backlog = waiting_from c.self.inside.packets q.front q.len; reserved = c.if-queue.true i; active = q.active; lost = 0; full = 0; started = q.started; discarded = 0; home = q.home })).states
 
 pub returns-in_err-reserve-clause-succeeds : goal.returns-in_err-reserve-clause-succeeds
 returns-in_err-reserve-clause-succeeds c =

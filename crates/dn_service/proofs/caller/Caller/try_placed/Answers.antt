@@ -1,12 +1,14 @@
 use Rattle.std.proofs.Common.{length, length-append, arith, ◌+◌, ◌^◌, ◌≡◌, ◌++◌, ◌∷◌, [], ◌<◌, ◌≤◌, List, refl, sym, ap, ◌∙◌, subst}
+use Rattle.dn_types.specs.History.{own_entries}
 use Rattle.dn_types.specs.declared.entry.Entry.{Entry}
 use Rattle.dn_service.specs.Callers.{Answered, IsSameCaller}
 use Rattle.dn_service.specs.Histories.{entry_of}
 use Rattle.dn_service.specs.Accounts.{Has, front_in, lost_in}
-use Rattle.dn_service.specs.Seats.{with_history}
+use Rattle.dn_service.specs.Seats.{sitting, with_history}
 use Rattle.dn_service.proofs.Calling.{now_sitting, seen_from, answers, stands_for, has_seen}
 use Rattle.dn_service.proofs.Lastings.{is_sitting, gone_all, seen_less}
 use Rattle.dn_service.proofs.caller.Caller.try_placed.Goals as goal
+use Rattle.dn_service.proofs.caller.Caller.try_placed.Goals.{After-publish}
 
 pub apply-requires : goal.apply-requires
 apply-requires c = let won = c.in-Ok.ensures.taken in (won.past, won.keeps)
@@ -26,33 +28,41 @@ pub give_back-requires-in-Err-apply-clause-book : goal.give_back-requires-in-Err
 give_back-requires-in-Err-apply-clause-book c =
     let won = c.in-Ok.ensures.taken in (won.past, ap (λ v. v.taken) won.view, c.in-Err-apply.ensures.err won.past won.keeps)
 
+-- The caller after its call.
+module _ (c : After-publish) where
+  me-is : c.publish.new.seat.me ≡ (
+    sitting c.self.inside.seat.me.0.count c.self.inside.number (c.in-Ok.ensures.taken.past.shed ++ c.apply.new.self.kept)
+        (own_entries c.self.inside.number (c.in-Ok.ensures.taken.past.shed ++ c.apply.new.self.kept)) (lost_in c.self.inside.seat.me.0.accounts)
+        (c.publish.ensures.seat.0 c.self.inside.number),
+    [],
+  )
+  me-is =
+      let won = c.in-Ok.ensures.taken in
+      now_sitting c.self.inside.number c.self.inside.seat.me c.publish.new.seat.me c.enter.new.seat.me.0 won.past c.publish.ensures.seat.0 (won.past.shed ++ c.apply.new.self.kept)
+      c.self.invariant.sits won.view (c.publish.ensures.seat.1 won.past (ap (λ v. v.taken) won.view))
+
+  count-is : c.publish.new.seat.me.0.count ≡ c.self.inside.seat.me.0.count
+  count-is = ap (λ x. x.0.count) me-is
+
+  table-is : c.publish.new.seat.table_id ≡ c.self.inside.seat.table_id
+  table-is = c.publish.ensures.table.0 ∙ c.enter.ensures.table.0
+
 pub invariant_of-self-in-Ok-apply : goal.invariant_of-self-in-Ok-apply
 invariant_of-self-in-Ok-apply c =
-    let m = c.self.inside.seat.me in let k = c.self.inside.number in let is = c.self.invariant.sits in
-    let won = c.in-Ok.ensures.taken in
-    let now =
-    now_sitting k m c.publish.new.seat.me c.enter.new.seat.me.0 won.past c.publish.ensures.seat.0 (won.past.shed ++ c.apply.new.self.kept) is won.view
-    (c.publish.ensures.seat.1 won.past (ap (λ v. v.taken) won.view)) in
-    let count : c.publish.new.seat.me.0.count ≡ m.0.count = ap (λ x. x.0.count) now in
-    let table : c.publish.new.seat.table_id ≡ c.self.inside.seat.table_id = c.publish.ensures.table.0 ∙ c.enter.ensures.table.0 in record {
-      at_table = table ∙ c.self.invariant.at_table;
-      one_word = ap (λ t. t.words) table ∙ c.self.invariant.one_word;
-      below = subst (λ n. k < n) (sym count) c.self.invariant.below;
-      few = subst (λ n. n ≤ 16) (sym count) c.self.invariant.few;
-      sits = is_sitting k m.0.count _ _ _ _ c.publish.new.seat.me now;
+    let w = (goal.at.invariant_of-self-in-Ok-apply c).After-publish in
+    let m = c.self.inside.seat.me in let k = c.self.inside.number in record {
+      at_table = table-is w ∙ c.self.invariant.at_table;
+      one_word = ap (λ t. t.words) (table-is w) ∙ c.self.invariant.one_word;
+      below = subst (λ n. k < n) (sym (count-is w)) c.self.invariant.below;
+      few = subst (λ n. n ≤ 16) (sym (count-is w)) c.self.invariant.few;
+      sits = is_sitting k m.0.count _ _ _ _ c.publish.new.seat.me (me-is w);
     }
 
 pub returns-in-Ok-apply-clause-same_caller : goal.returns-in-Ok-apply-clause-same_caller
 returns-in-Ok-apply-clause-same_caller c =
-    let m = c.self.inside.seat.me in let k = c.self.inside.number in let is = c.self.invariant.sits in
-    let won = c.in-Ok.ensures.taken in
-    let now =
-    now_sitting k m c.publish.new.seat.me c.enter.new.seat.me.0 won.past c.publish.ensures.seat.0 (won.past.shed ++ c.apply.new.self.kept) is won.view
-    (c.publish.ensures.seat.1 won.past (ap (λ v. v.taken) won.view)) in
-    let count : c.publish.new.seat.me.0.count ≡ m.0.count = ap (λ x. x.0.count) now in
-    let table : c.publish.new.seat.table_id ≡ c.self.inside.seat.table_id = c.publish.ensures.table.0 ∙ c.enter.ensures.table.0 in
-    subst (λ v. IsSameCaller v (seen_from c.publish.new.seat.table_id k c.publish.new.seat.me)) c.self.view_is
-    record { service = λ i. record { table = table i; callers = count i }; number = refl }
+    let w = (goal.at.returns-in-Ok-apply-clause-same_caller c).After-publish in
+    subst (λ v. IsSameCaller v (seen_from c.publish.new.seat.table_id c.self.inside.number c.publish.new.seat.me)) c.self.view_is
+    record { service = λ i. record { table = table-is w i; callers = count-is w i }; number = refl }
 
 pub returns-in-Ok-apply-clause-ok : goal.returns-in-Ok-apply-clause-ok
 returns-in-Ok-apply-clause-ok c =
@@ -70,14 +80,11 @@ returns-in-Ok-apply-clause-ok c =
 
 pub returns-in-Ok-apply-clause-place : goal.returns-in-Ok-apply-clause-place
 returns-in-Ok-apply-clause-place c = λ few.
-    let m = c.self.inside.seat.me in let k = c.self.inside.number in let is = c.self.invariant.sits in
+    let w = (goal.at.returns-in-Ok-apply-clause-place c).After-publish in
     let won = c.in-Ok.ensures.taken in let history : List Entry = won.past.history in
-    let e : Entry = entry_of k c.args.call.now c.in-Ok-apply.reply in
+    let e : Entry = entry_of c.self.inside.number c.args.call.now c.in-Ok-apply.reply in
     let kept = c.in-Ok-apply.ensures.ok won.past won.keeps in
-    let now =
-    now_sitting k m c.publish.new.seat.me c.enter.new.seat.me.0 won.past c.publish.ensures.seat.0 (won.past.shed ++ c.apply.new.self.kept) is won.view
-    (c.publish.ensures.seat.1 won.past (ap (λ v. v.taken) won.view)) in
-    let front : front_in c.publish.new.seat.me.0.accounts ≡ history ++ e ∷ [] = ap (λ x. front_in x.0.accounts) now ∙ sym kept.whole in
+    let front : front_in c.publish.new.seat.me.0.accounts ≡ history ++ e ∷ [] = ap (λ x. front_in x.0.accounts) (me-is w) ∙ sym kept.whole in
     let size : length (front_in c.publish.new.seat.me.0.accounts) ≡ length history + 1 = ap length front ∙ length-append history (e ∷ []) in
     let place : length history < 2 ^ 64 → c.place-place.result ≡ length history =
     (gone_all history won.past.shed c.in-Ok.book.kept c.in-Ok.book.gone c.place-place.result won.keeps.whole won.keeps.gone c.place-place.ensures).0 in
@@ -95,9 +102,4 @@ returns-then-place-after-clause-cause c =
 
 pub returns-in-Ok-apply-clause-lost : goal.returns-in-Ok-apply-clause-lost
 returns-in-Ok-apply-clause-lost c =
-    let m = c.self.inside.seat.me in let k = c.self.inside.number in let is = c.self.invariant.sits in
-    let won = c.in-Ok.ensures.taken in
-    let now =
-    now_sitting k m c.publish.new.seat.me c.enter.new.seat.me.0 won.past c.publish.ensures.seat.0 (won.past.shed ++ c.apply.new.self.kept) is won.view
-    (c.publish.ensures.seat.1 won.past (ap (λ v. v.taken) won.view)) in
-    ap (λ x. lost_in x.0.accounts) now ∙ ap (λ v. v.lost) c.self.view_is
+    ap (λ x. lost_in x.0.accounts) (me-is (goal.at.returns-in-Ok-apply-clause-lost c).After-publish) ∙ ap (λ v. v.lost) c.self.view_is

@@ -1,63 +1,65 @@
 use Rattle.std.proofs.Common.{◌≡◌, ◌++◌, ◌∷◌, [], ◌<◌, ◌≤◌, refl, sym, ap, ◌∙◌, subst}
 use Rattle.dn_service.specs.Callers.{IsSameCaller, having_lost}
 use Rattle.dn_service.specs.Wakes.{Wakes}
+use Rattle.dn_types.specs.History.{own_entries}
 use Rattle.dn_service.specs.Accounts.{lost_in}
+use Rattle.dn_service.specs.Seats.{sitting}
 use Rattle.dn_service.proofs.Calling.{now_sitting, lost_sitting, lost_to, same_one, seen_from}
 use Rattle.dn_service.proofs.Lastings.{is_sitting, is_seat}
 use Rattle.dn_service.proofs.Waking.{wakes}
 use Rattle.dn_service.proofs.caller.Caller.try_wake_quietly.Goals as goal
+use Rattle.dn_service.proofs.caller.Caller.try_wake_quietly.Goals.{After-give_back_read}
 
 pub give_back_read-requires-clause-book : goal.give_back_read-requires-clause-book
 give_back_read-requires-clause-book c =
     let won = c.in-Ok.ensures.taken in (won.past, ap (λ v. v.taken) won.view, won.keeps)
 
+-- The caller after it gave the book back.
+module _ (c : After-give_back_read) where
+  me-is : c.give_back_read.new.seat.me ≡ (
+    sitting c.self.inside.seat.me.0.count c.self.inside.number c.in-Ok.ensures.taken.past.history
+        (own_entries c.self.inside.number c.in-Ok.ensures.taken.past.history) (lost_in c.self.inside.seat.me.0.accounts) (c.give_back_read.ensures.seat.0 c.self.inside.number),
+    [],
+  )
+  me-is =
+      let won = c.in-Ok.ensures.taken in
+      now_sitting c.self.inside.number c.self.inside.seat.me c.give_back_read.new.seat.me c.enter.new.seat.me.0 won.past c.give_back_read.ensures.seat.0 won.past.history
+      c.self.invariant.sits won.view (c.give_back_read.ensures.seat.1 won.past (ap (λ v. v.taken) won.view))
+
+  count-is : c.give_back_read.new.seat.me.0.count ≡ c.self.inside.seat.me.0.count
+  count-is = ap (λ x. x.0.count) me-is
+
+  table-is : c.give_back_read.new.seat.table_id ≡ c.self.inside.seat.table_id
+  table-is = c.give_back_read.ensures.table.0 ∙ c.enter.ensures.table.0
+
 pub invariant_of-self : goal.invariant_of-self
 invariant_of-self c =
-    let m = c.self.inside.seat.me in let k = c.self.inside.number in let is = c.self.invariant.sits in
-    let won = c.in-Ok.ensures.taken in
-    let now =
-    now_sitting k m c.give_back_read.new.seat.me c.enter.new.seat.me.0 won.past c.give_back_read.ensures.seat.0 won.past.history is won.view
-    (c.give_back_read.ensures.seat.1 won.past (ap (λ v. v.taken) won.view)) in
-    let count : c.give_back_read.new.seat.me.0.count ≡ m.0.count = ap (λ x. x.0.count) now in
-    let table : c.give_back_read.new.seat.table_id ≡ c.self.inside.seat.table_id = c.give_back_read.ensures.table.0 ∙ c.enter.ensures.table.0 in record {
-      at_table = table ∙ c.self.invariant.at_table;
-      one_word = ap (λ t. t.words) table ∙ c.self.invariant.one_word;
-      below = subst (λ n. k < n) (sym count) c.self.invariant.below;
-      few = subst (λ n. n ≤ 16) (sym count) c.self.invariant.few;
-      sits = is_sitting k m.0.count _ _ _ _ c.give_back_read.new.seat.me now;
+    let w = (goal.at.invariant_of-self c).After-give_back_read in
+    let m = c.self.inside.seat.me in let k = c.self.inside.number in record {
+      at_table = table-is w ∙ c.self.invariant.at_table;
+      one_word = ap (λ t. t.words) (table-is w) ∙ c.self.invariant.one_word;
+      below = subst (λ n. k < n) (sym (count-is w)) c.self.invariant.below;
+      few = subst (λ n. n ≤ 16) (sym (count-is w)) c.self.invariant.few;
+      sits = is_sitting k m.0.count _ _ _ _ c.give_back_read.new.seat.me (me-is w);
     }
 
 pub returns-in-Ok-clause-same_caller : goal.returns-in-Ok-clause-same_caller
 returns-in-Ok-clause-same_caller c =
-    let m = c.self.inside.seat.me in let k = c.self.inside.number in let is = c.self.invariant.sits in
-    let won = c.in-Ok.ensures.taken in
-    let now =
-    now_sitting k m c.give_back_read.new.seat.me c.enter.new.seat.me.0 won.past c.give_back_read.ensures.seat.0 won.past.history is won.view
-    (c.give_back_read.ensures.seat.1 won.past (ap (λ v. v.taken) won.view)) in
-    let count : c.give_back_read.new.seat.me.0.count ≡ m.0.count = ap (λ x. x.0.count) now in
-    let table : c.give_back_read.new.seat.table_id ≡ c.self.inside.seat.table_id = c.give_back_read.ensures.table.0 ∙ c.enter.ensures.table.0 in
-    subst (λ v. IsSameCaller v (seen_from c.give_back_read.new.seat.table_id k c.give_back_read.new.seat.me)) c.self.view_is
-    record { service = λ i. record { table = table i; callers = count i }; number = refl }
+    let w = (goal.at.returns-in-Ok-clause-same_caller c).After-give_back_read in
+    subst (λ v. IsSameCaller v (seen_from c.give_back_read.new.seat.table_id c.self.inside.number c.give_back_read.new.seat.me)) c.self.view_is
+    record { service = λ i. record { table = table-is w i; callers = count-is w i }; number = refl }
 
 pub returns-in-Ok-clause-ok : goal.returns-in-Ok-clause-ok
 returns-in-Ok-clause-ok c =
-    let m = c.self.inside.seat.me in let k = c.self.inside.number in let is = c.self.invariant.sits in
-    let won = c.in-Ok.ensures.taken in
-    let now =
-    now_sitting k m c.give_back_read.new.seat.me c.enter.new.seat.me.0 won.past c.give_back_read.ensures.seat.0 won.past.history is won.view
-    (c.give_back_read.ensures.seat.1 won.past (ap (λ v. v.taken) won.view)) in
+    let w = (goal.at.returns-in-Ok-clause-ok c).After-give_back_read in
+    let m = c.self.inside.seat.me in let k = c.self.inside.number in let won = c.in-Ok.ensures.taken in
     subst (λ v. Wakes v c.wake-next.result (seen_from c.give_back_read.new.seat.table_id k c.give_back_read.new.seat.me)) c.self.view_is
-    (wakes c.self.inside.seat.table_id k m c.give_back_read.new.seat.me c.give_back_read.new.seat.table_id won.past.history c.wake-next.result is
-    won.keeps.lawful won.below won.follows (c.wake-next.ensures won.past won.keeps) (c.give_back_read.ensures.seat.0 k) now)
+    (wakes c.self.inside.seat.table_id k m c.give_back_read.new.seat.me c.give_back_read.new.seat.table_id won.past.history c.wake-next.result c.self.invariant.sits
+    won.keeps.lawful won.below won.follows (c.wake-next.ensures won.past won.keeps) (c.give_back_read.ensures.seat.0 k) (me-is w))
 
 pub returns-in-Ok-clause-lost : goal.returns-in-Ok-clause-lost
 returns-in-Ok-clause-lost c =
-    let m = c.self.inside.seat.me in let k = c.self.inside.number in let is = c.self.invariant.sits in
-    let won = c.in-Ok.ensures.taken in
-    let now =
-    now_sitting k m c.give_back_read.new.seat.me c.enter.new.seat.me.0 won.past c.give_back_read.ensures.seat.0 won.past.history is won.view
-    (c.give_back_read.ensures.seat.1 won.past (ap (λ v. v.taken) won.view)) in
-    ap (λ x. lost_in x.0.accounts) now ∙ ap (λ v. v.lost) c.self.view_is
+    ap (λ x. lost_in x.0.accounts) (me-is (goal.at.returns-in-Ok-clause-lost c).After-give_back_read) ∙ ap (λ v. v.lost) c.self.view_is
 
 -- ---- Another caller was in a call
 

@@ -32,7 +32,7 @@ returns-clause-leaves c =
     let p = c.settle.new.parts in
     keeps-room c.args.state.now
     (record {
-      parts = record { rule = p.rule; accepted = p.accepted; flows = p.flows; homes = p.homes; links = p.links; waiting = p.waiting; line = c.give.new.line };
+      parts = record { rule = p.rule; accepted = p.accepted; flows = p.flows; links = p.links; waiting = p.waiting; line = c.give.new.line };
       heap = c.settle.new.heap;
       shared = c.args.state.now.shared;
       configured = c.args.state.now.configured;

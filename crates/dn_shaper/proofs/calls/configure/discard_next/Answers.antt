@@ -1,9 +1,7 @@
 -- One active flow is discarded, or there is none.
-use Rattle.std.proofs.Common.{◌≡◌, ◌∙◌, ap, sym, subst, arith, List, length}
-use Rattle.dn_heap.specs.Heap.{Heap}
+use Rattle.std.proofs.Common.{◌∙◌, subst, arith, List}
 use Rattle.dn_types.specs.declared.flow_key.FlowKey.{FlowKey}
 use Rattle.dn_shaper.specs.Refinement.Reordering.{DiscardsSome}
-use Rattle.dn_shaper.specs.Refinement.Settling.{AreInStep}
 use Rattle.dn_shaper.proofs.Reached.{keeps-more, one-done, room-done, room-keeps, then-done}
 use Rattle.dn_shaper.proofs.Reserved.{reserves-kept, reserves-within}
 use Rattle.dn_shaper.proofs.calls.configure.discard_next.Goals as goal
@@ -42,7 +40,7 @@ returns-in-Some-clause-moves c =
 
 pub returns-in-Some-clause-keeps : goal.returns-in-Some-clause-keeps
 returns-in-Some-clause-keeps c =
-    keeps-more c.args.parts.now c.next_reached.new.parts c.discard_flow.new.parts (room-keeps c.args.parts.now c.next_reached.new.parts c.next_reached.ensures.only c.next_reached.ensures.homes)
+    keeps-more c.args.parts.now c.next_reached.new.parts c.discard_flow.new.parts (room-keeps c.args.parts.now c.next_reached.new.parts c.next_reached.ensures.only)
     c.discard_flow.ensures.keeps
 
 pub returns-in-None-clause-discards : goal.returns-in-None-clause-discards
@@ -58,4 +56,4 @@ pub returns-in-None-clause-moves : goal.returns-in-None-clause-moves
 returns-in-None-clause-moves c = let a = c.next_reached.ensures.only.waiting in omega arith
 
 pub returns-in-None-clause-keeps : goal.returns-in-None-clause-keeps
-returns-in-None-clause-keeps c = room-keeps c.args.parts.now c.next_reached.new.parts c.next_reached.ensures.only c.next_reached.ensures.homes
+returns-in-None-clause-keeps c = room-keeps c.args.parts.now c.next_reached.new.parts c.next_reached.ensures.only

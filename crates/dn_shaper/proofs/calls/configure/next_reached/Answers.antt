@@ -5,6 +5,7 @@ use Rattle.dn_flows.specs.declared.waiting.Waiting.{Waiting}
 use Rattle.dn_shaper.specs.Refinement.Making.{KeepsAt}
 use Rattle.dn_shaper.specs.Refinement.Views.{LinkView, queue_lengths, views_of}
 use Rattle.dn_shaper.proofs.Alone.{all-seen-same}
+use Rattle.dn_shaper.proofs.HomesOf.{homes-each}
 use Rattle.dn_shaper.proofs.Reached.{as-active}
 use Rattle.dn_shaper.proofs.Reserving.{same-at}
 use Rattle.dn_shaper.proofs.calls.configure.next_reached.Goals as goal
@@ -18,7 +19,7 @@ returns-clause-only c =
       rule = refl;
       accepted = refl;
       keys = c.reached.ensures.keys;
-      homes = refl;
+      homes = homes-each old.flows.flows flows c.reached.ensures.many (λ f. (c.reached.ensures.flows f).home);
       waiting = refl;
       pending = refl;
       pushed = refl;

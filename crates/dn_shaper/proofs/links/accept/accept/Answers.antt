@@ -4,30 +4,29 @@ use Rattle.std.specs.Prelude.{Some, slice_get}
 use Rattle.std.proofs.lemmas.Grind.{common_steps}
 use Rattle.dn_flows.proofs.Places.{get-read}
 use Rattle.dn_types.specs.Trace.{own, pipe_of}
-use Rattle.dn_shaper.specs.declared.links.home.Home.{Home}
+use Rattle.dn_flows.specs.declared.home.Home.{Home}
 use Rattle.dn_shaper.specs.Refinement.Agreement.{GivesRates, IsHomeOf}
 use Rattle.dn_shaper.specs.Refinement.Arriving.{ArrivesAt}
 use Rattle.dn_shaper.specs.Refinement.Settings.{settings_of}
-use Rattle.dn_shaper.specs.Refinement.Views.{LinkView, home, queue_lengths, view_of, views_of}
+use Rattle.dn_shaper.specs.Refinement.Views.{homes_of, LinkView, home, queue_lengths, view_of, views_of}
 use Rattle.dn_shaper.proofs.Accepted.{same-link, same-rates, mid-within, mid-keeps, idle-kept, idle-within, idle-keeps, idle-accepts, waits-accepts, room-first, first-kept, other-kept}
 use Rattle.dn_shaper.proofs.Accepting.{can-join, few-accepted, few-waiting, home-at, may-agree, none-waits, seen-there, some-waits}
 use Rattle.dn_shaper.proofs.Alone.{goes-own}
 use Rattle.dn_shaper.proofs.Behind.{joins-behind, others-wait}
-use Rattle.dn_shaper.proofs.HomeRead.{home-alone, home-below, home-there, in-table, place-below}
+use Rattle.dn_shaper.proofs.HomeRead.{home-alone, home-there, in-table, place-below}
 use Rattle.dn_shaper.proofs.OthersReady.{arrives-leaves, passes-leaves}
 use Rattle.dn_shaper.proofs.links.accept.accept.Goals.{After-arrive}
 use Rattle.dn_shaper.proofs.links.accept.accept.Goals as goal
 
 -- ---- The home and the link there are read
 
-pub index-home-requires : goal.index-home-requires
-index-home-requires c =
-    let lt = home-below c.args.parts.now (may-agree c.requires.may) c.requires.may.within in
-    grind (arith, common_steps)
+pub home-home-requires : goal.home-home-requires
+home-home-requires c =
+    in-table c.args.parts.now (may-agree c.requires.may) c.requires.may.within
 
 pub index-link-requires : goal.index-link-requires
 index-link-requires c =
-    let below = place-below c.args.parts.now (may-agree c.requires.may) c.requires.may.within c.index-home.ensures in
+    let below = place-below c.args.parts.now (may-agree c.requires.may) c.requires.may.within c.home-home.ensures in
     grind (arith, common_steps)
 
 -- ---- The packet can arrive there
@@ -35,12 +34,12 @@ index-link-requires c =
 pub arrive-requires-clause-can : goal.arrive-requires-clause-can
 arrive-requires-clause-can c = (
   view_of (queue_lengths c.args.parts.now.flows.flows) c.index-link.result.now,
-  seen-there c.requires.may c.index-home.ensures c.index-link.ensures,
-  can-join c.requires.may c.index-home.ensures c.index-link.ensures,
+  seen-there c.requires.may c.home-home.ensures c.index-link.ensures,
+  can-join c.requires.may c.home-home.ensures c.index-link.ensures,
 )
 
 pub arrive-requires-clause-alone : goal.arrive-requires-clause-alone
-arrive-requires-clause-alone c = home-alone c.args.parts.now (may-agree c.requires.may) c.requires.may.within c.index-home.ensures
+arrive-requires-clause-alone c = home-alone c.args.parts.now (may-agree c.requires.may) c.requires.may.within c.home-home.ensures
 
 pub arrive-requires-clause-within : goal.arrive-requires-clause-within
 arrive-requires-clause-within c = in-table c.args.parts.now (may-agree c.requires.may) c.requires.may.within
@@ -60,19 +59,19 @@ pub pass-requires-clause-idle : goal.pass-requires-clause-idle
 pass-requires-clause-idle c = record {
   link = c.index-link.result.now;
   there =
-      get-read c.args.parts.now.links.items c.index-home.result.now.place c.index-link.result.now
-      (place-below c.args.parts.now (may-agree c.requires.may) c.requires.may.within c.index-home.ensures) c.index-link.ensures;
+      get-read c.args.parts.now.links.items c.home-home.result.place c.index-link.result.now
+      (place-below c.args.parts.now (may-agree c.requires.may) c.requires.may.within c.home-home.ensures) c.index-link.ensures;
   idle = sym c.is_idle-idle.ensures ∙ c.if-idle.true;
 }
 
-home-passed : (c : goal.After-pass) → slice_get c.args.parts.now.homes.items c.args.flow ≡ Some c.index-home.result.now
-home-passed c = home-at c.requires.may c.index-home.ensures
+home-passed : (c : goal.After-pass) → slice_get (homes_of c.args.parts.now.flows.flows) c.args.flow ≡ Some c.home-home.result
+home-passed c = home-at c.requires.may c.home-home.ensures
 
 -- The rates that were read are those of the link.
 rates : (c : goal.After-pass)
     → GivesRates (settings_of c.args.configured.now) (pipe_of c.pass.ensures.arrives.view.link) c.rates-rates.result.bandwidth c.rates-rates.result.delay
 rates c =
-    let there = seen-there c.requires.may c.index-home.ensures c.index-link.ensures in
+    let there = seen-there c.requires.may c.home-home.ensures c.index-link.ensures in
     same-rates c.requires.may (home-passed c) c.pass.ensures.arrives c.index-link.result.now there c.rates-rates.ensures
 
 pub returns-then-idle-clause-accepts : goal.returns-then-idle-clause-accepts
@@ -93,13 +92,13 @@ returns-then-idle-clause-leaves c = passes-leaves c.requires.may (home-passed c)
 -- ---- The link still sends, and the packet arrives there
 
 module _ (c : After-arrive) where
-  home-read : slice_get c.args.parts.now.homes.items c.args.flow ≡ Some c.index-home.result.now
-  home-read = home-at c.requires.may c.index-home.ensures
+  home-read : slice_get (homes_of c.args.parts.now.flows.flows) c.args.flow ≡ Some c.home-home.result
+  home-read = home-at c.requires.may c.home-home.ensures
 
-  link-read : slice_get (views_of c.args.parts.now) c.index-home.result.now.place ≡ Some (view_of (queue_lengths c.args.parts.now.flows.flows) c.index-link.result.now)
-  link-read = seen-there c.requires.may c.index-home.ensures c.index-link.ensures
+  link-read : slice_get (views_of c.args.parts.now) c.home-home.result.place ≡ Some (view_of (queue_lengths c.args.parts.now.flows.flows) c.index-link.result.now)
+  link-read = seen-there c.requires.may c.home-home.ensures c.index-link.ensures
 
-  came : ArrivesAt c.args.at c.index-home.result.now c.args.flow c.args.len c.args.how.now.weight false c.args.parts.now c.arrive.new.parts
+  came : ArrivesAt c.args.at c.home-home.result c.args.flow c.args.len c.args.how.now.weight false c.args.parts.now c.arrive.new.parts
   came = c.arrive.ensures c.args.at _ link-read (sym c.is_idle-idle.ensures ∙ c.if-idle.false)
 
   same : came.view ≡ view_of (queue_lengths c.args.parts.now.flows.flows) c.index-link.result.now
@@ -125,7 +124,7 @@ pub returns-then-not-waited-clause-kept : goal.returns-then-not-waited-clause-ke
 returns-then-not-waited-clause-kept c =
     let w = (goal.at.returns-then-not-waited-clause-kept c).After-arrive in
     let free = c.free-free.ensures ∙ ap (λ (x : LinkView). x.value.free) (sym (same w)) in
-    let keys = subst (λ (m : ℕ). IsPermutation (record { moment = m; place = c.index-home.result.now.place } ∷ c.args.heap.now.keys) c.push_reserved.new.self.keys) free c.push_reserved.ensures.keys in
+    let keys = subst (λ (m : ℕ). IsPermutation (record { moment = m; place = c.home-home.result.place } ∷ c.args.heap.now.keys) c.push_reserved.new.self.keys) free c.push_reserved.ensures.keys in
     first-kept c.requires.may (home-read w) (came w) (none w c.if-not-waited.true) c.push_reserved.new.self keys c.push_reserved.ensures.room
 
 pub returns-then-not-waited-clause-moves : goal.returns-then-not-waited-clause-moves
@@ -190,7 +189,7 @@ join_queue-requires-clause-accepted c = few-accepted c.requires.may
 pub join_queue-requires-clause-waiting : goal.join_queue-requires-clause-waiting
 join_queue-requires-clause-waiting c = few-waiting c.requires.may
 
-there : (c : goal.After-join_queue) → (h : Home) × (slice_get c.args.parts.now.homes.items c.args.flow ≡ Some h)
+there : (c : goal.After-join_queue) → (h : Home) × (slice_get (homes_of c.args.parts.now.flows.flows) c.args.flow ≡ Some h)
     × IsHomeOf c.args.flow (home c.args.parts.now.flows.keys c.args.flow) (views_of c.args.parts.now) h
 there c = home-there c.args.parts.now (may-agree c.requires.may) c.requires.may.within
 
@@ -206,7 +205,7 @@ inside c = in-table c.args.parts.now (may-agree c.requires.may) c.requires.may.w
 behind : (c : goal.After-join_queue)
     → ArrivesAt c.args.at (there c).0 c.args.flow c.args.len c.args.how.now.weight false c.args.parts.now c.join_queue.new.parts
 behind c =
-    joins-behind c.args.at c.args.how.now.weight c.join_queue.ensures c.requires.may.settled.2 (there c).2 (its-own c).1 (inside c) (some c)
+    joins-behind c.args.at c.join_queue.ensures c.requires.may.settled.2 (there c).2 (its-own c).1 (inside c) (some c)
 
 pub returns-clause-accepts : goal.returns-clause-accepts
 returns-clause-accepts c = waits-accepts c.requires.may (there c).1 (behind c) refl
@@ -215,7 +214,7 @@ pub returns-clause-kept : goal.returns-clause-kept
 unfolding behind
 returns-clause-kept c =
     other-kept c.requires.may (there c).1 (behind c)
-    (others-wait c.args.at c.args.how.now.weight c.join_queue.ensures c.requires.may.settled.2 (there c).2 (its-own c).1 (inside c) (some c))
+    (others-wait c.args.at c.join_queue.ensures c.requires.may.settled.2 (there c).2 (its-own c).1 (inside c) (some c))
 
 pub returns-clause-within : goal.returns-clause-within
 returns-clause-within c = mid-within c.requires.may (there c).1 (behind c)

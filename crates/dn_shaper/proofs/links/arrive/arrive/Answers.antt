@@ -24,7 +24,7 @@ returns c = λ at v at_place busy.
     let same : v ≡ view_of before c.index_mut-link.result.now = cc in
     let flows_are = c.join_queue.ensures.flows_are in
     let longer = push-longer c.args.parts.now.flows.flows c.args.flow
-    (record { packet = c.args.parts.now.accepted; len = c.args.len }) c.requires.within c.join_queue.new.parts.flows.flows flows_are in
+    (record { packet = c.args.parts.now.accepted; len = c.args.len; weight = c.args.weight }) c.requires.within c.join_queue.new.parts.flows.flows flows_are in
     record {
       view = view_of before c.index_mut-link.result.now;
       view' = view_of after c.join_link.new.link;
@@ -32,7 +32,7 @@ returns c = λ at v at_place busy.
       idle_is = sym busy ∙ ap (is_idle at) same;
       views_are = ap (λ ls. map (view_of after) ls.items) c.join_queue.ensures.links
           ∙ set-seen c.args.parts.now c.args.flow c.args.home.place c.requires.alone c.requires.within c.join_queue.new.parts.flows.flows
-          (pushed (record { packet = c.args.parts.now.accepted; len = c.args.len }) (flow_at c.args.parts.now.flows.flows c.args.flow)) flows_are c.join_link.new.link;
+          (pushed (record { packet = c.args.parts.now.accepted; len = c.args.len; weight = c.args.weight }) (flow_at c.args.parts.now.flows.flows c.args.flow)) flows_are c.join_link.new.link;
       joins = c.join_link.ensures.joins before after
           (one-more-at c.args.flow c.args.home.place (views_of c.args.parts.now) c.requires.alone
           (view_of before c.index_mut-link.result.now) there before after longer (view_of after c.index_mut-link.result.now).link refl);

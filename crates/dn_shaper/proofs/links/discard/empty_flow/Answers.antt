@@ -1,10 +1,11 @@
 -- The link at the home's place loses the packets.
-use Rattle.std.proofs.Common.{ℕ, refl, subst, sym, arith}
+use Rattle.std.proofs.Common.{◌∙◌, ℕ, ap, refl, subst, sym, arith}
 use Rattle.dn_flows.specs.Table.{emptied, flow_at}
 use Rattle.dn_flows.proofs.Places.{viewed, get-map}
 use Rattle.dn_shaper.specs.Refinement.Discarding.{HoldsCount, LeavesLink}
-use Rattle.dn_shaper.specs.Refinement.Views.{LinkView, queue_lengths, view_of, views_of}
+use Rattle.dn_shaper.specs.Refinement.Views.{homes_of, LinkView, queue_lengths, view_of, views_of}
 use Rattle.dn_shaper.proofs.Alone.{length-now, loses-at, set-seen}
+use Rattle.dn_shaper.proofs.HomesOf.{homes-set}
 use Rattle.dn_shaper.proofs.links.discard.empty_flow.Goals as goal
 
 pub returns : goal.returns
@@ -33,7 +34,7 @@ returns c =
       rule = refl;
       accepted = refl;
       keys = c.discard.ensures.keys;
-      homes = refl;
+      homes = ap homes_of c.discard.ensures.flows ∙ homes-set old.flows.flows c.args.flow (emptied (flow_at old.flows.flows c.args.flow)) refl;
       line = refl;
       waiting = omega arith;
     }

@@ -2,8 +2,8 @@
 use Rattle.std.proofs.Common.{refl, arith}
 use Rattle.dn_types.specs.Trace.{lost}
 use Rattle.dn_flows.specs.Table.{flow_at, one_lost}
-use Rattle.dn_shaper.specs.Refinement.Views.{views_of}
-use Rattle.dn_shaper.proofs.Noting.{IsNoted, noted-counts, noted-in-step, noted-ready, noted-sees}
+use Rattle.dn_shaper.specs.Refinement.Views.{homes_of, views_of}
+use Rattle.dn_shaper.proofs.Noting.{IsNoted, noted-counts, noted-in-step, noted-keeps, noted-ready, noted-sees}
 use Rattle.dn_shaper.proofs.Quiet.{lost-agrees}
 use Rattle.dn_shaper.proofs.links.judge.note_lost.Goals as goal
 
@@ -16,10 +16,11 @@ noted c =
       keys = c.note_lost.ensures.keys;
       flows = c.note_lost.ensures.flows;
       placed = refl;
+      housed = refl;
       same = refl;
       few = λ n few. let lost = few.0 in let full = few.1 in let packets = few.2 in (omega arith, omega arith, omega arith);
       agrees = λ more trace a made.
-          lost-agrees p.rule p.accepted p.flows.keys p.homes.items (views_of p) p.flows.flows p.line.pending more trace a c.args.flow c.requires.within made;
+          lost-agrees p.rule p.accepted p.flows.keys (homes_of p.flows.flows) (views_of p) p.flows.flows p.line.pending more trace a c.args.flow c.requires.within made;
     }
 
 pub returns-clause-sees : goal.returns-clause-sees
@@ -30,6 +31,9 @@ returns-clause-within c = noted-counts (noted c)
 
 pub returns-clause-leaves : goal.returns-clause-leaves
 returns-clause-leaves c = noted-ready (noted c)
+
+pub returns-clause-keeps : goal.returns-clause-keeps
+returns-clause-keeps c = noted-keeps (noted c)
 
 pub returns-clause-kept : goal.returns-clause-kept
 returns-clause-kept c = noted-in-step (noted c) c.requires.few

@@ -6,7 +6,7 @@ use Rattle.dn_shaper.specs.Refinement.Passing.{PassesLink}
 use Rattle.dn_shaper.specs.Refinement.Views.{queue_lengths, view_of}
 use Rattle.dn_shaper.proofs.Accepting.{few-accepted, may-agree}
 use Rattle.dn_shaper.proofs.HomeRead.{in-table, place-below}
-use Rattle.dn_shaper.proofs.Passing.{agrees, arrives, can, can-pass, few-started, free-by, mid, none, stands, starts, views, within}
+use Rattle.dn_shaper.proofs.Passing.{agrees, arrives, can, can-pass, few-started, free-by, homes-passed, mid, none, stands, starts, views, within}
 use Rattle.dn_shaper.proofs.Starting.{pushed-at, room-at}
 use Rattle.dn_shaper.proofs.links.pass.pass.Goals.{After-pass_link}
 use Rattle.dn_shaper.proofs.links.pass.pass.Goals as goal
@@ -67,7 +67,7 @@ returns c =
     let p = passed (goal.at.returns c).After-pass_link in
     let between = mid may read idle p in
     let flows = c.pass.new.self.flows in
-    let left = c.pass.ensures.flows (record { packet = c.args.parts.now.accepted; len = c.args.len }) in
+    let left = c.pass.ensures.flows (record { packet = c.args.parts.now.accepted; len = c.args.len; weight = c.args.weight }) in
     let keeps = p.keeps (queue_lengths between.flows.flows) (queue_lengths flows) in
     record {
       mid = between;
@@ -82,7 +82,7 @@ returns c =
         rule = refl;
         accepted = refl;
         keys = c.pass.ensures.keys;
-        homes = refl;
+        homes = homes-passed c.args.parts.now.flows.flows c.args.flow (record { packet = c.args.parts.now.accepted; len = c.args.len; weight = c.args.weight }) left;
         waiting = refl;
         room = c.send.ensures.room;
         pushed = c.send.ensures.pushed;

@@ -1,10 +1,13 @@
 -- The link at the place is the one that can start.
-use Rattle.std.proofs.Common.{ℕ, ap, sym, refl, subst, arith}
+use Rattle.std.proofs.Common.{◌∙◌, ℕ, ap, sym, refl, subst, arith}
 use Rattle.dn_flows.specs.Table.{flow_at, popped}
 use Rattle.dn_flows.proofs.Places.{get-map}
+use Rattle.dn_shaper.specs.Refinement.Sending.{HasQueues}
 use Rattle.dn_shaper.specs.Refinement.Starting.{HasFront}
-use Rattle.dn_shaper.specs.Refinement.Views.{LinkView, CanSend, IsNextToSend, queue_lengths, view_of}
+use Rattle.dn_shaper.specs.Refinement.Views.{homes_of, LinkView, CanSend, IsNextToSend, queue_lengths, view_of}
 use Rattle.dn_shaper.proofs.Alone.{set-seen}
+use Rattle.dn_shaper.proofs.HomesOf.{homes-set, popped-home}
+use Rattle.dn_shaper.proofs.Queued.{queues-at}
 use Rattle.dn_shaper.proofs.Starting.{alone-at, front-at, link-read, popped-below, pushed-at, room-at, sends-at, waiting-at}
 use Rattle.dn_shaper.proofs.links.start.start_next.Goals as goal
 
@@ -17,6 +20,11 @@ pub start_one-requires-clause-front : goal.start_one-requires-clause-front
 start_one-requires-clause-front c =
     let found = link-read c.requires.within c.requires.agrees c.requires.can c.index_mut-link.ensures.value in
     subst (λ (v : LinkView). HasFront v c.args.parts.now.flows.flows) (sym found.1) (front-at c.requires.within c.requires.agrees c.requires.can)
+
+pub start_one-requires-clause-queues : goal.start_one-requires-clause-queues
+start_one-requires-clause-queues c =
+    let found = link-read c.requires.within c.requires.agrees c.requires.can c.index_mut-link.ensures.value in
+    subst (λ (v : LinkView). HasQueues v c.args.parts.now.flows.flows v.link) (sym found.1) (queues-at c.args.parts.now c.requires.agrees c.args.place c.requires.can.view c.requires.can.there)
 
 pub start_one-requires-clause-free : goal.start_one-requires-clause-free
 start_one-requires-clause-free c =
@@ -56,7 +64,7 @@ returns c =
         rule = refl;
         accepted = refl;
         keys = c.start_one.ensures.keys;
-        homes = refl;
+        homes = ap homes_of starts.flows_are ∙ homes-set old.flows.flows starts.flow (popped (flow_at old.flows.flows starts.flow)) (popped-home (flow_at old.flows.flows starts.flow));
         waiting = omega arith;
         room = c.start_one.ensures.room;
         pushed = c.start_one.ensures.pushed;

@@ -1,13 +1,14 @@
 -- The flow's place is reserved, which leaves all queues as long as they were, and then its home is made.
-use Rattle.std.proofs.Common.{◌≡◌, ◌∙◌, ◌++◌, ◌∷◌, [], ℕ, List, length, map, ap, refl, subst, sym, arith}
+use Rattle.std.proofs.Common.{◌≡◌, ◌∙◌, ℕ, List, length, map, set, ap, refl, subst, sym, arith}
 use Rattle.std.specs.Prelude.{slice_get}
-use Rattle.dn_flows.specs.Table.{FlowState, flow_at, places, with_place}
-use Rattle.dn_shaper.specs.declared.links.home.Home.{Home}
+use Rattle.dn_flows.specs.Table.{FlowState, flow_at, places, with_home, with_place}
+use Rattle.dn_flows.proofs.Reservations.{places-set}
 use Rattle.dn_shaper.specs.Refinement.Homing.{Houses, place_for}
 use Rattle.dn_shaper.specs.Refinement.Making.{KeepsAt, SameFlow}
-use Rattle.dn_shaper.specs.Refinement.Views.{LinkView, queue_lengths, view_of, views_of}
+use Rattle.dn_shaper.specs.Refinement.Views.{homes_of, LinkView, queue_lengths, view_of, views_of}
 use Rattle.dn_shaper.proofs.Alone.{all-seen-same, lengths-same}
 use Rattle.std.proofs.lemmas.List.{length-set}
+use Rattle.dn_shaper.proofs.HomesOf.{homes-set, set-housed}
 use Rattle.dn_shaper.proofs.Reserving.{place-reserved, placed-keeps}
 use Rattle.dn_shaper.proofs.Sharing.{on-err}
 use Rattle.dn_shaper.proofs.room.make.make_home.Goals.{After-find_home}
@@ -24,6 +25,13 @@ seen c =
     all-seen-same c.find_home.new.links.items (queue_lengths flows) (queue_lengths c.reserve_place.new.self.flows)
     (lengths-same flows c.args.flow c.requires.within (with_place (flow_at flows c.args.flow)) c.reserve_place.new.self.flows c.in_ok-reserve_place.ensures.reserved refl)
 
+pub set_home-requires : goal.set_home-requires
+set_home-requires c =
+    let flows = c.args.state.now.parts.flows.flows in
+    let many = ap {B = ℕ} (λ (fs : List FlowState). length fs) c.in_ok-reserve_place.ensures.reserved ∙ length-set flows c.args.flow (with_place (flow_at flows c.args.flow)) in
+    let within = c.requires.within in
+    omega arith
+
 pub returns-in_err-home-clause-err : goal.returns-in_err-home-clause-err
 returns-in_err-home-clause-err c =
     let flows = c.args.state.now.parts.flows.flows in
@@ -34,7 +42,7 @@ returns-in_err-home-clause-err c =
         rule = refl;
         accepted = refl;
         keys = c.reserve_place.ensures.keys;
-        homes = c.reserve-2.ensures.items;
+        homes = ap homes_of reserved ∙ homes-set flows c.args.flow (with_place (flow_at flows c.args.flow)) refl;
         waiting = refl;
         pending = c.reserve.ensures.pending;
         pushed = c.reserve.ensures.pushed;
@@ -53,22 +61,30 @@ returns-in_err-home-clause-err c =
 
 pub returns-clause-gives : goal.returns-clause-gives
 returns-clause-gives c =
-    let same = seen (goal.at.returns-clause-gives c).After-find_home in
+    let flows = c.args.state.now.parts.flows.flows in
+    let home = c.in_ok-home.home in
+    let placed = with_place (flow_at flows c.args.flow) in
+    let housed = c.set_home.ensures.flows ∙ ap (λ (fs : List FlowState). set fs c.args.flow (with_home home (flow_at fs c.args.flow))) c.in_ok-reserve_place.ensures.reserved ∙ set-housed flows c.args.flow home in
+    let same = all-seen-same c.find_home.new.links.items (queue_lengths flows) (queue_lengths c.set_home.new.self.flows)
+    (lengths-same flows c.args.flow c.requires.within (with_home home placed) c.set_home.new.self.flows housed refl) in
     record {
       home = c.in_ok-home.home;
       houses = subst
           (λ (vs : List LinkView). Houses (place_for c.args.key.now c.args.state.now.shared) c.args.key.now c.args.flow c.in_ok-home.home
           (views_of c.args.state.now.parts) vs c.find_home.new.heap c.args.state.now.shared c.find_home.new.shared)
           (sym same) (c.in_ok-home.ensures.houses (queue_lengths c.args.state.now.parts.flows.flows) c.requires.empty);
-      homes = c.push_reserved.ensures.items ∙ ap (λ (hs : List Home). hs ++ c.in_ok-home.home ∷ []) c.reserve-2.ensures.items;
-      flows = c.in_ok-reserve_place.ensures.reserved;
+      flows = housed;
       accepted = refl;
-      keys = c.reserve_place.ensures.keys;
+      keys = c.set_home.ensures.keys ∙ c.reserve_place.ensures.keys;
       waiting = refl;
       pending = c.reserve.ensures.pending;
       pushed = c.reserve.ensures.pushed;
       room = omega (arith, c.in_ok-reserve.ensures.room);
-      line = let is = ap {B = ℕ} places c.in_ok-reserve_place.ensures.reserved in omega (arith, c.in_ok-reserve.ensures.room, c.places_with-places.ensures.value, is);
+      line =
+          let is = ap {B = ℕ} places housed in
+          let one = places-set flows c.args.flow placed c.requires.within in
+          let other = places-set flows c.args.flow (with_home home placed) c.requires.within in
+          omega (arith, c.in_ok-reserve.ensures.room, c.places_with-places.ensures.value, is, one, other);
       heap = c.find_home.ensures.heap;
       keeps = record { rule = refl; configured = refl; now = refl; calls = refl };
     }

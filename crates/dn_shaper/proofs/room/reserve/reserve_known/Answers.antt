@@ -6,25 +6,35 @@ use Rattle.dn_types.specs.Trace.{own, shared}
 use Rattle.dn_flows.specs.Table.{flow_at, places, with_place}
 use Rattle.dn_wf2q.specs.Schedule.{room_at}
 use Rattle.dn_flows.proofs.Places.{map-set}
-use Rattle.dn_shaper.specs.declared.links.home.Home.{Home}
+use Rattle.dn_flows.specs.declared.home.Home.{Home}
 use Rattle.dn_shaper.specs.declared.links.link_parts.LinkParts.{LinkParts}
 use Rattle.dn_shaper.specs.Refinement.Making.{KeepsAt}
-use Rattle.dn_shaper.specs.Refinement.Views.{LinkView, queue_lengths, view_of, views_of}
+use Rattle.dn_shaper.specs.Refinement.Views.{homes_of, LinkView, queue_lengths, view_of, views_of}
 use Rattle.dn_shaper.proofs.Alone.{all-seen-same, goes-own}
 use Rattle.dn_shaper.proofs.HomeRead.{at-home, in-table, link-there, place-below}
+use Rattle.dn_shaper.proofs.HomesOf.{homes-set}
 use Rattle.dn_shaper.proofs.Reserving.{flows-placed, lengths-placed, link-reserved, many-placed, on-ok, place-ready, placed-keeps, same-at, slot-has, slot-ready}
 use Rattle.dn_shaper.proofs.room.reserve.reserve_known.Goals.{After-index_mut, After-reserve_at, After-reserve_place}
 use Rattle.dn_shaper.proofs.room.reserve.reserve_known.Goals as goal
 
 pub index_mut-requires : goal.index_mut-requires
 index_mut-requires c =
-    let below = place-below c.args.parts.now c.requires.agrees c.requires.within c.index-home.ensures in
+    let below = place-below c.args.parts.now c.requires.agrees c.requires.within c.home-home.ensures in
     grind (arith, common_steps)
+
+pub home-home-requires : goal.home-home-requires
+home-home-requires c = in-table c.args.parts.now c.requires.agrees c.requires.within
 
 -- ---- The flow's place is reserved
 
 inside : (c : After-reserve_place) → c.args.flow < length c.args.parts.now.flows.flows
 inside c = in-table c.args.parts.now c.requires.agrees c.requires.within
+
+-- Flows keep their homes.
+homes-placed : (c : After-reserve_place)
+    → c.reserve_place.new.self.flows ≡ set c.args.parts.now.flows.flows c.args.flow (with_place (flow_at c.args.parts.now.flows.flows c.args.flow))
+    → homes_of c.reserve_place.new.self.flows ≡ homes_of c.args.parts.now.flows.flows
+homes-placed c placed = ap homes_of placed ∙ homes-set c.args.parts.now.flows.flows c.args.flow (with_place (flow_at c.args.parts.now.flows.flows c.args.flow)) refl
 
 -- Links are seen as they were before that.
 seen : (c : After-reserve_place)
@@ -44,7 +54,7 @@ returns-in-Pipe-clause-only c =
       rule = refl;
       accepted = refl;
       keys = c.reserve_place.ensures.keys;
-      homes = refl;
+      homes = homes-placed w placed;
       waiting = refl;
       pending = c.reserve.ensures.pending;
       pushed = c.reserve.ensures.pushed;
@@ -64,7 +74,7 @@ returns-in-Pipe-clause-ready c =
     record {
       place = place-ready c.args.parts.now.flows.flows (inside w) c.in_ok-reserve_place.ensures.reserved;
       slot = λ h v pipe at e is_shared.
-          let found : Some t.0 ≡ Some h = sym t.1 ∙ at in
+          let found : Some t.0 ≡ Some h = sym t.1 ∙ ap (λ (hs : List Home). slice_get hs flow) (sym (homes-placed w c.in_ok-reserve_place.ensures.reserved)) ∙ at in
           let h_is : t.0 ≡ h = cc in
           let read : Some t.2.view ≡ Some v = sym t.2.there ∙ ap (λ (vs : List LinkView). slice_get vs t.0.place) (sym (seen w c.in_ok-reserve_place.ensures.reserved c.args.parts.now.links.items))
           ∙ ap (λ (x : Home). slice_get (map (view_of (queue_lengths c.reserve_place.new.self.flows)) c.args.parts.now.links.items) x.place) h_is ∙ e in
@@ -80,29 +90,29 @@ returns-in-Pipe-clause-placed c =
 -- ---- On a shared link its slot gets room too
 
 -- The link at the flow's home was read, and set.
-link-read : (c : After-index_mut) → slice_get (views_of c.args.parts.now) c.index-home.result.now.place ≡ Some (view_of (queue_lengths c.args.parts.now.flows.flows) c.index_mut.result.now)
-link-read c = link-there c.args.parts.now c.requires.agrees c.requires.within c.index-home.ensures c.index_mut.ensures.value
+link-read : (c : After-index_mut) → slice_get (views_of c.args.parts.now) c.home-home.result.place ≡ Some (view_of (queue_lengths c.args.parts.now.flows.flows) c.index_mut.result.now)
+link-read c = link-there c.args.parts.now c.requires.agrees c.requires.within c.home-home.ensures c.index_mut.ensures.value
 
 seen-set : (c : After-reserve_at)
     (same : (links : List LinkParts) → map (view_of (queue_lengths c.reserve_place.new.self.flows)) links ≡ map (view_of (queue_lengths c.args.parts.now.flows.flows)) links)
-    → map (view_of (queue_lengths c.reserve_place.new.self.flows)) (set c.args.parts.now.links.items c.index-home.result.now.place c.reserve_at.new.link)
-    ≡ set (views_of c.args.parts.now) c.index-home.result.now.place (view_of (queue_lengths c.args.parts.now.flows.flows) c.reserve_at.new.link)
+    → map (view_of (queue_lengths c.reserve_place.new.self.flows)) (set c.args.parts.now.links.items c.home-home.result.place c.reserve_at.new.link)
+    ≡ set (views_of c.args.parts.now) c.home-home.result.place (view_of (queue_lengths c.args.parts.now.flows.flows) c.reserve_at.new.link)
 seen-set c same =
-    same (set c.args.parts.now.links.items c.index-home.result.now.place c.reserve_at.new.link)
-    ∙ map-set (view_of (queue_lengths c.args.parts.now.flows.flows)) c.args.parts.now.links.items c.index-home.result.now.place c.reserve_at.new.link
+    same (set c.args.parts.now.links.items c.home-home.result.place c.reserve_at.new.link)
+    ∙ map-set (view_of (queue_lengths c.args.parts.now.flows.flows)) c.args.parts.now.links.items c.home-home.result.place c.reserve_at.new.link
 
 pub returns-in-Queue-clause-only : goal.returns-in-Queue-clause-only
 returns-in-Queue-clause-only c =
     let w = goal.at.returns-in-Queue-clause-only c in
     let flows = c.args.parts.now.flows.flows in
-    let place = c.index-home.result.now.place in
+    let place = c.home-home.result.place in
     let before = queue_lengths flows in
     let now = seen-set w.After-reserve_at (seen w.After-reserve_place c.in_ok-reserve_place.ensures.reserved) in
     record {
       rule = refl;
       accepted = refl;
       keys = c.reserve_place.ensures.keys;
-      homes = refl;
+      homes = homes-placed w.After-reserve_place c.in_ok-reserve_place.ensures.reserved;
       waiting = refl;
       pending = c.reserve.ensures.pending;
       pushed = c.reserve.ensures.pushed;
@@ -123,7 +133,7 @@ returns-in-Queue-clause-placed c =
 pub returns-in-Queue-clause-ready : goal.returns-in-Queue-clause-ready
 returns-in-Queue-clause-ready c =
     let w = goal.at.returns-in-Queue-clause-ready c in
-    let its = c.index-home.result.now in
+    let its = c.home-home.result in
     let before = queue_lengths c.args.parts.now.flows.flows in
     let after = queue_lengths c.reserve_place.new.self.flows in
     let links = set c.args.parts.now.links.items its.place c.reserve_at.new.link in
@@ -131,7 +141,8 @@ returns-in-Queue-clause-ready c =
     on-ok c.reserve_at.result (λ has. record {
       place = place-ready c.args.parts.now.flows.flows (inside w.After-reserve_place) c.in_ok-reserve_place.ensures.reserved;
       slot = λ h v pipe at e is_shared.
-          let found : Some its ≡ Some h = sym (at-home c.args.parts.now c.requires.agrees c.requires.within c.index-home.ensures) ∙ at in
+          let kept = homes-placed w.After-reserve_place c.in_ok-reserve_place.ensures.reserved in
+          let found : Some its ≡ Some h = sym (at-home c.args.parts.now c.requires.agrees c.requires.within c.home-home.ensures) ∙ ap (λ (hs : List Home). slice_get hs c.args.flow) (sym kept) ∙ at in
           let h_is : its ≡ h = cc in
           let read = ap (λ (vs : List LinkView). slice_get vs its.place) same ∙ ap (λ (x : Home). slice_get (map (view_of after) links) x.place) h_is ∙ e in
           subst (λ (x : Home). 0 < room_at v.schedule.room x.slot) h_is
@@ -144,7 +155,7 @@ pub returns-in-Queue-clause-succeeds : goal.returns-in-Queue-clause-succeeds
 returns-in-Queue-clause-succeeds c ready =
     let w = goal.at.returns-in-Queue-clause-succeeds c in
     let before = queue_lengths c.args.parts.now.flows.flows in
-    let its = c.index-home.result.now in
+    let its = c.home-home.result in
     let v : LinkView = view_of before c.index_mut.result.now in
     c.reserve_at.ensures.succeeds before (slot-has its.slot v v.link (λ pipe is.
-    ready.slot its v pipe (at-home c.args.parts.now c.requires.agrees c.requires.within c.index-home.ensures) (link-read w.After-index_mut) is))
+    ready.slot its v pipe (at-home c.args.parts.now c.requires.agrees c.requires.within c.home-home.ensures) (link-read w.After-index_mut) is))

@@ -1,15 +1,31 @@
-use Rattle.std.proofs.Common.{ℕ, subst}
-use Rattle.dn_wf2q.specs.Kept.{schedule_of}
-use Rattle.dn_wf2q.specs.Schedule.{Passes}
-use Rattle.dn_wf2q.proofs.Passed.{passes}
+use Rattle.std.proofs.Common.{ap, map}
+use Rattle.dn_wf2q.specs.Schedule.{Flow, forgotten}
+use Rattle.dn_wf2q.specs.Stored.{spare}
+use Rattle.dn_wf2q.proofs.Passed.{idle_at}
+use Rattle.dn_wf2q.proofs.Rooms.{room_listed}
+use Rattle.dn_wf2q.proofs.Stored.{begun, has_room, passed, passes_with}
 use Rattle.dn_wf2q.proofs.sched.Sched.pass.Goals as goal
 
+pub pass-requires-clause-reserved : goal.pass-requires-clause-reserved
+pass-requires-clause-reserved c =
+    let qs = c.self.inside.queues.items in
+    has_room c.self.inside.heads qs c.self.invariant c.args.slot (room_listed spare qs c.args.slot (rw (← c.self.view_is) at c.requires.reserved))
+
 pub invariant_of-self : goal.invariant_of-self
-invariant_of-self c = record { kept = c.pass.ensures.kept; none_due = c.pass.ensures.none_due }
+invariant_of-self c =
+    let flows = c.self.inside.heads.flows in
+    let qs = c.self.inside.queues.items in
+    let idle = rw (← c.self.view_is) at c.requires.idle in
+    let p = c.pass.ensures.passes in
+    record {
+      stored =
+          rw (p.picks.flows, p.here)
+          (passed (forgotten flows) qs (begun flows qs c.self.invariant.stored) c.args.slot 0 c.args.len c.args.weight
+          (room_listed spare qs c.args.slot (rw (← c.self.view_is) at c.requires.reserved)) (ap (λ (fl : Flow). fl.backlog) (idle_at flows idle c.args.slot)));
+      rooms = c.pass.ensures.rooms;
+    }
 
 pub returns-clause-passes : goal.returns-clause-passes
 returns-clause-passes c =
-    let idle = rw (← c.self.view_is) at c.requires.idle in
-    let it = passes c.args.slot c.get.result c.get-2.result c.self.inside.parts c.pass.new.self idle c.pass.ensures.passes in
-    rw (← c.self.view_is)
-    (subst (λ (x : ℕ × ℕ). Passes c.args.slot x.0 x.1 (schedule_of c.self.inside.parts) (schedule_of c.pass.new.self)) (λ i. (c.get.ensures.value i, c.get-2.ensures.value i)) it)
+    let room = map spare c.self.inside.queues.items in
+    rw (← c.self.view_is) (passes_with room room c.args.slot c.args.len c.args.weight c.self.inside.heads c.pass.new.self c.pass.ensures.passes)

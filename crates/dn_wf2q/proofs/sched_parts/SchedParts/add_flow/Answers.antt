@@ -1,5 +1,5 @@
 use Rattle.std.proofs.Common.{◌+◌, refl, arith}
-use Rattle.dn_wf2q.proofs.Reserved.{kept_extended, extended_seen, grown, room_added}
+use Rattle.dn_wf2q.proofs.Reserved.{kept_extended, extended_seen, grown}
 use Rattle.dn_wf2q.proofs.sched_parts.SchedParts.add_flow.Goals as goal
 
 pub returns-clause-reserves : goal.returns-clause-reserves
@@ -9,7 +9,6 @@ returns-clause-reserves c = record {
   picks = refl;
   eligible = c.in_ok-reserve_numbers.ensures.keeps_moves;
   waiting = c.in_ok-reserve_numbers-2.ensures.keeps_moves;
-  room = room_added c.args.self.now.flows.items c.add_queues.new.flows.items (rw c.in_ok-reserve.ensures.items at c.add_queues.ensures.extended);
 }
 
 pub returns-clause-ok : goal.returns-clause-ok

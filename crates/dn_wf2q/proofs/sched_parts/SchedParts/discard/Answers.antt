@@ -19,21 +19,18 @@ head-head-requires c = record {
 pub overflow_sub-self : goal.overflow_sub-self
 overflow_sub-self c =
     weighs c.args.self.now c.requires.kept c.args.slot (omega (arith, c.args.self.now.flows.ok.0)) c.index_mut-q.result.now
-    c.index_mut-q.ensures.value c.clear.new.self c.clear.ensures.packets c.clear.ensures.last_finish_tag c.clear.ensures.arrived c.clear.ensures.kept
-    c.clear.ensures.room c.in-Some.head (sym c.head-head.ensures.head ∙ c.in-Some.is)
+    c.index_mut-q.ensures.value c.clear.new.self c.clear.ensures.packets c.clear.ensures.last_finish_tag c.clear.ensures.arrived c.clear.ensures.kept c.in-Some.head (sym c.head-head.ensures.head ∙ c.in-Some.is)
 
 -- No packet waited.
 pub returns-in_default-clause-discarded : goal.returns-in_default-clause-discarded
 returns-in_default-clause-discarded c =
     discards c.args.self.now c.requires.kept c.args.slot (omega (arith, c.args.self.now.flows.ok.0)) c.index_mut-q.result.now
-    c.index_mut-q.ensures.value c.clear.new.self c.clear.ensures.packets c.clear.ensures.last_finish_tag c.clear.ensures.arrived c.clear.ensures.kept
-    c.clear.ensures.room _ refl refl refl refl refl refl
+    c.index_mut-q.ensures.value c.clear.new.self c.clear.ensures.packets c.clear.ensures.last_finish_tag c.clear.ensures.arrived c.clear.ensures.kept _ refl refl refl refl refl refl
 
 pub returns-in_default-clause-kept : goal.returns-in_default-clause-kept
 returns-in_default-clause-kept c =
     idle_left c.args.self.now c.requires.kept c.args.slot (omega (arith, c.args.self.now.flows.ok.0)) c.index_mut-q.result.now
-    c.index_mut-q.ensures.value c.clear.new.self c.clear.ensures.packets c.clear.ensures.last_finish_tag c.clear.ensures.arrived c.clear.ensures.kept
-    c.clear.ensures.room (next_is_none (packets_of c.index_mut-q.result.now) (sym c.head-head.ensures.head ∙ c.in_default.is))
+    c.index_mut-q.ensures.value c.clear.new.self c.clear.ensures.packets c.clear.ensures.last_finish_tag c.clear.ensures.arrived c.clear.ensures.kept (next_is_none (packets_of c.index_mut-q.result.now) (sym c.head-head.ensures.head ∙ c.in_default.is))
 
 -- The head was eligible.
 from_eligible : (c : After-take_number) → Took c.args.slot c.args.self.now.eligible c.take_number.new.self
@@ -42,20 +39,17 @@ from_eligible c =
     let t = c.take_number.ensures in
     took_eligible c.args.self.now c.requires.kept c.args.slot (omega (arith, c.args.self.now.flows.ok.0)) c.index_mut-q.result.now
     c.index_mut-q.ensures.value c.clear.new.self c.clear.ensures.packets c.clear.ensures.last_finish_tag c.clear.ensures.arrived c.clear.ensures.kept
-    c.clear.ensures.room
     c.in-Some.head (sym c.head-head.ensures.head ∙ c.in-Some.is) c.requires.none_due early c.take_number.new.self c.take_number.result t.taken t.keys t.room t.absent
 
 pub returns-then-head-self-clause-discarded : goal.returns-then-head-self-clause-discarded
 returns-then-head-self-clause-discarded c =
     discards c.args.self.now c.requires.kept c.args.slot (omega (arith, c.args.self.now.flows.ok.0)) c.index_mut-q.result.now
-    c.index_mut-q.ensures.value c.clear.new.self c.clear.ensures.packets c.clear.ensures.last_finish_tag c.clear.ensures.arrived c.clear.ensures.kept
-    c.clear.ensures.room _ refl refl refl refl refl (ap (λ m. m + c.args.self.now.waiting.moves) c.take_number.ensures.keeps_moves)
+    c.index_mut-q.ensures.value c.clear.new.self c.clear.ensures.packets c.clear.ensures.last_finish_tag c.clear.ensures.arrived c.clear.ensures.kept _ refl refl refl refl refl (ap (λ m. m + c.args.self.now.waiting.moves) c.take_number.ensures.keeps_moves)
 
 pub returns-then-head-self-clause-kept : goal.returns-then-head-self-clause-kept
 returns-then-head-self-clause-kept c =
     eligible_left c.args.self.now c.requires.kept c.args.slot (omega (arith, c.args.self.now.flows.ok.0)) c.index_mut-q.result.now
-    c.index_mut-q.ensures.value c.clear.new.self c.clear.ensures.packets c.clear.ensures.last_finish_tag c.clear.ensures.arrived c.clear.ensures.kept
-    c.clear.ensures.room c.in-Some.head (sym c.head-head.ensures.head ∙ c.in-Some.is)
+    c.index_mut-q.ensures.value c.clear.new.self c.clear.ensures.packets c.clear.ensures.last_finish_tag c.clear.ensures.arrived c.clear.ensures.kept c.in-Some.head (sym c.head-head.ensures.head ∙ c.in-Some.is)
     c.take_number.new.self (from_eligible c) c.take_number.ensures.keeps_moves
 
 -- It waited to be eligible.
@@ -65,20 +59,17 @@ from_waiting c =
     let t = c.take_number-else-head-self.ensures in
     took_waiting c.args.self.now c.requires.kept c.args.slot (omega (arith, c.args.self.now.flows.ok.0)) c.index_mut-q.result.now
     c.index_mut-q.ensures.value c.clear.new.self c.clear.ensures.packets c.clear.ensures.last_finish_tag c.clear.ensures.arrived c.clear.ensures.kept
-    c.clear.ensures.room
     c.in-Some.head (sym c.head-head.ensures.head ∙ c.in-Some.is) c.requires.none_due late c.take_number-else-head-self.new.self c.take_number-else-head-self.result t.taken t.keys t.room t.absent
 
 pub returns-else-head-self-clause-discarded : goal.returns-else-head-self-clause-discarded
 returns-else-head-self-clause-discarded c =
     discards c.args.self.now c.requires.kept c.args.slot (omega (arith, c.args.self.now.flows.ok.0)) c.index_mut-q.result.now
-    c.index_mut-q.ensures.value c.clear.new.self c.clear.ensures.packets c.clear.ensures.last_finish_tag c.clear.ensures.arrived c.clear.ensures.kept
-    c.clear.ensures.room _ refl refl refl refl refl (ap (λ m. c.args.self.now.eligible.moves + m) c.take_number-else-head-self.ensures.keeps_moves)
+    c.index_mut-q.ensures.value c.clear.new.self c.clear.ensures.packets c.clear.ensures.last_finish_tag c.clear.ensures.arrived c.clear.ensures.kept _ refl refl refl refl refl (ap (λ m. c.args.self.now.eligible.moves + m) c.take_number-else-head-self.ensures.keeps_moves)
 
 pub returns-else-head-self-clause-kept : goal.returns-else-head-self-clause-kept
 returns-else-head-self-clause-kept c =
     waiting_left c.args.self.now c.requires.kept c.args.slot (omega (arith, c.args.self.now.flows.ok.0)) c.index_mut-q.result.now
-    c.index_mut-q.ensures.value c.clear.new.self c.clear.ensures.packets c.clear.ensures.last_finish_tag c.clear.ensures.arrived c.clear.ensures.kept
-    c.clear.ensures.room c.in-Some.head (sym c.head-head.ensures.head ∙ c.in-Some.is)
+    c.index_mut-q.ensures.value c.clear.new.self c.clear.ensures.packets c.clear.ensures.last_finish_tag c.clear.ensures.arrived c.clear.ensures.kept c.in-Some.head (sym c.head-head.ensures.head ∙ c.in-Some.is)
     c.take_number-else-head-self.new.self (from_waiting c) c.take_number-else-head-self.ensures.keeps_moves
 
 pub returns-else-head-self-clause-none_due : goal.returns-else-head-self-clause-none_due
