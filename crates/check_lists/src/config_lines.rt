@@ -26,7 +26,7 @@ fn answer(alloc: Global, line: &str) -> Result<String, AllocError> {
         }
         Err(fault) => {
             let name = fault_name(fault);
-            let position = fault.position().unwrap_or(0);
+            let position = fault.word();
             format!(in alloc; "{name} {position}")
         }
     }

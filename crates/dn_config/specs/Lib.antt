@@ -1,7 +1,7 @@
 pub mod Tokens
 pub mod Words
 pub mod Keywords
-pub mod Positions
+pub mod Faults
 pub mod Values
 pub mod Masks
 pub mod Settings

@@ -3,7 +3,7 @@ use Rattle.std.specs.Prelude.{ℕ, ◌+◌, cond, List, [], ◌∷◌, ◌++◌,
 use Rattle.std.specs.Str.{is_utf8}
 use Rattle.dn_types.specs.declared.command.Command.{Command}
 use Rattle.dn_config.specs.Line.{answer}
-use Rattle.dn_config.specs.Positions.{position_of}
+use Rattle.dn_config.specs.Faults.{position_of}
 use Rattle.dn_config.specs.declared.fault.LineFault.{LineFault}
 use Rattle.dn_config.specs.Tokens.Lines.{lines_of}
 use Rattle.dn_files.specs.Reading.{◌>>=◌, within_limit}

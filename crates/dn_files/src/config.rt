@@ -1,7 +1,7 @@
 ghost use Rattle.std.specs.Prelude.{◌≡◌, ◌≤◌, ◌+◌, ◌++◌, false, length, Ok, IfOk, IfErr, OnOk};
 ghost use Rattle.std.specs.Prelude.{Err, Option};
 ghost use Rattle.dn_types.specs.declared.command.Command.{Command};
-ghost use Rattle.dn_config.specs.Positions.{position_of};
+ghost use Rattle.dn_config.specs.Faults.{position_of};
 ghost use Rattle.dn_files.specs.ConfigFile.{command_at, commands_in, config_file, fault_at, numbered};
 ghost use Rattle.dn_files.specs.Reading.{IsFaultOf, IsRefusal, ReadsAs};
 ghost use Rattle.dn_files.specs.declared.replay_fault.ReplayFault.TheVariants.{OutOfMemory};

@@ -12,7 +12,7 @@ use thiserror::Error;
 #[derive(Clone, Copy, Debug, PartialEq, Eq, Error)]
 pub enum ReplayFault {
     /// A configuration line is no command, and this is its first fault.
-    #[error("config line {line}, word {}: {fault}", word_of(*.fault))]
+    #[error("config line {line}, word {}: {fault}", .fault.word())]
     Config { line: usize, fault: LineFault },
     /// A configuration line isn't UTF-8.
     #[error("config line {0}: not UTF-8")]
@@ -51,11 +51,6 @@ pub enum ReplayFault {
     /// The line deletes a queue that isn't configured.
     #[error("config line {0}: no such queue")]
     NoSuchQueue(usize),
-}
-
-// The position of a fault in its line, and 0 for one that has none, which no line gives.
-fn word_of(fault: LineFault) -> usize {
-    fault.position().unwrap_or(0)
 }
 
 impl ReplayFault {
