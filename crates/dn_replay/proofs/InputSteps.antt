@@ -1,11 +1,9 @@
 -- What an input asks for, and what became of it, by the parts of it.
-use Rattle.std.proofs.Common.{◌≡◌, ◌∙◌, ℕ, ◌<◌, ◌≤◌, All, Bool, true, false, List, [], ◌++◌, length, Option, Some, None, Result, Ok, Err, refl, sym, ap, subst, append_assoc, append-nil}
+use Rattle.std.proofs.Common.{◌≡◌, ◌∙◌, ℕ, ◌≤◌, Bool, true, false, List, [], ◌++◌, length, Option, Some, None, Result, Ok, Err, refl, sym, ap, subst, append_assoc, append-nil}
 use Rattle.std.specs.Prelude.{IfErr, IfOk}
 use Rattle.std.proofs.lemmas.Bool.{false≢true}
-use Rattle.dn_types.specs.History.{IsLawful}
 use Rattle.dn_types.specs.declared.call.Call.{Call}
 use Rattle.dn_types.specs.declared.entry.Entry.{Entry}
-use Rattle.dn_types.specs.declared.rule.Rule.TheVariants.{Ordered}
 use Rattle.dn_config.specs.Tokens.Joined.{joined_parts}
 use Rattle.dn_files.specs.PacketFile.{rows_of}
 use Rattle.dn_files.specs.Reading.{◌>>=◌, IsFaultOf, IsTextOf, within_limit}
@@ -21,6 +19,7 @@ use Rattle.dn_replay.specs.declared.replays.stage.Stage.TheVariants as at
 use Rattle.dn_replay.specs.Held.{has_entries}
 use Rattle.dn_replay.specs.OnePass.{calls_with, HasTaken, IsAnswered, IsCutAt}
 use Rattle.dn_replay.specs.InParts.{calls_asked, source_of}
+use Rattle.dn_replay.specs.OneCaller.{AnswersByOne, ReplaysByOne}
 use Rattle.dn_replay.specs.Replays.{AskForWithin, calls_of_joined_within, calls_of_parts, calls_within, config_calls, EitherFailed, failed_read, IsAccepted, IsUnreplayed, read_of, TextFailed}
 use Rattle.dn_replay.specs.Runs.{replayed}
 use Rattle.dn_replay.proofs.ReplaySteps.{lawful_replay, one_replays}
@@ -99,15 +98,16 @@ module _ (Asked Inputs : Result (List Call) ReplayFault → Type 0) (old new : O
     unanswered_through failed fault h = (failures None h.0, (through (Err fault) h.1.0, h.1.1))
 
 -- A history that was recorded is one of caller 0, and it is lawful.
-pub lawful_answer : (records : Bool) (Asked : Result (List Call) ReplayFault → Type 0) (entries : List Entry) (untargeted : Bool) (old new : Option (List ℕ))
-    → IsAnswered records Asked entries untargeted old new → records ≡ true → IsLawful Ordered entries
-lawful_answer true Asked entries untargeted old new told on = lawful_replay Asked entries old new told.0
-lawful_answer false Asked entries untargeted old new told on = absurd (false≢true on)
+pub by_one : (records : Bool) (Asked : Result (List Call) ReplayFault → Type 0) (entries : List Entry) (untargeted : Bool) (old new : Option (List ℕ))
+    → IsAnswered records Asked entries untargeted old new → AnswersByOne records entries untargeted Asked old new
+by_one true Asked entries untargeted old new told =
+    record { answered = told; lawful = λ on. lawful_replay Asked entries old new told.0; callers = λ on. one_replays Asked entries old new told.0 }
+by_one false Asked entries untargeted old new told = record { answered = told; lawful = λ on. absurd (false≢true on); callers = λ on. absurd (false≢true on) }
 
-pub one_answers : (records : Bool) (Asked : Result (List Call) ReplayFault → Type 0) (entries : List Entry) (untargeted : Bool) (old new : Option (List ℕ))
-    → IsAnswered records Asked entries untargeted old new → records ≡ true → All (λ e. e.caller < 1) entries
-one_answers true Asked entries untargeted old new told on = one_replays Asked entries old new told.0
-one_answers false Asked entries untargeted old new told on = absurd (false≢true on)
+-- The history alone of an answer that records it.
+pub history_alone : (entries : List Entry) (untargeted : Bool) (Asked : Result (List Call) ReplayFault → Type 0) (old new : Option (List ℕ))
+    → AnswersByOne true entries untargeted Asked old new → ReplaysByOne entries Asked old new
+history_alone entries untargeted Asked old new told = record { replayed = told.answered.0; lawful = told.lawful refl; callers = told.callers refl }
 
 -- Which read failed is known of a result and of its fault.
 pub read_known : {A : Type 0} (Failed : Option Source → Type 0) (result : Result A ReplayFault) → IfOk result (λ value. Failed None)

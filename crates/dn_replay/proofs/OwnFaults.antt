@@ -10,7 +10,7 @@ use Rattle.dn_types.specs.declared.reply.Reply.{Reply}
 use Rattle.dn_types.specs.declared.reply.Reply.TheVariants as r
 use Rattle.dn_types.specs.declared.rule.Rule.TheVariants.{Ordered}
 use Rattle.dn_config.specs.Line.{answer}
-use Rattle.dn_config.specs.Positions.{position_of}
+use Rattle.dn_config.specs.Faults.{position_of}
 use Rattle.dn_config.specs.declared.fault.LineFault.{LineFault}
 use Rattle.dn_records.specs.Records.{Fields, records_of}
 use Rattle.dn_config.specs.Tokens.Lines.{lines_of}

@@ -9,8 +9,7 @@ use Rattle.dn_files.specs.declared.source.Source.{Source}
 use Rattle.dn_files.specs.declared.source.Source.TheVariants.{Input, Packets}
 use Rattle.dn_replay.specs.Held.{has_entries}
 use Rattle.dn_replay.specs.OnePass.{HasTaken, IsAnswered, NoneFailed}
-use Rattle.dn_replay.specs.Replays.{AskForWithin, calls_of_joined_within, calls_within, IsUnreplayed, TextFailed}
-use Rattle.dn_replay.specs.declared.replays.manner.Manner.{Manner}
+use Rattle.dn_replay.specs.Replays.{calls_of_joined_within, calls_within, IsUnreplayed, TextFailed}
 use Rattle.dn_replay.specs.declared.replays.pass.Pass.{Pass}
 use Rattle.dn_replay.specs.declared.replays.stage.Stage.{Stage}
 use Rattle.dn_replay.specs.declared.replays.stage.Stage.TheVariants.{Refused}
@@ -101,14 +100,6 @@ AnswersWhole known replay entries untargeted old new = (text : List ℕ) × IsTe
 abbrev pub LeavesWhole : Option (List ℕ) → Bool → Coming → Option (List ℕ) → Option (List ℕ) → Bool → ReplayFault → Type 0
 LeavesWhole known read_failed replay old new failed fault = First replay (λ records config.
     IsUnreplayed (TextFailed (source_of config) read_failed) (IsAskedBehind replay.limit config known) old new failed fault)
-
--- What two inputs may have held asks for these calls, or has this fault, in a replay of this manner.
-abbrev pub FilesAsk : Manner → Option (List ℕ) → Option (List ℕ) → Result (List Call) ReplayFault → Type 0
-FilesAsk manner config packets asked = AskForWithin manner.limit config packets asked
-
--- It was answered.
-abbrev pub AnswersFiles : Manner → Option (List ℕ) → Option (List ℕ) → List Entry → Bool → Option (List ℕ) → Option (List ℕ) → Type 0
-AnswersFiles manner config packets entries untargeted old new = IsAnswered manner.records (FilesAsk manner config packets) entries untargeted old new
 
 -- Memory was refused for a part, so that the replay ends with OutOfMemory, whatever comes.
 abbrev pub LacksMemory : Coming → Type 0

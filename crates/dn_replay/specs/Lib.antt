@@ -6,6 +6,7 @@ pub mod Held
 pub mod InParts
 pub mod Kept
 pub mod KeptReports
+pub mod OneCaller
 pub mod OnePass
 pub mod Parts
 pub mod Passing

@@ -1,9 +1,7 @@
-ghost use Rattle.std.specs.Prelude.{◌≡◌, ◌<◌, All, false, true, IfOk, IfErr};
-ghost use Rattle.dn_types.specs.History.{IsLawful};
-ghost use Rattle.dn_types.specs.declared.rule.Rule.TheVariants.{Ordered};
-ghost use Rattle.dn_replay.specs.InParts.{AnswersFiles, AnswersWhole, FilesAsk, IsLimit, LeavesWhole};
-ghost use Rattle.dn_replay.specs.OnePass.{IsAnswered};
-ghost use Rattle.dn_replay.specs.Replays.{AsksForWithin, EitherFailed, InputFailed, IsUnanswered, read_of};
+ghost use Rattle.std.specs.Prelude.{◌≡◌, false, IfOk, IfErr};
+ghost use Rattle.dn_replay.specs.InParts.{AnswersWhole, IsLimit, LeavesWhole};
+ghost use Rattle.dn_replay.specs.OneCaller.{AnswersByOne, IsReplay};
+ghost use Rattle.dn_replay.specs.Replays.{AskForWithin, AsksForWithin, EitherFailed, InputFailed};
 
 use crate::replays::file_replay::FileReplay;
 use crate::replays::manner::Manner;
@@ -53,18 +51,10 @@ pub fn replay_files<C: Inlet, P: Inlet, O: Outlet>(
     requires config { C.has_failed config.old ≡ false }
     requires packets { P.has_failed packets.old ≡ false }
     requires out { O.has_failed out.old ≡ false }
-    ensures ok { IfOk result (λ both. AnswersFiles manner (C.remaining config.old) (P.remaining packets.old)
-        both.0.items both.1.untargeted (O.contents out.old) (O.contents out.new)) }
-
-    // A history is lawful, and the report of one caller is its report.
-    ensures lawful { IfOk result (λ both. manner.records ≡ true → IsLawful Ordered both.0.items) }
-    ensures callers { IfOk result (λ both. manner.records ≡ true → All (λ e. e.caller < 1) both.0.items) }
-
-    // Which read failed, if one did. With a result no write failed.
-    ensures inputs { EitherFailed (C.remaining config.old) (C.has_failed config.new) (P.has_failed packets.new) (read_of result) }
-    ensures sound { IfOk result (λ _. O.has_failed out.new ≡ false) }
-    ensures err { IfErr result (λ fault. IsUnanswered (FilesAsk manner (C.remaining config.old) (P.remaining packets.old))
-        (O.contents out.old) (O.contents out.new) (O.has_failed out.new) fault) }
+    ensures { IsReplay result (λ both. AnswersByOne manner.records both.0.items both.1.untargeted)
+        (AskForWithin manner.limit (C.remaining config.old) (P.remaining packets.old))
+        (EitherFailed (C.remaining config.old) (C.has_failed config.new) (P.has_failed packets.new))
+        (O.contents out.old) (O.contents out.new) (O.has_failed out.new) }
 {
     let text = read_input(alloc, config, CONFIG_LIMIT, Source::Config)?;
     let replay = FileReplay::behind(alloc, manner, text.as_slice())?;
@@ -81,13 +71,9 @@ pub fn replay_input<I: Inlet, O: Outlet>(
     requires limit { IsLimit manner.limit }
     requires input { I.has_failed input.old ≡ false }
     requires out { O.has_failed out.old ≡ false }
-    ensures ok { IfOk result (λ both. IsAnswered manner.records (AsksForWithin manner.limit (I.remaining input.old))
-        both.0.items both.1.untargeted (O.contents out.old) (O.contents out.new)) }
-    ensures lawful { IfOk result (λ both. manner.records ≡ true → IsLawful Ordered both.0.items) }
-    ensures callers { IfOk result (λ both. manner.records ≡ true → All (λ e. e.caller < 1) both.0.items) }
-    ensures inputs { InputFailed (I.has_failed input.new) (read_of result) }
-    ensures sound { IfOk result (λ _. O.has_failed out.new ≡ false) }
-    ensures err { IfErr result (λ fault. IsUnanswered (AsksForWithin manner.limit (I.remaining input.old)) (O.contents out.old) (O.contents out.new) (O.has_failed out.new) fault) }
+    ensures { IsReplay result (λ both. AnswersByOne manner.records both.0.items both.1.untargeted)
+        (AsksForWithin manner.limit (I.remaining input.old)) (InputFailed (I.has_failed input.new))
+        (O.contents out.old) (O.contents out.new) (O.has_failed out.new) }
 {
     let replay = FileReplay::joined(alloc, manner);
     answer(replay, input, out)

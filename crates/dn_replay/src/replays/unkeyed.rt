@@ -1,7 +1,6 @@
-ghost use Rattle.std.specs.Prelude.{◌≡◌, ◌<◌, All, false, IfOk, IfErr};
-ghost use Rattle.dn_types.specs.History.{IsLawful};
-ghost use Rattle.dn_types.specs.declared.rule.Rule.TheVariants.{Ordered};
-ghost use Rattle.dn_replay.specs.Replays.{AskFor, AsksFor, EitherFailed, InputFailed, IsReplayed, IsUnanswered, read_of};
+ghost use Rattle.std.specs.Prelude.{◌≡◌, false};
+ghost use Rattle.dn_replay.specs.OneCaller.{IsReplay, ReplaysByOne};
+ghost use Rattle.dn_replay.specs.Replays.{AskFor, AsksFor, EitherFailed, InputFailed};
 
 use crate::replays::inlets::{replay_files, replay_input};
 use crate::replays::manner::Manner;
@@ -25,19 +24,10 @@ pub fn replay<C: Inlet, P: Inlet, O: Outlet>(
     requires config { C.has_failed config.old ≡ false }
     requires packets { P.has_failed packets.old ≡ false }
     requires out { O.has_failed out.old ≡ false }
-    ensures ok { IfOk result (λ entries.
-        IsReplayed (AskFor (C.remaining config.old) (P.remaining packets.old)) entries.items
-        (O.contents out.old) (O.contents out.new)) }
-
-    // The history is lawful, and the report of one caller stands for it.
-    ensures lawful { IfOk result (λ entries. IsLawful Ordered entries.items) }
-    ensures callers { IfOk result (λ entries. All (λ e. e.caller < 1) entries.items) }
-
-    // Which read failed, if one did. With a result no write failed.
-    ensures inputs { EitherFailed (C.remaining config.old) (C.has_failed config.new) (P.has_failed packets.new) (read_of result) }
-    ensures sound { IfOk result (λ _. O.has_failed out.new ≡ false) }
-    ensures err { IfErr result (λ fault. IsUnanswered (AskFor (C.remaining config.old) (P.remaining packets.old))
-        (O.contents out.old) (O.contents out.new) (O.has_failed out.new) fault) }
+    ensures { IsReplay result (λ entries. ReplaysByOne entries.items)
+        (AskFor (C.remaining config.old) (P.remaining packets.old))
+        (EitherFailed (C.remaining config.old) (C.has_failed config.new) (P.has_failed packets.new))
+        (O.contents out.old) (O.contents out.new) (O.has_failed out.new) }
 {
     let manner = Manner {
         key: HashKey(0),
@@ -60,13 +50,9 @@ pub fn replay_joined<I: Inlet, O: Outlet>(
 ) -> Result<Vec<Entry>, ReplayFault>
     requires input { I.has_failed input.old ≡ false }
     requires out { O.has_failed out.old ≡ false }
-    ensures ok { IfOk result (λ entries. IsReplayed (AsksFor (I.remaining input.old)) entries.items
-        (O.contents out.old) (O.contents out.new)) }
-    ensures lawful { IfOk result (λ entries. IsLawful Ordered entries.items) }
-    ensures callers { IfOk result (λ entries. All (λ e. e.caller < 1) entries.items) }
-    ensures inputs { InputFailed (I.has_failed input.new) (read_of result) }
-    ensures sound { IfOk result (λ _. O.has_failed out.new ≡ false) }
-    ensures err { IfErr result (λ fault. IsUnanswered (AsksFor (I.remaining input.old)) (O.contents out.old) (O.contents out.new) (O.has_failed out.new) fault) }
+    ensures { IsReplay result (λ entries. ReplaysByOne entries.items)
+        (AsksFor (I.remaining input.old)) (InputFailed (I.has_failed input.new))
+        (O.contents out.old) (O.contents out.new) (O.has_failed out.new) }
 {
     let manner = Manner {
         key: HashKey(0),

@@ -6,7 +6,7 @@ use Rattle.dn_files.proofs.Inputs.{passed_on, refused_for}
 use Rattle.dn_replay.specs.Configuring.{configured_by}
 use Rattle.dn_replay.specs.InParts.{calls_asked, IsAskedBehind}
 use Rattle.dn_replay.specs.Replays.{AskForWithin, config_calls, EitherFailed, failed_read, TextFailed}
-use Rattle.dn_replay.proofs.InputSteps.{answered_through, asked_by_both, either_failed, lawful_answer, one_answers, read_known, unanswered_through}
+use Rattle.dn_replay.proofs.InputSteps.{answered_through, asked_by_both, by_one, either_failed, read_known, unanswered_through}
 use Rattle.dn_replay.proofs.ReplaySteps.{config_unread}
 use Rattle.dn_replay.proofs.replays.inlets.replay_files.Goals as goal
 
@@ -18,7 +18,7 @@ returns-in_err-text g c =
     (g.P.Inlet.has_failed c.args.packets.now) (g.O.Outlet.has_failed c.args.out.now) _ c.requires.packets c.requires.out
     (passed_on Config config_limit configured_by config failed _ c.in_err-text.ensures.err) in
     let p = err_from_is_err_and c.from_residual.result c.from_residual.ensures.1 in
-    rw (p.1, p.2) record { ok = tt; lawful = tt; callers = tt; inputs = refused.0; sound = tt; err = refused.1 }
+    rw (p.1, p.2) record { ok = tt; inputs = refused.0; sound = tt; err = refused.1 }
 
 pub returns-in_err-replay : goal.returns-in_err-replay
 returns-in_err-replay g c =
@@ -29,49 +29,32 @@ returns-in_err-replay g c =
     (g.P.Inlet.has_failed c.args.packets.now) (g.O.Outlet.has_failed c.args.out.now) _ c.requires.packets c.requires.out
     (refused_for Config config_calls config failed c.as_slice.result.now c.in_ok-text.ensures.sound is _ c.in_err-replay.ensures.err) in
     let p = err_from_is_err_and c.from_residual-in_err-replay.result c.from_residual-in_err-replay.ensures.1 in
-    rw (p.1, p.2) record { ok = tt; lawful = tt; callers = tt; inputs = refused.0; sound = tt; err = refused.1 }
+    rw (p.1, p.2) record { ok = tt; inputs = refused.0; sound = tt; err = refused.1 }
 
-pub returns-clause-ok : goal.returns-clause-ok
-returns-clause-ok g c =
+pub returns : goal.returns
+returns g c =
+    let records = c.args.manner.records in
+    let limit = c.args.manner.limit in
+    let come = c.in_ok-replay.ensures.ok in
     let config = g.C.Inlet.remaining c.args.config.now in
     let packets = g.P.Inlet.remaining c.args.packets.now in
-    let text = c.as_slice.result.now in
-    let is = rw (← c.as_slice.ensures.value) at c.in_ok-text.ensures.text in
-    IfOk-weaker c.answer.result _ _ (λ both told. answered_through (λ asked. calls_asked c.args.manner.limit (Some text) told.0 ≡ asked)
-    (AskForWithin c.args.manner.limit config packets) (g.O.Outlet.contents c.args.out.now) (g.O.Outlet.contents c.answer.new.out)
-    (λ asked e. asked_by_both c.args.manner.limit config packets text told.0 is told.1 asked e) c.args.manner.records both.0.items both.1.untargeted
-    (rw c.in_ok-replay.ensures.limit at (told.2 c.args.manner.records (Some text) c.in_ok-replay.ensures.ok))) c.answer.ensures.ok
-
-pub returns-clause-inputs : goal.returns-clause-inputs
-returns-clause-inputs g c =
-    let config = g.C.Inlet.remaining c.args.config.now in
     let text = c.as_slice.result.now in
     let is = rw (← c.as_slice.ensures.value) at c.in_ok-text.ensures.text in
     let config_failed = g.C.Inlet.has_failed c.read_input.new.reader in
     let failed = g.P.Inlet.has_failed c.answer.new.inlet in
     let either = either_failed config config_failed failed c.in_ok-text.ensures.sound (c.in_ok-replay.ensures.accepted.0, (text, is, c.in_ok-replay.ensures.accepted.1)) in
-    read_known (EitherFailed config config_failed failed) c.answer.result (IfOk-weaker c.answer.result _ _ (λ both sound. either None sound) c.answer.ensures.inlet)
-    (IfErr-weaker c.answer.result _ _ (λ fault untold. either (failed_read fault) (untold c.args.manner.records (Some text) c.in_ok-replay.ensures.ok).0) c.answer.ensures.err)
-
-pub returns-clause-err : goal.returns-clause-err
-returns-clause-err g c =
-    let config = g.C.Inlet.remaining c.args.config.now in
-    let packets = g.P.Inlet.remaining c.args.packets.now in
-    let text = c.as_slice.result.now in
-    let is = rw (← c.as_slice.ensures.value) at c.in_ok-text.ensures.text in
-    let failed = g.P.Inlet.has_failed c.answer.new.inlet in
-    IfErr-weaker c.answer.result _ _ (λ fault untold. (unanswered_through (IsAskedBehind c.args.manner.limit (Some text) packets)
-    (AskForWithin c.args.manner.limit config packets) (g.O.Outlet.contents c.args.out.now) (g.O.Outlet.contents c.answer.new.out)
-    (λ asked told. asked_by_both c.args.manner.limit config packets text told.0 is told.1 asked told.2) (TextFailed Packets failed) (TextFailed Packets failed)
-    (λ what h. h) (g.O.Outlet.has_failed c.answer.new.out) fault
-    (rw c.in_ok-replay.ensures.limit at (untold c.args.manner.records (Some text) c.in_ok-replay.ensures.ok))).1) c.answer.ensures.err
-
-pub returns-clause-lawful : goal.returns-clause-lawful
-returns-clause-lawful g c =
-    IfOk-weaker c.answer.result _ _ (λ both told. lawful_answer c.args.manner.records _ both.0.items both.1.untargeted (g.O.Outlet.contents c.args.out.now) (g.O.Outlet.contents c.answer.new.out)
-    (told.2 c.args.manner.records (Some c.as_slice.result.now) c.in_ok-replay.ensures.ok)) c.answer.ensures.ok
-
-pub returns-clause-callers : goal.returns-clause-callers
-returns-clause-callers g c =
-    IfOk-weaker c.answer.result _ _ (λ both told. one_answers c.args.manner.records _ both.0.items both.1.untargeted (g.O.Outlet.contents c.args.out.now) (g.O.Outlet.contents c.answer.new.out)
-    (told.2 c.args.manner.records (Some c.as_slice.result.now) c.in_ok-replay.ensures.ok)) c.answer.ensures.ok
+    record {
+      ok = IfOk-weaker c.answer.result _ _ (λ both told.
+          by_one records (AskForWithin limit config packets) both.0.items both.1.untargeted (g.O.Outlet.contents c.args.out.now) (g.O.Outlet.contents c.answer.new.out)
+          (answered_through (λ asked. calls_asked limit (Some text) told.0 ≡ asked) (AskForWithin limit config packets)
+          (g.O.Outlet.contents c.args.out.now) (g.O.Outlet.contents c.answer.new.out)
+          (λ asked e. asked_by_both limit config packets text told.0 is told.1 asked e) records both.0.items both.1.untargeted
+          (rw c.in_ok-replay.ensures.limit at (told.2 records (Some text) come)))) c.answer.ensures.ok;
+      inputs = read_known (EitherFailed config config_failed failed) c.answer.result (IfOk-weaker c.answer.result _ _ (λ both sound. either None sound) c.answer.ensures.inlet)
+          (IfErr-weaker c.answer.result _ _ (λ fault untold. either (failed_read fault) (untold records (Some text) come).0) c.answer.ensures.err);
+      sound = c.answer.ensures.sound;
+      err = IfErr-weaker c.answer.result _ _ (λ fault untold. (unanswered_through (IsAskedBehind limit (Some text) packets) (AskForWithin limit config packets)
+          (g.O.Outlet.contents c.args.out.now) (g.O.Outlet.contents c.answer.new.out)
+          (λ asked told. asked_by_both limit config packets text told.0 is told.1 asked told.2) (TextFailed Packets failed) (TextFailed Packets failed)
+          (λ what h. h) (g.O.Outlet.has_failed c.answer.new.out) fault (rw c.in_ok-replay.ensures.limit at (untold records (Some text) come))).1) c.answer.ensures.err;
+    }
