@@ -1,31 +1,14 @@
 -- An accepted packet is the one that was submitted and told to be queued: its flow, its number, its length and its link.
 use Rattle.std.proofs.Common.{◌≡◌, ◌∙◌, ◌<◌, ℕ, max, Bool, true, false, cond, List, [], ◌∷◌, ◌++◌, map, refl, ap, sym, subst, length, arith}
 use Rattle.std.specs.Prelude.{Option, Some, None}
-use Rattle.dn_types.specs.Calls.{link_of, Verdict, no_target, loses, refuses, takes, verdict_by, verdict, trace_of}
-use Rattle.dn_types.specs.Clock.{effective_moment}
-use Rattle.dn_types.specs.Configuration.{settings}
-use Rattle.dn_types.specs.Drops.{is_lost, is_full}
-use Rattle.dn_types.specs.Flows.{Treatment, treatment, keys, key_of, flow_number}
-use Rattle.dn_laws.specs.PacketLaws.{ArrivalsAreTold, IsAccepted, QueuedPacketsArrive}
-use Rattle.dn_types.specs.Replies.{reply, counted_reply, reply_to_verdict}
-use Rattle.dn_laws.specs.Told.{is_queued, IsCarriedBy}
-use Rattle.dn_types.specs.Trace.{Link, own, shared, Accepted, Event, opened, arrived, started, lost, refused, discarded, collected, backlog, is_arrival, accepted_count}
-use Rattle.dn_types.specs.declared.call.Call.{Call}
-use Rattle.dn_types.specs.declared.call.Call.TheVariants.{Submit, Advance}
-use Rattle.dn_types.specs.declared.command.Command.{Command}
-use Rattle.dn_types.specs.declared.command.Command.TheVariants.{Pipe, Queue}
-use Rattle.dn_types.specs.declared.flow_key.FlowKey.{FlowKey}
-use Rattle.dn_types.specs.declared.packet.Packet.{Packet}
-use Rattle.dn_types.specs.declared.reply.Reply.{Reply}
-use Rattle.dn_types.specs.declared.reply.Reply.TheVariants.{Queued, Exhausted}
-use Rattle.dn_types.specs.declared.target.Target.{Target}
-use Rattle.dn_types.specs.declared.target.Target.TheVariants.{Pipe as ToPipe, Queue as ToQueue}
-use Rattle.dn_laws.proofs.Begun.{adds-among}
-use Rattle.dn_laws.proofs.Comes.{Comes, Arrives, IsTakenBy, call-comes}
-use Rattle.dn_laws.proofs.DropLaws.{not-exhausted}
+use Rattle.dn_laws.proofs.LawWords.{link_of, Verdict, no_target, loses, refuses, takes, verdict_by, verdict, trace_of, effective_moment, settings, is_lost, is_full, Treatment, treatment, keys, key_of}
+use Rattle.dn_laws.proofs.LawWords.{flow_number, IsAccepted, reply, counted_reply, reply_to_verdict, is_queued, IsCarriedBy, Link, own, shared, Accepted, Event, opened, arrived, started, lost}
+use Rattle.dn_laws.proofs.LawWords.{refused, discarded, collected, backlog, is_arrival, accepted_count, Call, Submit, Advance, Command, Pipe, Queue, FlowKey, Packet, Reply, Queued, Exhausted, Target}
+use Rattle.dn_laws.proofs.LawWords.{ToPipe, ToQueue}
+use Rattle.dn_laws.specs.PacketLaws.{ArrivalsAreTold, QueuedPacketsArrive}
+use Rattle.dn_laws.proofs.{Begun.adds-among, Comes.Comes, Comes.Arrives, Comes.IsTakenBy, Comes.call-comes, DropLaws.not-exhausted, ToldCounts.arrival-told, ToldCounts.told-few}
 use Rattle.dn_types.proofs.Giving.{count-event}
 use Rattle.dn_types.proofs.InForce.{IsOfTarget, IsKept, settings-kept}
-use Rattle.dn_laws.proofs.ToldCounts.{arrival-told, told-few}
 
 pub record IsTakenAs (calls : List Call) (target : Target) (packet : Packet) (moment : ℕ) (p : Accepted) : Type 0 where
   pub how : Treatment

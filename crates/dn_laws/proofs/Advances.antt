@@ -2,17 +2,8 @@
 use Rattle.std.proofs.Common.{◌≡◌, ◌∙◌, ◌≤◌, ◌<◌, ⊎_elim, ℕ, zero, suc, max, Bool, true, false, cond, List, [], ◌∷◌, refl, ap, sym, subst, arith}
 use Rattle.std.specs.Prelude.{Option, Some, None, nat_le, nat_lt, option_map}
 use Rattle.std.proofs.lemmas.Bool.Decides.{nat_tests}
-use Rattle.dn_types.specs.Calls.{verdict_by, after_verdict, trace_of}
-use Rattle.dn_types.specs.Clock.{effective_moment, moment_of}
-use Rattle.dn_types.specs.Configuration.{Settings, settings}
-use Rattle.dn_types.specs.Flows.{treatment, keys}
-use Rattle.dn_types.specs.Links.{free}
-use Rattle.dn_laws.specs.PartLaws.{IsTimed}
-use Rattle.dn_types.specs.SharedLinks.{next_packet}
-use Rattle.dn_types.specs.Starts.{start_at, next_start, sooner, first_start, settle, settled, waiting_all}
-use Rattle.dn_types.specs.Trace.{Link, Accepted, Start, Event, started, collected, links}
-use Rattle.dn_types.specs.declared.call.Call.{Call}
-use Rattle.dn_types.specs.declared.call.Call.TheVariants.{Configure, Submit, Advance, Collect, Show}
+use Rattle.dn_laws.proofs.LawWords.{verdict_by, after_verdict, trace_of, effective_moment, moment_of, Settings, settings, treatment, keys, free, IsTimed, next_packet, start_at, next_start, sooner}
+use Rattle.dn_laws.proofs.LawWords.{first_start, settle, settled, waiting_all, Link, Accepted, Start, Event, started, collected, links, Call, Configure, Submit, Advance, Collect, Show}
 use Rattle.dn_laws.proofs.PartStarts.{HasEnded, settle-is, settle-one, sooner-one}
 use Rattle.dn_types.proofs.Settled.{settle-ends}
 

@@ -8,12 +8,8 @@ use Rattle.std.proofs.lemmas.List.{append_assoc}
 use Rattle.dn_types.specs.Links.{free}
 use Rattle.dn_types.specs.Trace.{Link, own, link_eq, Accepted, Start, Event, opened, arrived, started, lost, refused, discarded, collected, is_of, backlog, is_arrival, accepted_count}
 use Rattle.dn_laws.specs.WaitLaws.{starting, sending}
-use Rattle.dn_types.proofs.Fifo.{IsProper, own-first, append-none}
-use Rattle.dn_types.proofs.Giving.{count-event}
-use Rattle.dn_types.proofs.Ordered.{IsHome, suffix-proper}
-use Rattle.dn_types.proofs.PacketCounts.{waiting-below}
-use Rattle.dn_types.proofs.Bounded.{first-all}
-use Rattle.dn_types.proofs.Settled.{link_eq-true, link_eq-refl}
+use Rattle.dn_types.proofs.{Fifo.IsProper, Fifo.own-first, Fifo.append-none, Giving.count-event, Ordered.IsHome, Ordered.suffix-proper, PacketCounts.waiting-below, Bounded.first-all}
+use Rattle.dn_types.proofs.{Settled.link_eq-true, Settled.link_eq-refl}
 use Rattle.dn_laws.proofs.EachWaiting.{each-pushed, each-left, each-cleared}
 use Rattle.dn_laws.proofs.Timely.{count-later}
 

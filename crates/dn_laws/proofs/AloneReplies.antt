@@ -1,26 +1,11 @@
 -- Each part is answered as if the others weren't there.
 use Rattle.std.proofs.Common.{◌≡◌, ◌∙◌, ◌≤◌, ◌<◌, ℕ, suc, max, Bool, true, false, cond, List, [], ◌∷◌, map, refl, ap, sym, length, arith}
 use Rattle.std.specs.Prelude.{is_some}
-use Rattle.dn_types.specs.Calls.{Verdict, no_target, loses, refuses, takes, verdict_by, trace_of}
-use Rattle.dn_types.specs.Clock.{effective_moment, call_limit}
-use Rattle.dn_types.specs.Configuration.{Settings, settings, queue_numbers, has_queues, command_reply}
-use Rattle.dn_laws.specs.Divided.{AreDivided, links_of, own_of, own_reply_by, PartsAreAlone}
-use Rattle.dn_types.specs.Flows.{treatment, keys}
-use Rattle.dn_laws.specs.Parts.{Choice, is_flow_on, is_packet_on, is_carried}
-use Rattle.dn_types.specs.Replies.{reply_to_verdict, counted_reply, reply, replies}
-use Rattle.dn_laws.specs.ReplyParts.{reply_by}
-use Rattle.dn_types.specs.Starts.{settled}
-use Rattle.dn_types.specs.Trace.{Event}
-use Rattle.dn_types.specs.declared.call.Call.{Call}
-use Rattle.dn_types.specs.declared.call.Call.TheVariants.{Configure, Submit, Advance, Collect, Show}
-use Rattle.dn_types.specs.declared.command.Command.{Command}
-use Rattle.dn_types.specs.declared.command.Command.TheVariants.{Pipe, Queue, DeletePipe, DeleteQueue}
-use Rattle.dn_types.specs.declared.packet.Packet.{Packet}
-use Rattle.dn_types.specs.declared.reply.Reply.{Reply}
-use Rattle.dn_types.specs.declared.reply.Reply.TheVariants.{NoTarget, Advanced, Configured, NoSuchPipe, Deleted, PipeHasQueues, NoSuchQueue}
-use Rattle.dn_types.specs.declared.rule.Rule.{Rule}
-use Rattle.dn_types.specs.declared.target.Target.{Target}
-use Rattle.dn_types.specs.declared.target.Target.TheVariants.{Pipe as ToPipe, Queue as ToQueue}
+use Rattle.dn_laws.proofs.LawWords.{Verdict, no_target, loses, refuses, takes, verdict_by, trace_of, effective_moment, call_limit, Settings, settings, queue_numbers, has_queues, command_reply}
+use Rattle.dn_laws.proofs.LawWords.{AreDivided, links_of, own_of, treatment, keys, Choice, is_flow_on, is_packet_on, is_carried, reply_to_verdict, counted_reply, reply, replies, reply_by, settled}
+use Rattle.dn_laws.proofs.LawWords.{Event, Call, Configure, Submit, Advance, Collect, Show, Command, Pipe, Queue, DeletePipe, DeleteQueue, Packet, Reply, NoTarget, Advanced, Configured, NoSuchPipe}
+use Rattle.dn_laws.proofs.LawWords.{Deleted, PipeHasQueues, NoSuchQueue, Rule, Target, ToPipe, ToQueue}
+use Rattle.dn_laws.specs.Divided.{own_reply_by, PartsAreAlone}
 use Rattle.dn_laws.proofs.Divided.{within, none-uncarried}
 use Rattle.dn_laws.proofs.PartCalls.{IsKeyed, AreTaken, moment-on, length-on, keyed-before, taken-before, keyed-all, all-taken}
 use Rattle.dn_laws.proofs.PartReplays.{counts}

@@ -4,31 +4,14 @@ use Rattle.std.specs.Prelude.{Option, Some, nat_eq, slice_get, ⊤}
 use Rattle.std.specs.List.{count_by}
 use Rattle.std.proofs.lemmas.Bool.{eqb-true, and_from, and_right}
 use Rattle.std.proofs.lemmas.List.{length-map}
-use Rattle.dn_types.specs.Calls.{link_of, trace_of}
-use Rattle.dn_types.specs.Clock.{call_limit}
-use Rattle.dn_types.specs.Flows.{Treatment, keys, keys_with, key_of, flow_number}
-use Rattle.dn_types.specs.Replies.{status_of, statuses_from}
-use Rattle.dn_laws.specs.ReplyLaws.{IsStateOf, ShowsAreTold}
-use Rattle.dn_laws.specs.Told.{is_arrival_of}
+use Rattle.dn_laws.proofs.LawWords.{link_of, trace_of, call_limit, Treatment, keys, keys_with, key_of, flow_number, status_of, statuses_from, IsStateOf, is_arrival_of, Link, link_eq, Accepted, Start}
+use Rattle.dn_laws.proofs.LawWords.{Event, arrived, started, discarded, is_of, backlog, is_start_of, discarded_count, Call, Submit, Show, FlowKey}
+use Rattle.dn_laws.specs.ReplyLaws.{ShowsAreTold}
 use Rattle.dn_laws.specs.PacketLaws.{PacketsAddUp}
-use Rattle.dn_types.specs.Trace.{Link, link_eq, Accepted, Start, Event, arrived, started, discarded, is_of, backlog, is_start_of, discarded_count}
-use Rattle.dn_types.specs.declared.call.Call.{Call}
-use Rattle.dn_types.specs.declared.call.Call.TheVariants.{Submit, Show}
-use Rattle.dn_types.specs.declared.flow_key.FlowKey.{FlowKey}
-use Rattle.dn_laws.proofs.Acceptance.{IsTakenAs, taken-as}
-use Rattle.dn_laws.proofs.Begun.{AllEvents}
-use Rattle.dn_laws.proofs.Comes.{Comes, Arrives, call-comes}
-use Rattle.dn_laws.proofs.DropLaws.{not-exhausted}
-use Rattle.dn_types.proofs.Fifo.{IsProper, own-first}
-use Rattle.dn_types.proofs.Giving.{count-event}
-use Rattle.dn_types.proofs.Keys.{keys-stay}
-use Rattle.dn_types.proofs.Known.{known-flow, fewer-started}
-use Rattle.dn_laws.proofs.Masks.{stands-get}
-use Rattle.dn_types.proofs.Ordered.{trace-proper}
-use Rattle.dn_types.proofs.Settled.{and-left, link_eq-true, link_eq-refl}
-use Rattle.dn_types.proofs.Settling.{and-right}
-use Rattle.dn_laws.proofs.ToldCounts.{queued-of-count, lost-of-count, full-of-count}
-use Rattle.dn_types.proofs.StepFacts.{clear-some, push-length, clear-length}
+use Rattle.dn_laws.proofs.{Acceptance.IsTakenAs, Acceptance.taken-as, Begun.AllEvents, Comes.Comes, Comes.Arrives, Comes.call-comes, DropLaws.not-exhausted, Masks.stands-get}
+use Rattle.dn_laws.proofs.{ToldCounts.queued-of-count, ToldCounts.lost-of-count, ToldCounts.full-of-count}
+use Rattle.dn_types.proofs.{Fifo.IsProper, Fifo.own-first, Giving.count-event, Keys.keys-stay, Known.known-flow, Known.fewer-started, Ordered.trace-proper, Settled.and-left, Settled.link_eq-true}
+use Rattle.dn_types.proofs.{Settled.link_eq-refl, Settling.and-right, StepFacts.clear-some, StepFacts.push-length, StepFacts.clear-length}
 
 pub record IsHomeOf (known : List FlowKey) (link : Link) (flow : ℕ) : Type 0 where
   pub key : FlowKey

@@ -4,34 +4,15 @@ use Rattle.std.specs.Prelude.{Option, Some, None, nat_le, nat_eq, slice_get, opt
 use Rattle.std.proofs.lemmas.Bool.{eqb-true}
 use Rattle.std.proofs.lemmas.Bool.Decides.{nat_tests, eqb_tells}
 use Rattle.std.proofs.lemmas.List.{append_cancel_right}
-use Rattle.dn_types.specs.Calls.{link_of, Verdict, no_target, loses, refuses, takes, accept, join, after_verdict, verdict_by, verdict, reaches, discard_reached, after_command, trace_of}
-use Rattle.dn_types.specs.Clock.{effective_moment}
-use Rattle.dn_types.specs.Configuration.{Settings, settings, reply_to_command}
-use Rattle.dn_types.specs.Drops.{is_lost, is_full}
-use Rattle.dn_types.specs.Flows.{Treatment, treatment, keys, key_of, flow_number}
-use Rattle.dn_types.specs.Links.{free}
-use Rattle.dn_types.specs.SharedLinks.{waiting, opening, next_packet, virtual_time, link_heads}
-use Rattle.dn_types.specs.Starts.{next_start, first_start, settle, settled, start_at, waiting_all}
-use Rattle.dn_types.specs.Trace.{Link, own, shared, pipe_of, link_eq, Accepted, Start, Event, opened, arrived, started}
-use Rattle.dn_types.specs.Trace.{lost, refused, discarded, collected, is_of, backlog, flow_bound, links, is_arrival, accepted_count}
-use Rattle.dn_types.specs.Wf2q.{Stamped, pick}
-use Rattle.dn_types.specs.declared.call.Call.{Call}
-use Rattle.dn_types.specs.declared.call.Call.TheVariants.{Configure, Submit, Advance, Collect, Show}
-use Rattle.dn_types.specs.declared.command.Command.{Command}
-use Rattle.dn_types.specs.declared.flow_key.FlowKey.{FlowKey}
-use Rattle.dn_types.specs.declared.packet.Packet.{Packet}
-use Rattle.dn_types.specs.declared.target.Target.{Target}
-use Rattle.dn_types.specs.declared.target.Target.TheVariants.{Pipe as ToPipe}
-use Rattle.dn_types.specs.declared.reply.Reply.{Reply}
-use Rattle.dn_types.specs.declared.reply.Reply.TheVariants.{Deleted}
-use Rattle.dn_types.proofs.Firsts.{heads-same, stamped_of}
-use Rattle.dn_types.proofs.InForce.{pipe-there}
-use Rattle.dn_types.proofs.Giving.{count-event}
-use Rattle.dn_types.proofs.Known.{AreKnown, all-known, known-started, fewer-started, pipe_of-link}
-use Rattle.dn_types.proofs.Ordered.{IsHome, GoesHome, verdict-home, empty-home, one-first, of-own, opened-free, opened-backlog}
-use Rattle.dn_types.proofs.Picks.{heads-alone, pick-alone}
-use Rattle.dn_types.proofs.Settled.{settled-ends, first_start-of, next_start-link, and-left}
-use Rattle.dn_types.proofs.Settling.{next_start-packet, next_packet-first, and-no}
+use Rattle.dn_laws.proofs.LawWords.{link_of, Verdict, no_target, loses, refuses, takes, accept, join, after_verdict, verdict_by, verdict, reaches, discard_reached, after_command, trace_of}
+use Rattle.dn_laws.proofs.LawWords.{effective_moment, Settings, settings, reply_to_command, is_lost, is_full, Treatment, treatment, keys, key_of, flow_number, free, waiting, opening, next_packet}
+use Rattle.dn_laws.proofs.LawWords.{virtual_time, link_heads, next_start, first_start, settle, settled, start_at, waiting_all, Link, own, shared, pipe_of, link_eq, Accepted, Start, Event, opened}
+use Rattle.dn_laws.proofs.LawWords.{arrived, started, lost, refused, discarded, collected, is_of, backlog, flow_bound, links, is_arrival, accepted_count, Stamped, pick, Call, Configure, Submit}
+use Rattle.dn_laws.proofs.LawWords.{Advance, Collect, Show, Command, FlowKey, Packet, Target, ToPipe, Reply, Deleted}
+use Rattle.dn_types.proofs.{Firsts.heads-same, Firsts.stamped_of, InForce.pipe-there, Giving.count-event, Known.AreKnown, Known.all-known, Known.known-started, Known.fewer-started, Known.pipe_of-link}
+use Rattle.dn_types.proofs.{Ordered.IsHome, Ordered.GoesHome, Ordered.verdict-home, Ordered.empty-home, Ordered.one-first, Ordered.of-own, Ordered.opened-free, Ordered.opened-backlog}
+use Rattle.dn_types.proofs.{Picks.heads-alone, Picks.pick-alone, Settled.settled-ends, Settled.first_start-of, Settled.next_start-link, Settled.and-left, Settling.next_start-packet}
+use Rattle.dn_types.proofs.{Settling.next_packet-first, Settling.and-no}
 
 -- A packet waited for the link before, and none has arrived since.
 abbrev pub HasWaited : List Event → Link → List Event → Type 0

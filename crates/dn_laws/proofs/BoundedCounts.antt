@@ -5,27 +5,11 @@ use Rattle.std.specs.List.{All}
 use Rattle.std.proofs.lemmas.Bool.Decides.{nat_tests}
 use Rattle.std.proofs.lemmas.List.{length-map}
 use Rattle.std.proofs.lemmas.List.Elements.{All-nil, All-cons, All-filter}
-use Rattle.dn_types.specs.Bounds.{HasBoundedCounts}
-use Rattle.dn_types.specs.Calls.{Verdict, no_target, loses, refuses, takes, link_of, verdict, trace_of}
-use Rattle.dn_types.specs.Clock.{effective_moment, call_limit}
-use Rattle.dn_types.specs.Configuration.{queue_numbers, settings}
-use Rattle.dn_types.specs.Deliveries.{undelivered}
-use Rattle.dn_types.specs.Flows.{keys}
-use Rattle.dn_types.specs.Replies.{statuses_from, status_of, reply_to_verdict, counted_reply, reply}
-use Rattle.dn_types.specs.Starts.{settled}
-use Rattle.dn_types.specs.Trace.{Event, is_arrival, is_loss_of, is_refusal_of, accepted_count, backlog}
-use Rattle.dn_types.specs.declared.call.Call.{Call}
-use Rattle.dn_types.specs.declared.call.Call.TheVariants.{Configure, Submit, Advance, Collect, Show}
-use Rattle.dn_types.specs.declared.flow_key.FlowKey.{FlowKey}
-use Rattle.dn_types.specs.declared.flow_status.FlowStatus.{FlowStatus}
-use Rattle.dn_types.specs.declared.reply.Reply.TheVariants.{Exhausted}
-use Rattle.dn_types.specs.declared.rule.Rule.{Rule}
-use Rattle.dn_types.proofs.Bounded.{len_of}
-use Rattle.dn_types.proofs.BoundedReplies.{command-has}
-use Rattle.dn_types.proofs.CallCounts.{settled-count, trace-count}
-use Rattle.dn_types.proofs.Once.{starts-once}
-use Rattle.dn_types.proofs.Ordered.{trace-proper}
-use Rattle.dn_types.proofs.PacketCounts.{joins, queue-count, undelivered-below, starts-few, IsNumbered}
+use Rattle.dn_laws.proofs.LawWords.{HasBoundedCounts, Verdict, no_target, loses, refuses, takes, link_of, verdict, trace_of, effective_moment, call_limit, queue_numbers, settings, undelivered, keys}
+use Rattle.dn_laws.proofs.LawWords.{statuses_from, status_of, reply_to_verdict, counted_reply, reply, settled, Event, is_arrival, is_loss_of, is_refusal_of, accepted_count, backlog, Call, Configure}
+use Rattle.dn_laws.proofs.LawWords.{Submit, Advance, Collect, Show, FlowKey, FlowStatus, Exhausted, Rule}
+use Rattle.dn_types.proofs.{Bounded.len_of, BoundedReplies.command-has, CallCounts.settled-count, CallCounts.trace-count, Once.starts-once, Ordered.trace-proper, PacketCounts.joins}
+use Rattle.dn_types.proofs.{PacketCounts.queue-count, PacketCounts.undelivered-below, PacketCounts.starts-few, PacketCounts.IsNumbered}
 
 -- Each call brings one accepted packet at most.
 accepted : (calls : List Call) → accepted_count (trace_of calls) ≤ length calls

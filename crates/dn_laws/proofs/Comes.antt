@@ -3,26 +3,12 @@ use Rattle.std.proofs.Common.{◌≡◌, ◌∙◌, ◌≤◌, ℕ, suc, ◌+◌
 use Rattle.std.specs.Prelude.{Some, nat_eq, nat_le, slice_get, ⊤}
 use Rattle.std.proofs.lemmas.Bool.{eqb-true}
 use Rattle.std.proofs.lemmas.Bool.Decides.{nat_tests}
-use Rattle.dn_types.specs.Calls.{Verdict, no_target, loses, refuses, takes, verdict, accept, join, after_verdict, reaches, discard_reached, after_command, trace_of}
-use Rattle.dn_types.specs.Clock.{effective_moment}
-use Rattle.dn_types.specs.Configuration.{Settings, settings, reply_to_command}
-use Rattle.dn_types.specs.Flows.{keys}
-use Rattle.dn_types.specs.Links.{free}
-use Rattle.dn_laws.specs.PacketLaws.{DiscardsAreDeletes, IsDelete}
-use Rattle.dn_types.specs.SharedLinks.{waiting, opening}
-use Rattle.dn_types.specs.Starts.{settled, start_at, waiting_all}
+use Rattle.dn_laws.proofs.LawWords.{Verdict, no_target, loses, refuses, takes, verdict, accept, join, after_verdict, reaches, discard_reached, after_command, trace_of, effective_moment, Settings}
+use Rattle.dn_laws.proofs.LawWords.{settings, reply_to_command, keys, free, IsDelete, waiting, opening, settled, start_at, waiting_all, Link, Accepted, Event, opened, arrived, started, lost, refused}
+use Rattle.dn_laws.proofs.LawWords.{discarded, collected, links, accepted_count, Call, Configure, Submit, Advance, Collect, Show, Command, Pipe, Queue, DeletePipe, DeleteQueue, FlowKey, Packet, Reply}
+use Rattle.dn_laws.proofs.LawWords.{Deleted, Target, ToQueue}
+use Rattle.dn_laws.specs.PacketLaws.{DiscardsAreDeletes}
 use Rattle.dn_laws.specs.Told.{IsReached}
-use Rattle.dn_types.specs.Trace.{Link, Accepted, Event, opened, arrived, started, lost, refused, discarded, collected, links, accepted_count}
-use Rattle.dn_types.specs.declared.call.Call.{Call}
-use Rattle.dn_types.specs.declared.call.Call.TheVariants.{Configure, Submit, Advance, Collect, Show}
-use Rattle.dn_types.specs.declared.command.Command.{Command}
-use Rattle.dn_types.specs.declared.command.Command.TheVariants.{Pipe, Queue, DeletePipe, DeleteQueue}
-use Rattle.dn_types.specs.declared.flow_key.FlowKey.{FlowKey}
-use Rattle.dn_types.specs.declared.packet.Packet.{Packet}
-use Rattle.dn_types.specs.declared.reply.Reply.{Reply}
-use Rattle.dn_types.specs.declared.reply.Reply.TheVariants.{Deleted}
-use Rattle.dn_types.specs.declared.target.Target.{Target}
-use Rattle.dn_types.specs.declared.target.Target.TheVariants.{Queue as ToQueue}
 use Rattle.dn_laws.proofs.Begun.{Adds, adds-settle, adds-among}
 use Rattle.dn_laws.proofs.DropLaws.{not-exhausted}
 use Rattle.dn_types.proofs.InForce.{target_eq-true}

@@ -2,20 +2,8 @@
 use Rattle.std.proofs.Common.{◌≡◌, ◌∙◌, ◌≤◌, ◌<◌, ℕ, ◌+◌, ◌*◌, true, List, [], ◌∷◌, ◌++◌, refl, ap, sym, subst}
 use Rattle.std.specs.Prelude.{◌^◌, Option, Some}
 use Rattle.std.proofs.lemmas.List.{append_cancel_right, append_assoc}
-use Rattle.dn_types.specs.Calls.{trace_of}
-use Rattle.dn_types.specs.Clock.{effective_moment}
-use Rattle.dn_types.specs.Configuration.{Settings, settings}
-use Rattle.dn_laws.specs.Explained.{sent, IsAtBandwidth}
-use Rattle.dn_types.specs.Links.{transmission_time}
-use Rattle.dn_laws.specs.ConfiguredLaws.{StaysInForce}
-use Rattle.dn_types.specs.Starts.{bandwidth_of}
-use Rattle.dn_types.specs.Trace.{Link, link_eq, pipe_of, Start, Event, started}
-use Rattle.dn_types.specs.declared.call.Call.{Call}
-use Rattle.dn_types.specs.declared.command.Command.{Command}
-use Rattle.dn_types.specs.declared.command.Command.TheVariants.{Pipe}
-use Rattle.dn_types.specs.declared.limit.Limit.{Limit}
-use Rattle.dn_types.specs.declared.mask.Mask.{Mask}
-use Rattle.dn_types.specs.declared.target.Target.TheVariants.{Pipe as ToPipe}
+use Rattle.dn_laws.proofs.LawWords.{trace_of, effective_moment, Settings, settings, sent, IsAtBandwidth, transmission_time, StaysInForce, bandwidth_of, Link, link_eq, pipe_of, Start, Event, started}
+use Rattle.dn_laws.proofs.LawWords.{Call, Command, Pipe, Limit, Mask, ToPipe}
 use Rattle.dn_laws.proofs.Begun.{IsBegun, IsCaused, AllEvents, call-causes}
 use Rattle.dn_laws.proofs.Rates.{keeps-the-rate}
 use Rattle.dn_types.proofs.Settled.{link_eq-true}

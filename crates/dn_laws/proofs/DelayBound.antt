@@ -5,44 +5,15 @@ use Rattle.std.specs.List.{All}
 use Rattle.std.proofs.lemmas.Bool.{eq-eqb, and_from}
 use Rattle.std.proofs.lemmas.List.{append_cancel_right, append_assoc}
 use Rattle.std.proofs.lemmas.List.Elements.{All-nil, All-head, All-tail, All-cons}
-use Rattle.dn_types.specs.Deliveries.{AreInOrder}
-use Rattle.dn_types.specs.Calls.{trace_of}
-use Rattle.dn_types.specs.Clock.{call_limit, effective_moment}
-use Rattle.dn_types.specs.Configuration.{settings}
-use Rattle.dn_laws.specs.Explained.{IsDueBy, IsDeliveryOf}
-use Rattle.dn_types.specs.Links.{free, last_due, due_by, arrival_time, transmission_time}
-use Rattle.dn_laws.specs.ConfiguredLaws.{StaysInForce}
-use Rattle.dn_types.specs.Replies.{reply}
-use Rattle.dn_types.specs.Starts.{bandwidth_of, delay_of}
-use Rattle.dn_types.specs.Trace.{Link, own, shared, link_eq, pipe_of, Accepted, Start, Event, arrived, started, discarded, is_of, backlog}
-use Rattle.dn_laws.specs.WaitLaws.{ahead, free_from, IsAtMost, SlotsBoundTheDelay, KbytesBoundTheDelay}
-use Rattle.dn_types.specs.declared.call.Call.{Call}
-use Rattle.dn_types.specs.declared.call.Call.TheVariants.{Submit, Advance, Collect}
-use Rattle.dn_types.specs.declared.command.Command.{Command}
-use Rattle.dn_types.specs.declared.command.Command.TheVariants.{Pipe}
-use Rattle.dn_types.specs.declared.delivery.Delivery.{Delivery}
-use Rattle.dn_types.specs.declared.limit.Limit.{Limit}
-use Rattle.dn_types.specs.declared.limit.Limit.TheVariants.{Slots, Kbytes}
-use Rattle.dn_types.specs.declared.mask.Mask.{Mask}
-use Rattle.dn_types.specs.declared.packet.Packet.{Packet}
-use Rattle.dn_types.specs.declared.reply.Reply.TheVariants.{Queued, Delivered, Exhausted}
-use Rattle.dn_types.specs.declared.rule.Rule.{Rule}
-use Rattle.dn_types.specs.declared.rule.Rule.TheVariants.{Free, Ordered}
-use Rattle.dn_types.specs.declared.target.Target.TheVariants.{Pipe as ToPipe, Queue as ToQueue}
-use Rattle.dn_laws.proofs.Ahead.{IsPrompt}
-use Rattle.dn_laws.proofs.Begun.{IsCaused, IsTaken, AllEvents, call-causes}
-use Rattle.dn_types.proofs.Bounded.{first-all}
-use Rattle.dn_laws.proofs.ConfiguredRate.{now}
-use Rattle.dn_types.proofs.Fifo.{IsProper, own-first}
-use Rattle.dn_types.proofs.Ordered.{IsHome, trace-proper, suffix-proper}
-use Rattle.dn_laws.proofs.EachWaiting.{each-pushed, each-left, each-cleared}
-use Rattle.dn_laws.proofs.Rates.{shape}
-use Rattle.dn_types.proofs.Settled.{and-left, link_eq-true, link_eq-refl}
-use Rattle.dn_laws.proofs.Timely.{queued, clock-later}
-use Rattle.dn_laws.proofs.ToldCounts.{told-few}
-use Rattle.dn_laws.proofs.ToldDeliveries.{collects-are-told}
-use Rattle.dn_laws.proofs.WaitBounds.{longer-takes-longer, time_ahead, slots-ahead, kbytes-ahead}
-use Rattle.dn_laws.proofs.Waits.{IsJoined, joined, IsAwaited, awaited, own-pipe, trace-prompt, wait-is-known}
+use Rattle.dn_laws.proofs.LawWords.{AreInOrder, trace_of, call_limit, effective_moment, settings, IsDueBy, IsDeliveryOf, free, last_due, due_by, arrival_time, transmission_time, StaysInForce, reply}
+use Rattle.dn_laws.proofs.LawWords.{bandwidth_of, delay_of, Link, own, shared, link_eq, pipe_of, Accepted, Start, Event, arrived, started, discarded, is_of, backlog, ahead, free_from, IsAtMost, Call}
+use Rattle.dn_laws.proofs.LawWords.{Submit, Advance, Collect, Command, Pipe, Delivery, Limit, Slots, Kbytes, Mask, Packet, Queued, Delivered, Exhausted, Rule, Free, Ordered, ToPipe, ToQueue}
+use Rattle.dn_laws.specs.WaitLaws.{SlotsBoundTheDelay, KbytesBoundTheDelay}
+use Rattle.dn_laws.proofs.{Ahead.IsPrompt, Begun.IsCaused, Begun.IsTaken, Begun.AllEvents, Begun.call-causes, ConfiguredRate.now, EachWaiting.each-pushed, EachWaiting.each-left}
+use Rattle.dn_laws.proofs.{EachWaiting.each-cleared, Rates.shape, Timely.queued, Timely.clock-later, ToldCounts.told-few, ToldDeliveries.collects-are-told, WaitBounds.longer-takes-longer}
+use Rattle.dn_laws.proofs.{WaitBounds.time_ahead, WaitBounds.slots-ahead, WaitBounds.kbytes-ahead, Waits.IsJoined, Waits.joined, Waits.IsAwaited, Waits.awaited, Waits.own-pipe, Waits.trace-prompt}
+use Rattle.dn_laws.proofs.{Waits.wait-is-known}
+use Rattle.dn_types.proofs.{Bounded.first-all, Fifo.IsProper, Fifo.own-first, Ordered.IsHome, Ordered.trace-proper, Ordered.suffix-proper, Settled.and-left, Settled.link_eq-true, Settled.link_eq-refl}
 
 module _ (pipe most : ℕ) where
   -- What arrived for a pipe's own flows is short.

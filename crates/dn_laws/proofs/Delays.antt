@@ -3,13 +3,8 @@ use Rattle.std.proofs.Common.{ℕ, List, [], ◌∷◌, refl, ap, arith, get_or}
 use Rattle.std.specs.Prelude.{nat_le, nat_lt}
 use Rattle.std.specs.List.{All}
 use Rattle.std.proofs.lemmas.List.Elements.{All-filter}
-use Rattle.dn_types.specs.Deliveries.{delivery_of, given, undelivered}
-use Rattle.dn_laws.specs.Explained.{IsDueBy, IsDeliveryOf}
-use Rattle.dn_types.specs.Links.{last_due}
-use Rattle.dn_types.specs.Trace.{Start, Event, opened, arrived, started, lost, refused, discarded, collected}
-use Rattle.dn_types.specs.declared.delivery.Delivery.{Delivery}
-use Rattle.dn_types.specs.declared.rule.Rule.{Rule}
-use Rattle.dn_types.specs.declared.rule.Rule.TheVariants.{Free, Ordered}
+use Rattle.dn_laws.proofs.LawWords.{delivery_of, given, undelivered, IsDueBy, IsDeliveryOf, last_due, Start, Event, opened, arrived, started, lost, refused, discarded, collected, Delivery, Rule, Free}
+use Rattle.dn_laws.proofs.LawWords.{Ordered}
 use Rattle.dn_types.proofs.BoundedReplies.{in_order-all}
 
 due-by : (rule : Rule) (s : Start) (last : ℕ) → IsDueBy rule s last (delivery_of rule s last).due

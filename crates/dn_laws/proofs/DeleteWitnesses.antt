@@ -1,21 +1,8 @@
 -- The laws of deletes, of commands and of isolation at an example: two packets to a queue of weight 4, one of which waits.
 use Rattle.std.proofs.Common.{◌≡◌, true, List, [], ◌∷◌, refl, arith}
 use Rattle.std.specs.Prelude.{Some, None, is_some, slice_get}
-use Rattle.dn_types.specs.Calls.{trace_of}
-use Rattle.dn_types.specs.Configuration.{settings}
-use Rattle.dn_laws.specs.FlowLaws.{kept_by}
-use Rattle.dn_types.specs.Flows.{keys}
-use Rattle.dn_types.specs.Links.{free}
-use Rattle.dn_types.specs.Replies.{reply}
-use Rattle.dn_types.specs.SharedLinks.{last_finish_tag}
-use Rattle.dn_types.specs.Trace.{own, shared, backlog}
-use Rattle.dn_types.specs.declared.call.Call.{Call}
-use Rattle.dn_types.specs.declared.call.Call.TheVariants.{Configure, Advance}
-use Rattle.dn_types.specs.declared.command.Command.TheVariants.{Queue, DeletePipe, DeleteQueue}
-use Rattle.dn_types.specs.declared.limit.Limit.TheVariants.{Slots}
-use Rattle.dn_types.specs.declared.reply.Reply.TheVariants.{NoTarget, Configured, Deleted, PipeHasQueues}
-use Rattle.dn_types.specs.declared.rule.Rule.TheVariants.{Ordered}
-use Rattle.dn_types.specs.declared.target.Target.TheVariants.{Pipe as ToPipe, Queue as ToQueue}
+use Rattle.dn_laws.proofs.LawWords.{trace_of, settings, kept_by, keys, free, reply, last_finish_tag, own, shared, backlog, Call, Configure, Advance, Queue, DeletePipe, DeleteQueue, Slots, NoTarget}
+use Rattle.dn_laws.proofs.LawWords.{Configured, Deleted, PipeHasQueues, Ordered, ToPipe, ToQueue}
 use Rattle.dn_laws.proofs.DropLaws.{none-unconfigured}
 use Rattle.dn_laws.proofs.Elsewhere.{other-pipes-change-nothing}
 use Rattle.dn_types.proofs.ExampleWords.{tuple, no_mask, worded, pipe, queue, to_pipe, to_queue, key}

@@ -1,17 +1,7 @@
 -- A packet that was queued waits, was discarded, or is delivered once it is due.
 use Rattle.std.proofs.Common.{◌≡◌, ◌<◌, ◌⊎◌, inl, inr, ⊎_elim, ℕ, List, ◌∷◌, ◌++◌, refl, subst, length}
-use Rattle.dn_types.specs.Calls.{trace_of}
-use Rattle.dn_types.specs.Clock.{call_limit}
-use Rattle.dn_laws.specs.Explained.{IsDueBy}
-use Rattle.dn_types.specs.Links.{arrival_time, due_by, last_due}
-use Rattle.dn_types.specs.Replies.{replies}
-use Rattle.dn_laws.specs.ReplyLaws.{HasStarted, IsDelivered, QueuedPacketsAreDelivered}
-use Rattle.dn_laws.specs.Told.{times_told}
-use Rattle.dn_types.specs.Trace.{Start}
-use Rattle.dn_types.specs.declared.call.Call.{Call}
-use Rattle.dn_types.specs.declared.call.Call.TheVariants.{Submit, Collect}
-use Rattle.dn_types.specs.declared.rule.Rule.{Rule}
-use Rattle.dn_types.specs.declared.rule.Rule.TheVariants.{Free, Ordered}
+use Rattle.dn_laws.proofs.LawWords.{trace_of, call_limit, IsDueBy, arrival_time, due_by, last_due, replies, HasStarted, IsDelivered, times_told, Start, Call, Submit, Collect, Rule, Free, Ordered}
+use Rattle.dn_laws.specs.ReplyLaws.{QueuedPacketsAreDelivered}
 use Rattle.dn_laws.proofs.Fates.{queued-packets-stay}
 use Rattle.dn_laws.proofs.ToldDeliveries.{told-when-due}
 

@@ -1,13 +1,6 @@
 -- The laws that determine the emulator at an Advance to 5 ns, and at a history that tells it as a command.
 use Rattle.std.proofs.Common.{◌≡◌, ◌≢◌, refl, [], ◌∷◌}
-use Rattle.dn_types.specs.declared.call.Call.TheVariants.{Advance}
-use Rattle.dn_types.specs.declared.entry.Entry.{Entry}
-use Rattle.dn_types.specs.declared.reply.Reply.{Reply}
-use Rattle.dn_types.specs.declared.reply.Reply.TheVariants.{Advanced, Configured}
-use Rattle.dn_types.specs.declared.rule.Rule.TheVariants.{Ordered}
-use Rattle.dn_laws.specs.Determined.Emulators.{Emulator}
-use Rattle.dn_laws.specs.Determined.Laws.{ObeysTheLaws}
-use Rattle.dn_laws.specs.Emulated.{emulated}
+use Rattle.dn_laws.proofs.LawWords.{Advance, Entry, Reply, Advanced, Configured, Ordered, Emulator, ObeysTheLaws, emulated}
 use Rattle.dn_laws.proofs.Determines.{laws-determine}
 use Rattle.dn_laws.proofs.LawsHold.{laws-hold, laws-give-the-replies, histories-by-the-laws, false-by-the-laws}
 

@@ -2,15 +2,7 @@
 use Rattle.std.proofs.Common.{◌≡◌, ◌∙◌, ◌<◌, ⊎_elim, ℕ, List, [], ◌∷◌, refl, sym, subst, length, arith}
 use Rattle.std.specs.Prelude.{◌^◌, Option}
 use Rattle.std.proofs.lemmas.Bool.Decides.{leb_tells}
-use Rattle.dn_laws.specs.Determined.Emulators.{Emulator, Readings}
-use Rattle.dn_laws.specs.Determined.Laws.{AnswersOneMore, ObeysTheLaws}
-use Rattle.dn_laws.specs.Determined.Links.{pipe_under, IsBy, AreStarts, Settles}
-use Rattle.dn_types.specs.Trace.{Link, Accepted, Start, Event}
-use Rattle.dn_types.specs.declared.call.Call.{Call}
-use Rattle.dn_types.specs.declared.call.Call.TheVariants.{Advance}
-use Rattle.dn_types.specs.declared.command.Command.{Command}
-use Rattle.dn_types.specs.declared.rule.Rule.{Rule}
-use Rattle.dn_types.specs.declared.target.Target.TheVariants.{Pipe as ToPipe}
+use Rattle.dn_laws.proofs.LawWords.{Emulator, Readings, AnswersOneMore, ObeysTheLaws, pipe_under, IsBy, AreStarts, Settles, Link, Accepted, Start, Event, Call, Advance, Command, Rule, ToPipe}
 use Rattle.dn_laws.proofs.SameCalls.{agree, told-one}
 use Rattle.dn_laws.proofs.SameReadings.{same-readings}
 

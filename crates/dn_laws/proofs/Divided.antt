@@ -3,22 +3,10 @@ use Rattle.std.proofs.Common.{◌≡◌, ◌∙◌, ℕ, ◌+◌, Bool, true, fa
 use Rattle.std.specs.Prelude.{Option, Some, None, nat_eq, is_some, ⊤}
 use Rattle.std.specs.List.{filter, list_any}
 use Rattle.std.proofs.lemmas.Bool.{eqb-true}
-use Rattle.dn_types.specs.Calls.{reaches, discard_reached, after_command}
-use Rattle.dn_types.specs.Configuration.{Settings, settings, subject, target_eq, is_queue_of, queue_numbers, has_queues, command_reply, setting_after}
-use Rattle.dn_types.specs.Flows.{Treatment, treatment, key_of, key_eq, keys, with_key, keys_with}
-use Rattle.dn_laws.specs.Divided.{links_of, IsOfOnePart, AreDivided}
-use Rattle.dn_laws.specs.Parts.{is_flow_of, is_carried}
-use Rattle.dn_types.specs.Trace.{Event, discarded}
-use Rattle.dn_types.specs.declared.call.Call.{Call}
-use Rattle.dn_types.specs.declared.call.Call.TheVariants.{Configure, Submit, Advance, Collect, Show}
-use Rattle.dn_types.specs.declared.command.Command.{Command}
-use Rattle.dn_types.specs.declared.command.Command.TheVariants.{Pipe, Queue, DeletePipe, DeleteQueue}
-use Rattle.dn_types.specs.declared.five_tuple.FiveTuple.{FiveTuple}
-use Rattle.dn_types.specs.declared.flow_key.FlowKey.{FlowKey}
-use Rattle.dn_types.specs.declared.reply.Reply.{Reply}
-use Rattle.dn_types.specs.declared.reply.Reply.TheVariants.{Configured, NoSuchPipe, Deleted, PipeHasQueues, NoSuchQueue}
-use Rattle.dn_types.specs.declared.target.Target.{Target}
-use Rattle.dn_types.specs.declared.target.Target.TheVariants.{Pipe as ToPipe, Queue as ToQueue}
+use Rattle.dn_laws.proofs.LawWords.{reaches, discard_reached, after_command, Settings, settings, subject, target_eq, is_queue_of, queue_numbers, has_queues, command_reply, setting_after, Treatment}
+use Rattle.dn_laws.proofs.LawWords.{treatment, key_of, key_eq, keys, with_key, keys_with, links_of, IsOfOnePart, AreDivided, is_flow_of, is_carried, Event, discarded, Call, Configure, Submit, Advance}
+use Rattle.dn_laws.proofs.LawWords.{Collect, Show, Command, Pipe, Queue, DeletePipe, DeleteQueue, FiveTuple, FlowKey, Reply, Configured, NoSuchPipe, Deleted, PipeHasQueues, NoSuchQueue, Target}
+use Rattle.dn_laws.proofs.LawWords.{ToPipe, ToQueue}
 use Rattle.dn_types.proofs.InForce.{target_eq-true}
 use Rattle.dn_laws.proofs.Isolation.{false-if}
 use Rattle.dn_laws.proofs.PartCalls.{keys-of}

@@ -1,18 +1,8 @@
 -- The law of divided calls at examples: what it speaks of is there, and its condition is needed.
 use Rattle.std.specs.Prelude.{◌≡◌, ◌≤◌, ℕ, Bool, true, false, cond, List, [], ◌∷◌, map, nat_eq, nat_le, length}
-use Rattle.dn_types.specs.Clock.{call_limit}
-use Rattle.dn_laws.specs.Divided.{links_of, own_of, AreDivided, own_reply_on}
-use Rattle.dn_laws.specs.Parts.{part_of}
-use Rattle.dn_types.specs.Calls.{trace_of}
-use Rattle.dn_types.specs.Replies.{replies}
-use Rattle.dn_types.specs.declared.call.Call.{Call}
-use Rattle.dn_types.specs.declared.call.Call.TheVariants.{Configure, Advance, Collect, Show}
-use Rattle.dn_types.specs.declared.command.Command.TheVariants.{DeletePipe}
-use Rattle.dn_types.specs.declared.reply.Reply.{Reply}
-use Rattle.dn_types.specs.declared.reply.Reply.TheVariants.{Configured, Deleted, Queued, NoTarget, Delivered, Status}
-use Rattle.dn_types.specs.declared.rule.Rule.TheVariants.{Ordered}
-use Rattle.dn_types.specs.declared.target.Target.{Target}
-use Rattle.dn_types.specs.declared.target.Target.TheVariants.{Pipe as ToPipe, Queue as ToQueue}
+use Rattle.dn_laws.proofs.LawWords.{call_limit, links_of, own_of, AreDivided, part_of, trace_of, replies, Call, Configure, Advance, Collect, Show, DeletePipe, Reply, Configured, Deleted, Queued}
+use Rattle.dn_laws.proofs.LawWords.{NoTarget, Delivered, Status, Ordered, Target, ToPipe, ToQueue}
+use Rattle.dn_laws.specs.Divided.{own_reply_on}
 use Rattle.dn_laws.proofs.AloneReplies.{parts-are-alone}
 use Rattle.dn_laws.proofs.PartsAlone.{parts-happen-alone}
 use Rattle.dn_types.proofs.ExampleWords.{tuple, no_mask, delivery, key, status, pipe, queue, to_pipe, to_queue}

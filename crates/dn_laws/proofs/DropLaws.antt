@@ -2,28 +2,10 @@
 use Rattle.std.proofs.Common.{◌≡◌, ◌∙◌, ◌≤◌, ◌<◌, ℕ, max, Bool, true, false, cond, List, map, refl, ap, sym, subst, length, arith}
 use Rattle.std.specs.Prelude.{◌%◌, ◌^◌, Option, Some, nat_le, nat_lt}
 use Rattle.std.proofs.lemmas.Bool.Decides.{nat_tests}
-use Rattle.dn_types.specs.Calls.{trace_of, link_of, loses, refuses, takes, verdict_by}
-use Rattle.dn_types.specs.Clock.{call_limit, effective_moment}
-use Rattle.dn_types.specs.Configuration.{settings}
-use Rattle.dn_types.specs.Drops.{is_lost, is_full}
-use Rattle.dn_laws.specs.Explained.{IsJudgedBy, IsAtLimit, IsExplained}
+use Rattle.dn_laws.proofs.LawWords.{trace_of, link_of, loses, refuses, takes, verdict_by, call_limit, effective_moment, settings, is_lost, is_full, IsJudgedBy, IsAtLimit, IsExplained, Treatment}
+use Rattle.dn_laws.proofs.LawWords.{treatment, keys, key_of, flow_number, reply, reply_to_verdict, counted_reply, settled, Link, Event, backlog, Call, Submit, Command, Pipe, Queue, DeletePipe}
+use Rattle.dn_laws.proofs.LawWords.{DeleteQueue, FlowKey, Limit, Slots, Kbytes, Packet, Reply, Exhausted, Rule, Target}
 use Rattle.dn_laws.specs.ConfiguredLaws.{DropsAreExplained, NoneUnconfigured}
-use Rattle.dn_types.specs.Flows.{Treatment, treatment, keys, key_of, flow_number}
-use Rattle.dn_types.specs.Replies.{reply, reply_to_verdict, counted_reply}
-use Rattle.dn_types.specs.Starts.{settled}
-use Rattle.dn_types.specs.Trace.{Link, Event, backlog}
-use Rattle.dn_types.specs.declared.call.Call.{Call}
-use Rattle.dn_types.specs.declared.call.Call.TheVariants.{Submit}
-use Rattle.dn_types.specs.declared.command.Command.{Command}
-use Rattle.dn_types.specs.declared.command.Command.TheVariants.{Pipe, Queue, DeletePipe, DeleteQueue}
-use Rattle.dn_types.specs.declared.flow_key.FlowKey.{FlowKey}
-use Rattle.dn_types.specs.declared.limit.Limit.{Limit}
-use Rattle.dn_types.specs.declared.limit.Limit.TheVariants.{Slots, Kbytes}
-use Rattle.dn_types.specs.declared.packet.Packet.{Packet}
-use Rattle.dn_types.specs.declared.reply.Reply.{Reply}
-use Rattle.dn_types.specs.declared.reply.Reply.TheVariants.{Exhausted}
-use Rattle.dn_types.specs.declared.rule.Rule.{Rule}
-use Rattle.dn_types.specs.declared.target.Target.{Target}
 
 at-limit : (most : Limit) (lengths : List ℕ) → is_full most lengths ≡ true → IsAtLimit most lengths
 at-limit (Slots count) lengths e = grind (arith, nat_tests)

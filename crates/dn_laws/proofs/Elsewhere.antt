@@ -4,33 +4,14 @@ use Rattle.std.specs.Prelude.{Option, Some, None, nat_le, nat_eq, option_map}
 use Rattle.std.proofs.lemmas.Bool.{eqb-true}
 use Rattle.std.proofs.lemmas.Bool.Decides.{nat_tests, leb_tells}
 use Rattle.std.proofs.lemmas.Option.{slice_get_within}
-use Rattle.dn_types.specs.Calls.{verdict_by, after_verdict, reaches, after_command, trace_of}
-use Rattle.dn_types.specs.Clock.{effective_moment}
-use Rattle.dn_types.specs.Configuration.{settings, subject, target_eq, setting_after, reply_to_command}
-use Rattle.dn_types.specs.Flows.{treatment, keys}
-use Rattle.dn_types.specs.Links.{free}
-use Rattle.dn_laws.specs.OtherPipes.{AreElsewhere, IsCommandElsewhere, IsElsewhere, OtherPipesChangeNothing}
-use Rattle.dn_types.specs.SharedLinks.{next_packet}
-use Rattle.dn_types.specs.Starts.{start_at, next_start, settled}
-use Rattle.dn_types.specs.Trace.{Link, pipe_of, Accepted, Event, backlog}
-use Rattle.dn_types.specs.declared.call.Call.{Call}
-use Rattle.dn_types.specs.declared.call.Call.TheVariants.{Configure, Submit, Advance, Collect, Show}
-use Rattle.dn_types.specs.declared.command.Command.{Command}
-use Rattle.dn_types.specs.declared.command.Command.TheVariants.{Pipe, Queue, DeletePipe, DeleteQueue}
-use Rattle.dn_types.specs.declared.packet.Packet.{Packet}
-use Rattle.dn_types.specs.declared.reply.Reply.{Reply}
-use Rattle.dn_types.specs.declared.reply.Reply.TheVariants.{Deleted}
-use Rattle.dn_types.specs.declared.rule.Rule.{Rule}
-use Rattle.dn_types.specs.declared.target.Target.{Target}
-use Rattle.dn_types.specs.declared.target.Target.TheVariants.{Pipe as ToPipe, Queue as ToQueue}
-use Rattle.dn_types.proofs.Conserving.{busy-link}
-use Rattle.dn_types.proofs.InForce.{IsKept, settings-kept, target_eq-true}
-use Rattle.dn_laws.proofs.Isolation.{false-if, none-left, spared-by, commands-move-nothing, packets-keep-apart}
-use Rattle.dn_types.proofs.Known.{IsKnown, all-known, fewer-discarded, pipe_of-link}
-use Rattle.dn_laws.proofs.OneLink.{IsAlike, alike-refl, alike-sym, alike-then, settled-alike, settled-still, settled-twice}
-use Rattle.dn_types.proofs.Settling.{next_packet-first}
-use Rattle.dn_laws.proofs.TagsElsewhere.{tags-elsewhere}
-use Rattle.dn_laws.proofs.Timely.{clock-later}
+use Rattle.dn_laws.proofs.LawWords.{verdict_by, after_verdict, reaches, after_command, trace_of, effective_moment, settings, subject, target_eq, setting_after, reply_to_command, treatment, keys, free}
+use Rattle.dn_laws.proofs.LawWords.{AreElsewhere, IsCommandElsewhere, IsElsewhere, next_packet, start_at, next_start, settled, Link, pipe_of, Accepted, Event, backlog, Call, Configure, Submit}
+use Rattle.dn_laws.proofs.LawWords.{Advance, Collect, Show, Command, Pipe, Queue, DeletePipe, DeleteQueue, Packet, Reply, Deleted, Rule, Target, ToPipe, ToQueue}
+use Rattle.dn_laws.specs.OtherPipes.{OtherPipesChangeNothing}
+use Rattle.dn_types.proofs.{Conserving.busy-link, InForce.IsKept, InForce.settings-kept, InForce.target_eq-true, Known.IsKnown, Known.all-known, Known.fewer-discarded, Known.pipe_of-link}
+use Rattle.dn_types.proofs.{Settling.next_packet-first}
+use Rattle.dn_laws.proofs.{Isolation.false-if, Isolation.none-left, Isolation.spared-by, Isolation.commands-move-nothing, Isolation.packets-keep-apart, OneLink.IsAlike, OneLink.alike-refl}
+use Rattle.dn_laws.proofs.{OneLink.alike-sym, OneLink.alike-then, OneLink.settled-alike, OneLink.settled-still, OneLink.settled-twice, TagsElsewhere.tags-elsewhere, Timely.clock-later}
 
 module _ (rule : Rule) (link : Link) where
   -- By the clock none starts any more.

@@ -1,25 +1,10 @@
 -- An accepted packet starts at the later of two moments: its acceptance, and the end of the transmission before it on its link.
 use Rattle.std.proofs.Common.{◌≡◌, ◌∙◌, ◌≤◌, ◌<◌, ◌⊎◌, ⊎_elim, inl, inr, ℕ, List, [], ◌∷◌, ◌++◌, ap, sym, subst, arith}
-use Rattle.dn_types.specs.Calls.{trace_of}
-use Rattle.dn_types.specs.Clock.{effective_moment}
-use Rattle.dn_types.specs.Links.{free}
-use Rattle.dn_types.specs.Replies.{reply}
+use Rattle.dn_laws.proofs.LawWords.{trace_of, effective_moment, free, reply, Start, Event, started, arrived, is_arrival, accepted_count, Call, Submit, Packet, Queued, Rule, Target}
 use Rattle.dn_laws.specs.TimeLaws.{WaitsForItsLink, StartsBehind}
-use Rattle.dn_types.specs.Trace.{Start, Event, started, arrived, is_arrival, accepted_count}
-use Rattle.dn_types.specs.declared.call.Call.{Call}
-use Rattle.dn_types.specs.declared.call.Call.TheVariants.{Submit}
-use Rattle.dn_types.specs.declared.packet.Packet.{Packet}
-use Rattle.dn_types.specs.declared.reply.Reply.TheVariants.{Queued}
-use Rattle.dn_types.specs.declared.rule.Rule.{Rule}
-use Rattle.dn_types.specs.declared.target.Target.{Target}
-use Rattle.dn_laws.proofs.Acceptance.{queued-packets-arrive}
-use Rattle.dn_types.proofs.Fifo.{IsProper}
-use Rattle.dn_types.proofs.Giving.{count-event}
-use Rattle.dn_laws.proofs.Kept.{links-are-kept}
-use Rattle.dn_types.proofs.Ordered.{trace-proper, suffix-proper, sends-one-at-a-time}
-use Rattle.dn_laws.proofs.Rates.{shape}
-use Rattle.dn_laws.proofs.StartLaws.{starts-at-once}
-use Rattle.dn_laws.proofs.Timely.{placed, queued, events-stay, none-starts-early, count-later, started-below}
+use Rattle.dn_laws.proofs.{Acceptance.queued-packets-arrive, Kept.links-are-kept, Rates.shape, StartLaws.starts-at-once, Timely.placed, Timely.queued, Timely.events-stay, Timely.none-starts-early}
+use Rattle.dn_laws.proofs.{Timely.count-later, Timely.started-below}
+use Rattle.dn_types.proofs.{Fifo.IsProper, Giving.count-event, Ordered.trace-proper, Ordered.suffix-proper, Ordered.sends-one-at-a-time}
 
 -- Later calls accept no fewer packets.
 count-calls : (after calls : List Call) → accepted_count (trace_of calls) ≤ accepted_count (trace_of (after ++ calls))

@@ -5,19 +5,9 @@ use Rattle.std.specs.List.{All, filter}
 use Rattle.std.proofs.lemmas.List.Elements.{All-nil, All-cons}
 use Rattle.dn_laws.specs.FairShare.{IsWeighted, CostsAtMost, share}
 use Rattle.std.proofs.lemmas.Bool.{leb-true, ltb-true}
-use Rattle.dn_types.specs.Calls.{trace_of}
-use Rattle.dn_types.specs.SharedLinks.{link_heads, virtual_time}
-use Rattle.dn_types.specs.Trace.{shared, Accepted, Start, started, backlog}
-use Rattle.dn_types.specs.declared.call.Call.{Call}
-use Rattle.dn_types.specs.declared.call.Call.TheVariants.{Configure, Submit, Advance}
-use Rattle.dn_types.specs.declared.command.Command.TheVariants.{Pipe, Queue}
-use Rattle.dn_types.specs.declared.limit.Limit.TheVariants.{Slots}
-use Rattle.dn_types.specs.declared.target.Target.TheVariants.{Queue as ToQueue}
-use Rattle.dn_laws.proofs.ByWeight.{shares-by-weight}
+use Rattle.dn_laws.proofs.LawWords.{trace_of, link_heads, virtual_time, shared, Accepted, Start, started, backlog, Call, Configure, Submit, Advance, Pipe, Queue, Slots, ToQueue}
+use Rattle.dn_laws.proofs.{ByWeight.shares-by-weight, Fair.shares-fairly, Heads.heads-are-first, Shares.pick-is-fair, Shares.pick-is-least, Shares.raises-to-the-least}
 use Rattle.dn_types.proofs.ExampleWords.{tuple, no_mask, packet}
-use Rattle.dn_laws.proofs.Fair.{shares-fairly}
-use Rattle.dn_laws.proofs.Heads.{heads-are-first}
-use Rattle.dn_laws.proofs.Shares.{pick-is-fair, pick-is-least, raises-to-the-least}
 
 abbrev weighted : ℕ → Call
 weighted weight = Configure (Queue 1 1 weight (Slots 50) 0 None no_mask)

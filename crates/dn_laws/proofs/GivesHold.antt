@@ -5,31 +5,12 @@ use Rattle.std.specs.List.{All, count_by}
 use Rattle.std.proofs.lemmas.Bool.{eqb-true, eq-eqb}
 use Rattle.std.proofs.lemmas.Bool.Decides.{leb_tells}
 use Rattle.std.proofs.lemmas.List.Elements.{All-cons, All-head, All-tail}
-use Rattle.dn_types.specs.Calls.{trace_of}
-use Rattle.dn_types.specs.Clock.{call_limit, effective_moment}
-use Rattle.dn_types.specs.Deliveries.{AreInOrder}
-use Rattle.dn_laws.specs.Determined.Emulators.{answers, Has}
-use Rattle.dn_laws.specs.Determined.Reports.{IsGivenBy, GivesNot, ComesBefore, ComeInOrder, IsGiven}
-use Rattle.dn_laws.specs.Emulated.{is_on, on_link, emulated}
-use Rattle.dn_laws.specs.Explained.{IsDueBy, IsDeliveryOf}
-use Rattle.dn_types.specs.Given.{is_packet, start_count}
-use Rattle.dn_types.specs.Links.{last_due}
-use Rattle.dn_types.specs.Replies.{reply, replies}
-use Rattle.dn_laws.specs.Told.{times_in, times_told}
-use Rattle.dn_types.specs.Trace.{Link, Start, Event, started}
-use Rattle.dn_types.specs.declared.call.Call.{Call}
-use Rattle.dn_types.specs.declared.call.Call.TheVariants.{Collect}
-use Rattle.dn_types.specs.declared.delivery.Delivery.{Delivery}
-use Rattle.dn_types.specs.declared.reply.Reply.{Reply}
-use Rattle.dn_types.specs.declared.reply.Reply.TheVariants.{Delivered}
-use Rattle.dn_types.specs.declared.rule.Rule.{Rule}
-use Rattle.dn_types.proofs.Giving.{count-delivery}
-use Rattle.dn_types.proofs.Once.{starts-once}
-use Rattle.dn_laws.proofs.PlainLawsHold.{answers-are}
-use Rattle.dn_laws.proofs.ReadingsObey.{read, due-on, kept-on}
-use Rattle.dn_laws.proofs.Isolation.{false-if}
-use Rattle.dn_types.proofs.Settled.{link_eq-true, link_eq-refl}
-use Rattle.dn_laws.proofs.ToldDeliveries.{collects-are-told, told-once, told-when-due, one-start, one-due}
+use Rattle.dn_laws.proofs.LawWords.{trace_of, call_limit, effective_moment, AreInOrder, answers, Has, IsGivenBy, GivesNot, ComesBefore, ComeInOrder, is_on, on_link, emulated, IsDueBy, IsDeliveryOf}
+use Rattle.dn_laws.proofs.LawWords.{is_packet, start_count, last_due, reply, replies, times_in, times_told, Link, Start, Event, started, Call, Collect, Delivery, Reply, Delivered, Rule}
+use Rattle.dn_laws.specs.Determined.Reports.{IsGiven}
+use Rattle.dn_types.proofs.{Giving.count-delivery, Once.starts-once, Settled.link_eq-true, Settled.link_eq-refl}
+use Rattle.dn_laws.proofs.{PlainLawsHold.answers-are, ReadingsObey.read, ReadingsObey.due-on, ReadingsObey.kept-on, Isolation.false-if, ToldDeliveries.collects-are-told, ToldDeliveries.told-once}
+use Rattle.dn_laws.proofs.{ToldDeliveries.told-when-due, ToldDeliveries.one-start, ToldDeliveries.one-due}
 
 all-has : (P : Delivery → Type 0) (ds : List Delivery) (d : Delivery) → All P ds → Has ds d → P d
 all-has P [] d h there = absurd there

@@ -3,31 +3,12 @@ use Rattle.std.proofs.Common.{◌≡◌, ◌∙◌, ◌≢◌, ◌<◌, ⊎_elim
 use Rattle.std.specs.Prelude.{Option, Some, None, nat_le, nat_eq, ⊤}
 use Rattle.std.proofs.lemmas.Bool.{eq-eqb, eqb-true}
 use Rattle.std.proofs.lemmas.Bool.Decides.{nat_tests}
-use Rattle.dn_types.specs.Calls.{link_of, Verdict, no_target, loses, refuses, takes, accept, join, after_verdict, verdict_by, verdict, reaches, discard_reached, after_command, trace_of}
-use Rattle.dn_types.specs.Clock.{effective_moment}
-use Rattle.dn_types.specs.Configuration.{Settings, settings, target_eq, subject, setting_after, reply_to_command}
-use Rattle.dn_types.specs.Deliveries.{undelivered}
-use Rattle.dn_types.specs.Drops.{is_lost, is_full}
-use Rattle.dn_laws.specs.Explained.{IsJudgedBy}
+use Rattle.dn_laws.proofs.LawWords.{link_of, Verdict, no_target, loses, refuses, takes, accept, join, after_verdict, verdict_by, verdict, reaches, discard_reached, after_command, trace_of}
+use Rattle.dn_laws.proofs.LawWords.{effective_moment, Settings, settings, target_eq, subject, setting_after, reply_to_command, undelivered, is_lost, is_full, IsJudgedBy, Treatment, treatment, keys}
+use Rattle.dn_laws.proofs.LawWords.{key_of, flow_number, free, last_due, waiting, opening, virtual_time, settled, start_at, Link, link_eq, pipe_of, Accepted, Event, opened, arrived, started}
+use Rattle.dn_laws.proofs.LawWords.{discarded, backlog, Call, Configure, Command, Pipe, Queue, DeletePipe, DeleteQueue, FlowKey, Limit, Packet, Reply, Configured, Deleted, Rule, Target, ToQueue}
 use Rattle.dn_laws.specs.SharingLaws.{CommandsMoveNothing, PacketsKeepApart, PipeDeleteEmpties, PipeDeleteSpares, QueueDeleteEmpties, QueueDeleteSpares}
 use Rattle.dn_laws.specs.ConfiguredLaws.{CommandsCount, QueuesHavePipes}
-use Rattle.dn_types.specs.Flows.{Treatment, treatment, keys, key_of, flow_number}
-use Rattle.dn_types.specs.Links.{free, last_due}
-use Rattle.dn_types.specs.SharedLinks.{waiting, opening, virtual_time}
-use Rattle.dn_types.specs.Starts.{settled, start_at}
-use Rattle.dn_types.specs.Trace.{Link, link_eq, pipe_of, Accepted, Event, opened, arrived, started, discarded, backlog}
-use Rattle.dn_types.specs.declared.call.Call.{Call}
-use Rattle.dn_types.specs.declared.call.Call.TheVariants.{Configure}
-use Rattle.dn_types.specs.declared.command.Command.{Command}
-use Rattle.dn_types.specs.declared.command.Command.TheVariants.{Pipe, Queue, DeletePipe, DeleteQueue}
-use Rattle.dn_types.specs.declared.flow_key.FlowKey.{FlowKey}
-use Rattle.dn_types.specs.declared.limit.Limit.{Limit}
-use Rattle.dn_types.specs.declared.packet.Packet.{Packet}
-use Rattle.dn_types.specs.declared.reply.Reply.{Reply}
-use Rattle.dn_types.specs.declared.reply.Reply.TheVariants.{Configured, Deleted}
-use Rattle.dn_types.specs.declared.rule.Rule.{Rule}
-use Rattle.dn_types.specs.declared.target.Target.{Target}
-use Rattle.dn_types.specs.declared.target.Target.TheVariants.{Queue as ToQueue}
 use Rattle.dn_types.proofs.InForce.{target_eq-true, pipe-there}
 use Rattle.dn_types.proofs.Keys.{target_eq-refl}
 use Rattle.dn_types.proofs.Known.{all-known, reached-emptied, fewer-discarded, pipe_of-link}

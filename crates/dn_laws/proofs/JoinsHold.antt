@@ -3,39 +3,13 @@ use Rattle.std.proofs.Common.{◌≡◌, ◌∙◌, ◌≢◌, ◌≤◌, ◌<�
 use Rattle.std.specs.Prelude.{Option, Some, None, is_some, nat_eq, nat_le}
 use Rattle.std.proofs.lemmas.Bool.{and_from}
 use Rattle.std.proofs.lemmas.Bool.Decides.{nat_tests}
-use Rattle.dn_types.specs.Calls.{trace_of, link_of, Verdict, no_target, loses, refuses, takes, verdict, accept, join, after_verdict}
-use Rattle.dn_types.specs.Clock.{call_limit, effective_moment}
-use Rattle.dn_types.specs.Configuration.{settings}
-use Rattle.dn_laws.specs.Determined.Laws.{IsWeight}
-use Rattle.dn_laws.specs.Determined.Links.{IsBy, IsTaggedBy, Joins}
-use Rattle.dn_laws.specs.Emulated.{is_on, on_link}
-use Rattle.dn_types.specs.Flows.{Treatment, treatment, keys}
-use Rattle.dn_types.specs.Links.{free}
-use Rattle.dn_types.specs.Replies.{reply, reply_to_verdict}
-use Rattle.dn_types.specs.SharedLinks.{waiting, opening}
-use Rattle.dn_types.specs.Starts.{start_at}
-use Rattle.dn_laws.specs.Told.{is_queued, IsCarriedBy}
-use Rattle.dn_types.specs.Trace.{Link, pipe_of, link_eq, Accepted, Start, Event, opened, arrived, started, backlog, flow_bound, accepted_count}
-use Rattle.dn_types.specs.Wf2q.{total}
-use Rattle.dn_types.specs.declared.call.Call.{Call}
-use Rattle.dn_types.specs.declared.call.Call.TheVariants.{Submit, Advance}
-use Rattle.dn_types.specs.declared.command.Command.{Command}
-use Rattle.dn_types.specs.declared.command.Command.TheVariants.{Pipe, Queue, DeletePipe, DeleteQueue}
-use Rattle.dn_types.specs.declared.packet.Packet.{Packet}
-use Rattle.dn_types.specs.declared.reply.Reply.TheVariants.{Queued}
-use Rattle.dn_types.specs.declared.rule.Rule.{Rule}
-use Rattle.dn_types.specs.declared.target.Target.{Target}
-use Rattle.dn_types.specs.declared.target.Target.TheVariants.{Pipe as ToPipe}
-use Rattle.dn_laws.proofs.Acceptance.{verdict-takes, carried-by}
-use Rattle.dn_laws.proofs.DropLaws.{not-exhausted}
-use Rattle.dn_types.proofs.InForce.{IsKept, settings-kept, pipe-there}
-use Rattle.dn_types.proofs.Known.{pipe_of-link}
-use Rattle.dn_types.proofs.Ordered.{opened-free}
-use Rattle.dn_laws.proofs.ReadingsObey.{read, apart, kept-on, queue-on, free-on, tag-on, virtual-on}
-use Rattle.dn_types.proofs.Settled.{link_eq-refl}
-use Rattle.dn_laws.proofs.SettlingHolds.{is-by, busy-beyond}
-use Rattle.dn_laws.proofs.Shares.{tagged}
-use Rattle.dn_types.proofs.StepFacts.{opened-count}
+use Rattle.dn_laws.proofs.LawWords.{trace_of, link_of, Verdict, no_target, loses, refuses, takes, verdict, accept, join, after_verdict, call_limit, effective_moment, settings, IsWeight, IsBy}
+use Rattle.dn_laws.proofs.LawWords.{IsTaggedBy, Joins, is_on, on_link, Treatment, treatment, keys, free, reply, reply_to_verdict, waiting, opening, start_at, is_queued, IsCarriedBy, Link, pipe_of}
+use Rattle.dn_laws.proofs.LawWords.{link_eq, Accepted, Start, Event, opened, arrived, started, backlog, flow_bound, accepted_count, total, Call, Submit, Advance, Command, Pipe, Queue, DeletePipe}
+use Rattle.dn_laws.proofs.LawWords.{DeleteQueue, Packet, Queued, Rule, Target, ToPipe}
+use Rattle.dn_laws.proofs.{Acceptance.verdict-takes, Acceptance.carried-by, DropLaws.not-exhausted, ReadingsObey.read, ReadingsObey.apart, ReadingsObey.kept-on, ReadingsObey.queue-on}
+use Rattle.dn_laws.proofs.{ReadingsObey.free-on, ReadingsObey.tag-on, ReadingsObey.virtual-on, SettlingHolds.is-by, SettlingHolds.busy-beyond, Shares.tagged}
+use Rattle.dn_types.proofs.{InForce.IsKept, InForce.settings-kept, InForce.pipe-there, Known.pipe_of-link, Ordered.opened-free, Settled.link_eq-refl, StepFacts.opened-count}
 
 carried-one : (command : Command) (flow : ℕ) (a b : Link) → IsCarriedBy command flow a → IsCarriedBy command flow b → a ≡ b
 carried-one (Pipe number bw delay limit loss buckets mask) flow a b h k = h ∙ sym k

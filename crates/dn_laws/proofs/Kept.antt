@@ -2,14 +2,9 @@
 use Rattle.std.proofs.Common.{◌≡◌, ◌∙◌, ℕ, ◌+◌, true, false, cond, List, [], ◌∷◌, ◌++◌, refl, ap, sym, subst}
 use Rattle.std.specs.List.{All}
 use Rattle.std.proofs.lemmas.List.Elements.{All-head, All-tail}
-use Rattle.dn_laws.specs.Explained.{IsDueBy}
-use Rattle.dn_laws.specs.KeptLaws.{IsNoOpening, IsNoStart, LinksAreKept, VirtualTimeIsKept}
-use Rattle.dn_types.specs.Links.{free, last_due, arrival_time, due_by}
-use Rattle.dn_types.specs.SharedLinks.{virtual_time, link_heads}
-use Rattle.dn_types.specs.Trace.{Link, link_eq, Start, Event, opened, started}
-use Rattle.dn_types.specs.Wf2q.{grown}
-use Rattle.dn_types.specs.declared.rule.Rule.{Rule}
-use Rattle.dn_types.specs.declared.rule.Rule.TheVariants.{Free, Ordered}
+use Rattle.dn_laws.proofs.LawWords.{IsDueBy, IsNoOpening, IsNoStart, free, last_due, arrival_time, due_by, virtual_time, link_heads, Link, link_eq, Start, Event, opened, started, grown, Rule, Free}
+use Rattle.dn_laws.proofs.LawWords.{Ordered}
+use Rattle.dn_laws.specs.KeptLaws.{LinksAreKept, VirtualTimeIsKept}
 use Rattle.dn_laws.proofs.Isolation.{false-if}
 use Rattle.dn_types.proofs.Settled.{link_eq-true, link_eq-refl}
 

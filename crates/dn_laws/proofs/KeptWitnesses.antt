@@ -2,23 +2,10 @@
 use Rattle.std.proofs.Common.{◌≡◌, refl, ℕ, ◌+◌, ◌*◌, List, [], ◌∷◌, arith}
 use Rattle.std.specs.Prelude.{drop}
 use Rattle.std.proofs.lemmas.List.Elements.{All-nil, All-cons}
-use Rattle.dn_types.specs.Calls.{trace_of}
-use Rattle.dn_types.specs.Links.{free}
-use Rattle.dn_types.specs.Replies.{reply}
-use Rattle.dn_types.specs.SharedLinks.{virtual_time, last_finish_tag}
-use Rattle.dn_types.specs.Trace.{own, Accepted, Start, arrived, opened, started}
-use Rattle.dn_types.specs.declared.call.Call.{Call}
-use Rattle.dn_types.specs.declared.call.Call.TheVariants.{Advance, Collect}
-use Rattle.dn_types.specs.declared.reply.Reply.TheVariants.{Delivered}
-use Rattle.dn_types.specs.declared.rule.Rule.TheVariants.{Ordered}
-use Rattle.dn_types.specs.declared.target.Target.TheVariants.{Pipe as ToPipe}
+use Rattle.dn_laws.proofs.LawWords.{trace_of, free, reply, virtual_time, last_finish_tag, own, Accepted, Start, arrived, opened, started, Call, Advance, Collect, Delivered, Ordered, ToPipe, IsNoStart}
+use Rattle.dn_laws.proofs.LawWords.{IsNoOpening, IsApart}
 use Rattle.dn_types.proofs.ExampleWords.{sized, pipe, to_pipe}
-use Rattle.dn_laws.specs.KeptLaws.{IsNoStart, IsNoOpening, IsApart}
-use Rattle.dn_laws.proofs.Acceptance.{queued-packets-arrive}
-use Rattle.dn_laws.proofs.Kept.{links-are-kept, virtual-time-is-kept}
-use Rattle.dn_laws.proofs.Spares.{clock-spares-tags}
-use Rattle.dn_laws.proofs.Tags.{tags-are-kept}
-use Rattle.dn_laws.proofs.ToldDeliveries.{collects-are-told}
+use Rattle.dn_laws.proofs.{Acceptance.queued-packets-arrive, Kept.links-are-kept, Kept.virtual-time-is-kept, Spares.clock-spares-tags, Tags.tags-are-kept, ToldDeliveries.collects-are-told}
 
 abbrev two : List Call
 two = to_pipe 1 0 ∷ to_pipe 1 0 ∷ pipe 1 8000000 0 ∷ []

@@ -4,44 +4,15 @@ use Rattle.std.specs.Prelude.{◌%◌, ◌^◌, ◌-◌, max, Some, None, slice_
 use Rattle.std.specs.List.{All}
 use Rattle.std.proofs.lemmas.List.Elements.{All-nil, All-cons}
 use Rattle.std.proofs.lemmas.Bool.{leb-true, ltb-true}
-use Rattle.dn_types.specs.Calls.{trace_of}
-use Rattle.dn_types.specs.Clock.{effective_moment}
-use Rattle.dn_types.specs.Configuration.{settings}
-use Rattle.dn_types.specs.Deliveries.{undelivered, given, AreInOrder}
-use Rattle.dn_laws.specs.Explained.{IsStartBy, IsTagged, IsDeliveryOf}
-use Rattle.dn_laws.specs.FlowLaws.{AgreeUnder}
-use Rattle.dn_types.specs.Flows.{keys}
-use Rattle.dn_laws.specs.KeptLaws.{IsNoStart}
-use Rattle.dn_types.specs.Links.{free, transmission_time}
-use Rattle.dn_types.specs.Replies.{reply}
-use Rattle.dn_types.specs.SharedLinks.{next_packet, last_finish_tag, virtual_time}
-use Rattle.dn_laws.specs.TimeLaws.{IsDelayed}
-use Rattle.dn_types.specs.Trace.{own, shared, Accepted, Start, Event, arrived, started, backlog}
-use Rattle.dn_types.specs.declared.call.Call.{Call}
-use Rattle.dn_types.specs.declared.call.Call.TheVariants.{Configure, Submit, Advance, Collect}
-use Rattle.dn_types.specs.declared.command.Command.{Command}
-use Rattle.dn_types.specs.declared.command.Command.TheVariants.{Pipe, DeletePipe, DeleteQueue}
-use Rattle.dn_types.specs.declared.limit.Limit.TheVariants.{Slots}
-use Rattle.dn_types.specs.declared.reply.Reply.TheVariants.{Queued, Lost, Full}
-use Rattle.dn_types.specs.declared.rule.Rule.TheVariants.{Ordered}
-use Rattle.dn_types.specs.declared.target.Target.TheVariants.{Pipe as ToPipe, Queue as ToQueue}
-use Rattle.dn_types.proofs.Conserving.{conserves-work}
-use Rattle.dn_laws.proofs.ConfiguredRate.{keeps-the-configured-rate}
-use Rattle.dn_laws.proofs.Delays.{delays-are-explained}
-use Rattle.dn_laws.proofs.DropLaws.{drops-are-explained}
+use Rattle.dn_laws.proofs.LawWords.{trace_of, effective_moment, settings, undelivered, given, AreInOrder, IsStartBy, IsTagged, IsDeliveryOf, AgreeUnder, keys, IsNoStart, free, transmission_time}
+use Rattle.dn_laws.proofs.LawWords.{reply, next_packet, last_finish_tag, virtual_time, IsDelayed, own, shared, Accepted, Start, Event, arrived, started, backlog, Call, Configure, Submit, Advance}
+use Rattle.dn_laws.proofs.LawWords.{Collect, Command, Pipe, DeletePipe, DeleteQueue, Slots, Queued, Lost, Full, Ordered, ToPipe, ToQueue}
+use Rattle.dn_types.proofs.{Conserving.conserves-work, InTurn.gives-in-order, Keys.keys-stay, TransmissionTime.unlimited-takes-no-time}
+use Rattle.dn_laws.proofs.{ConfiguredRate.keeps-the-configured-rate, Delays.delays-are-explained, DropLaws.drops-are-explained, Exactly.waits-for-its-link, Exactly.starts-behind}
+use Rattle.dn_laws.proofs.{Isolation.queue-delete-empties, Isolation.packets-keep-apart, Masks.flows-are-by-mask, Rates.starts-apart, Rates.keeps-the-rate, Resets.tags-begin-afresh}
+use Rattle.dn_laws.proofs.{Resets.queue-delete-resets, Resets.dropped-changes-nothing, Shares.tags-by-weight, StartLaws.starts-at-once, StartLaws.starts-the-next, StartLaws.starts-as-configured}
+use Rattle.dn_laws.proofs.{Sums.delays-add-up, Sums.delivered-delays-add-up, Timely.events-stay, Timely.starts-in-time, Timely.none-starts-early}
 use Rattle.dn_types.proofs.ExampleWords.{tuple, mask, no_mask, packet, worded, pipe, queue, to_pipe, to_queue, key, delivery}
-use Rattle.dn_laws.proofs.Exactly.{waits-for-its-link, starts-behind}
-use Rattle.dn_types.proofs.InTurn.{gives-in-order}
-use Rattle.dn_laws.proofs.Isolation.{queue-delete-empties, packets-keep-apart}
-use Rattle.dn_types.proofs.Keys.{keys-stay}
-use Rattle.dn_laws.proofs.Masks.{flows-are-by-mask}
-use Rattle.dn_laws.proofs.Rates.{starts-apart, keeps-the-rate}
-use Rattle.dn_laws.proofs.Resets.{tags-begin-afresh, queue-delete-resets, dropped-changes-nothing}
-use Rattle.dn_laws.proofs.Shares.{tags-by-weight}
-use Rattle.dn_laws.proofs.StartLaws.{starts-at-once, starts-the-next, starts-as-configured}
-use Rattle.dn_laws.proofs.Sums.{delays-add-up, delivered-delays-add-up}
-use Rattle.dn_laws.proofs.Timely.{events-stay, starts-in-time, none-starts-early}
-use Rattle.dn_types.proofs.TransmissionTime.{unlimited-takes-no-time}
 
 abbrev lossy : Command
 lossy = Pipe 1 8000000 0 (Slots 1) 1073741824 None no_mask

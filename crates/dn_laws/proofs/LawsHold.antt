@@ -1,26 +1,13 @@
 -- The definitions obey the laws, and whatever obeys them answers as the definitions do.
 use Rattle.std.proofs.Common.{◌≡◌, ◌∙◌, ◌<◌, List, [], ◌∷◌, refl, sym, length}
-use Rattle.dn_types.specs.Clock.{call_limit}
-use Rattle.dn_laws.specs.Determined.Emulators.{Emulator}
-use Rattle.dn_laws.specs.Determined.Laws.{AnswersOneMore, ObeysTheLaws}
-use Rattle.dn_laws.specs.Emulated.{emulated, IsToldAfter, FalseByTheLaws}
-use Rattle.dn_types.specs.History.{IsLawfulAfter, IsLawful, calls_of}
-use Rattle.dn_types.specs.Replies.{reply}
-use Rattle.dn_types.specs.declared.call.Call.{Call}
-use Rattle.dn_types.specs.declared.call.Call.TheVariants.{Submit, Advance}
-use Rattle.dn_types.specs.declared.entry.Entry.{Entry}
-use Rattle.dn_types.specs.declared.rule.Rule.{Rule}
-use Rattle.dn_laws.proofs.Determines.{laws-determine}
-use Rattle.dn_laws.proofs.DropLaws.{none-unconfigured}
-use Rattle.dn_laws.proofs.GivesHold.{gives-hold}
-use Rattle.dn_laws.proofs.Isolation.{only-commands-count}
-use Rattle.dn_laws.proofs.JoinsHold.{joins-hold, keeps-apart, drops}
-use Rattle.dn_laws.proofs.Masks.{flows-have-their-keys}
-use Rattle.dn_laws.proofs.PlainLawsHold.{clock-configured, clock-shown, flows-stay, flow-known, flow-new, flow-none, deletes, spares, configures, unconfigures, refuses, spares-others, judges, numbers}
-use Rattle.dn_laws.proofs.ReadingsObey.{read, readings-obey}
-use Rattle.dn_laws.proofs.SettlingHolds.{settles-hold}
-use Rattle.dn_laws.proofs.StatesHold.{states-hold}
-use Rattle.dn_laws.proofs.ToldCommands.{limit-is-counted, replies-tell-the-clock, commands-are-told}
+use Rattle.dn_laws.proofs.LawWords.{call_limit, Emulator, AnswersOneMore, ObeysTheLaws, emulated, IsLawful, calls_of, reply, Call, Submit, Advance, Entry, Rule}
+use Rattle.dn_laws.specs.Emulated.{IsToldAfter, FalseByTheLaws}
+use Rattle.dn_types.specs.History.{IsLawfulAfter}
+use Rattle.dn_laws.proofs.{Determines.laws-determine, DropLaws.none-unconfigured, GivesHold.gives-hold, Isolation.only-commands-count, JoinsHold.joins-hold, JoinsHold.keeps-apart, JoinsHold.drops}
+use Rattle.dn_laws.proofs.{Masks.flows-have-their-keys, PlainLawsHold.clock-configured, PlainLawsHold.clock-shown, PlainLawsHold.flows-stay, PlainLawsHold.flow-known, PlainLawsHold.flow-new}
+use Rattle.dn_laws.proofs.{PlainLawsHold.flow-none, PlainLawsHold.deletes, PlainLawsHold.spares, PlainLawsHold.configures, PlainLawsHold.unconfigures, PlainLawsHold.refuses}
+use Rattle.dn_laws.proofs.{PlainLawsHold.spares-others, PlainLawsHold.judges, PlainLawsHold.numbers, ReadingsObey.read, ReadingsObey.readings-obey, SettlingHolds.settles-hold, StatesHold.states-hold}
+use Rattle.dn_laws.proofs.{ToldCommands.limit-is-counted, ToldCommands.replies-tell-the-clock, ToldCommands.commands-are-told}
 
 one-more : (rule : Rule) (calls : List Call) → length calls < call_limit → AnswersOneMore rule (read rule) (emulated rule) calls
 one-more rule calls lt = record {

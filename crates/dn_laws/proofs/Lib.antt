@@ -32,6 +32,7 @@ pub mod Kept
 mod KeptWitnesses
 pub mod LawsHold
 mod LawWitnesses
+pub mod LawWords
 pub mod Least
 pub mod LineLawsHold
 pub mod LineSteps

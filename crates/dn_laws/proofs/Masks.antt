@@ -1,26 +1,10 @@
 -- Which packets are of one flow.
 use Rattle.std.proofs.Common.{◌≡◌, ◌∙◌, ℕ, max, Bool, true, false, cond, List, [], ◌∷◌, ◌++◌, map, refl, ap, sym, length}
 use Rattle.std.specs.Prelude.{Option, Some, nat_le, slice_get}
-use Rattle.dn_types.specs.Calls.{link_of, loses, refuses, takes, verdict_by, trace_of}
-use Rattle.dn_types.specs.Clock.{call_limit, effective_moment}
-use Rattle.dn_types.specs.Configuration.{settings}
-use Rattle.dn_types.specs.Drops.{is_lost, is_full}
-use Rattle.dn_laws.specs.FlowLaws.{AgreeUnder, flow_told, FlowsAreByMask, FlowsHaveTheirKeys, IsMaskedBy, kept_by}
-use Rattle.dn_types.specs.Flows.{Treatment, treatment, keys, keys_with, key_of, flow_number}
-use Rattle.dn_types.specs.Replies.{reply, counted_reply, reply_to_verdict}
-use Rattle.dn_types.specs.Starts.{settled}
-use Rattle.dn_types.specs.Trace.{Link, Event, backlog}
-use Rattle.dn_types.specs.declared.call.Call.{Call}
-use Rattle.dn_types.specs.declared.call.Call.TheVariants.{Submit}
-use Rattle.dn_types.specs.declared.command.Command.{Command}
-use Rattle.dn_types.specs.declared.command.Command.TheVariants.{Pipe, Queue, DeletePipe, DeleteQueue}
-use Rattle.dn_types.specs.declared.five_tuple.FiveTuple.{FiveTuple}
-use Rattle.dn_types.specs.declared.flow_key.FlowKey.{FlowKey}
-use Rattle.dn_types.specs.declared.mask.Mask.{Mask}
-use Rattle.dn_types.specs.declared.packet.Packet.{Packet}
-use Rattle.dn_types.specs.declared.reply.Reply.TheVariants.{Exhausted}
-use Rattle.dn_types.specs.declared.rule.Rule.{Rule}
-use Rattle.dn_types.specs.declared.target.Target.{Target}
+use Rattle.dn_laws.proofs.LawWords.{link_of, loses, refuses, takes, verdict_by, trace_of, call_limit, effective_moment, settings, is_lost, is_full, AgreeUnder, flow_told, IsMaskedBy, kept_by}
+use Rattle.dn_laws.proofs.LawWords.{Treatment, treatment, keys, keys_with, key_of, flow_number, reply, counted_reply, reply_to_verdict, settled, Link, Event, backlog, Call, Submit, Command, Pipe}
+use Rattle.dn_laws.proofs.LawWords.{Queue, DeletePipe, DeleteQueue, FiveTuple, FlowKey, Mask, Packet, Exhausted, Rule, Target}
+use Rattle.dn_laws.specs.FlowLaws.{FlowsAreByMask, FlowsHaveTheirKeys}
 use Rattle.dn_types.proofs.Keys.{keys-apart, one-place, keys-stay}
 use Rattle.dn_types.proofs.Known.{StandsAt, known-flow}
 

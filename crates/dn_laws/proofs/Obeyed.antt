@@ -1,15 +1,8 @@
 -- What is told of a command is what is in force, and the clock goes by the moments that calls name.
 use Rattle.std.proofs.Common.{◌≡◌, ◌∙◌, ◌<◌, List, [], ◌∷◌, refl, sym, length, arith}
-use Rattle.dn_types.specs.Clock.{call_limit}
-use Rattle.dn_types.specs.Configuration.{reply_to_command}
-use Rattle.dn_types.specs.Replies.{reply}
+use Rattle.dn_laws.proofs.LawWords.{call_limit, reply_to_command, reply, opened, arrived, started, lost, refused, discarded, collected, is_start_of, Call, Configure, Command, Pipe, Queue, DeletePipe}
+use Rattle.dn_laws.proofs.LawWords.{DeleteQueue, Rule}
 use Rattle.dn_laws.specs.WordLaws.{ObeysAsTold, ClockFollows, StartsAreCounted}
-use Rattle.dn_types.specs.Trace.{opened, arrived, started, lost, refused, discarded, collected, is_start_of}
-use Rattle.dn_types.specs.declared.call.Call.{Call}
-use Rattle.dn_types.specs.declared.call.Call.TheVariants.{Configure}
-use Rattle.dn_types.specs.declared.command.Command.{Command}
-use Rattle.dn_types.specs.declared.command.Command.TheVariants.{Pipe, Queue, DeletePipe, DeleteQueue}
-use Rattle.dn_types.specs.declared.rule.Rule.{Rule}
 use Rattle.dn_laws.proofs.DropLaws.{not-exhausted}
 use Rattle.dn_types.proofs.Giving.{count-event}
 use Rattle.dn_laws.proofs.Isolation.{commands-count}

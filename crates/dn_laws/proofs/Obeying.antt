@@ -3,26 +3,9 @@ use Rattle.std.proofs.Common.{◌≡◌, ◌∙◌, ◌≤◌, ◌<◌, inl, inr
 use Rattle.std.specs.Prelude.{Option, Some, None, is_some, nat_eq}
 use Rattle.std.specs.List.{list_any}
 use Rattle.std.proofs.lemmas.Bool.{eq-eqb, and_from}
-use Rattle.dn_types.specs.Clock.{call_limit, effective_moment}
-use Rattle.dn_types.specs.Configuration.{Settings, settings, target_eq, subject, has_queues, queue_numbers, command_reply, setting_after, reply_to_command}
-use Rattle.dn_laws.specs.Determined.Emulators.{Emulator, Has}
-use Rattle.dn_laws.specs.Determined.Laws.{ObeysTheLaws, about, key_by}
-use Rattle.dn_laws.specs.FlowLaws.{IsMaskedBy}
-use Rattle.dn_types.specs.Flows.{treatment, key_eq, keys_with, keys}
-use Rattle.dn_laws.specs.ReplyLaws.{IsToldBy}
-use Rattle.dn_laws.specs.Told.{HasQueue, IsThere}
-use Rattle.dn_types.specs.declared.call.Call.{Call}
-use Rattle.dn_types.specs.declared.call.Call.TheVariants.{Configure, Submit, Advance, Collect, Show}
-use Rattle.dn_types.specs.declared.command.Command.{Command}
-use Rattle.dn_types.specs.declared.command.Command.TheVariants.{Pipe, Queue, DeletePipe, DeleteQueue}
-use Rattle.dn_types.specs.declared.flow_key.FlowKey.{FlowKey}
-use Rattle.dn_types.specs.declared.mask.Mask.{Mask}
-use Rattle.dn_types.specs.declared.packet.Packet.{Packet}
-use Rattle.dn_types.specs.declared.reply.Reply.{Reply}
-use Rattle.dn_types.specs.declared.reply.Reply.TheVariants.{Configured, NoSuchPipe, Deleted, PipeHasQueues, NoSuchQueue}
-use Rattle.dn_types.specs.declared.rule.Rule.{Rule}
-use Rattle.dn_types.specs.declared.target.Target.{Target}
-use Rattle.dn_types.specs.declared.target.Target.TheVariants.{Pipe as ToPipe, Queue as ToQueue}
+use Rattle.dn_laws.proofs.LawWords.{call_limit, effective_moment, Settings, settings, target_eq, subject, has_queues, queue_numbers, command_reply, setting_after, reply_to_command, Emulator, Has}
+use Rattle.dn_laws.proofs.LawWords.{ObeysTheLaws, about, key_by, IsMaskedBy, treatment, key_eq, keys_with, keys, IsToldBy, HasQueue, IsThere, Call, Configure, Submit, Advance, Collect, Show, Command}
+use Rattle.dn_laws.proofs.LawWords.{Pipe, Queue, DeletePipe, DeleteQueue, FlowKey, Mask, Packet, Reply, Configured, NoSuchPipe, Deleted, PipeHasQueues, NoSuchQueue, Rule, Target, ToPipe, ToQueue}
 use Rattle.dn_types.proofs.InForce.{target_eq-true, IsKept, settings-kept}
 use Rattle.dn_types.proofs.Keys.{key_eq-true, target_eq-refl}
 use Rattle.dn_laws.proofs.ToldCommands.{some-queue, has}

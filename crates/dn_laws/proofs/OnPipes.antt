@@ -2,21 +2,11 @@
 use Rattle.std.proofs.Common.{◌≡◌, ◌∙◌, ℕ, zero, suc, ◌+◌, Bool, true, false, cond, ◌&&◌, List, [], ◌∷◌, ◌++◌, map, refl, ap, sym, subst}
 use Rattle.std.specs.Prelude.{Option, Some, None, nat_eq, nat_le, option_map, ⊤}
 use Rattle.std.specs.List.{list_any}
-use Rattle.dn_types.specs.Calls.{link_of, Verdict, no_target, loses, refuses, takes, verdict_by, accept, join, after_verdict, reaches, discard_reached, after_command}
-use Rattle.dn_types.specs.Configuration.{Settings}
-use Rattle.dn_types.specs.Drops.{is_lost, is_full}
-use Rattle.dn_types.specs.Flows.{Treatment, key_of, flow_number}
-use Rattle.dn_types.specs.Links.{free, transmission_time}
-use Rattle.dn_types.specs.SharedLinks.{waiting, opening, next_packet}
-use Rattle.dn_types.specs.Starts.{bandwidth_of, delay_of, start_at, sooner, first_start, settle, settled, waiting_all}
-use Rattle.dn_types.specs.Trace.{Link, pipe_of, link_eq, Accepted, Start, Event, opened, arrived, started, discarded, backlog, with_link, links}
-use Rattle.dn_types.specs.declared.command.Command.{Command}
-use Rattle.dn_types.specs.declared.flow_key.FlowKey.{FlowKey}
-use Rattle.dn_types.specs.declared.packet.Packet.{Packet}
-use Rattle.dn_types.specs.declared.reply.Reply.{Reply}
-use Rattle.dn_types.specs.declared.reply.Reply.TheVariants.{Deleted}
-use Rattle.dn_types.specs.declared.target.Target.{Target}
-use Rattle.dn_types.specs.declared.target.Target.TheVariants.{Pipe as ToPipe}
+use Rattle.dn_laws.proofs.LawWords.{link_of, Verdict, no_target, loses, refuses, takes, verdict_by, accept, join, after_verdict, reaches, discard_reached, after_command, Settings, is_lost, is_full}
+use Rattle.dn_laws.proofs.LawWords.{Treatment, key_of, flow_number, free, transmission_time, waiting, opening, next_packet, bandwidth_of, delay_of, start_at, sooner, first_start, settle, settled}
+use Rattle.dn_laws.proofs.LawWords.{waiting_all, Link, pipe_of, link_eq, Accepted, Start, Event, opened, arrived, started, discarded, backlog, links, Command, FlowKey, Packet, Reply, Deleted, Target}
+use Rattle.dn_laws.proofs.LawWords.{ToPipe}
+use Rattle.dn_types.specs.Trace.{with_link}
 use Rattle.dn_types.proofs.Known.{pipe_of-link}
 
 module _ (On : ℕ → Type 0) where

@@ -2,14 +2,9 @@
 use Rattle.std.proofs.Common.{◌≡◌, ◌∙◌, ◌≤◌, ⊎_elim, ℕ, zero, suc, ◌+◌, Bool, true, false, cond, List, [], ◌∷◌, ◌++◌, map, refl, ap, sym, subst, drop, take, arith}
 use Rattle.std.specs.Prelude.{Option, Some, None, nat_le, slice_get, option_map, option_and_then}
 use Rattle.std.proofs.lemmas.Bool.Decides.{nat_tests, leb_tells}
-use Rattle.dn_types.specs.Configuration.{Settings}
-use Rattle.dn_types.specs.Links.{transmission_time, free, due_by, arrival_time, last_due}
-use Rattle.dn_types.specs.SharedLinks.{link_heads, virtual_time, next_packet}
-use Rattle.dn_types.specs.Starts.{bandwidth_of, delay_of, start_at, next_start, first_start, settle, settled, waiting_all}
-use Rattle.dn_types.specs.Trace.{Link, own, shared, pipe_of, link_eq, Accepted, Start, Event, started, is_of, backlog, flow_bound, links}
-use Rattle.dn_types.specs.Wf2q.{Stamped, heads, pick, grown}
-use Rattle.dn_types.specs.declared.rule.Rule.{Rule}
-use Rattle.dn_types.specs.declared.target.Target.TheVariants.{Pipe as ToPipe}
+use Rattle.dn_laws.proofs.LawWords.{Settings, transmission_time, free, due_by, arrival_time, last_due, link_heads, virtual_time, next_packet, bandwidth_of, delay_of, start_at, next_start, first_start}
+use Rattle.dn_laws.proofs.LawWords.{settle, settled, waiting_all, Link, own, shared, pipe_of, link_eq, Accepted, Start, Event, started, is_of, backlog, flow_bound, links, Stamped, heads, pick, grown}
+use Rattle.dn_laws.proofs.LawWords.{Rule, ToPipe}
 use Rattle.dn_types.proofs.Fifo.{append-none}
 use Rattle.dn_types.proofs.Settled.{backlog-elsewhere, free-elsewhere, last_due-elsewhere, virtual_time-elsewhere, first_start-of, next_start-link, settled-ends, link_eq-true, true_or_false}
 use Rattle.dn_types.proofs.Settling.{backlog-above}

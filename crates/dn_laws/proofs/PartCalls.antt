@@ -4,37 +4,18 @@ use Rattle.std.specs.Prelude.{Option, Some, None, nat_eq, nat_le, slice_get, ⊤
 use Rattle.std.specs.List.{filter, list_any}
 use Rattle.std.proofs.lemmas.Bool.{eq-eqb}
 use Rattle.std.proofs.lemmas.Bool.Decides.{nat_tests}
-use Rattle.dn_types.specs.Calls.{link_of, Verdict, no_target, loses, refuses, takes, verdict_by, accept, join, after_verdict, reaches, discard_reached, after_command, trace_of}
-use Rattle.dn_types.specs.Clock.{effective_moment}
-use Rattle.dn_types.specs.Configuration.{Settings, settings, subject, target_eq, queue_numbers, command_reply, setting_after, reply_to_command}
-use Rattle.dn_types.specs.Drops.{is_lost, is_full}
-use Rattle.dn_types.specs.Flows.{Treatment, treatment, key_of, key_eq, keys, flow_number, with_key, keys_with}
-use Rattle.dn_types.specs.Links.{free}
-use Rattle.dn_laws.specs.Parts.{Choice, is_flow_of, is_key_on, is_carried, calls_on, place, is_some_key_on, is_flow_on, is_link_on, is_packet_on, part, part_of}
-use Rattle.dn_types.specs.SharedLinks.{waiting, opening}
-use Rattle.dn_types.specs.Starts.{start_at, first_start, settle, settled, waiting_all}
-use Rattle.dn_types.specs.Trace.{Link, Accepted, Start, Event, opened, arrived, started, lost, refused, discarded, collected, backlog, links, is_arrival, accepted_count}
-use Rattle.dn_types.specs.Wf2q.{scaled, start_tag_on_arrival}
-use Rattle.dn_types.specs.declared.call.Call.{Call}
-use Rattle.dn_types.specs.declared.call.Call.TheVariants.{Configure, Submit, Advance, Collect, Show}
-use Rattle.dn_types.specs.declared.command.Command.{Command}
-use Rattle.dn_types.specs.declared.command.Command.TheVariants.{Queue}
-use Rattle.dn_types.specs.declared.flow_key.FlowKey.{FlowKey}
-use Rattle.dn_types.specs.declared.packet.Packet.{Packet}
-use Rattle.dn_types.specs.declared.reply.Reply.{Reply}
-use Rattle.dn_types.specs.declared.reply.Reply.TheVariants.{Deleted}
-use Rattle.dn_types.specs.declared.target.Target.{Target}
-use Rattle.dn_types.specs.declared.target.Target.TheVariants.{Pipe as ToPipe, Queue as ToQueue}
-use Rattle.dn_types.proofs.Fifo.{IsProper}
-use Rattle.dn_types.proofs.Giving.{count-event}
-use Rattle.dn_laws.proofs.Isolation.{false-if}
-use Rattle.dn_types.proofs.Keys.{key_eq-true, keys-stay}
-use Rattle.dn_types.proofs.Known.{StandsAt, place as key-place, place-is, known-flow}
-use Rattle.dn_types.proofs.Ordered.{trace-proper, settled-proper, opened-proper}
-use Rattle.dn_laws.proofs.Parts.{skip, IsFit, AreFit, link', accepted', start', backlog-part, waiting-part, free-part, virtual_time-part, last_finish_tag-part}
-use Rattle.dn_laws.proofs.PartStarts.{start_at-part, settled-fit, settled-part}
-use Rattle.dn_laws.proofs.Places.{place-more, place-same}
-use Rattle.dn_laws.proofs.Timely.{events-stay}
+use Rattle.dn_laws.proofs.LawWords.{link_of, Verdict, no_target, loses, refuses, takes, verdict_by, accept, join, after_verdict, reaches, discard_reached, after_command, trace_of, effective_moment}
+use Rattle.dn_laws.proofs.LawWords.{Settings, settings, subject, target_eq, queue_numbers, command_reply, setting_after, reply_to_command, is_lost, is_full, Treatment, treatment, key_of, key_eq, keys}
+use Rattle.dn_laws.proofs.LawWords.{flow_number, with_key, keys_with, free, Choice, is_flow_of, is_key_on, is_carried, calls_on, place, is_some_key_on, is_flow_on, is_link_on, is_packet_on, part}
+use Rattle.dn_laws.proofs.LawWords.{part_of, waiting, opening, start_at, first_start, settle, settled, waiting_all, Link, Accepted, Start, Event, opened, arrived, started, lost, refused, discarded}
+use Rattle.dn_laws.proofs.LawWords.{collected, backlog, links, is_arrival, accepted_count, start_tag_on_arrival, Call, Configure, Submit, Advance, Collect, Show, Command, Queue, FlowKey, Packet}
+use Rattle.dn_laws.proofs.LawWords.{Reply, Deleted, Target, ToPipe, ToQueue}
+use Rattle.dn_types.specs.Wf2q.{scaled}
+use Rattle.dn_types.proofs.{Fifo.IsProper, Giving.count-event, Keys.key_eq-true, Keys.keys-stay, Known.StandsAt, Known.place as key-place, Known.place-is, Known.known-flow, Ordered.trace-proper}
+use Rattle.dn_types.proofs.{Ordered.settled-proper, Ordered.opened-proper}
+use Rattle.dn_laws.proofs.{Isolation.false-if, Parts.skip, Parts.IsFit, Parts.AreFit, Parts.link', Parts.accepted', Parts.start', Parts.backlog-part, Parts.waiting-part, Parts.free-part}
+use Rattle.dn_laws.proofs.{Parts.virtual_time-part, Parts.last_finish_tag-part, PartStarts.start_at-part, PartStarts.settled-fit, PartStarts.settled-part, Places.place-more, Places.place-same}
+use Rattle.dn_laws.proofs.{Timely.events-stay}
 
 module _ (chosen : Choice) where
   queues-submit : (target : Target) (packet : Packet) (moment : ℕ) (b : Bool) (cs : List Call) → queue_numbers (cond b (Submit target packet moment) (Advance moment) ∷ cs) ≡ queue_numbers cs

@@ -3,28 +3,12 @@ use Rattle.std.proofs.Common.{◌≡◌, ◌∙◌, ◌≤◌, ◌<◌, ℕ, max
 use Rattle.std.specs.Prelude.{is_some, nat_le}
 use Rattle.std.specs.List.{filter}
 use Rattle.std.proofs.lemmas.Bool.Decides.{nat_tests}
-use Rattle.dn_types.specs.Calls.{Verdict, no_target, loses, refuses, takes, verdict_by, after_verdict, trace_of}
-use Rattle.dn_types.specs.Clock.{effective_moment, call_limit}
-use Rattle.dn_types.specs.Configuration.{Settings, settings, queue_numbers, has_queues, command_reply}
-use Rattle.dn_types.specs.Deliveries.{given}
-use Rattle.dn_types.specs.Flows.{treatment, keys, keys_with}
-use Rattle.dn_laws.specs.Parts.{Choice, is_carried, calls_on}
-use Rattle.dn_laws.specs.Replays.{AreCommands, ArePackets, IsReplay, own_calls}
-use Rattle.dn_types.specs.Replies.{reply_to_verdict, counted_reply, reply, replies}
-use Rattle.dn_laws.specs.ReplyParts.{is_told}
+use Rattle.dn_laws.proofs.LawWords.{Verdict, no_target, loses, refuses, takes, verdict_by, after_verdict, trace_of, effective_moment, call_limit, Settings, settings, queue_numbers, has_queues}
+use Rattle.dn_laws.proofs.LawWords.{command_reply, given, treatment, keys, keys_with, Choice, is_carried, calls_on, AreCommands, own_calls, reply_to_verdict, counted_reply, reply, replies, is_told}
+use Rattle.dn_laws.proofs.LawWords.{settled, Event, Call, Configure, Submit, Advance, Collect, Show, Command, Pipe, Queue, DeletePipe, DeleteQueue, Packet, Reply, Configured, NoSuchPipe, Deleted}
+use Rattle.dn_laws.proofs.LawWords.{PipeHasQueues, NoSuchQueue, Delivered, Exhausted, Rule, Target, ToPipe, ToQueue}
+use Rattle.dn_laws.specs.Replays.{ArePackets, IsReplay}
 use Rattle.dn_laws.specs.PartLaws.{AgreeingCallsAgree, ReplaysFallApart}
-use Rattle.dn_types.specs.Starts.{settled}
-use Rattle.dn_types.specs.Trace.{Event}
-use Rattle.dn_types.specs.declared.call.Call.{Call}
-use Rattle.dn_types.specs.declared.call.Call.TheVariants.{Configure, Submit, Advance, Collect, Show}
-use Rattle.dn_types.specs.declared.command.Command.{Command}
-use Rattle.dn_types.specs.declared.command.Command.TheVariants.{Pipe, Queue, DeletePipe, DeleteQueue}
-use Rattle.dn_types.specs.declared.packet.Packet.{Packet}
-use Rattle.dn_types.specs.declared.reply.Reply.{Reply}
-use Rattle.dn_types.specs.declared.reply.Reply.TheVariants.{Configured, NoSuchPipe, Deleted, PipeHasQueues, NoSuchQueue, Delivered, Exhausted}
-use Rattle.dn_types.specs.declared.rule.Rule.{Rule}
-use Rattle.dn_types.specs.declared.target.Target.{Target}
-use Rattle.dn_types.specs.declared.target.Target.TheVariants.{Pipe as ToPipe, Queue as ToQueue}
 use Rattle.dn_laws.proofs.Advances.{settled-again}
 use Rattle.dn_laws.proofs.PartCalls.{moment-on, length-on, other-links-change-nothing}
 use Rattle.dn_laws.proofs.PartReplies.{other-links-change-no-reply}

@@ -2,31 +2,16 @@
 use Rattle.std.proofs.Common.{◌≡◌, ◌∙◌, ℕ, suc, ◌+◌, max, Bool, true, false, cond, List, [], ◌∷◌, map, refl, ap, sym, sum, length, arith}
 use Rattle.std.specs.Prelude.{Option, Some, None, is_some, nat_eq, nat_le, ⊤}
 use Rattle.std.specs.List.{count_by, filter}
-use Rattle.dn_types.specs.Calls.{link_of, Verdict, no_target, loses, refuses, takes, verdict_by, trace_of}
-use Rattle.dn_types.specs.Clock.{effective_moment, call_limit}
-use Rattle.dn_types.specs.Configuration.{Settings, settings, queue_numbers, has_queues, command_reply}
-use Rattle.dn_types.specs.Deliveries.{given}
-use Rattle.dn_types.specs.Drops.{is_lost, is_full}
-use Rattle.dn_types.specs.Flows.{Treatment, treatment, key_of, keys, flow_number}
-use Rattle.dn_laws.specs.Parts.{Choice, is_carried, call_on, calls_on, place, is_flow_on, is_link_on, is_packet_on, event_by, is_event_on, part}
-use Rattle.dn_types.specs.Replies.{status_of, statuses_from, reply_to_verdict, counted_reply, reply, replies}
-use Rattle.dn_laws.specs.ReplyParts.{status_by, reply_by, reply_on}
-use Rattle.dn_types.specs.Starts.{settled}
-use Rattle.dn_types.specs.Trace.{Link, Accepted, Start, Event, opened, arrived, started, lost, refused}
-use Rattle.dn_types.specs.Trace.{discarded, collected, backlog, is_loss_of, is_refusal_of, is_start_of, discarded_count, accepted_count}
-use Rattle.dn_types.specs.declared.call.Call.{Call}
-use Rattle.dn_types.specs.declared.call.Call.TheVariants.{Configure, Submit, Advance, Collect, Show}
-use Rattle.dn_types.specs.declared.command.Command.{Command}
-use Rattle.dn_types.specs.declared.command.Command.TheVariants.{Pipe, Queue, DeletePipe, DeleteQueue}
-use Rattle.dn_types.specs.declared.flow_key.FlowKey.{FlowKey}
-use Rattle.dn_types.specs.declared.flow_status.FlowStatus.{FlowStatus}
-use Rattle.dn_types.specs.declared.packet.Packet.{Packet}
-use Rattle.dn_types.specs.declared.reply.Reply.{Reply}
-use Rattle.dn_types.specs.declared.reply.Reply.TheVariants.{Configured, NoSuchPipe, Deleted, PipeHasQueues, NoSuchQueue, Queued as ReplyQueued}
-use Rattle.dn_types.specs.declared.reply.Reply.TheVariants.{Lost as ReplyLost, Full as ReplyFull, Advanced, Delivered, Status, Exhausted}
-use Rattle.dn_types.specs.declared.rule.Rule.{Rule}
-use Rattle.dn_types.specs.declared.target.Target.{Target}
-use Rattle.dn_types.specs.declared.target.Target.TheVariants.{Pipe as ToPipe, Queue as ToQueue}
+use Rattle.dn_laws.proofs.LawWords.{link_of, Verdict, no_target, loses, refuses, takes, verdict_by, trace_of, effective_moment, call_limit, Settings, settings, queue_numbers, has_queues}
+use Rattle.dn_laws.proofs.LawWords.{command_reply, given, is_lost, is_full, Treatment, treatment, key_of, keys, flow_number, Choice, is_carried, calls_on, place, is_flow_on, is_link_on, is_packet_on}
+use Rattle.dn_laws.proofs.LawWords.{part, status_of, statuses_from, reply_to_verdict, counted_reply, reply, replies, reply_by, reply_on, settled, Link, Accepted, Start, Event, opened, arrived}
+use Rattle.dn_laws.proofs.LawWords.{started, lost, refused, discarded, collected, backlog, is_loss_of, is_refusal_of, is_start_of, discarded_count, accepted_count, Call, Configure, Submit, Advance}
+use Rattle.dn_laws.proofs.LawWords.{Collect, Show, Command, Pipe, Queue, DeletePipe, DeleteQueue, FlowKey, FlowStatus, Packet, Reply, Configured, NoSuchPipe, Deleted, PipeHasQueues, NoSuchQueue}
+use Rattle.dn_laws.proofs.LawWords.{Advanced, Delivered, Status, Exhausted, Rule, Target, ToPipe, ToQueue}
+use Rattle.dn_laws.specs.Parts.{call_on, event_by, is_event_on}
+use Rattle.dn_laws.specs.ReplyParts.{status_by}
+use Rattle.dn_types.specs.declared.reply.Reply.TheVariants.{Queued as ReplyQueued}
+use Rattle.dn_types.specs.declared.reply.Reply.TheVariants.{Lost as ReplyLost, Full as ReplyFull}
 use Rattle.dn_types.proofs.Fifo.{IsProper}
 use Rattle.dn_types.proofs.Giving.{count-event}
 use Rattle.dn_types.proofs.Ordered.{trace-proper, settled-proper}

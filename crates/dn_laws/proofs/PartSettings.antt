@@ -1,28 +1,10 @@
 -- A pipe's part of a replay rests on what is in force for the pipe and for the packets' targets.
 use Rattle.std.proofs.Common.{◌≡◌, ◌∙◌, ◌≤◌, ◌<◌, ℕ, ◌+◌, max, Bool, true, false, cond, List, [], ◌∷◌, ◌++◌, refl, ap, sym, subst, length, take, arith}
 use Rattle.std.specs.Prelude.{Some}
-use Rattle.dn_types.specs.Calls.{verdict_by, after_verdict, reaches, discard_reached, after_command, trace_of}
-use Rattle.dn_types.specs.Clock.{effective_moment, call_limit}
-use Rattle.dn_types.specs.Configuration.{Settings, settings, reply_to_command}
-use Rattle.dn_types.specs.Deliveries.{given}
-use Rattle.dn_types.specs.Flows.{Treatment, treatment, keys, keys_with}
+use Rattle.dn_laws.proofs.LawWords.{verdict_by, after_verdict, reaches, discard_reached, after_command, trace_of, effective_moment, call_limit, Settings, settings, reply_to_command, given, Treatment}
+use Rattle.dn_laws.proofs.LawWords.{treatment, keys, keys_with, of_pipe, calls_on, AreCommands, reply_to_verdict, counted_reply, reply, replies, settled, Event, discarded, collected, links, Call}
+use Rattle.dn_laws.proofs.LawWords.{Configure, Submit, Advance, Collect, Show, FlowKey, Command, Packet, Reply, Deleted, Delivered, Rule, Ordered, Target, ToPipe}
 use Rattle.dn_laws.specs.PartLaws.{AreAlike, AreMatched, CommandsActByForce, emptied, IsUntimed, PartsRestOnTheirPipe}
-use Rattle.dn_laws.specs.Parts.{of_pipe, calls_on}
-use Rattle.dn_laws.specs.Replays.{AreCommands}
-use Rattle.dn_types.specs.Replies.{reply_to_verdict, counted_reply, reply, replies}
-use Rattle.dn_types.specs.Starts.{settled}
-use Rattle.dn_types.specs.Trace.{Event, discarded, collected, links}
-use Rattle.dn_types.specs.declared.call.Call.{Call}
-use Rattle.dn_types.specs.declared.call.Call.TheVariants.{Configure, Submit, Advance, Collect, Show}
-use Rattle.dn_types.specs.declared.flow_key.FlowKey.{FlowKey}
-use Rattle.dn_types.specs.declared.command.Command.{Command}
-use Rattle.dn_types.specs.declared.packet.Packet.{Packet}
-use Rattle.dn_types.specs.declared.reply.Reply.{Reply}
-use Rattle.dn_types.specs.declared.reply.Reply.TheVariants.{Deleted, Delivered}
-use Rattle.dn_types.specs.declared.rule.Rule.{Rule}
-use Rattle.dn_types.specs.declared.rule.Rule.TheVariants.{Ordered}
-use Rattle.dn_types.specs.declared.target.Target.{Target}
-use Rattle.dn_types.specs.declared.target.Target.TheVariants.{Pipe as ToPipe}
 use Rattle.dn_laws.proofs.OnPipes.{AreOn, settled-on, verdict-on, after-on, after-links, settled-same, after-same}
 use Rattle.dn_laws.proofs.PartCalls.{other-links-change-nothing}
 use Rattle.dn_laws.proofs.PartReplays.{counts}

@@ -1,31 +1,12 @@
 -- The laws of parts at examples: what they speak of is there, and the numbers differ.
 use Rattle.std.specs.Prelude.{◌≡◌, ◌≤◌, ℕ, true, false, List, [], ◌∷◌, ◌++◌, map, take, nat_eq, nat_le, length, Option, Some, None, slice_get}
 use Rattle.std.specs.List.{All, filter}
-use Rattle.dn_types.specs.Calls.{trace_of}
-use Rattle.dn_types.specs.Clock.{call_limit}
-use Rattle.dn_types.specs.Configuration.{settings}
-use Rattle.dn_types.specs.Deliveries.{given}
-use Rattle.dn_types.specs.Flows.{Treatment, treatment, keys}
-use Rattle.dn_types.specs.declared.flow_key.FlowKey.{FlowKey}
-use Rattle.dn_laws.specs.Parts.{Choice, of_pipe, calls_on, is_flow_on, part_of}
-use Rattle.dn_laws.specs.Replays.{own_calls}
-use Rattle.dn_types.specs.Replies.{replies}
-use Rattle.dn_laws.specs.ReplyParts.{reply_on, is_told}
-use Rattle.dn_types.specs.declared.call.Call.{Call}
-use Rattle.dn_types.specs.declared.call.Call.TheVariants.{Configure, Submit, Advance, Collect, Show}
-use Rattle.dn_types.specs.declared.command.Command.TheVariants.{Pipe, DeleteQueue}
-use Rattle.dn_types.specs.declared.limit.Limit.TheVariants.{Slots}
-use Rattle.dn_types.specs.declared.reply.Reply.{Reply}
-use Rattle.dn_types.specs.declared.reply.Reply.TheVariants.{Configured, Deleted, Queued, Full, Advanced, Delivered, Status}
-use Rattle.dn_types.specs.declared.rule.Rule.TheVariants.{Ordered}
-use Rattle.dn_types.specs.declared.target.Target.TheVariants.{Pipe as ToPipe, Queue as ToQueue}
-use Rattle.dn_laws.proofs.Advances.{advances-are-no-more}
+use Rattle.dn_laws.proofs.LawWords.{trace_of, call_limit, settings, given, Treatment, treatment, keys, FlowKey, Choice, of_pipe, calls_on, is_flow_on, part_of, own_calls, replies, reply_on, is_told}
+use Rattle.dn_laws.proofs.LawWords.{Call, Configure, Submit, Advance, Collect, Show, Pipe, DeleteQueue, Slots, Reply, Configured, Deleted, Queued, Full, Advanced, Delivered, Status, Ordered, ToPipe}
+use Rattle.dn_laws.proofs.LawWords.{ToQueue}
+use Rattle.dn_laws.proofs.{Advances.advances-are-no-more, PartCalls.other-links-change-nothing, PartReplays.agreeing-calls-agree, PartReplays.replays-fall-apart, PartSettings.commands-act-by-force}
+use Rattle.dn_laws.proofs.{PartSettings.parts-rest-on-their-pipe, PartsWhole.parts-are-whole, PartReplies.other-links-change-no-reply}
 use Rattle.dn_types.proofs.ExampleWords.{tuple, mask, no_mask, ten, packet, delivery, key, status, pipe, queue, to_pipe, to_queue}
-use Rattle.dn_laws.proofs.PartCalls.{other-links-change-nothing}
-use Rattle.dn_laws.proofs.PartReplays.{agreeing-calls-agree, replays-fall-apart}
-use Rattle.dn_laws.proofs.PartSettings.{commands-act-by-force, parts-rest-on-their-pipe}
-use Rattle.dn_laws.proofs.PartsWhole.{parts-are-whole}
-use Rattle.dn_laws.proofs.PartReplies.{other-links-change-no-reply}
 use Rattle.std.proofs.Common.{refl, ap, sym, arith}
 use Rattle.std.proofs.lemmas.Bool.Decides.{nat_tests}
 

@@ -12,13 +12,8 @@ use Rattle.dn_types.specs.SharedLinks.{link_heads, waiting, virtual_time, last_f
 use Rattle.dn_types.specs.Trace.{Link, own, shared, link_eq, Accepted, Start, Event, opened, arrived, started, lost, refused, discarded, collected, is_of, backlog, flow_bound}
 use Rattle.dn_types.specs.Wf2q.{Stamped, scaled, heads, total, least_start_tag, raised, weight_sum, grown}
 use Rattle.dn_types.specs.declared.rule.Rule.{Rule}
-use Rattle.dn_types.proofs.Fifo.{append-none}
-use Rattle.dn_laws.proofs.Isolation.{false-if}
-use Rattle.dn_laws.proofs.OneLink.{heads-above}
-use Rattle.dn_laws.proofs.Places.{place-more, place-mono, place-eq}
-use Rattle.dn_types.proofs.Settled.{and-left, link_eq-true}
-use Rattle.dn_types.proofs.Settling.{and-right, backlog-above, backlog-own}
-use Rattle.dn_types.proofs.StepFacts.{clear-none}
+use Rattle.dn_types.proofs.{Fifo.append-none, Settled.and-left, Settled.link_eq-true, Settling.and-right, Settling.backlog-above, Settling.backlog-own, StepFacts.clear-none}
+use Rattle.dn_laws.proofs.{Isolation.false-if, OneLink.heads-above, Places.place-more, Places.place-mono, Places.place-eq}
 
 -- An event that a reading doesn't count changes nothing, whether it is there or not.
 pub skip : {X : Type 0} (read : List Event → X) (b : Bool) (e : Event) (u : List Event) → read (e ∷ u) ≡ read u → read (cond b (e ∷ u) u) ≡ read u

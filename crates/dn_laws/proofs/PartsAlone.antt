@@ -1,26 +1,11 @@
 -- With the calls of other parts left out, the part of all happens: the own calls lag by no more than the clock.
 use Rattle.std.proofs.Common.{◌≡◌, ◌∙◌, ◌≤◌, ℕ, zero, suc, max, Bool, true, false, cond, List, [], ◌∷◌, refl, ap, sym, subst, length, arith}
 use Rattle.std.specs.Prelude.{Option, Some, None}
-use Rattle.dn_types.specs.Calls.{verdict_by, after_verdict, after_command, trace_of}
-use Rattle.dn_types.specs.Clock.{effective_moment}
-use Rattle.dn_types.specs.Configuration.{Settings, settings, subject, target_eq, queue_numbers, command_reply, setting_after, reply_to_command}
-use Rattle.dn_types.specs.Deliveries.{given}
-use Rattle.dn_laws.specs.Divided.{AreDivided, IsOfOnePart, links_of, own_of, PartsHappenAlone}
-use Rattle.dn_types.specs.Flows.{Treatment, treatment, keys, keys_with}
-use Rattle.dn_laws.specs.Parts.{calls_on, is_carried}
-use Rattle.dn_types.specs.Replies.{reply_to_verdict, counted_reply, statuses_from}
-use Rattle.dn_types.specs.Starts.{first_start, settle, settled, waiting_all}
-use Rattle.dn_types.specs.Trace.{Start, Event, started, collected, links}
-use Rattle.dn_types.specs.declared.call.Call.{Call}
-use Rattle.dn_types.specs.declared.call.Call.TheVariants.{Configure, Submit, Advance, Collect, Show}
-use Rattle.dn_types.specs.declared.command.Command.{Command}
-use Rattle.dn_types.specs.declared.command.Command.TheVariants.{Pipe, Queue, DeletePipe, DeleteQueue}
-use Rattle.dn_types.specs.declared.packet.Packet.{Packet}
-use Rattle.dn_types.specs.declared.reply.Reply.TheVariants.{Delivered, Status}
-use Rattle.dn_types.specs.declared.rule.Rule.{Rule}
-use Rattle.dn_types.specs.declared.rule.Rule.TheVariants.{Ordered}
-use Rattle.dn_types.specs.declared.target.Target.{Target}
-use Rattle.dn_types.specs.declared.target.Target.TheVariants.{Pipe as ToPipe}
+use Rattle.dn_laws.proofs.LawWords.{verdict_by, after_verdict, after_command, trace_of, effective_moment, Settings, settings, subject, target_eq, queue_numbers, command_reply, setting_after}
+use Rattle.dn_laws.proofs.LawWords.{reply_to_command, given, AreDivided, IsOfOnePart, links_of, own_of, Treatment, treatment, keys, keys_with, calls_on, is_carried, reply_to_verdict, counted_reply}
+use Rattle.dn_laws.proofs.LawWords.{statuses_from, first_start, settle, settled, waiting_all, Start, Event, started, collected, links, Call, Configure, Submit, Advance, Collect, Show, Command, Pipe}
+use Rattle.dn_laws.proofs.LawWords.{Queue, DeletePipe, DeleteQueue, Packet, Delivered, Status, Rule, Ordered, Target, ToPipe}
+use Rattle.dn_laws.specs.Divided.{PartsHappenAlone}
 use Rattle.dn_laws.proofs.Advances.{settled-again}
 use Rattle.dn_laws.proofs.Divided.{IsWithin, AreMine, queues-of, within, carried-on, carried-elsewhere, none-uncarried, keys-mine, after-elsewhere, setting-elsewhere, command-same}
 use Rattle.dn_laws.proofs.Elsewhere.{quiet}

@@ -4,26 +4,11 @@ use Rattle.std.specs.Prelude.{Option, Some, None, nat_eq, nat_le, nat_lt, slice_
 use Rattle.std.specs.List.{All}
 use Rattle.std.proofs.lemmas.List.Elements.{All-filter, All-nil}
 use Rattle.std.proofs.lemmas.Option.{slice_get_within}
-use Rattle.dn_types.specs.Calls.{link_of, Verdict, no_target, loses, refuses, takes, verdict_by, accept, join, after_verdict, trace_of}
-use Rattle.dn_types.specs.Clock.{effective_moment}
-use Rattle.dn_types.specs.Configuration.{Settings, settings}
-use Rattle.dn_types.specs.Deliveries.{delivery_of, undelivered, given}
-use Rattle.dn_types.specs.Drops.{is_lost, is_full}
-use Rattle.dn_types.specs.Flows.{Treatment, treatment, key_of, keys, keys_with, flow_number, with_key}
-use Rattle.dn_types.specs.Links.{free, last_due}
-use Rattle.dn_laws.specs.Parts.{of_pipe, is_flow_of, is_key_on, is_some_key_on}
+use Rattle.dn_laws.proofs.LawWords.{link_of, Verdict, no_target, loses, refuses, takes, verdict_by, accept, join, after_verdict, trace_of, effective_moment, Settings, settings, delivery_of}
+use Rattle.dn_laws.proofs.LawWords.{undelivered, given, is_lost, is_full, Treatment, treatment, key_of, keys, keys_with, flow_number, with_key, free, last_due, of_pipe, is_flow_of, is_key_on}
+use Rattle.dn_laws.proofs.LawWords.{is_some_key_on, waiting, opening, start_at, first_start, settle, settled, waiting_all, Link, shared, Accepted, Start, Event, opened, arrived, started, backlog}
+use Rattle.dn_laws.proofs.LawWords.{links, Call, Configure, Submit, Advance, Collect, Show, Delivery, FlowKey, Packet, Rule, Target, ToPipe, ToQueue}
 use Rattle.dn_laws.specs.PartLaws.{PartsAreWhole}
-use Rattle.dn_types.specs.SharedLinks.{waiting, opening}
-use Rattle.dn_types.specs.Starts.{start_at, first_start, settle, settled, waiting_all}
-use Rattle.dn_types.specs.Trace.{Link, shared, Accepted, Start, Event, opened, arrived, started, backlog, links}
-use Rattle.dn_types.specs.declared.call.Call.{Call}
-use Rattle.dn_types.specs.declared.call.Call.TheVariants.{Configure, Submit, Advance, Collect, Show}
-use Rattle.dn_types.specs.declared.delivery.Delivery.{Delivery}
-use Rattle.dn_types.specs.declared.flow_key.FlowKey.{FlowKey}
-use Rattle.dn_types.specs.declared.packet.Packet.{Packet}
-use Rattle.dn_types.specs.declared.rule.Rule.{Rule}
-use Rattle.dn_types.specs.declared.target.Target.{Target}
-use Rattle.dn_types.specs.declared.target.Target.TheVariants.{Pipe as ToPipe, Queue as ToQueue}
 use Rattle.dn_types.proofs.BoundedReplies.{in_order-all}
 use Rattle.dn_laws.proofs.Isolation.{commands-move-nothing}
 use Rattle.dn_types.proofs.Keys.{keys-stay}

@@ -6,41 +6,16 @@ use Rattle.std.proofs.lemmas.Bool.Decides.{nat_tests}
 use Rattle.std.proofs.lemmas.Bool.{eq-eqb}
 use Rattle.std.proofs.lemmas.List.{append_cancel_right, length-append, append_assoc}
 use Rattle.std.proofs.lemmas.List.Elements.{All-nil, All-push}
-use Rattle.dn_types.specs.Calls.{link_of, Verdict, no_target, loses, refuses, takes, verdict, accept, join, after_verdict, trace_of}
-use Rattle.dn_types.specs.Clock.{effective_moment}
-use Rattle.dn_types.specs.Configuration.{settings}
-use Rattle.dn_types.specs.Flows.{keys, key_of, flow_number}
-use Rattle.dn_types.specs.Given.{start_count, is_start_with}
-use Rattle.dn_types.specs.Links.{free}
-use Rattle.dn_types.specs.Replies.{reply, reply_to_verdict}
-use Rattle.dn_types.specs.SharedLinks.{waiting}
-use Rattle.dn_types.specs.Starts.{start_at}
-use Rattle.dn_types.specs.Trace.{Link, link_eq, Accepted, Start, Event, opened, arrived, started, lost, refused, discarded, collected, is_of, backlog, is_arrival, accepted_count}
-use Rattle.dn_laws.specs.WaitLaws.{starting, sending, LinksMakeNoPause}
-use Rattle.dn_types.specs.declared.call.Call.{Call}
-use Rattle.dn_types.specs.declared.call.Call.TheVariants.{Submit, Advance}
-use Rattle.dn_types.specs.declared.packet.Packet.{Packet}
-use Rattle.dn_types.specs.declared.reply.Reply.TheVariants.{Queued, Lost, Full, NoTarget, Exhausted}
-use Rattle.dn_types.specs.declared.rule.Rule.{Rule}
-use Rattle.dn_types.specs.declared.target.Target.{Target}
-use Rattle.dn_laws.proofs.Ahead.{IsIt, one-of-number}
-use Rattle.dn_laws.proofs.Begun.{IsCaused, IsTaken, AllEvents, call-causes}
-use Rattle.dn_types.proofs.Bounded.{first-all}
-use Rattle.dn_types.proofs.Conserving.{busy-link}
-use Rattle.dn_laws.proofs.DropLaws.{not-exhausted}
-use Rattle.dn_laws.proofs.EachWaiting.{each-pushed, each-left, each-cleared}
-use Rattle.dn_laws.proofs.Exactly.{waits-for-its-link}
-use Rattle.dn_laws.proofs.Fates.{all-stay}
-use Rattle.dn_types.proofs.Fifo.{IsProper, own-first}
-use Rattle.dn_types.proofs.Giving.{count-event}
-use Rattle.dn_types.proofs.Once.{starts-once}
-use Rattle.dn_types.proofs.Ordered.{trace-proper, suffix-proper, opened-free, opened-backlog, of-own}
-use Rattle.dn_laws.proofs.Rates.{shape}
-use Rattle.dn_types.proofs.Settled.{link_eq-true}
-use Rattle.dn_laws.proofs.Timely.{split, queued, count-later}
-use Rattle.dn_laws.proofs.ToldCounts.{told-few}
-use Rattle.dn_laws.proofs.Waits.{behind-arrival, none-before, opening-of}
-use Rattle.dn_types.proofs.StepFacts.{opened-count}
+use Rattle.dn_laws.proofs.LawWords.{link_of, Verdict, no_target, loses, refuses, takes, verdict, accept, join, after_verdict, trace_of, effective_moment, settings, keys, key_of, flow_number}
+use Rattle.dn_laws.proofs.LawWords.{start_count, is_start_with, free, reply, reply_to_verdict, waiting, start_at, Link, link_eq, Accepted, Start, Event, opened, arrived, started, lost, refused}
+use Rattle.dn_laws.proofs.LawWords.{discarded, collected, is_of, backlog, is_arrival, accepted_count, starting, sending, Call, Submit, Advance, Packet, Queued, Lost, Full, NoTarget, Exhausted, Rule}
+use Rattle.dn_laws.proofs.LawWords.{Target}
+use Rattle.dn_laws.specs.WaitLaws.{LinksMakeNoPause}
+use Rattle.dn_laws.proofs.{Ahead.IsIt, Ahead.one-of-number, Begun.IsCaused, Begun.IsTaken, Begun.AllEvents, Begun.call-causes, DropLaws.not-exhausted, EachWaiting.each-pushed, EachWaiting.each-left}
+use Rattle.dn_laws.proofs.{EachWaiting.each-cleared, Exactly.waits-for-its-link, Fates.all-stay, Rates.shape, Timely.split, Timely.queued, Timely.count-later, ToldCounts.told-few}
+use Rattle.dn_laws.proofs.{Waits.behind-arrival, Waits.none-before, Waits.opening-of}
+use Rattle.dn_types.proofs.{Bounded.first-all, Conserving.busy-link, Fifo.IsProper, Fifo.own-first, Giving.count-event, Once.starts-once, Ordered.trace-proper, Ordered.suffix-proper}
+use Rattle.dn_types.proofs.{Ordered.opened-free, Ordered.opened-backlog, Ordered.of-own, Settled.link_eq-true, StepFacts.opened-count}
 
 -- Each start is when its link is free, or of the packet that has just arrived where none waited.
 abbrev pub IsUnpaused : List Event → Type 0

@@ -2,40 +2,13 @@
 use Rattle.std.proofs.Common.{◌≡◌, ◌∙◌, ◌≢◌, ◌<◌, ℕ, ◌+◌, Bool, true, false, cond, List, [], ◌∷◌, ◌++◌, refl, ap, sym, subst, length, arith}
 use Rattle.std.specs.Prelude.{◌%◌, ◌^◌, Option, Some, None, map, nat_eq}
 use Rattle.std.specs.List.{count_by, list_any}
-use Rattle.dn_types.specs.Calls.{trace_of, link_of, reaches, discard_reached, after_command}
-use Rattle.dn_types.specs.Clock.{call_limit, effective_moment}
-use Rattle.dn_types.specs.Configuration.{settings, target_eq}
-use Rattle.dn_laws.specs.Determined.Emulators.{answers, Has}
-use Rattle.dn_laws.specs.Determined.Laws.{about, key_by}
-use Rattle.dn_laws.specs.Determined.Links.{is_reached, discards}
-use Rattle.dn_laws.specs.Determined.Reports.{link_to}
-use Rattle.dn_laws.specs.Emulated.{on_link, emulated}
-use Rattle.dn_laws.specs.Explained.{IsJudgedBy, IsExplained}
-use Rattle.dn_laws.specs.FlowLaws.{IsMaskedBy}
-use Rattle.dn_types.specs.Flows.{treatment, key_eq, with_key, keys_with, keys}
-use Rattle.dn_types.specs.Replies.{reply, replies}
-use Rattle.dn_laws.specs.Told.{is_queued}
-use Rattle.dn_types.specs.Trace.{Link, Event, discarded, backlog}
-use Rattle.dn_types.specs.declared.call.Call.{Call}
-use Rattle.dn_types.specs.declared.call.Call.TheVariants.{Configure, Submit, Advance, Collect, Show}
-use Rattle.dn_types.specs.declared.command.Command.{Command}
-use Rattle.dn_types.specs.declared.command.Command.TheVariants.{Pipe, Queue, DeletePipe, DeleteQueue}
-use Rattle.dn_types.specs.declared.flow_key.FlowKey.{FlowKey}
-use Rattle.dn_types.specs.declared.limit.Limit.{Limit}
-use Rattle.dn_types.specs.declared.mask.Mask.{Mask}
-use Rattle.dn_types.specs.declared.packet.Packet.{Packet}
-use Rattle.dn_types.specs.declared.reply.Reply.{Reply}
-use Rattle.dn_types.specs.declared.reply.Reply.TheVariants.{Configured, Deleted, Queued}
-use Rattle.dn_types.specs.declared.rule.Rule.{Rule}
-use Rattle.dn_types.specs.declared.target.Target.{Target}
-use Rattle.dn_types.specs.declared.target.Target.TheVariants.{Pipe as ToPipe, Queue as ToQueue}
-use Rattle.dn_laws.proofs.DropLaws.{drops-are-explained}
-use Rattle.dn_laws.proofs.Isolation.{commands-count, false-if}
-use Rattle.dn_laws.proofs.Obeying.{about-is, has-key, key-had}
-use Rattle.dn_laws.proofs.Readings.{commands-are-answered}
-use Rattle.dn_laws.proofs.ReadingsObey.{queue-on}
-use Rattle.dn_laws.proofs.Spares.{commands-spare}
-use Rattle.dn_laws.proofs.ToldCounts.{packets-are-numbered}
+use Rattle.dn_laws.proofs.LawWords.{trace_of, link_of, reaches, discard_reached, after_command, call_limit, effective_moment, settings, target_eq, answers, Has, about, key_by, discards, link_to}
+use Rattle.dn_laws.proofs.LawWords.{on_link, emulated, IsJudgedBy, IsExplained, IsMaskedBy, treatment, key_eq, with_key, keys_with, keys, reply, replies, is_queued, Link, Event, discarded, backlog}
+use Rattle.dn_laws.proofs.LawWords.{Call, Configure, Submit, Advance, Collect, Show, Command, Pipe, Queue, DeletePipe, DeleteQueue, FlowKey, Limit, Mask, Packet, Reply, Configured, Deleted, Queued}
+use Rattle.dn_laws.proofs.LawWords.{Rule, Target, ToPipe, ToQueue}
+use Rattle.dn_laws.specs.Determined.Links.{is_reached}
+use Rattle.dn_laws.proofs.{DropLaws.drops-are-explained, Isolation.commands-count, Isolation.false-if, Obeying.about-is, Obeying.has-key, Obeying.key-had, Readings.commands-are-answered}
+use Rattle.dn_laws.proofs.{ReadingsObey.queue-on, Spares.commands-spare, ToldCounts.packets-are-numbered}
 
 pub answers-are : (rule : Rule) (calls : List Call) → answers (emulated rule) calls ≡ replies rule calls
 answers-are rule [] = refl

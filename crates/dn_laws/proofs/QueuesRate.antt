@@ -2,19 +2,9 @@
 use Rattle.std.proofs.Common.{◌≡◌, ◌∙◌, ◌≤◌, ◌<◌, ℕ, ◌+◌, ◌*◌, Bool, true, false, cond, List, [], ◌∷◌, ◌++◌, refl, ap, sym, subst, arith}
 use Rattle.std.specs.Prelude.{◌^◌, Option, nat_eq, slice_get}
 use Rattle.std.proofs.lemmas.List.{append_assoc}
-use Rattle.dn_types.specs.Calls.{link_of, trace_of}
-use Rattle.dn_laws.specs.Explained.{sent}
-use Rattle.dn_types.specs.Flows.{keys}
+use Rattle.dn_laws.proofs.LawWords.{link_of, trace_of, sent, keys, StaysInForce, Link, shared, link_eq, pipe_of, Start, Event, arrived, started, Call, Pipe, FlowKey, Limit, Mask, Target, ToPipe}
+use Rattle.dn_laws.proofs.LawWords.{ToQueue}
 use Rattle.dn_laws.specs.PacketLaws.{is_of_queues, sent_by_queues}
-use Rattle.dn_laws.specs.ConfiguredLaws.{StaysInForce}
-use Rattle.dn_types.specs.Trace.{Link, shared, link_eq, pipe_of, Start, Event, arrived, started}
-use Rattle.dn_types.specs.declared.call.Call.{Call}
-use Rattle.dn_types.specs.declared.command.Command.TheVariants.{Pipe}
-use Rattle.dn_types.specs.declared.flow_key.FlowKey.{FlowKey}
-use Rattle.dn_types.specs.declared.limit.Limit.{Limit}
-use Rattle.dn_types.specs.declared.mask.Mask.{Mask}
-use Rattle.dn_types.specs.declared.target.Target.{Target}
-use Rattle.dn_types.specs.declared.target.Target.TheVariants.{Pipe as ToPipe, Queue as ToQueue}
 use Rattle.dn_laws.proofs.AtHome.{IsHomeOf, HaveHomes, have-homes, start-home}
 use Rattle.dn_laws.proofs.ConfiguredRate.{keeps-the-configured-rate}
 use Rattle.dn_types.proofs.Fifo.{IsProper}

@@ -6,10 +6,7 @@ use Rattle.dn_laws.specs.Explained.{sent, IsAtBandwidth}
 use Rattle.dn_laws.specs.ConfiguredLaws.{KeepsTheRate, StartsApart}
 use Rattle.dn_types.specs.Links.{free, transmission_time}
 use Rattle.dn_types.specs.Trace.{Link, link_eq, Start, Event, arrived, started}
-use Rattle.dn_types.proofs.Fifo.{IsProper}
-use Rattle.dn_types.proofs.Ordered.{trace-proper, suffix-proper}
-use Rattle.dn_types.proofs.Settled.{link_eq-true, link_eq-refl}
-use Rattle.dn_types.proofs.TransmissionTime.{transmission-is-least}
+use Rattle.dn_types.proofs.{Fifo.IsProper, Ordered.trace-proper, Ordered.suffix-proper, Settled.link_eq-true, Settled.link_eq-refl, TransmissionTime.transmission-is-least}
 
 -- A link is free later and later.
 pub free-later : (link : Link) (stretch earlier : List Event) → IsProper (stretch ++ earlier) → free link earlier ≤ free link (stretch ++ earlier)

@@ -2,22 +2,8 @@
 use Rattle.std.specs.Prelude.{◌≡◌, ◌+◌, ◌*◌, ℕ, true, List, [], ◌∷◌, ◌++◌, Some, None}
 use Rattle.std.proofs.Common.{refl, arith}
 use Rattle.std.proofs.lemmas.Bool.{leb-true}
-use Rattle.dn_types.specs.Calls.{trace_of}
-use Rattle.dn_types.specs.Clock.{moment_of}
-use Rattle.dn_types.specs.Configuration.{settings, subject, reply_to_command}
-use Rattle.dn_types.specs.Flows.{Treatment, treatment}
-use Rattle.dn_types.specs.Given.{accepted_since, start_count}
-use Rattle.dn_types.specs.Links.{free}
-use Rattle.dn_types.specs.Replies.{reply}
-use Rattle.dn_types.specs.Starts.{next_start}
-use Rattle.dn_types.specs.Trace.{own, Accepted, Start, arrived, backlog, is_of}
-use Rattle.dn_types.specs.declared.call.Call.{Call}
-use Rattle.dn_types.specs.declared.call.Call.TheVariants.{Configure, Advance}
-use Rattle.dn_types.specs.declared.command.Command.{Command}
-use Rattle.dn_types.specs.declared.command.Command.TheVariants.{Pipe, DeletePipe}
-use Rattle.dn_types.specs.declared.limit.Limit.TheVariants.{Slots}
-use Rattle.dn_types.specs.declared.rule.Rule.TheVariants.{Ordered}
-use Rattle.dn_types.specs.declared.target.Target.TheVariants.{Pipe as ToPipe}
+use Rattle.dn_laws.proofs.LawWords.{trace_of, moment_of, settings, subject, reply_to_command, Treatment, treatment, accepted_since, start_count, free, reply, next_start, own, Accepted, Start, arrived}
+use Rattle.dn_laws.proofs.LawWords.{backlog, is_of, Call, Configure, Advance, Command, Pipe, DeletePipe, Slots, Ordered, ToPipe}
 use Rattle.dn_types.proofs.ExampleWords.{no_mask, to_pipe}
 use Rattle.dn_laws.proofs.Readings.{moments-are-named, subjects-are-named, commands-are-answered, targets-are-treated, links-are-told-apart, queues-are-read, starts-are-due, packets-are-counted}
 

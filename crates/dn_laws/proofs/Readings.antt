@@ -5,24 +5,12 @@ use Rattle.std.specs.List.{count_by}
 use Rattle.std.specs.Option.{option_map}
 use Rattle.std.proofs.lemmas.Bool.{eqb-true, eq-eqb, and_from}
 use Rattle.std.proofs.lemmas.Bool.Decides.{nat_tests}
-use Rattle.dn_types.specs.Calls.{trace_of, after_command}
-use Rattle.dn_types.specs.Deliveries.{given}
-use Rattle.dn_types.specs.Flows.{Treatment, treatment, keys}
-use Rattle.dn_types.specs.Given.{accepted_since, started_since, is_packet, is_start_with, start_count}
-use Rattle.dn_types.specs.Links.{free}
-use Rattle.dn_types.specs.SharedLinks.{next_packet}
-use Rattle.dn_types.specs.Starts.{next_start, start_at}
-use Rattle.dn_types.specs.Trace.{Link, link_eq, Accepted, Start, Event, opened, arrived, started, lost, refused, discarded, collected, backlog}
-use Rattle.dn_types.specs.declared.call.Call.TheVariants.{Configure}
-use Rattle.dn_types.specs.declared.command.Command.{Command}
-use Rattle.dn_types.specs.declared.command.Command.TheVariants.{Pipe, Queue, DeletePipe, DeleteQueue}
-use Rattle.dn_types.specs.declared.delivery.Delivery.{Delivery}
-use Rattle.dn_types.specs.declared.mask.Mask.{Mask}
-use Rattle.dn_types.specs.declared.reply.Reply.{Reply}
+use Rattle.dn_laws.proofs.LawWords.{trace_of, after_command, given, Treatment, treatment, keys, accepted_since, started_since, is_packet, is_start_with, start_count, free, next_packet, next_start}
+use Rattle.dn_laws.proofs.LawWords.{start_at, Link, link_eq, Accepted, Start, Event, opened, arrived, started, lost, refused, discarded, collected, backlog, Configure, Command, Pipe, Queue}
+use Rattle.dn_laws.proofs.LawWords.{DeletePipe, DeleteQueue, Delivery, Mask, Reply, IsMaskedBy}
 use Rattle.dn_types.proofs.Giving.{count-event, count-delivery}
 use Rattle.dn_types.proofs.Settled.{and-left, link_eq-true, link_eq-refl}
 use Rattle.dn_types.proofs.Settling.{and-right}
-use Rattle.dn_laws.specs.FlowLaws.{IsMaskedBy}
 use Rattle.dn_laws.specs.ReadingLaws.{MomentsAreNamed, SubjectsAreNamed, CommandsAreAnswered, TargetsAreTreated, LinksAreToldApart, IsElsewhere, GoesBy}
 use Rattle.dn_laws.specs.ReadingLaws.{QueuesAreRead, StartsAreDue, starts_as, given_as, PacketsAreCounted}
 use Rattle.dn_laws.proofs.DropLaws.{not-exhausted}

@@ -4,16 +4,10 @@ use Rattle.std.specs.Prelude.{slice_get, nat_eq, map, sum, take, drop}
 use Rattle.std.proofs.lemmas.Bool.{eqb-true, eq-eqb, and_from}
 use Rattle.std.proofs.lemmas.Bool.Decides.{leb_tells}
 use Rattle.std.proofs.lemmas.List.Sums.{sum_by-cons}
-use Rattle.dn_laws.specs.Determined.Emulators.{Readings, AreReadings, Has, IsOf, IsNotOf, IsFirst, IsRaised, GrowsBy, weights}
-use Rattle.dn_laws.specs.Emulated.{is_on, on_link}
-use Rattle.dn_laws.specs.Explained.{IsDueBy}
-use Rattle.dn_laws.specs.KeptLaws.{IsNoStart, IsNoOpening, IsApart}
-use Rattle.dn_types.specs.Links.{free, last_due, arrival_time, due_by}
-use Rattle.dn_types.specs.SharedLinks.{virtual_time, last_finish_tag, link_heads}
-use Rattle.dn_types.specs.Trace.{Link, link_eq, is_of, Accepted, Start, Event, opened, arrived, started, lost, refused, discarded, collected, backlog, flow_bound}
-use Rattle.dn_types.specs.Wf2q.{Stamped, heads, raised, least_start_tag, weight_sum, grown}
-use Rattle.dn_types.specs.declared.rule.Rule.{Rule}
-use Rattle.dn_types.specs.declared.rule.Rule.TheVariants.{Free, Ordered}
+use Rattle.dn_laws.proofs.LawWords.{Readings, AreReadings, Has, IsOf, IsFirst, IsRaised, GrowsBy, weights, is_on, on_link, IsDueBy, IsNoStart, IsNoOpening, IsApart, free, last_due, arrival_time}
+use Rattle.dn_laws.proofs.LawWords.{due_by, virtual_time, last_finish_tag, link_heads, Link, link_eq, is_of, Accepted, Start, Event, opened, arrived, started, lost, refused, discarded, collected}
+use Rattle.dn_laws.proofs.LawWords.{backlog, flow_bound, Stamped, heads, raised, least_start_tag, weight_sum, grown, Rule, Free, Ordered}
+use Rattle.dn_laws.specs.Determined.Emulators.{IsNotOf}
 use Rattle.dn_laws.proofs.Isolation.{false-if}
 use Rattle.dn_laws.proofs.SameReadings.{same-readings}
 use Rattle.dn_types.proofs.Settled.{and-left, link_eq-true, link_eq-refl}

@@ -3,38 +3,15 @@ use Rattle.std.specs.Prelude.{◌≡◌, ◌≢◌, ◌≤◌, ◌<◌, ◌+◌,
 use Rattle.std.specs.List.{count_by}
 use Rattle.std.proofs.Common.{refl, arith}
 use Rattle.std.proofs.lemmas.Bool.{leb-true}
-use Rattle.dn_types.specs.Calls.{trace_of}
-use Rattle.dn_types.specs.Clock.{effective_moment}
-use Rattle.dn_types.specs.Configuration.{settings}
-use Rattle.dn_types.specs.Links.{free}
-use Rattle.dn_laws.specs.PacketLaws.{IsAccepted, IsDelete}
-use Rattle.dn_types.specs.Replies.{reply, replies}
-use Rattle.dn_laws.specs.ReplyLaws.{Waits, WasDiscarded, HasStarted, IsDelivered}
-use Rattle.dn_types.specs.SharedLinks.{last_finish_tag}
-use Rattle.dn_laws.specs.Told.{moment_told, is_queued, times_told}
-use Rattle.dn_types.specs.Trace.{own, shared, is_start_of, Accepted, Start}
-use Rattle.dn_types.specs.declared.call.Call.{Call}
-use Rattle.dn_types.specs.declared.call.Call.TheVariants.{Configure, Advance, Collect, Show}
-use Rattle.dn_types.specs.declared.command.Command.{Command}
-use Rattle.dn_types.specs.declared.command.Command.TheVariants.{Pipe, Queue, DeletePipe, DeleteQueue}
-use Rattle.dn_types.specs.declared.limit.Limit.TheVariants.{Slots}
-use Rattle.dn_types.specs.declared.reply.Reply.TheVariants.{NoSuchPipe, PipeHasQueues, Deleted, Configured, Queued, Full, Delivered, Status, Exhausted}
-use Rattle.dn_types.specs.declared.rule.Rule.TheVariants.{Ordered}
-use Rattle.dn_types.specs.declared.target.Target.TheVariants.{Pipe as ToPipe, Queue as ToQueue}
-use Rattle.dn_laws.proofs.Acceptance.{arrivals-are-told}
-use Rattle.dn_laws.proofs.AtHome.{packets-add-up, shows-are-told}
-use Rattle.dn_laws.proofs.Comes.{discards-are-deletes}
-use Rattle.dn_laws.proofs.Delivered.{queued-packets-are-delivered}
+use Rattle.dn_laws.proofs.LawWords.{trace_of, effective_moment, settings, free, IsAccepted, IsDelete, reply, replies, HasStarted, IsDelivered, last_finish_tag, moment_told, is_queued, times_told, own}
+use Rattle.dn_laws.proofs.LawWords.{shared, is_start_of, Accepted, Start, Call, Configure, Advance, Collect, Show, Command, Pipe, Queue, DeletePipe, DeleteQueue, Slots, NoSuchPipe, PipeHasQueues}
+use Rattle.dn_laws.proofs.LawWords.{Deleted, Configured, Queued, Full, Delivered, Status, Exhausted, Ordered, ToPipe, ToQueue}
+use Rattle.dn_laws.specs.ReplyLaws.{Waits, WasDiscarded}
+use Rattle.dn_laws.proofs.{Acceptance.arrivals-are-told, AtHome.packets-add-up, AtHome.shows-are-told, Comes.discards-are-deletes, Delivered.queued-packets-are-delivered, Fates.queued-packets-stay}
+use Rattle.dn_laws.proofs.{Obeyed.obeys-as-told, Obeyed.clock-follows, Obeyed.starts-are-counted, QueuesRate.queues-share-the-rate, Seen.flows-were-told, Spares.commands-spare}
+use Rattle.dn_laws.proofs.{Spares.packets-spare-tags, Tags.busy-periods-begin, ToldCommands.limit-is-counted, ToldCommands.replies-tell-the-clock, ToldCommands.clock-is-the-greatest}
+use Rattle.dn_laws.proofs.{ToldCommands.commands-are-told, ToldCounts.packets-are-numbered, ToldDeliveries.told-once, ToldDeliveries.told-when-due}
 use Rattle.dn_types.proofs.ExampleWords.{tuple, no_mask, sized, delivery, key, status, pipe, queue, to_pipe, to_queue}
-use Rattle.dn_laws.proofs.Fates.{queued-packets-stay}
-use Rattle.dn_laws.proofs.Obeyed.{obeys-as-told, clock-follows, starts-are-counted}
-use Rattle.dn_laws.proofs.QueuesRate.{queues-share-the-rate}
-use Rattle.dn_laws.proofs.Seen.{flows-were-told}
-use Rattle.dn_laws.proofs.Spares.{commands-spare, packets-spare-tags}
-use Rattle.dn_laws.proofs.Tags.{busy-periods-begin}
-use Rattle.dn_laws.proofs.ToldCommands.{limit-is-counted, replies-tell-the-clock, clock-is-the-greatest, commands-are-told}
-use Rattle.dn_laws.proofs.ToldCounts.{packets-are-numbered}
-use Rattle.dn_laws.proofs.ToldDeliveries.{told-once, told-when-due}
 
 abbrev narrow : Command
 narrow = Pipe 1 8000000 0 (Slots 1) 0 None no_mask

@@ -2,32 +2,14 @@
 use Rattle.std.proofs.Common.{◌≡◌, ◌∙◌, ◌≤◌, ℕ, zero, suc, max, Bool, true, false, cond, List, [], ◌∷◌, refl, ap, length, arith}
 use Rattle.std.specs.Prelude.{nat_le, nat_eq}
 use Rattle.std.proofs.lemmas.Bool.{eq-eqb, le-leb, and_from}
-use Rattle.dn_types.specs.Calls.{link_of, Verdict, no_target, loses, refuses, takes, accept, after_verdict, verdict, trace_of}
-use Rattle.dn_types.specs.Clock.{call_limit, effective_moment}
-use Rattle.dn_types.specs.Configuration.{Settings, settings, target_eq}
-use Rattle.dn_types.specs.Deliveries.{undelivered}
-use Rattle.dn_types.specs.Flows.{Treatment, keys, key_of, flow_number}
-use Rattle.dn_types.specs.Links.{free, last_due}
-use Rattle.dn_types.specs.Replies.{counted_reply, reply_to_verdict}
+use Rattle.dn_laws.proofs.LawWords.{link_of, Verdict, no_target, loses, refuses, takes, accept, after_verdict, verdict, trace_of, call_limit, effective_moment, Settings, settings, target_eq}
+use Rattle.dn_laws.proofs.LawWords.{undelivered, Treatment, keys, key_of, flow_number, free, last_due, counted_reply, reply_to_verdict, waiting, opening, virtual_time, last_finish_tag, settled, Link}
+use Rattle.dn_laws.proofs.LawWords.{Accepted, Event, opened, arrived, backlog, flow_bound, total, start_tag_on_arrival, Call, Submit, Advance, DeletePipe, DeleteQueue, Packet, Exhausted, Rule, Target}
+use Rattle.dn_laws.proofs.LawWords.{ToQueue}
 use Rattle.dn_laws.specs.ResetLaws.{DroppedChangesNothing, IsDropped, PipeDeleteResets, QueueDeleteResets, TagsBeginAfresh}
-use Rattle.dn_types.specs.SharedLinks.{waiting, opening, virtual_time, last_finish_tag}
-use Rattle.dn_types.specs.Starts.{settled}
-use Rattle.dn_types.specs.Trace.{Link, Accepted, Event, opened, arrived, backlog, flow_bound}
-use Rattle.dn_types.specs.Wf2q.{total, start_tag_on_arrival}
-use Rattle.dn_types.specs.declared.call.Call.{Call}
-use Rattle.dn_types.specs.declared.call.Call.TheVariants.{Submit, Advance}
-use Rattle.dn_types.specs.declared.command.Command.TheVariants.{DeletePipe, DeleteQueue}
-use Rattle.dn_types.specs.declared.packet.Packet.{Packet}
-use Rattle.dn_types.specs.declared.reply.Reply.TheVariants.{Exhausted}
-use Rattle.dn_types.specs.declared.rule.Rule.{Rule}
-use Rattle.dn_types.specs.declared.target.Target.{Target}
-use Rattle.dn_types.specs.declared.target.Target.TheVariants.{Queue as ToQueue}
 use Rattle.dn_laws.proofs.Begun.{IsCaused, IsTaken, call-causes, adds-among}
-use Rattle.dn_types.proofs.Conserving.{busy-link}
+use Rattle.dn_types.proofs.{Conserving.busy-link, Keys.target_eq-refl, Known.reached-cleared, Settled.link_eq-refl}
 use Rattle.dn_laws.proofs.Isolation.{after-deleted, none-left}
-use Rattle.dn_types.proofs.Keys.{target_eq-refl}
-use Rattle.dn_types.proofs.Known.{reached-cleared}
-use Rattle.dn_types.proofs.Settled.{link_eq-refl}
 
 total-none : (n : ℕ) (q : ℕ → List Accepted) → ((flow : ℕ) → q flow ≡ []) → total n q ≡ 0
 total-none zero q h = refl

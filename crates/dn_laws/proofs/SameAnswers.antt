@@ -2,13 +2,9 @@
 use Rattle.std.proofs.Common.{◌≡◌, ◌∙◌, ◌≤◌, ◌<◌, ⊎_elim, ℕ, zero, suc, ◌+◌, ◌*◌, ◌/◌, List, [], ◌∷◌, refl, ap, sym, subst, arith}
 use Rattle.std.specs.Prelude.{Option, Some, None}
 use Rattle.std.proofs.lemmas.Bool.Decides.{leb_tells}
-use Rattle.dn_laws.specs.Determined.Emulators.{Readings, IsFirst}
-use Rattle.dn_laws.specs.Determined.Links.{IsPick, IsTransmission, pipe_under, IsBy, IsStart, AreStarts, Settles, with_starts, IsTaggedBy, Joins}
-use Rattle.dn_types.specs.Trace.{Link, Accepted, Start, Event, opened, arrived, started}
-use Rattle.dn_types.specs.declared.command.Command.{Command}
-use Rattle.dn_types.specs.declared.command.Command.TheVariants.{Pipe, Queue, DeletePipe, DeleteQueue}
-use Rattle.dn_types.specs.declared.target.Target.{Target}
-use Rattle.dn_types.specs.declared.target.Target.TheVariants.{Pipe as ToPipe}
+use Rattle.dn_laws.proofs.LawWords.{Readings, IsFirst, IsPick, IsTransmission, pipe_under, IsBy, IsStart, AreStarts, Settles, IsTaggedBy, Joins, Link, Accepted, Start, Event, opened, arrived, started}
+use Rattle.dn_laws.proofs.LawWords.{Command, Pipe, Queue, DeletePipe, DeleteQueue, Target, ToPipe}
+use Rattle.dn_laws.specs.Determined.Links.{with_starts}
 use Rattle.dn_laws.proofs.SameReadings.{raised-one}
 
 module _ (r : Readings) where

@@ -3,37 +3,16 @@ use Rattle.std.proofs.Common.{◌≡◌, ◌∙◌, ◌≢◌, ◌≤◌, ◌<�
 use Rattle.std.specs.Prelude.{◌^◌, ◌%◌, Option, Some, None, slice_get, map, sum}
 use Rattle.std.specs.List.{All, count_by}
 use Rattle.std.proofs.lemmas.Option.{slice_get_within, slice_get_cases}
-use Rattle.dn_types.specs.Clock.{call_limit}
-use Rattle.dn_laws.specs.Determined.Emulators.{Emulator, Readings, answers}
-use Rattle.dn_laws.specs.Determined.Laws.{AnswersOneMore, ObeysTheLaws, key_by, IsWeight}
-use Rattle.dn_laws.specs.Determined.Links.{Settles, Joins, discards}
-use Rattle.dn_laws.specs.Determined.Reports.{link_to, IsGivenBy, GivesNot, starts_of, IsStateBy}
-use Rattle.dn_laws.specs.Explained.{IsJudgedBy}
-use Rattle.dn_laws.specs.FlowLaws.{flow_told, IsMaskedBy}
-use Rattle.dn_types.specs.Flows.{keys}
-use Rattle.dn_laws.specs.Told.{is_queued, is_queued_of, is_lost_of, is_full_of, IsCarriedBy}
-use Rattle.dn_types.specs.Trace.{Link, own, shared, Event}
-use Rattle.dn_types.specs.declared.call.Call.{Call}
-use Rattle.dn_types.specs.declared.call.Call.TheVariants.{Configure, Submit, Advance, Collect, Show}
-use Rattle.dn_types.specs.declared.command.Command.{Command}
-use Rattle.dn_types.specs.declared.command.Command.TheVariants.{Pipe, Queue, DeletePipe, DeleteQueue}
-use Rattle.dn_types.specs.declared.delivery.Delivery.{Delivery}
-use Rattle.dn_types.specs.declared.flow_key.FlowKey.{FlowKey}
-use Rattle.dn_types.specs.declared.flow_status.FlowStatus.{FlowStatus}
-use Rattle.dn_types.specs.declared.limit.Limit.{Limit}
-use Rattle.dn_types.specs.declared.mask.Mask.{Mask}
-use Rattle.dn_types.specs.declared.packet.Packet.{Packet}
-use Rattle.dn_types.specs.declared.reply.Reply.{Reply}
-use Rattle.dn_types.specs.declared.reply.Reply.TheVariants.{Deleted, NoTarget, Queued, Advanced, Delivered, Status}
-use Rattle.dn_types.specs.declared.rule.Rule.{Rule}
-use Rattle.dn_types.specs.declared.target.Target.{Target}
+use Rattle.dn_laws.proofs.LawWords.{call_limit, Emulator, Readings, answers, AnswersOneMore, ObeysTheLaws, key_by, IsWeight, Settles, Joins, discards, link_to, IsGivenBy, GivesNot, starts_of}
+use Rattle.dn_laws.proofs.LawWords.{IsStateBy, IsJudgedBy, flow_told, IsMaskedBy, keys, is_queued, is_queued_of, is_lost_of, is_full_of, IsCarriedBy, Link, own, shared, Event, Call, Configure, Submit}
+use Rattle.dn_laws.proofs.LawWords.{Advance, Collect, Show, Command, Pipe, Queue, DeletePipe, DeleteQueue, Delivery, FlowKey, FlowStatus, Limit, Mask, Packet, Reply, Deleted, NoTarget, Queued}
+use Rattle.dn_laws.proofs.LawWords.{Advanced, Delivered, Status, Rule, Target, ToPipe, ToQueue}
 use Rattle.dn_types.proofs.InForce.{IsKept, settings-kept}
 use Rattle.dn_types.proofs.Keys.{one-place, keys-apart}
 use Rattle.dn_laws.proofs.Obeying.{clock-is, forced, commands-told, flows-are}
 use Rattle.dn_laws.proofs.SameAnswers.{settles-one, joins-one}
 use Rattle.dn_laws.proofs.SameReadings.{same-link}
 use Rattle.dn_laws.proofs.SameReplies.{sorted-one, states-one, explained-one}
-use Rattle.dn_types.specs.declared.target.Target.TheVariants.{Pipe as ToPipe, Queue as ToQueue}
 
 abbrev Laws : Rule → Readings → Emulator → Type 0
 Laws rule r e = (calls : List Call) → length calls < 2 ^ 62 → AnswersOneMore rule r e calls

@@ -3,11 +3,8 @@ use Rattle.std.proofs.Common.{◌≡◌, ◌∙◌, ◌≢◌, ◌≤◌, ◌⊎
 use Rattle.std.specs.Prelude.{nat_eq, map, sum, take, drop}
 use Rattle.std.proofs.lemmas.Bool.{eqb-true, eq-eqb, and_from}
 use Rattle.std.proofs.lemmas.Bool.Decides.{leb_tells}
-use Rattle.dn_laws.specs.Determined.Emulators.{Readings, AreReadings, IsOf, IsFirst, IsRaised, GrowsBy, weights}
-use Rattle.dn_laws.specs.Explained.{IsDueBy}
-use Rattle.dn_laws.specs.KeptLaws.{IsNoStart, IsNoOpening, IsApart}
-use Rattle.dn_types.specs.Trace.{Link, link_eq, is_of, Accepted, Start, Event, opened, arrived, started, lost, refused, discarded, collected}
-use Rattle.dn_types.specs.declared.rule.Rule.{Rule}
+use Rattle.dn_laws.proofs.LawWords.{Readings, AreReadings, IsOf, IsFirst, IsRaised, GrowsBy, weights, IsDueBy, IsNoStart, IsNoOpening, IsApart, Link, link_eq, is_of, Accepted, Start, Event, opened}
+use Rattle.dn_laws.proofs.LawWords.{arrived, started, lost, refused, discarded, collected, Rule}
 use Rattle.dn_types.proofs.Settled.{and-left, link_eq-true, link_eq-refl}
 use Rattle.dn_types.proofs.Settling.{and-right}
 use Rattle.dn_laws.proofs.ToldDeliveries.{one-due}

@@ -1,16 +1,7 @@
 -- Lists that the laws of Collects and of Shows determine, and the reply to a packet.
 use Rattle.std.proofs.Common.{◌≡◌, ◌∙◌, inl, inr, ⊎_elim, ℕ, zero, suc, List, [], ◌∷◌, refl, ap, sym, subst, length, arith}
 use Rattle.std.specs.Prelude.{Some, slice_get}
-use Rattle.dn_laws.specs.Determined.Emulators.{Has}
-use Rattle.dn_laws.specs.Determined.Reports.{ComesBefore, ComeInOrder}
-use Rattle.dn_laws.specs.Explained.{IsExplained, IsAtLimit}
-use Rattle.dn_laws.specs.FlowLaws.{flow_told}
-use Rattle.dn_laws.specs.Told.{moment_told}
-use Rattle.dn_types.specs.declared.delivery.Delivery.{Delivery}
-use Rattle.dn_types.specs.declared.flow_status.FlowStatus.{FlowStatus}
-use Rattle.dn_types.specs.declared.limit.Limit.{Limit}
-use Rattle.dn_types.specs.declared.reply.Reply.{Reply}
-use Rattle.dn_types.specs.declared.reply.Reply.TheVariants.{Queued, Lost, Full}
+use Rattle.dn_laws.proofs.LawWords.{Has, ComesBefore, ComeInOrder, IsExplained, IsAtLimit, flow_told, moment_told, Delivery, FlowStatus, Limit, Reply, Queued, Lost, Full}
 
 not-both : (d x : Delivery) → ComesBefore d x → ComesBefore x d → ⊥
 not-both d x (inl a) (inl b) = absurd (omega (arith, a, b))

@@ -4,23 +4,10 @@ use Rattle.std.specs.Prelude.{Option, Some, None, nat_eq, slice_get}
 use Rattle.std.specs.List.{count_by, list_any}
 use Rattle.std.proofs.lemmas.Bool.{eq-eqb}
 use Rattle.std.proofs.lemmas.List.Sums.{sum_by-cons}
-use Rattle.dn_types.specs.Calls.{loses, refuses, takes, link_of, verdict_by, trace_of}
-use Rattle.dn_types.specs.Clock.{call_limit, effective_moment}
-use Rattle.dn_types.specs.Configuration.{settings}
-use Rattle.dn_types.specs.Drops.{is_lost, is_full}
-use Rattle.dn_types.specs.Flows.{Treatment, treatment, key_eq, key_of, keys, keys_with, flow_number}
-use Rattle.dn_types.specs.Replies.{reply, replies, reply_to_verdict}
-use Rattle.dn_types.specs.Starts.{settled}
-use Rattle.dn_laws.specs.Told.{is_queued_of, is_lost_of, is_full_of}
+use Rattle.dn_laws.proofs.LawWords.{loses, refuses, takes, link_of, verdict_by, trace_of, call_limit, effective_moment, settings, is_lost, is_full, Treatment, treatment, key_eq, key_of, keys}
+use Rattle.dn_laws.proofs.LawWords.{keys_with, flow_number, reply, replies, reply_to_verdict, settled, is_queued_of, is_lost_of, is_full_of, Link, Event, backlog, Call, Submit, FlowKey, Packet, Reply}
+use Rattle.dn_laws.proofs.LawWords.{Rule, Target}
 use Rattle.dn_laws.specs.ReplyLaws.{FlowsWereTold}
-use Rattle.dn_types.specs.Trace.{Link, Event, backlog}
-use Rattle.dn_types.specs.declared.call.Call.{Call}
-use Rattle.dn_types.specs.declared.call.Call.TheVariants.{Submit}
-use Rattle.dn_types.specs.declared.flow_key.FlowKey.{FlowKey}
-use Rattle.dn_types.specs.declared.packet.Packet.{Packet}
-use Rattle.dn_types.specs.declared.reply.Reply.{Reply}
-use Rattle.dn_types.specs.declared.rule.Rule.{Rule}
-use Rattle.dn_types.specs.declared.target.Target.{Target}
 use Rattle.dn_laws.proofs.DropLaws.{not-exhausted}
 use Rattle.dn_types.proofs.Known.{place, place-is}
 

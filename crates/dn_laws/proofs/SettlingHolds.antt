@@ -3,39 +3,16 @@ use Rattle.std.proofs.Common.{◌≡◌, ◌∙◌, ◌≤◌, ◌<◌, ⊎_elim
 use Rattle.std.specs.Prelude.{Option, Some, None, is_some, map, slice_get, option_and_then}
 use Rattle.std.specs.List.{All}
 use Rattle.std.proofs.lemmas.List.Elements.{All-head, All-tail}
-use Rattle.dn_types.specs.Calls.{trace_of, link_of}
-use Rattle.dn_types.specs.Clock.{effective_moment}
-use Rattle.dn_types.specs.Configuration.{Settings, settings}
-use Rattle.dn_laws.specs.Determined.Emulators.{Readings, Has, IsFirst, IsRaised}
-use Rattle.dn_laws.specs.Determined.Links.{IsPick, IsTransmission, IsBy, IsStart, AreStarts, Settles}
-use Rattle.dn_laws.specs.Emulated.{on_link}
-use Rattle.dn_types.specs.Flows.{keys}
-use Rattle.dn_types.specs.Links.{free, transmission_time}
-use Rattle.dn_types.specs.SharedLinks.{virtual_time, link_heads, next_packet}
-use Rattle.dn_types.specs.Starts.{bandwidth_of, delay_of, start_at, next_start, first_start, settle, waiting_all}
-use Rattle.dn_types.specs.Trace.{Link, own, shared, pipe_of, link_eq, Accepted, Start, Event, started, backlog, flow_bound, links}
-use Rattle.dn_types.specs.Wf2q.{Stamped, heads, raised, pick}
-use Rattle.dn_types.specs.declared.call.Call.{Call}
-use Rattle.dn_types.specs.declared.call.Call.TheVariants.{Advance}
-use Rattle.dn_types.specs.declared.command.Command.{Command}
-use Rattle.dn_types.specs.declared.command.Command.TheVariants.{Pipe, Queue, DeletePipe, DeleteQueue}
-use Rattle.dn_types.specs.declared.flow_key.FlowKey.{FlowKey}
-use Rattle.dn_types.specs.declared.rule.Rule.{Rule}
-use Rattle.dn_types.specs.declared.target.Target.{Target}
-use Rattle.dn_types.specs.declared.target.Target.TheVariants.{Pipe as ToPipe, Queue as ToQueue}
-use Rattle.dn_laws.proofs.AtHome.{have-homes, waits-home}
-use Rattle.dn_laws.proofs.Begun.{HasSettled, none-settled, settled-more, next_start-is, begun-next}
-use Rattle.dn_types.proofs.Conserving.{conserves-work}
-use Rattle.dn_types.proofs.Firsts.{next-picked}
-use Rattle.dn_types.proofs.InForce.{IsKept, settings-kept}
-use Rattle.dn_types.proofs.Known.{AreKnown, all-known}
-use Rattle.dn_laws.proofs.PickLaws.{pick-is-first}
-use Rattle.dn_laws.proofs.ReadingsObey.{read, read-on, reads-on, mine-is, is-raised, first-head, queue-on, free-on}
-use Rattle.dn_laws.proofs.SameAnswers.{first-one}
-use Rattle.dn_types.proofs.Settled.{link_eq-true, first_start-of, next_start-link}
-use Rattle.dn_types.proofs.Settling.{next_start-packet, first-own, backlog-own}
-use Rattle.dn_laws.proofs.Shares.{pick-is-least}
-use Rattle.dn_types.proofs.TransmissionTime.{unlimited-takes-no-time, transmission-is-least}
+use Rattle.dn_laws.proofs.LawWords.{trace_of, link_of, effective_moment, Settings, settings, Readings, Has, IsFirst, IsRaised, IsPick, IsTransmission, IsBy, IsStart, AreStarts, Settles, on_link, keys}
+use Rattle.dn_laws.proofs.LawWords.{free, transmission_time, virtual_time, link_heads, next_packet, bandwidth_of, delay_of, start_at, next_start, first_start, settle, waiting_all, Link, own, shared}
+use Rattle.dn_laws.proofs.LawWords.{pipe_of, link_eq, Accepted, Start, Event, started, backlog, flow_bound, links, Stamped, heads, raised, pick, Call, Advance, Command, Pipe, Queue, DeletePipe}
+use Rattle.dn_laws.proofs.LawWords.{DeleteQueue, FlowKey, Rule, Target, ToPipe, ToQueue}
+use Rattle.dn_laws.proofs.{AtHome.have-homes, AtHome.waits-home, Begun.HasSettled, Begun.none-settled, Begun.settled-more, Begun.next_start-is, Begun.begun-next, PickLaws.pick-is-first}
+use Rattle.dn_laws.proofs.{ReadingsObey.read, ReadingsObey.read-on, ReadingsObey.reads-on, ReadingsObey.mine-is, ReadingsObey.is-raised, ReadingsObey.first-head, ReadingsObey.queue-on}
+use Rattle.dn_laws.proofs.{ReadingsObey.free-on, SameAnswers.first-one, Shares.pick-is-least}
+use Rattle.dn_types.proofs.{Conserving.conserves-work, Firsts.next-picked, InForce.IsKept, InForce.settings-kept, Known.AreKnown, Known.all-known, Settled.link_eq-true, Settled.first_start-of}
+use Rattle.dn_types.proofs.{Settled.next_start-link, Settling.next_start-packet, Settling.first-own, Settling.backlog-own, TransmissionTime.unlimited-takes-no-time}
+use Rattle.dn_types.proofs.{TransmissionTime.transmission-is-least}
 
 all-at : (P : Stamped → Type 0) (ps : List Accepted) (p : Accepted) → All P (map (λ q. q.stamped) ps) → Has ps p → P p.stamped
 all-at P [] p h there = absurd there

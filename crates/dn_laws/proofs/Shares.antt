@@ -6,16 +6,10 @@ use Rattle.std.proofs.Math.Nat.{add-mul, lt-div-mul-add, div-mul-le_self}
 use Rattle.std.proofs.lemmas.List.Sums.{sum-map, sum_by-cons}
 use Rattle.std.proofs.lemmas.Bool.Decides.{nat_tests, leb_tells}
 use Rattle.std.proofs.lemmas.Bool.{leb-true, le-leb}
-use Rattle.dn_types.specs.Calls.{trace_of, accept, link_of}
-use Rattle.dn_laws.specs.Explained.{IsTagged}
+use Rattle.dn_laws.proofs.LawWords.{trace_of, accept, link_of, IsTagged, Treatment, treatment, keys, key_of, flow_number, virtual_time, link_heads, last_finish_tag, Link, link_eq, Accepted, Event}
+use Rattle.dn_laws.proofs.LawWords.{arrived, started, backlog, Stamped, pick, raised, least_start_tag, weight_sum, grown, Submit, Queue, Packet}
 use Rattle.dn_laws.specs.SharingLaws.{GrowsByWork, PickIsLeast, TagsByWeight}
-use Rattle.dn_types.specs.Flows.{Treatment, treatment, keys, key_of, flow_number}
-use Rattle.dn_types.specs.SharedLinks.{virtual_time, link_heads, last_finish_tag}
-use Rattle.dn_types.specs.Trace.{Link, link_eq, Accepted, Event, arrived, started, backlog}
-use Rattle.dn_types.specs.Wf2q.{Stamped, pick, raised, least_start_tag, is_eligible, goes_before, weight_sum, grown}
-use Rattle.dn_types.specs.declared.call.Call.TheVariants.{Submit}
-use Rattle.dn_types.specs.declared.command.Command.TheVariants.{Queue}
-use Rattle.dn_types.specs.declared.packet.Packet.{Packet}
+use Rattle.dn_types.specs.Wf2q.{is_eligible, goes_before}
 use Rattle.dn_laws.proofs.Begun.{IsCaused, call-causes, adds-among}
 use Rattle.dn_types.proofs.Firsts.{first_to_go-one-of}
 use Rattle.dn_laws.proofs.Least.{pick-least}

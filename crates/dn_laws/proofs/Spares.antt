@@ -1,25 +1,11 @@
 -- What a command that deletes nothing leaves, and what leaves the last finish tags of a link.
 use Rattle.std.proofs.Common.{◌≡◌, ◌∙◌, ◌≢◌, ℕ, zero, suc, max, Bool, true, false, cond, ◌&&◌, List, ◌∷◌, refl, ap, sym}
 use Rattle.std.specs.Prelude.{Option, Some, None, nat_eq, nat_le}
-use Rattle.dn_types.specs.Calls.{Verdict, no_target, loses, refuses, takes, verdict, accept, join, after_verdict, after_command, trace_of}
-use Rattle.dn_types.specs.Clock.{effective_moment}
-use Rattle.dn_types.specs.Configuration.{Settings, settings, target_eq, subject, setting_after, reply_to_command}
+use Rattle.dn_laws.proofs.LawWords.{Verdict, no_target, loses, refuses, takes, verdict, accept, join, after_verdict, after_command, trace_of, effective_moment, Settings, settings, target_eq, subject}
+use Rattle.dn_laws.proofs.LawWords.{setting_after, reply_to_command, treatment, keys, free, reply, waiting, opening, last_finish_tag, first_start, settle, start_at, waiting_all, Link, link_eq}
+use Rattle.dn_laws.proofs.LawWords.{Accepted, Start, Event, opened, arrived, started, backlog, links, Call, Configure, Advance, Command, Packet, Reply, Configured, Deleted, Rule, Target}
 use Rattle.dn_laws.specs.PacketLaws.{CommandsSpare}
 use Rattle.dn_laws.specs.KeptLaws.{PacketsSpareTags}
-use Rattle.dn_types.specs.Flows.{treatment, keys}
-use Rattle.dn_types.specs.Links.{free}
-use Rattle.dn_types.specs.Replies.{reply}
-use Rattle.dn_types.specs.SharedLinks.{waiting, opening, last_finish_tag}
-use Rattle.dn_types.specs.Starts.{first_start, settle, start_at, waiting_all}
-use Rattle.dn_types.specs.Trace.{Link, link_eq, Accepted, Start, Event, opened, arrived, started, backlog, links}
-use Rattle.dn_types.specs.declared.call.Call.{Call}
-use Rattle.dn_types.specs.declared.call.Call.TheVariants.{Configure, Advance}
-use Rattle.dn_types.specs.declared.command.Command.{Command}
-use Rattle.dn_types.specs.declared.packet.Packet.{Packet}
-use Rattle.dn_types.specs.declared.reply.Reply.{Reply}
-use Rattle.dn_types.specs.declared.reply.Reply.TheVariants.{Configured, Deleted}
-use Rattle.dn_types.specs.declared.rule.Rule.{Rule}
-use Rattle.dn_types.specs.declared.target.Target.{Target}
 use Rattle.dn_laws.proofs.DropLaws.{not-exhausted}
 use Rattle.dn_laws.proofs.Isolation.{IsElsewhere, elsewhere-by, carried-by}
 

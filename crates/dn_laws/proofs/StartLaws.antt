@@ -1,20 +1,9 @@
 -- When a packet starts, which one, and with what bandwidth and delay.
 use Rattle.std.proofs.Common.{◌≡◌, ◌∙◌, ◌⊎◌, ⊎_elim, inl, inr, ℕ, List, ◌∷◌, ◌++◌, refl, ap, sym, subst, true, false}
 use Rattle.std.specs.Prelude.{Option, Some, None, is_some, ⊤}
-use Rattle.dn_types.specs.Calls.{trace_of}
-use Rattle.dn_types.specs.Clock.{effective_moment}
-use Rattle.dn_types.specs.Configuration.{settings}
-use Rattle.dn_laws.specs.Explained.{IsStartBy}
+use Rattle.dn_laws.proofs.LawWords.{trace_of, effective_moment, settings, IsStartBy, free, transmission_time, next_packet, virtual_time, link_heads, start_at, bandwidth_of, delay_of, Link, shared}
+use Rattle.dn_laws.proofs.LawWords.{Start, Event, arrived, started, pipe_of, pick, Call, Command, Pipe, ToPipe}
 use Rattle.dn_laws.specs.ConfiguredLaws.{StartsAsConfigured}
-use Rattle.dn_types.specs.Links.{free, transmission_time}
-use Rattle.dn_types.specs.SharedLinks.{next_packet, virtual_time, link_heads}
-use Rattle.dn_types.specs.Starts.{start_at, bandwidth_of, delay_of}
-use Rattle.dn_types.specs.Trace.{Link, shared, Start, Event, arrived, started, pipe_of}
-use Rattle.dn_types.specs.Wf2q.{pick}
-use Rattle.dn_types.specs.declared.call.Call.{Call}
-use Rattle.dn_types.specs.declared.command.Command.{Command}
-use Rattle.dn_types.specs.declared.command.Command.TheVariants.{Pipe}
-use Rattle.dn_types.specs.declared.target.Target.TheVariants.{Pipe as ToPipe}
 use Rattle.dn_types.proofs.InForce.{IsKept, IsOfTarget, settings-kept}
 use Rattle.dn_laws.proofs.Begun.{IsBegun, IsCaused, call-causes, adds-among}
 use Rattle.dn_types.proofs.Firsts.{next-picked}

@@ -3,28 +3,12 @@ use Rattle.std.proofs.Common.{◌≡◌, ◌∙◌, ◌<◌, ℕ, Bool, true, fa
 use Rattle.std.specs.Prelude.{Some, nat_eq, map, sum, slice_get}
 use Rattle.std.specs.List.{count_by}
 use Rattle.std.proofs.lemmas.Bool.{eqb-true}
-use Rattle.dn_types.specs.Calls.{trace_of, link_of}
-use Rattle.dn_types.specs.Clock.{call_limit}
-use Rattle.dn_laws.specs.Determined.Reports.{link_to, starts_of, IsStateBy}
-use Rattle.dn_laws.specs.Emulated.{on_link, emulated}
-use Rattle.dn_types.specs.Flows.{keys}
-use Rattle.dn_types.specs.Replies.{reply}
-use Rattle.dn_laws.specs.ReplyLaws.{IsStateOf}
-use Rattle.dn_laws.specs.Told.{is_queued_of, is_lost_of, is_full_of}
-use Rattle.dn_types.specs.Trace.{Link, link_eq, Start, Event, opened, arrived, started, lost, refused, discarded, collected, backlog, is_start_of}
-use Rattle.dn_types.specs.declared.call.Call.{Call}
-use Rattle.dn_types.specs.declared.call.Call.TheVariants.{Show}
-use Rattle.dn_types.specs.declared.flow_key.FlowKey.{FlowKey}
-use Rattle.dn_types.specs.declared.flow_status.FlowStatus.{FlowStatus}
-use Rattle.dn_types.specs.declared.reply.Reply.TheVariants.{Status}
-use Rattle.dn_types.specs.declared.rule.Rule.{Rule}
+use Rattle.dn_laws.proofs.LawWords.{trace_of, link_of, call_limit, link_to, starts_of, IsStateBy, on_link, emulated, keys, reply, IsStateOf, is_queued_of, is_lost_of, is_full_of, Link, link_eq, Start}
+use Rattle.dn_laws.proofs.LawWords.{Event, opened, arrived, started, lost, refused, discarded, collected, backlog, is_start_of, Call, Show, FlowKey, FlowStatus, Status, Rule}
 use Rattle.dn_laws.proofs.AtHome.{HaveHomes, have-homes, start-home, home-is, shows-are-told}
-use Rattle.dn_types.proofs.Fifo.{IsProper}
-use Rattle.dn_types.proofs.Giving.{count-event}
-use Rattle.dn_types.proofs.Ordered.{trace-proper}
+use Rattle.dn_types.proofs.{Fifo.IsProper, Giving.count-event, Ordered.trace-proper, Settled.link_eq-refl}
 use Rattle.dn_laws.proofs.PlainLawsHold.{answers-are, link_to-is}
 use Rattle.dn_laws.proofs.ReadingsObey.{read, queue-on}
-use Rattle.dn_types.proofs.Settled.{link_eq-refl}
 
 module _ (known : List FlowKey) (flow : ℕ) (key : FlowKey) (at : slice_get known flow ≡ Some key) where
   abbrev home : Link

@@ -6,13 +6,9 @@ use Rattle.std.specs.List.{All}
 use Rattle.std.proofs.lemmas.List.Elements.{All-push, All-drop}
 use Rattle.std.proofs.lemmas.Bool.{eqb-true}
 use Rattle.std.proofs.lemmas.Bool.Decides.{leb_tells}
-use Rattle.dn_types.specs.Calls.{trace_of, link_of}
+use Rattle.dn_laws.proofs.LawWords.{trace_of, link_of, Treatment, keys, key_of, flow_number, waiting, next_packet, last_finish_tag, Link, link_eq, Accepted, Event, opened, arrived, started, discarded}
+use Rattle.dn_laws.proofs.LawWords.{is_of, backlog, flow_bound, Call, Submit}
 use Rattle.dn_laws.specs.FairShare.{EachThatWaits}
-use Rattle.dn_types.specs.Flows.{Treatment, keys, key_of, flow_number}
-use Rattle.dn_types.specs.SharedLinks.{waiting, next_packet, last_finish_tag}
-use Rattle.dn_types.specs.Trace.{Link, link_eq, Accepted, Event, opened, arrived, started, discarded, is_of, backlog, flow_bound}
-use Rattle.dn_types.specs.declared.call.Call.{Call}
-use Rattle.dn_types.specs.declared.call.Call.TheVariants.{Submit}
 use Rattle.dn_laws.proofs.Begun.{IsCaused, IsTaken, AllEvents, call-causes}
 use Rattle.dn_types.proofs.Proper.{total-at}
 use Rattle.dn_types.proofs.Settled.{and-left, link_eq-true}

@@ -1,27 +1,10 @@
 -- The time from a packet's Submit to its due moment is the sum of its parts.
 use Rattle.std.proofs.Common.{◌≡◌, ◌∙◌, ◌≤◌, ℕ, ◌+◌, ◌-◌, List, ◌∷◌, ◌++◌, refl, sym, subst, get_or, arith}
 use Rattle.std.specs.List.{All}
-use Rattle.dn_types.specs.Calls.{trace_of}
-use Rattle.dn_types.specs.Clock.{effective_moment}
-use Rattle.dn_types.specs.Deliveries.{undelivered, AreInOrder}
-use Rattle.dn_laws.specs.Explained.{IsDueBy, IsDeliveryOf}
-use Rattle.dn_types.specs.Links.{last_due}
-use Rattle.dn_types.specs.Replies.{reply}
-use Rattle.dn_laws.specs.TimeLaws.{DelaysAddUp, IsDelayed, IsLack}
-use Rattle.dn_types.specs.Trace.{Start}
-use Rattle.dn_types.specs.declared.call.Call.{Call}
-use Rattle.dn_types.specs.declared.call.Call.TheVariants.{Submit, Collect}
-use Rattle.dn_types.specs.declared.delivery.Delivery.{Delivery}
-use Rattle.dn_types.specs.declared.packet.Packet.{Packet}
-use Rattle.dn_types.specs.declared.reply.Reply.TheVariants.{Queued, Delivered, Exhausted}
-use Rattle.dn_types.specs.declared.rule.Rule.{Rule}
-use Rattle.dn_types.specs.declared.rule.Rule.TheVariants.{Free, Ordered}
-use Rattle.dn_types.specs.declared.target.Target.{Target}
-use Rattle.dn_laws.proofs.Delays.{delays-are-explained}
-use Rattle.dn_laws.proofs.Exactly.{waits-for-its-link}
-use Rattle.dn_laws.proofs.ToldCounts.{told-few}
-use Rattle.dn_laws.proofs.ToldDeliveries.{collects-are-told}
-use Rattle.dn_laws.proofs.Timely.{made-by, none-starts-early}
+use Rattle.dn_laws.proofs.LawWords.{trace_of, effective_moment, undelivered, AreInOrder, IsDueBy, IsDeliveryOf, last_due, reply, IsDelayed, Start, Call, Submit, Collect, Delivery, Packet, Queued}
+use Rattle.dn_laws.proofs.LawWords.{Delivered, Exhausted, Rule, Free, Ordered, Target}
+use Rattle.dn_laws.specs.TimeLaws.{DelaysAddUp, IsLack}
+use Rattle.dn_laws.proofs.{Delays.delays-are-explained, Exactly.waits-for-its-link, ToldCounts.told-few, ToldDeliveries.collects-are-told, Timely.made-by, Timely.none-starts-early}
 
 lack-by : (rule : Rule) (s : Start) (last start due : ℕ) → start ≡ s.moment → IsDueBy rule s last due → (lack : ℕ) × IsLack rule last (start + s.transmission + s.delay) lack
     × (due ≡ start + s.transmission + s.delay + lack)

@@ -5,13 +5,8 @@ use Rattle.std.specs.List.{All}
 use Rattle.std.proofs.lemmas.Bool.{eqb-true, eq-eqb, and_from}
 use Rattle.std.proofs.lemmas.Bool.Decides.{leb_tells}
 use Rattle.std.proofs.lemmas.List.Elements.{All-head, All-tail}
-use Rattle.dn_types.specs.Calls.{trace_of}
-use Rattle.dn_types.specs.Clock.{effective_moment}
-use Rattle.dn_types.specs.Links.{free}
-use Rattle.dn_laws.specs.KeptLaws.{BusyPeriodsBegin, IsApart, TagsAreKept}
-use Rattle.dn_types.specs.SharedLinks.{waiting, last_finish_tag}
-use Rattle.dn_types.specs.Trace.{Link, link_eq, Accepted, Event, opened, arrived, discarded, is_of, backlog, flow_bound}
-use Rattle.dn_types.specs.Wf2q.{total}
+use Rattle.dn_laws.proofs.LawWords.{trace_of, effective_moment, free, IsApart, waiting, last_finish_tag, Link, link_eq, Accepted, Event, opened, arrived, discarded, is_of, backlog, flow_bound, total}
+use Rattle.dn_laws.specs.KeptLaws.{BusyPeriodsBegin, TagsAreKept}
 use Rattle.dn_laws.proofs.Begun.{adds-among}
 use Rattle.dn_laws.proofs.Comes.{Comes, call-comes}
 use Rattle.dn_laws.proofs.Isolation.{false-if, none-left}

@@ -3,25 +3,9 @@ use Rattle.std.proofs.Common.{◌≡◌, ◌∙◌, ℕ, zero, suc, ◌+◌, max
 use Rattle.std.specs.Prelude.{Option, Some, None, nat_eq, slice_get}
 use Rattle.std.proofs.lemmas.Bool.{eqb-true}
 use Rattle.std.proofs.lemmas.Option.{slice_get_within}
-use Rattle.dn_types.specs.Calls.{verdict_by, after_verdict, reaches, discard_reached, after_command, trace_of}
-use Rattle.dn_types.specs.Clock.{effective_moment}
-use Rattle.dn_types.specs.Configuration.{settings, target_eq, reply_to_command}
-use Rattle.dn_types.specs.Flows.{treatment, keys}
-use Rattle.dn_laws.specs.OtherPipes.{IsCommandElsewhere, IsElsewhere, AreElsewhere}
-use Rattle.dn_types.specs.SharedLinks.{last_finish_tag}
-use Rattle.dn_types.specs.Starts.{settled}
-use Rattle.dn_types.specs.Trace.{Link, pipe_of, Event, discarded}
-use Rattle.dn_types.specs.declared.call.Call.{Call}
-use Rattle.dn_types.specs.declared.call.Call.TheVariants.{Configure, Submit, Advance, Collect, Show}
-use Rattle.dn_types.specs.declared.command.Command.{Command}
-use Rattle.dn_types.specs.declared.command.Command.TheVariants.{Pipe, Queue, DeletePipe, DeleteQueue}
-use Rattle.dn_types.specs.declared.flow_key.FlowKey.{FlowKey}
-use Rattle.dn_types.specs.declared.packet.Packet.{Packet}
-use Rattle.dn_types.specs.declared.reply.Reply.{Reply}
-use Rattle.dn_types.specs.declared.reply.Reply.TheVariants.{Deleted}
-use Rattle.dn_types.specs.declared.rule.Rule.{Rule}
-use Rattle.dn_types.specs.declared.target.Target.{Target}
-use Rattle.dn_types.specs.declared.target.Target.TheVariants.{Pipe as ToPipe, Queue as ToQueue}
+use Rattle.dn_laws.proofs.LawWords.{verdict_by, after_verdict, reaches, discard_reached, after_command, trace_of, effective_moment, settings, target_eq, reply_to_command, treatment, keys}
+use Rattle.dn_laws.proofs.LawWords.{IsCommandElsewhere, IsElsewhere, AreElsewhere, last_finish_tag, settled, Link, pipe_of, Event, discarded, Call, Configure, Submit, Advance, Collect, Show, Command}
+use Rattle.dn_laws.proofs.LawWords.{Pipe, Queue, DeletePipe, DeleteQueue, FlowKey, Packet, Reply, Deleted, Rule, Target, ToPipe, ToQueue}
 use Rattle.dn_types.proofs.InForce.{IsKept, settings-kept, target_eq-true}
 use Rattle.dn_laws.proofs.Isolation.{false-if}
 use Rattle.dn_types.proofs.Keys.{keys-stay}

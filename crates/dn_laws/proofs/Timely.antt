@@ -1,28 +1,11 @@
 -- Each start lies between the clock before its call and the clock after it, and no packet starts before it was accepted.
 use Rattle.std.proofs.Common.{◌≡◌, ◌∙◌, ◌≤◌, ◌<◌, ◌⊎◌, ⊎_elim, inl, inr, ℕ, zero, suc, max, Bool, true, false, cond, List, [], ◌∷◌, ◌++◌, refl, ap, sym, subst, length, arith}
 use Rattle.std.specs.Prelude.{Option, Some, None, nat_le}
-use Rattle.dn_types.specs.Calls.{Verdict, no_target, loses, refuses, takes, verdict, trace_of}
-use Rattle.dn_types.specs.Clock.{call_limit, effective_moment}
-use Rattle.dn_types.specs.Configuration.{Settings, settings}
-use Rattle.dn_types.specs.Links.{free}
-use Rattle.dn_types.specs.Replies.{reply, counted_reply, reply_to_verdict}
-use Rattle.dn_types.specs.Starts.{settle, settled, first_start, waiting_all}
+use Rattle.dn_laws.proofs.LawWords.{Verdict, no_target, loses, refuses, takes, verdict, trace_of, call_limit, effective_moment, Settings, settings, free, reply, counted_reply, reply_to_verdict}
+use Rattle.dn_laws.proofs.LawWords.{settle, settled, first_start, waiting_all, Start, Event, started, backlog, links, is_arrival, accepted_count, Call, Submit, Packet, Queued, Exhausted, Rule, Target}
 use Rattle.dn_laws.specs.TimeLaws.{IsMadeBy, NoneStartsEarly, StartsInTime}
-use Rattle.dn_types.specs.Trace.{Start, Event, started, backlog, links, is_arrival, accepted_count}
-use Rattle.dn_types.specs.declared.call.Call.{Call}
-use Rattle.dn_types.specs.declared.call.Call.TheVariants.{Submit}
-use Rattle.dn_types.specs.declared.packet.Packet.{Packet}
-use Rattle.dn_types.specs.declared.reply.Reply.TheVariants.{Queued, Exhausted}
-use Rattle.dn_types.specs.declared.rule.Rule.{Rule}
-use Rattle.dn_types.specs.declared.target.Target.{Target}
-use Rattle.dn_laws.proofs.Begun.{IsBegun, call-causes}
-use Rattle.dn_types.proofs.Conserving.{busy-link}
-use Rattle.dn_types.proofs.Fifo.{IsProper}
-use Rattle.dn_types.proofs.Giving.{count-event}
-use Rattle.dn_types.proofs.Ordered.{trace-proper, suffix-proper}
-use Rattle.dn_types.proofs.PacketCounts.{start-below}
-use Rattle.dn_laws.proofs.Rates.{free-later, shape}
-use Rattle.dn_laws.proofs.StartLaws.{begun, starts-as-configured}
+use Rattle.dn_laws.proofs.{Begun.IsBegun, Begun.call-causes, Rates.free-later, Rates.shape, StartLaws.begun, StartLaws.starts-as-configured}
+use Rattle.dn_types.proofs.{Conserving.busy-link, Fifo.IsProper, Giving.count-event, Ordered.trace-proper, Ordered.suffix-proper, PacketCounts.start-below}
 
 pub events-stay : (calls : List Call) (c : Call) → (added : List Event) × (trace_of (c ∷ calls) ≡ added ++ trace_of calls)
 events-stay calls c = let adds = call-causes calls c in (adds.0, adds.1)

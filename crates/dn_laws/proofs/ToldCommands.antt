@@ -3,23 +3,11 @@ use Rattle.std.proofs.Common.{◌≡◌, ◌∙◌, ◌≢◌, ◌≤◌, ◌<�
 use Rattle.std.specs.Prelude.{◌^◌, Option, Some, None, nat_le, is_some}
 use Rattle.std.proofs.lemmas.Bool.{eqb-true, eq-eqb}
 use Rattle.std.proofs.lemmas.Bool.Decides.{nat_tests, leb_tells}
-use Rattle.dn_types.specs.Calls.{Verdict, no_target, loses, refuses, takes, verdict, trace_of}
-use Rattle.dn_types.specs.Clock.{call_limit, moment_of, effective_moment}
-use Rattle.dn_types.specs.Configuration.{Settings, settings, is_queue_of, has_queues, queue_numbers, command_reply}
-use Rattle.dn_laws.specs.PartLaws.{IsTimed}
-use Rattle.dn_types.specs.Replies.{counted_reply, reply_to_verdict}
-use Rattle.dn_laws.specs.ReplyLaws.{ClockIsTheGreatest, CommandsAreTold, IsToldBy, LimitIsCounted, RepliesTellTheClock}
-use Rattle.dn_types.specs.Starts.{settled}
-use Rattle.dn_laws.specs.Told.{moment_told, IsQueueOf, HasQueue, IsThere}
-use Rattle.dn_types.specs.Trace.{Event}
-use Rattle.dn_types.specs.declared.call.Call.{Call}
-use Rattle.dn_types.specs.declared.call.Call.TheVariants.{Configure, Submit, Advance, Collect, Show}
-use Rattle.dn_types.specs.declared.command.Command.{Command}
-use Rattle.dn_types.specs.declared.command.Command.TheVariants.{Pipe, Queue, DeletePipe, DeleteQueue}
-use Rattle.dn_types.specs.declared.reply.Reply.{Reply}
-use Rattle.dn_types.specs.declared.reply.Reply.TheVariants.{Configured, NoSuchPipe, Deleted, PipeHasQueues, NoSuchQueue, Advanced, Exhausted}
-use Rattle.dn_types.specs.declared.rule.Rule.{Rule}
-use Rattle.dn_types.specs.declared.target.Target.TheVariants.{Pipe as ToPipe, Queue as ToQueue}
+use Rattle.dn_laws.proofs.LawWords.{Verdict, no_target, loses, refuses, takes, verdict, trace_of, call_limit, moment_of, effective_moment, Settings, settings, is_queue_of, has_queues, queue_numbers}
+use Rattle.dn_laws.proofs.LawWords.{command_reply, IsTimed, counted_reply, reply_to_verdict, IsToldBy, settled, moment_told, HasQueue, IsThere, Event, Call, Configure, Submit, Advance, Collect, Show}
+use Rattle.dn_laws.proofs.LawWords.{Command, Pipe, Queue, DeletePipe, DeleteQueue, Reply, Configured, NoSuchPipe, Deleted, PipeHasQueues, NoSuchQueue, Advanced, Exhausted, Rule, ToPipe, ToQueue}
+use Rattle.dn_laws.specs.ReplyLaws.{ClockIsTheGreatest, CommandsAreTold, LimitIsCounted, RepliesTellTheClock}
+use Rattle.dn_laws.specs.Told.{IsQueueOf}
 use Rattle.dn_laws.proofs.DropLaws.{not-exhausted}
 use Rattle.dn_types.proofs.InForce.{any-of, settings-whole}
 

@@ -4,26 +4,12 @@ use Rattle.std.specs.Prelude.{nat_eq, nat_le, is_some, ⊤}
 use Rattle.std.specs.List.{count_by}
 use Rattle.std.proofs.lemmas.Bool.Decides.{leb_tells}
 use Rattle.std.proofs.lemmas.List.Sums.{sum_by-cons}
-use Rattle.dn_types.specs.Calls.{Verdict, no_target, loses, refuses, takes, verdict, accept, join, after_verdict, trace_of}
-use Rattle.dn_types.specs.Clock.{call_limit, effective_moment}
-use Rattle.dn_types.specs.Configuration.{Settings, settings, has_queues, queue_numbers, command_reply, reply_to_command}
-use Rattle.dn_types.specs.Flows.{keys}
-use Rattle.dn_types.specs.Links.{free}
-use Rattle.dn_types.specs.Replies.{reply, counted_reply, reply_to_verdict, replies}
-use Rattle.dn_types.specs.SharedLinks.{waiting, opening}
-use Rattle.dn_types.specs.Starts.{settled, start_at}
-use Rattle.dn_laws.specs.Told.{is_queued, is_queued_of, is_lost_of, is_full_of, is_arrival_of}
+use Rattle.dn_laws.proofs.LawWords.{Verdict, no_target, loses, refuses, takes, verdict, accept, join, after_verdict, trace_of, call_limit, effective_moment, Settings, settings, has_queues}
+use Rattle.dn_laws.proofs.LawWords.{queue_numbers, command_reply, reply_to_command, keys, free, reply, counted_reply, reply_to_verdict, replies, waiting, opening, settled, start_at, is_queued}
+use Rattle.dn_laws.proofs.LawWords.{is_queued_of, is_lost_of, is_full_of, is_arrival_of, Link, Accepted, Start, Event, opened, arrived, started, lost, refused, discarded, collected, is_arrival}
+use Rattle.dn_laws.proofs.LawWords.{is_loss_of, is_refusal_of, accepted_count, Call, Configure, Submit, Advance, Collect, Show, Command, Pipe, Queue, DeletePipe, DeleteQueue, Packet, Reply, Queued}
+use Rattle.dn_laws.proofs.LawWords.{Lost, Full, NoTarget, Exhausted, Configured, NoSuchPipe, Deleted, PipeHasQueues, NoSuchQueue, Rule, ToPipe, ToQueue}
 use Rattle.dn_laws.specs.ReplyLaws.{PacketsAreNumbered}
-use Rattle.dn_types.specs.Trace.{Link, Accepted, Start, Event, opened, arrived, started, lost, refused, discarded, collected, is_arrival, is_loss_of, is_refusal_of, accepted_count}
-use Rattle.dn_types.specs.declared.call.Call.{Call}
-use Rattle.dn_types.specs.declared.call.Call.TheVariants.{Configure, Submit, Advance, Collect, Show}
-use Rattle.dn_types.specs.declared.command.Command.{Command}
-use Rattle.dn_types.specs.declared.command.Command.TheVariants.{Pipe, Queue, DeletePipe, DeleteQueue}
-use Rattle.dn_types.specs.declared.packet.Packet.{Packet}
-use Rattle.dn_types.specs.declared.reply.Reply.{Reply}
-use Rattle.dn_types.specs.declared.reply.Reply.TheVariants.{Queued, Lost, Full, NoTarget, Exhausted, Configured, NoSuchPipe, Deleted, PipeHasQueues, NoSuchQueue}
-use Rattle.dn_types.specs.declared.rule.Rule.{Rule}
-use Rattle.dn_types.specs.declared.target.Target.TheVariants.{Pipe as ToPipe, Queue as ToQueue}
 use Rattle.dn_types.proofs.CallCounts.{count-none, settled-count, opened-count, command-count}
 use Rattle.dn_laws.proofs.DropLaws.{not-exhausted}
 use Rattle.dn_types.proofs.Giving.{count-event}

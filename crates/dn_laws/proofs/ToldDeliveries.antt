@@ -4,35 +4,13 @@ use Rattle.std.specs.Prelude.{nat_eq, nat_le, is_some}
 use Rattle.std.specs.List.{All, count_by}
 use Rattle.std.proofs.lemmas.Bool.{eqb-true, eq-eqb}
 use Rattle.std.proofs.lemmas.List.Elements.{All-head, All-tail}
-use Rattle.dn_types.specs.Calls.{Verdict, no_target, loses, refuses, takes, verdict, trace_of}
-use Rattle.dn_types.specs.Clock.{call_limit, effective_moment}
-use Rattle.dn_types.specs.Configuration.{Settings, settings, has_queues, queue_numbers, command_reply}
-use Rattle.dn_types.specs.Deliveries.{undelivered, given}
-use Rattle.dn_laws.specs.Explained.{IsDueBy, IsDeliveryOf}
-use Rattle.dn_types.specs.Given.{is_packet, is_start_with, start_count, given_count}
-use Rattle.dn_types.specs.Links.{last_due}
-use Rattle.dn_types.specs.Replies.{counted_reply, reply_to_verdict, replies}
-use Rattle.dn_types.specs.Starts.{settled}
-use Rattle.dn_laws.specs.Told.{times_in, times_told}
+use Rattle.dn_laws.proofs.LawWords.{Verdict, no_target, loses, refuses, takes, verdict, trace_of, call_limit, effective_moment, Settings, settings, has_queues, queue_numbers, command_reply}
+use Rattle.dn_laws.proofs.LawWords.{undelivered, given, IsDueBy, IsDeliveryOf, is_packet, is_start_with, start_count, given_count, last_due, counted_reply, reply_to_verdict, replies, settled}
+use Rattle.dn_laws.proofs.LawWords.{times_in, times_told, Start, Event, started, collected, Call, Configure, Submit, Advance, Collect, Show, Command, Pipe, Queue, DeletePipe, DeleteQueue, Delivery}
+use Rattle.dn_laws.proofs.LawWords.{Configured, NoSuchPipe, Deleted, PipeHasQueues, NoSuchQueue, Exhausted, Rule, Free, Ordered, ToPipe, ToQueue}
 use Rattle.dn_laws.specs.ReplyLaws.{CollectsAreTold, ToldWhenDue}
-use Rattle.dn_types.specs.Trace.{Start, Event, started, collected}
-use Rattle.dn_types.specs.declared.call.Call.{Call}
-use Rattle.dn_types.specs.declared.call.Call.TheVariants.{Configure, Submit, Advance, Collect, Show}
-use Rattle.dn_types.specs.declared.command.Command.{Command}
-use Rattle.dn_types.specs.declared.command.Command.TheVariants.{Pipe, Queue, DeletePipe, DeleteQueue}
-use Rattle.dn_types.specs.declared.delivery.Delivery.{Delivery}
-use Rattle.dn_types.specs.declared.reply.Reply.TheVariants.{Configured, NoSuchPipe, Deleted, PipeHasQueues, NoSuchQueue, Exhausted}
-use Rattle.dn_types.specs.declared.rule.Rule.{Rule}
-use Rattle.dn_types.specs.declared.rule.Rule.TheVariants.{Free, Ordered}
-use Rattle.dn_types.specs.declared.target.Target.TheVariants.{Pipe as ToPipe, Queue as ToQueue}
-use Rattle.dn_laws.proofs.Begun.{AllEvents}
-use Rattle.dn_laws.proofs.Comes.{Comes, Gathers, call-comes}
-use Rattle.dn_laws.proofs.Delays.{all-still, delays-are-explained}
-use Rattle.dn_laws.proofs.DropLaws.{not-exhausted}
-use Rattle.dn_types.proofs.Dues.{gives-what-is-due, leaves-what-is-not-due}
-use Rattle.dn_types.proofs.Giving.{count-delivery, count-event, gives-started}
-use Rattle.dn_types.proofs.InTurn.{gives-in-order}
-use Rattle.dn_types.proofs.Once.{starts-once}
+use Rattle.dn_laws.proofs.{Begun.AllEvents, Comes.Comes, Comes.Gathers, Comes.call-comes, Delays.all-still, Delays.delays-are-explained, DropLaws.not-exhausted}
+use Rattle.dn_types.proofs.{Dues.gives-what-is-due, Dues.leaves-what-is-not-due, Giving.count-delivery, Giving.count-event, Giving.gives-started, InTurn.gives-in-order, Once.starts-once}
 
 pub collects-are-told : CollectsAreTold
 collects-are-told rule calls moment few =

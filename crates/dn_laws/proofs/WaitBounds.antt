@@ -5,23 +5,9 @@ use Rattle.std.specs.List.{All, sum_by}
 use Rattle.std.proofs.lemmas.Bool.Decides.{leb_tells}
 use Rattle.std.proofs.lemmas.List.{length-map}
 use Rattle.std.proofs.lemmas.List.Sums.{sum-map, sum_by-cons, sum_by-le}
-use Rattle.dn_laws.specs.Explained.{IsAtLimit, IsExplained}
-use Rattle.dn_types.specs.Links.{transmission_time}
-use Rattle.dn_laws.specs.ConfiguredLaws.{StaysInForce}
-use Rattle.dn_types.specs.Replies.{reply}
-use Rattle.dn_types.specs.Trace.{Accepted}
-use Rattle.dn_laws.specs.WaitLaws.{ahead, SlotsBoundTheWait, KbytesBoundTheWait}
-use Rattle.dn_types.specs.declared.call.Call.{Call}
-use Rattle.dn_types.specs.declared.call.Call.TheVariants.{Submit}
-use Rattle.dn_types.specs.declared.command.Command.TheVariants.{Pipe}
-use Rattle.dn_types.specs.declared.limit.Limit.{Limit}
-use Rattle.dn_types.specs.declared.limit.Limit.TheVariants.{Slots, Kbytes}
-use Rattle.dn_types.specs.declared.mask.Mask.{Mask}
-use Rattle.dn_types.specs.declared.packet.Packet.{Packet}
-use Rattle.dn_types.specs.declared.reply.Reply.{Reply}
-use Rattle.dn_types.specs.declared.reply.Reply.TheVariants.{Queued, Exhausted}
-use Rattle.dn_types.specs.declared.rule.Rule.{Rule}
-use Rattle.dn_types.specs.declared.target.Target.TheVariants.{Pipe as ToPipe}
+use Rattle.dn_laws.proofs.LawWords.{IsAtLimit, IsExplained, transmission_time, StaysInForce, reply, Accepted, ahead, Call, Submit, Pipe, Limit, Slots, Kbytes, Mask, Packet, Reply, Queued, Exhausted}
+use Rattle.dn_laws.proofs.LawWords.{Rule, ToPipe}
+use Rattle.dn_laws.specs.WaitLaws.{SlotsBoundTheWait, KbytesBoundTheWait}
 use Rattle.dn_laws.proofs.DropLaws.{drops-are-explained}
 use Rattle.dn_laws.proofs.ToldCounts.{told-few}
 use Rattle.dn_types.proofs.TransmissionTime.{transmission-is-least}

@@ -4,20 +4,8 @@ use Rattle.std.specs.Prelude.{◌^◌, ◌-◌, None}
 use Rattle.std.specs.List.{All}
 use Rattle.std.proofs.lemmas.List.Elements.{All-nil, All-cons}
 use Rattle.std.proofs.lemmas.Bool.{leb-true}
-use Rattle.dn_types.specs.Calls.{trace_of}
-use Rattle.dn_types.specs.Replies.{reply}
-use Rattle.dn_types.specs.Trace.{own, Accepted, Start, Event, arrived, started, shared}
-use Rattle.dn_laws.specs.WaitLaws.{starting, ahead, free_from, IsAtMost}
-use Rattle.dn_types.specs.declared.call.Call.{Call}
-use Rattle.dn_types.specs.declared.call.Call.TheVariants.{Configure, Advance, Collect}
-use Rattle.dn_types.specs.declared.command.Command.{Command}
-use Rattle.dn_types.specs.declared.command.Command.TheVariants.{Pipe}
-use Rattle.dn_types.specs.declared.delivery.Delivery.{Delivery}
-use Rattle.dn_types.specs.declared.limit.Limit.{Limit}
-use Rattle.dn_types.specs.declared.limit.Limit.TheVariants.{Slots, Kbytes}
-use Rattle.dn_types.specs.declared.reply.Reply.TheVariants.{Queued, Full, Delivered}
-use Rattle.dn_types.specs.declared.rule.Rule.TheVariants.{Ordered}
-use Rattle.dn_types.specs.declared.target.Target.TheVariants.{Queue as ToQueue}
+use Rattle.dn_laws.proofs.LawWords.{trace_of, reply, own, Accepted, Start, Event, arrived, started, shared, starting, ahead, free_from, IsAtMost, Call, Configure, Advance, Collect, Command, Pipe}
+use Rattle.dn_laws.proofs.LawWords.{Delivery, Limit, Slots, Kbytes, Queued, Full, Delivered, Ordered, ToQueue}
 use Rattle.dn_types.proofs.ExampleWords.{no_mask, sized, pipe, queue, to_pipe, to_queue, delivery}
 use Rattle.dn_laws.proofs.DelayBound.{slots-bound-the-delay, kbytes-bound-the-delay}
 use Rattle.dn_laws.proofs.Pauses.{links-make-no-pause}

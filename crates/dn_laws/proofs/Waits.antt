@@ -4,42 +4,15 @@ use Rattle.std.specs.Prelude.{Option, Some, None, nat_eq, nat_le, ◌&&◌}
 use Rattle.std.specs.List.{sum_by}
 use Rattle.std.proofs.lemmas.List.{append_cancel_right, append_assoc}
 use Rattle.std.proofs.lemmas.List.Sums.{sum-map, sum_by_push}
-use Rattle.dn_types.specs.Calls.{trace_of, link_of}
-use Rattle.dn_types.specs.Clock.{effective_moment}
-use Rattle.dn_types.specs.Configuration.{settings}
-use Rattle.dn_laws.specs.Explained.{IsAtBandwidth}
-use Rattle.dn_types.specs.Flows.{Treatment, treatment, keys, key_of, flow_number}
-use Rattle.dn_types.specs.Links.{free, transmission_time}
-use Rattle.dn_laws.specs.ConfiguredLaws.{StaysInForce}
-use Rattle.dn_types.specs.Replies.{reply}
-use Rattle.dn_types.specs.SharedLinks.{waiting, opening}
-use Rattle.dn_types.specs.Trace.{Link, own, link_eq, pipe_of, Accepted, Start, Event, opened, arrived, started, backlog, accepted_count}
-use Rattle.dn_laws.specs.WaitLaws.{starting, sending, WaitsForThoseAhead, WaitIsKnown}
-use Rattle.dn_types.specs.declared.call.Call.{Call}
-use Rattle.dn_types.specs.declared.call.Call.TheVariants.{Submit, Advance}
-use Rattle.dn_types.specs.declared.command.Command.{Command}
-use Rattle.dn_types.specs.declared.command.Command.TheVariants.{Pipe}
-use Rattle.dn_types.specs.declared.flow_key.FlowKey.{FlowKey}
-use Rattle.dn_types.specs.declared.limit.Limit.{Limit}
-use Rattle.dn_types.specs.declared.mask.Mask.{Mask}
-use Rattle.dn_types.specs.declared.packet.Packet.{Packet}
-use Rattle.dn_types.specs.declared.reply.Reply.TheVariants.{Queued}
-use Rattle.dn_types.specs.declared.rule.Rule.{Rule}
-use Rattle.dn_types.specs.declared.target.Target.{Target}
-use Rattle.dn_types.specs.declared.target.Target.TheVariants.{Pipe as ToPipe}
-use Rattle.dn_laws.proofs.Acceptance.{queued-packets-arrive}
-use Rattle.dn_laws.proofs.Ahead.{IsPrompt, all-sent}
-use Rattle.dn_laws.proofs.AtHome.{HaveHomes, IsHomeOf, have-homes, start-home}
-use Rattle.dn_laws.proofs.Begun.{IsCaused, IsTaken, AllEvents, call-causes, adds-among}
-use Rattle.dn_laws.proofs.ConfiguredRate.{both-at, front-at, back-at, call-at, calls-at}
-use Rattle.dn_types.proofs.Conserving.{busy-link}
-use Rattle.dn_laws.proofs.Exactly.{waits-for-its-link}
-use Rattle.dn_laws.proofs.Fates.{all-stay}
-use Rattle.dn_types.proofs.Fifo.{IsProper}
-use Rattle.dn_types.proofs.InForce.{IsKept, settings-kept}
-use Rattle.dn_types.proofs.Ordered.{IsHome, link_of-home, trace-proper, suffix-proper, opened-free, opened-backlog}
-use Rattle.dn_laws.proofs.Rates.{shape}
-use Rattle.dn_laws.proofs.Timely.{split, queued, count-later, started-below}
+use Rattle.dn_laws.proofs.LawWords.{trace_of, link_of, effective_moment, settings, IsAtBandwidth, Treatment, treatment, keys, key_of, flow_number, free, transmission_time, StaysInForce, reply}
+use Rattle.dn_laws.proofs.LawWords.{waiting, opening, Link, own, link_eq, pipe_of, Accepted, Start, Event, opened, arrived, started, backlog, accepted_count, starting, sending, Call, Submit, Advance}
+use Rattle.dn_laws.proofs.LawWords.{Command, Pipe, FlowKey, Limit, Mask, Packet, Queued, Rule, Target, ToPipe}
+use Rattle.dn_laws.specs.WaitLaws.{WaitsForThoseAhead, WaitIsKnown}
+use Rattle.dn_laws.proofs.{Acceptance.queued-packets-arrive, Ahead.IsPrompt, Ahead.all-sent, AtHome.HaveHomes, AtHome.IsHomeOf, AtHome.have-homes, AtHome.start-home, Begun.IsCaused, Begun.IsTaken}
+use Rattle.dn_laws.proofs.{Begun.AllEvents, Begun.call-causes, Begun.adds-among, ConfiguredRate.both-at, ConfiguredRate.front-at, ConfiguredRate.back-at, ConfiguredRate.call-at}
+use Rattle.dn_laws.proofs.{ConfiguredRate.calls-at, Exactly.waits-for-its-link, Fates.all-stay, Rates.shape, Timely.split, Timely.queued, Timely.count-later, Timely.started-below}
+use Rattle.dn_types.proofs.{Conserving.busy-link, Fifo.IsProper, InForce.IsKept, InForce.settings-kept, Ordered.IsHome, Ordered.link_of-home, Ordered.trace-proper, Ordered.suffix-proper}
+use Rattle.dn_types.proofs.{Ordered.opened-free, Ordered.opened-backlog}
 
 at-home : (known : List FlowKey) (s : Start) → IsHomeOf known s.packet.link s.packet.stamped.flow → IsHome s.packet.link s.packet.stamped.flow
 at-home known s h = subst (λ (l : Link). IsHome l s.packet.stamped.flow) (sym h.is) (link_of-home h.key.target s.packet.stamped.flow h.key.pipe)

@@ -4,43 +4,20 @@ use Rattle.std.specs.List.{All, count_by}
 use Rattle.std.proofs.Common.{arith}
 use Rattle.std.proofs.lemmas.List.{length-append, length-replicate}
 use Rattle.std.proofs.lemmas.List.Elements.{All-nil, All-cons}
-use Rattle.dn_types.specs.Bounds.{IsInRange, HasBoundedMoments, HasBoundedBytes, HasBoundedCounts}
-use Rattle.dn_types.specs.Calls.{trace_of}
-use Rattle.dn_types.specs.Clock.{call_limit, counted}
-use Rattle.dn_types.specs.Configuration.{settings}
-use Rattle.dn_types.specs.Deliveries.{delivery_of, given, undelivered}
-use Rattle.dn_types.specs.Given.{accepted_since, started_since, is_packet, start_count, given_count}
-use Rattle.dn_types.specs.History.{IsLawful, calls_of, own_entries}
+use Rattle.dn_laws.proofs.LawWords.{HasBoundedCounts, trace_of, call_limit, settings, delivery_of, given, undelivered, accepted_since, started_since, is_packet, start_count, given_count, IsLawful}
+use Rattle.dn_laws.proofs.LawWords.{calls_of, free, last_due, replies, reply, link_heads, virtual_time, waiting, next_start, settled, Event, own, shared, backlog, Start, started, Stamped, pick, Call}
+use Rattle.dn_laws.proofs.LawWords.{Advance, Collect, Show, Entry, Reply, Configured, Delivered, Exhausted, Queued, Status, Ordered, ToPipe}
+use Rattle.dn_types.specs.Bounds.{IsInRange, HasBoundedMoments, HasBoundedBytes}
+use Rattle.dn_types.specs.Clock.{counted}
+use Rattle.dn_types.specs.History.{own_entries}
 use Rattle.dn_laws.specs.Laws.{IsFirstEligible}
-use Rattle.dn_types.specs.Links.{free, last_due}
-use Rattle.dn_types.specs.Replies.{replies, reply}
-use Rattle.dn_types.specs.SharedLinks.{link_heads, virtual_time, waiting}
 use Rattle.dn_types.specs.Standing.{standing}
-use Rattle.dn_types.specs.Starts.{next_start, settled}
-use Rattle.dn_types.specs.Trace.{Event, own, shared, backlog, Start, started}
-use Rattle.dn_types.specs.Wf2q.{Stamped, pick}
-use Rattle.dn_types.specs.declared.call.Call.{Call}
-use Rattle.dn_types.specs.declared.call.Call.TheVariants.{Advance, Collect, Show}
-use Rattle.dn_types.specs.declared.entry.Entry.{Entry}
-use Rattle.dn_types.specs.declared.reply.Reply.{Reply}
-use Rattle.dn_types.specs.declared.reply.Reply.TheVariants.{Configured, Delivered, Exhausted, Queued, Status}
-use Rattle.dn_types.specs.declared.rule.Rule.TheVariants.{Ordered}
-use Rattle.dn_types.specs.declared.target.Target.TheVariants.{Pipe as ToPipe}
-use Rattle.dn_laws.proofs.BoundedCounts.{bounded-counts}
-use Rattle.dn_types.proofs.BoundedReplies.{bounded-moments, due-moments-bounded, bounded-bytes}
-use Rattle.dn_types.proofs.Bridge.{exhausted-changes-nothing, replies-by-standing}
-use Rattle.dn_types.proofs.Dues.{due-is-last, due-moments-never-fall, gives-once, gives-what-is-due, leaves-what-is-not-due}
+use Rattle.dn_laws.proofs.{BoundedCounts.bounded-counts, PickLaws.pick-is-first, Shares.grows-by-work, Shares.pick-is-least, StartLaws.starts-the-pick}
+use Rattle.dn_types.proofs.{BoundedReplies.bounded-moments, BoundedReplies.due-moments-bounded, BoundedReplies.bounded-bytes, Bridge.exhausted-changes-nothing, Bridge.replies-by-standing}
+use Rattle.dn_types.proofs.{Dues.due-is-last, Dues.due-moments-never-fall, Dues.gives-once, Dues.gives-what-is-due, Dues.leaves-what-is-not-due, Giving.gives-started, Histories.own-entries-begin}
+use Rattle.dn_types.proofs.{Histories.counts-up-to-the-limit, Histories.lawful-replies, Histories.lawful-more, Histories.own-entries-grow, Once.starts-once, Ordered.sends-one-at-a-time}
+use Rattle.dn_types.proofs.{Ordered.starts-in-order, Picks.pick-some, Settled.settled-ends, TransmissionTime.transmission-is-least}
 use Rattle.dn_types.proofs.ExampleWords.{delivery, key, no_mask, pipe, queue, status, to_pipe, to_queue, tuple}
-use Rattle.dn_types.proofs.Giving.{gives-started}
-use Rattle.dn_types.proofs.Histories.{own-entries-begin, counts-up-to-the-limit, lawful-replies, lawful-more, own-entries-grow}
-use Rattle.dn_types.proofs.Once.{starts-once}
-use Rattle.dn_types.proofs.Ordered.{sends-one-at-a-time, starts-in-order}
-use Rattle.dn_laws.proofs.PickLaws.{pick-is-first}
-use Rattle.dn_types.proofs.Picks.{pick-some}
-use Rattle.dn_types.proofs.Settled.{settled-ends}
-use Rattle.dn_laws.proofs.Shares.{grows-by-work, pick-is-least}
-use Rattle.dn_laws.proofs.StartLaws.{starts-the-pick}
-use Rattle.dn_types.proofs.TransmissionTime.{transmission-is-least}
 
 -- Two packets to queue 1 of weight 1 and three to queue 2 of weight 3, all at 0, newest first.
 abbrev calls : List Call

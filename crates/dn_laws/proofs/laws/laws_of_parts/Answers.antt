@@ -1,12 +1,7 @@
 -- Each law is a lemma over the definitions.
-use Rattle.dn_laws.proofs.Advances.{advances-are-no-more}
-use Rattle.dn_laws.proofs.AloneReplies.{parts-are-alone}
-use Rattle.dn_laws.proofs.PartCalls.{other-links-change-nothing}
-use Rattle.dn_laws.proofs.PartReplays.{agreeing-calls-agree, replays-fall-apart}
-use Rattle.dn_laws.proofs.PartReplies.{other-links-change-no-reply}
-use Rattle.dn_laws.proofs.PartsAlone.{parts-happen-alone}
-use Rattle.dn_laws.proofs.PartSettings.{commands-act-by-force, parts-rest-on-their-pipe}
-use Rattle.dn_laws.proofs.PartsWhole.{parts-are-whole}
+use Rattle.dn_laws.proofs.{Advances.advances-are-no-more, AloneReplies.parts-are-alone, PartCalls.other-links-change-nothing, PartReplays.agreeing-calls-agree, PartReplays.replays-fall-apart}
+use Rattle.dn_laws.proofs.{PartReplies.other-links-change-no-reply, PartsAlone.parts-happen-alone, PartSettings.commands-act-by-force, PartSettings.parts-rest-on-their-pipe}
+use Rattle.dn_laws.proofs.{PartsWhole.parts-are-whole}
 use Rattle.dn_laws.proofs.laws.laws_of_parts.Goals as goal
 
 pub returns : goal.returns

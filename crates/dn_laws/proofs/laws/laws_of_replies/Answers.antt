@@ -1,13 +1,8 @@
 -- Each law is a lemma over the definitions.
-use Rattle.dn_laws.proofs.Delivered.{queued-packets-are-delivered}
-use Rattle.dn_laws.proofs.ToldCommands.{limit-is-counted, replies-tell-the-clock, clock-is-the-greatest, commands-are-told}
-use Rattle.dn_laws.proofs.ToldCounts.{packets-are-numbered}
-use Rattle.dn_laws.proofs.ToldDeliveries.{collects-are-told, told-once, told-when-due}
-use Rattle.dn_laws.proofs.Obeyed.{obeys-as-told, clock-follows, starts-are-counted}
-use Rattle.dn_laws.proofs.AtHome.{shows-are-told}
-use Rattle.dn_laws.proofs.Fates.{queued-packets-stay}
-use Rattle.dn_laws.proofs.Seen.{flows-were-told}
-use Rattle.dn_laws.proofs.Readings.{moments-are-named, commands-are-answered}
+use Rattle.dn_laws.proofs.{Delivered.queued-packets-are-delivered, ToldCommands.limit-is-counted, ToldCommands.replies-tell-the-clock, ToldCommands.clock-is-the-greatest}
+use Rattle.dn_laws.proofs.{ToldCommands.commands-are-told, ToldCounts.packets-are-numbered, ToldDeliveries.collects-are-told, ToldDeliveries.told-once, ToldDeliveries.told-when-due}
+use Rattle.dn_laws.proofs.{Obeyed.obeys-as-told, Obeyed.clock-follows, Obeyed.starts-are-counted, AtHome.shows-are-told, Fates.queued-packets-stay, Seen.flows-were-told, Readings.moments-are-named}
+use Rattle.dn_laws.proofs.{Readings.commands-are-answered}
 use Rattle.dn_laws.proofs.laws.laws_of_replies.Goals as goal
 
 pub returns : goal.returns
