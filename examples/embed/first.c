@@ -12,9 +12,11 @@
 static bool configure(struct dn_handle *link, const char *line)
 {
     struct dn_fault fault;
+    uint8_t reason[DN_REASON_ROOM];
+    uint64_t length;
     uint32_t status = dn_configure(link, (const uint8_t *)line, strlen(line), &fault);
-    if (status == DN_LINE)
-        fprintf(stderr, "word %" PRIu64 ": fault %" PRIu32 "\n", fault.word, fault.kind);
+    if (status != DN_OK && dn_reason(status, &fault, reason, sizeof reason, &length) == DN_OK)
+        fprintf(stderr, "%s: %.*s\n", line, (int)length, (const char *)reason);
     return status == DN_OK;
 }
 

@@ -52,7 +52,7 @@ static void begin_outage(struct host *host, const struct change *change) {
     struct dn_fate fate;
     packet.proto = OUTAGE_PROTOCOL;
     packet.word = WORD_OF_NONE;
-    if (has_backlog(host->pacing, change->pipe)) return;
+    if (has_waiting(host->links, change->pipe)) return;
     submit_paced(host->pacing, &packet, &fate);
     if (fate.outcome == DN_QUEUED) hold(host->held, &(struct packet){.number = fate.packet, .way = change->pipe - 1}, NULL, 0);
 }

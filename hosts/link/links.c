@@ -22,7 +22,7 @@ struct links {
     size_t line_count;
     struct dn_delivery *deliveries; /* room for a collect */
     uint64_t delivery_room;
-    char wrong[60], canonical[400]; /* the last answers of these functions; the longest entry of a line has some 220 */
+    char wrong[DN_REASON_ROOM + 1], canonical[400]; /* the last answers of these functions; the longest entry of a line has some 220 */
 };
 
 static void open_new(struct dn_handle *handle) {
@@ -61,17 +61,15 @@ static void note_line(struct links *links, const char *line, int kind, int numbe
     links->lines[at] = (struct held_line){kind, number, text};
 }
 
-/* What is wrong with a line by the library's answer, or NULL. */
+/* What is wrong with a line by the library's answer, or NULL: the fault of a word, or a refusal as one word, like `no-such-pipe` in a transcript. */
 static const char *wrong_by(struct links *links, uint32_t status, const struct dn_fault *fault) {
-    static const char *const faults[] = {"not UTF-8", "unknown word", "missing value", "bad number", "out of range", "left out", "needs a pipe"};
-    static const char *const refusals[] = {"exhausted", "no-such-pipe", "pipe-has-queues", "no-such-queue"};
     if (status == DN_OK) return NULL;
-    if (status == DN_LINE) {
-        snprintf(links->wrong, sizeof links->wrong, "word %" PRIu64 ": %s", fault->word, faults[fault->kind]);
-        return links->wrong;
-    }
-    if (status > DN_NO_SUCH_QUEUE) fail("the links", "out of memory");
-    return refusals[status - DN_EXHAUSTED];
+    if (status != DN_LINE && status > DN_NO_SUCH_QUEUE) fail("the links", "out of memory");
+    uint64_t length = 0;
+    dn_reason(status, fault, (uint8_t *)links->wrong, DN_REASON_ROOM, &length);
+    links->wrong[length] = 0;
+    for (char *at = links->wrong; status != DN_LINE && (at = strchr(at, ' '));) *at = '-';
+    return links->wrong;
 }
 
 static uint32_t configure(struct dn_handle *handle, const char *line, struct dn_fault *fault) {

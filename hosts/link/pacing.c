@@ -71,11 +71,6 @@ void add_hold(struct pacing *pacing, int number, uint64_t from, uint64_t to) {
 
 void pace(struct pacing *pacing, int number) { made(pacing, number); }
 
-bool has_backlog(const struct pacing *pacing, int number) {
-    const struct pipe *pipe = paced(pacing, number);
-    return pipe ? pipe->count : has_waiting(pacing->links, number);
-}
-
 static void let_wait(struct pipe *pipe, uint32_t bytes) {
     if (pipe->count == pipe->room) {
         size_t room = pipe->room ? 2 * pipe->room : 64;

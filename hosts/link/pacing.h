@@ -25,9 +25,6 @@ void add_hold(struct pacing *pacing, int pipe, uint64_t from, uint64_t to);
 /* A line of the configuration was obeyed. */
 void note_configured(struct pacing *pacing, const char *line);
 
-/* Whether a packet waits for a pipe. */
-bool has_backlog(const struct pacing *pacing, int pipe);
-
 /* Lets begin what begins up to a moment, each packet with its own rate. To be called before the links get a call of that moment. */
 void catch_up(struct pacing *pacing, uint64_t moment);
 

@@ -21,6 +21,7 @@ from typing import NoReturn
 
 from hingetulip.audits import Audit, audit
 from hingetulip.batches import Deliveries, Fates, Packets
+from hingetulip.entries import Entry, EntryCall, EntryReply, History, Submitted, read_history
 from hingetulip.errors import (
     ClosedError,
     ExhaustedError,
@@ -31,8 +32,10 @@ from hingetulip.errors import (
     OutOfMemoryError,
     RangeError,
     RefusedError,
+    RowError,
 )
 from hingetulip.library import HISTORY_LIMIT, LAST_MOMENT, LIBRARY, VERSION
+from hingetulip.packet_file import read_packets
 from hingetulip.records import Delivery, Fate, FlowStatus, Outcome, Rule, Verdict
 from hingetulip.service import Caller, Service
 from hingetulip.shaper import Shaper
@@ -47,11 +50,15 @@ __all__ = [
     "ClosedError",
     "Deliveries",
     "Delivery",
+    "Entry",
+    "EntryCall",
+    "EntryReply",
     "ExhaustedError",
     "Fate",
     "Fates",
     "FlowStatus",
     "HingetulipError",
+    "History",
     "HistoryError",
     "InUseError",
     "LineError",
@@ -60,11 +67,15 @@ __all__ = [
     "Packets",
     "RangeError",
     "RefusedError",
+    "RowError",
     "Rule",
     "Service",
     "Shaper",
+    "Submitted",
     "Verdict",
     "audit",
+    "read_history",
+    "read_packets",
 ]
 __version__ = VERSION
 

@@ -153,6 +153,14 @@ class Packets(Batch):
         for name, values in given.items():
             self._fill(name, values)
 
+    @classmethod
+    def of_records(cls, records: memoryview) -> Packets:
+        """Packets that the library wrote, with their words."""
+        packets = cls.__new__(cls)
+        Batch.__init__(packets, records)
+        packets.draws = False
+        return packets
+
     def _fill(self, name: str, values: Any) -> None:
         column: memoryview = getattr(self, name)
         try:

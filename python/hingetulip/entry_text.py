@@ -9,7 +9,7 @@ from hingetulip.errors import HingetulipError, RefusedError
 from hingetulip.library import CALLS, FAILURES, LIBRARY, ROOM, failure
 
 CALLER = c_uint64.from_param(0)  # an argument that is made once; a number would be made one at each call
-ANSWERED = {0, *(status for status, (kind, _) in FAILURES.items() if kind is RefusedError)}  # which a command was
+ANSWERED = {0, *(status for status, kind in FAILURES.items() if kind is RefusedError)}  # which a command was
 
 
 class EntryText:

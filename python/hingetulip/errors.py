@@ -60,6 +60,20 @@ class HistoryError(HingetulipError, ValueError):
         return HistoryError, (str(self), self.record)
 
 
+class RowError(HingetulipError, ValueError):
+    """A row of a packet file isn't of the packet form, or the first line isn't the header."""
+
+    def __init__(self, row: int, field: int) -> None:
+        super().__init__(f"packet row {row}, field {field}: bad")
+        self.row = row
+        """The first bad row, from 1; 0 is the header."""
+        self.field = field
+        """Its first bad field, from 1; 0 if it hasn't ten."""
+
+    def __reduce__(self) -> tuple[type[RowError], tuple[int, int]]:
+        return RowError, (self.row, self.field)
+
+
 class InUseError(HingetulipError, RuntimeError):
     """Another thread, or the code that a signal interrupted, is in a call of this shaper, or of this caller or service."""
 

@@ -49,4 +49,18 @@ FLOW = Layout(
     reserved="6x",
 )
 FAULT = Layout(word="Q", kind="I", reserved="4x")
+ENTRY = Layout(
+    packet=f"{PACKET.size}s",
+    fate=f"{FATE.size}s",
+    caller="Q",
+    line="Q",
+    size="Q",
+    first="Q",
+    count="Q",
+    status="I",
+    call="B",
+    reply="B",
+    reserved="2x",
+)
+HISTORY = Layout(entries="Q", bytes="Q", deliveries="Q", flows="Q", rule="I", reserved="4x")
 VERDICT = Layout(entries="Q", first="Q", finding="I", reserved="4x")

@@ -3,7 +3,7 @@
 from __future__ import annotations
 
 import os
-from ctypes import PyDLL, Structure, c_bool, c_uint32, c_void_p
+from ctypes import PyDLL, Structure, byref, c_bool, c_char, c_size_t, c_uint32, c_uint64, c_void_p
 from pathlib import Path
 from typing import Iterator
 
@@ -16,6 +16,7 @@ from hingetulip.errors import (
     RangeError,
     RefusedError,
 )
+from hingetulip.layout import FAULT
 
 NAMES = ("libhingetulip.so.1", "libhingetulip.so")
 MAJORS = (1, 2)  # of the library's version: 2 has the calls of 1, and later minor ones only add
@@ -23,27 +24,16 @@ LAST_MOMENT = 2**62
 NEVER = 2**64 - 1
 HISTORY_LIMIT = 268_435_456  # bytes
 
-ROOM, LINE, NEW_FLOW, BAD_RECORD = 7, 8, 19, 24
-FAILURES: dict[int, tuple[type[HingetulipError], str]] = {
-    1: (ExhaustedError, "the shaper answered 2^62 calls before"),
-    2: (RefusedError, "no such pipe"),
-    3: (RefusedError, "pipe has queues"),
-    4: (RefusedError, "no such queue"),
-    5: (ClosedError, "the shaper is closed"),
-    6: (OutOfMemoryError, "out of memory"),
-    9: (RangeError, "a moment isn't in 0 to 2^62 ns"),
-    10: (RangeError, "no rule"),
-    11: (RangeError, "a kind that is neither 0, for a pipe, nor 1, for a queue"),
-    12: (RangeError, "the number of a pipe or queue isn't in 1 to 65535"),
-    13: (RangeError, "a length isn't in 1 to 65535 bytes"),
-    16: (RangeError, "the number of callers isn't in 1 to 15"),
-    20: (RangeError, "the number of a history's caller isn't in 0 to 15"),
-    21: (RangeError, "an outcome that is none"),
-    22: (RangeError, "a row of a packet file that is none"),
-    23: (HistoryError, "history too long"),
-    24: (HistoryError, "a record of a history that is none"),
+ROOM, LINE, NEW_FLOW, BAD_ROW, BAD_RECORD = 7, 8, 19, 22, 24
+REASON_ROOM = 128  # bytes, which each reason has room in
+FAILURES: dict[int, type[HingetulipError]] = {
+    1: ExhaustedError,
+    **dict.fromkeys((2, 3, 4), RefusedError),
+    5: ClosedError,
+    6: OutOfMemoryError,
+    **dict.fromkeys((9, 10, 11, 12, 13, 16, 20, 21, 22), RangeError),
+    **dict.fromkeys((23, 24), HistoryError),
 }
-FAULT_KINDS = ("not UTF-8", "unknown word", "missing value", "bad number", "out of range", "left out", "needs a pipe")
 
 
 class Handle(Structure):
@@ -65,8 +55,8 @@ FUNCTIONS = (
     "dn_show",
     "dn_wake",
 )
-# An older library lacks some of these: it has the first four from 1.2 on, the next two from 1.3 on and the others from 1.4 on. It
-# serves those who don't call them.
+# An older library lacks some of these: it has the first four from 1.2 on, the next two from 1.3 on, the next five from 1.4 on and the
+# last two from 2.0 on. It serves those who don't call them.
 LATER_FUNCTIONS = (
     "dn_reserve",
     "dn_submit_text",
@@ -79,13 +69,24 @@ LATER_FUNCTIONS = (
     "dn_audit_feed",
     "dn_audit_finish",
     "dn_audit_close",
+    "dn_reason",
+    "dn_read_history",
 )
+
+
+def reason(status: int, kind: int = 0) -> str:
+    """Why a call was answered so, in the library's words: under LINE those of a kind of fault. An older library has no words."""
+    if not hasattr(CALLS, "dn_reason"):
+        return f"fault {kind}" if status == LINE else f"status {status}"
+    text, length = (c_char * REASON_ROOM)(), c_uint64()
+    CALLS.dn_reason(c_uint32(status), FAULT.record.pack(0, kind), text, c_size_t(REASON_ROOM), byref(length))
+    return text.raw[: length.value].decode()
 
 
 def failure(status: int) -> HingetulipError:
     """The exception of a status."""
-    kind, text = FAILURES.get(status, (HingetulipError, f"status {status}"))
-    return kind(text)
+    kind = FAILURES.get(status, HingetulipError)
+    return kind("the shaper is closed" if kind is ClosedError else reason(status))
 
 
 def places() -> Iterator[str]:

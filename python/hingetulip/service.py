@@ -17,7 +17,7 @@ from hingetulip.batches import QUEUED, make_fate, read_fate
 from hingetulip.errors import HingetulipError, InUseError, LineError, RangeError
 from hingetulip.history_file import HistoryFile
 from hingetulip.layout import DELIVERY, FATE, FAULT, FLOW, PACKET, Layout
-from hingetulip.library import FAULT_KINDS, LIBRARY, LINE, NEVER, ROOM, Handle, failure
+from hingetulip.library import LIBRARY, LINE, NEVER, ROOM, Handle, failure, reason
 from hingetulip.records import Delivery, Fate, FlowStatus
 from hingetulip.shaper import NEITHER_OR_BOTH, NOTHING, SECRET, encoded, pack_moment, read_flow, unpackable
 
@@ -139,7 +139,7 @@ class Caller:
             status = answered(self._calls.dn_caller_configure, self._self, text, c_size_t(len(text)), byref(fault), self._holder)
         if status == LINE:
             word, kind = FAULT.record.unpack(fault)
-            raise LineError(FAULT_KINDS[kind], word, text.decode("utf-8", "replace"))
+            raise LineError(reason(LINE, kind), word, text.decode("utf-8", "replace"))
         succeed(status)
 
     def submit(

@@ -15,7 +15,7 @@ from typing import Any, Callable, NoReturn, Optional, Union
 from hingetulip.batches import QUEUED, Deliveries, Fates, Packets, make_fate, read_fate
 from hingetulip.errors import InUseError, LineError, RangeError
 from hingetulip.layout import DELIVERY, FATE, FAULT, FLOW, PACKET, Layout
-from hingetulip.library import CALLS, FAULT_KINDS, LAST_MOMENT, LINE, NEVER, NEW_FLOW, ROOM, Handle, failure
+from hingetulip.library import CALLS, LAST_MOMENT, LINE, NEVER, NEW_FLOW, ROOM, Handle, failure, reason
 from hingetulip.records import Delivery, Fate, FlowStatus, Rule
 
 NEITHER_OR_BOTH = "a packet is sent to a pipe or to a queue"
@@ -173,7 +173,7 @@ class Shaper:
             status: int = CALLS.dn_configure(self._self, line, c_size_t(len(line)), byref(fault))
         if status == LINE:
             word, kind = FAULT.record.unpack(fault)
-            raise LineError(FAULT_KINDS[kind], word, line.decode("utf-8", "replace"))
+            raise LineError(reason(LINE, kind), word, line.decode("utf-8", "replace"))
         return status
 
     def submit(

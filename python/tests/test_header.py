@@ -16,16 +16,21 @@ HEADER, SERVICE_HEADER = ((INCLUDE / f"{name}.h").read_text() for name in ("hing
 RUST, RUST_SERVICE, RUST_ERRORS = (
     (TOP / "rust" / "hingetulip" / "src" / f"{name}.rs").read_text() for name in ("raw", "raw_service", "error")
 )
-LEFT_OUT = {
-    "dn_open",
-    "dn_read_packets",
-    "dn_audit_open",
-}
+LEFT_OUT = {"dn_open", "dn_audit_open"}
 DECLARED = (
     (RUST, HEADER, "dn_status", LEFT_OUT),
     (RUST_SERVICE, SERVICE_HEADER, "dn_service_status", {"dn_service_open", "dn_service_text"}),
 )
-WIDTHS = {"uint64_t": 8, "uint32_t": 4, "uint16_t": 2, "uint8_t": 1, "void *": 8, "bool": 1}
+WIDTHS = {
+    "uint64_t": 8,
+    "uint32_t": 4,
+    "uint16_t": 2,
+    "uint8_t": 1,
+    "void *": 8,
+    "bool": 1,
+    "struct dn_packet": 32,
+    "struct dn_fate": 32,
+}
 KINDS = {
     "u64": "uint64_t",
     "u32": "uint32_t",
@@ -73,7 +78,7 @@ def numbers(name: str, header: str = HEADER) -> dict[str, int]:
 def fields(name: str, header: str = HEADER) -> list[tuple[str, str]]:
     """The type and the name of each field of a struct."""
     body = re.search(rf"struct {name} \{{(.*?)\n\}};", header, re.S)
-    return [(kind.strip(), field) for kind, field in re.findall(r"^ +(\w+ \*?)(\w+);", body[1] if body else "", re.M)]
+    return [(kind.strip(), field) for kind, field in re.findall(r"^ +((?:struct )?\w+ \*?)(\w+);", body[1] if body else "", re.M)]
 
 
 def places(name: str) -> tuple[dict[str, tuple[int, int]], int]:
@@ -84,7 +89,7 @@ def places(name: str) -> tuple[dict[str, tuple[int, int]], int]:
     found: dict[str, tuple[int, int]] = {}
     end = 0
     for kind, field in fields(name):
-        begin = -(-end // WIDTHS[kind]) * WIDTHS[kind]
+        begin = -(-end // min(WIDTHS[kind], 8)) * min(WIDTHS[kind], 8)
         end = begin + WIDTHS[kind]
         first = found["reserved"][0] if field.startswith("reserved") and "reserved" in found else begin
         found["reserved" if field.startswith("reserved") else field] = first, end - first
@@ -117,6 +122,8 @@ class Header(unittest.TestCase):
             "dn_delivery": layout.DELIVERY,
             "dn_flow": layout.FLOW,
             "dn_fault": layout.FAULT,
+            "dn_entry": layout.ENTRY,
+            "dn_history": layout.HISTORY,
             "dn_verdict": layout.VERDICT,
         }
         self.assertEqual({*re.findall(r"^struct (\w+) \{", HEADER, re.M)}, {*layouts, "dn_handle", "dn_audit"})
@@ -146,12 +153,16 @@ class Header(unittest.TestCase):
             self.assertEqual(name, "DN_" + str(library.failure(statuses[name])).upper().replace(" ", "_"))
 
     def test_other_numbers(self) -> None:
-        for kind, enum in ((hingetulip.Outcome, "dn_outcome"), (hingetulip.Rule, "dn_rule")):
+        enums = {"dn_outcome": hingetulip.Outcome, "dn_rule": hingetulip.Rule}
+        enums |= {"dn_call": hingetulip.EntryCall, "dn_reply": hingetulip.EntryReply}
+        for enum, kind in enums.items():
             self.assertEqual(numbers(enum), {f"DN_{one.name}": one.value for one in kind})
         self.assertEqual({"DN_PIPE": 0, "DN_QUEUE": 1}, numbers("dn_kind"))
         self.assertEqual({"DN_LAWFUL": 0, "DN_DIFFERS": 1}, numbers("dn_finding"))
         self.assertIn(f"#define DN_HISTORY_LIMIT ((size_t){library.HISTORY_LIMIT})\n", HEADER)
-        self.assertEqual({name: library.FAULT_KINDS.index(text) for name, text in FAULTS.items()}, numbers("dn_fault_kind"))
+        self.assertEqual({name: library.reason(library.LINE, kind) for name, kind in numbers("dn_fault_kind").items()}, FAULTS)
+        self.assertIn(f"#define DN_REASON_ROOM ((size_t){library.REASON_ROOM})\n", HEADER)
+        self.assertIn(f"pub const REASON_ROOM: usize = {library.REASON_ROOM};\n", RUST)
         self.assertIn(f"#define DN_VERSION {library.MAJORS[-1]}0", HEADER)
 
     def test_functions(self) -> None:
@@ -184,7 +195,7 @@ class Crate(unittest.TestCase):
             statuses.update(numbers(enum, header))
             for name, value in re.findall(r"^pub const (\w+): u32 = (\d+);", source, re.M):
                 self.assertEqual(int(value), numbers(enum, header)[f"DN_{name}"], name)
-        for value, name in re.findall(r"^ +(\d+) => Self::(\w+),$", RUST_ERRORS, re.M):
+        for value, name in re.findall(r"^ +\((\d+), Error::(\w+)\),$", RUST_ERRORS, re.M):
             words = re.sub(r"(?<=[a-z])(?=[A-Z])", "_", name).upper()
             self.assertEqual(int(value), statuses.get(f"DN_{words}", statuses.get(f"DN_BAD_{words}")), name)
 

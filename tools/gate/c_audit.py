@@ -88,8 +88,9 @@ def main(dummynet: str, seed: str, count: str) -> int:
             kind = wanted[0].split(" ")[0]
             ends[kind] = ends.get(kind, 0) + 1
         for config in sorted(EXAMPLES.glob("*.config")):
-            text = replay(dummynet, config, file)
-            audited(tally, config.stem, audit, rng, text, by_program(dummynet, file))
+            history = Path(folder) / config.stem  # a replay replaces no file that isn't a history, as the random ones may be
+            text = replay(dummynet, config, history)
+            audited(tally, config.stem, audit, rng, text, by_program(dummynet, history))
     tally.note("each kind of end", "" if {*ends} == {"lawful", "differs", "history"} else str(ends))
     print(", ".join(f"{many} of {kind}" for kind, many in ends.items()))
     return tally.end()

@@ -52,7 +52,7 @@ def main() -> int:
     tally = Tally()
     os.environ["ASAN_OPTIONS"] = "detect_leaks=1"
     with TemporaryDirectory() as folder:
-        for name in ("arguments", "line_texts", "service_arguments"):
+        for name in ("arguments", "line_texts", "reasons", "service_arguments"):
             ends_well(tally, Path(folder), name)
         for name in ("growths", "reserved", "service_growths"):
             ends_well(tally, Path(folder), name, *REFUSING)

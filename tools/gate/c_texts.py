@@ -1,10 +1,10 @@
-"""The texts of entries from C: histories of the program are written anew by the C library, with the same bytes.
+"""The entries of histories from C: those of the program are read and written anew by the C library, with the same bytes.
 
     python3 tools/gate/c_texts.py PROGRAM SEED COUNT
 
 It takes the library of the present sources, as tools/release/library finds it. The histories are those of the examples' replays,
-and the transcripts of COUNT live sessions with random calls by sixteen callers. c_library/texts.c makes their calls on a
-handle, and writes them with the handle's answers. It is compiled with the sanitizers for addresses and undefined behaviour.
+and the transcripts of COUNT live sessions with random calls by sixteen callers. c_library/texts.c reads them into records, makes
+their calls on a handle, and writes them with the handle's answers. It is compiled with the sanitizers for addresses and undefined behaviour.
 """
 
 from __future__ import annotations
@@ -40,9 +40,19 @@ def replay(dummynet: str, config: Path, history: Path) -> bytes:
     return history.read_bytes()
 
 
+def unmasked(line: bytes) -> bytes:
+    """A line of a history without what the state of a flow doesn't tell in C: the five fields of its mask."""
+    fields = line.split(b",")
+    return b",".join(fields[:5] + fields[10:]) if fields[0] == b"f" else line
+
+
 def written_anew(tally: Tally, name: str, texts: Path, history: bytes) -> None:
-    done = subprocess.run([texts], input=history, capture_output=True)
-    tally.note(name, done.stderr.decode(errors="replace").strip(), "" if done.stdout == history else "other bytes")
+    """The entries of a history, and of one that lacks its end."""
+    _, *lines, end = (line for line in history.splitlines(keepends=True) if not line.startswith(b"#"))
+    whole = b"".join(unmasked(line) for line in lines)
+    for text, wanted in ((history, whole), (history[: -len(end)], b"bad %d\n" % (len(lines) + 2))):
+        done = subprocess.run([texts], input=text, capture_output=True)
+        tally.note(name, done.stderr.decode(errors="replace").strip(), "" if done.stdout == wanted else "other bytes")
 
 
 def main(dummynet: str, seed: str, count: str) -> int:

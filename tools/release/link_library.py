@@ -35,6 +35,7 @@ VERSIONS = {
     "HINGETULIP_1.2": ("dn_reserve", "dn_submit_text", "dn_advance_text", "dn_collect_text"),
     "HINGETULIP_1.3": ("dn_configure_text", "dn_read_packets", "dn_service_texts"),
     "HINGETULIP_1.4": ("dn_audit_*",),
+    "HINGETULIP_2.0": ("dn_reason", "dn_read_history"),
 }
 
 

@@ -47,6 +47,9 @@ extern "C" {
 /* The most bytes of a history file that `dummynet audit` reads unless it is asked to read more. */
 #define DN_HISTORY_LIMIT ((size_t)268435456)
 
+/* The most bytes that dn_reason writes. */
+#define DN_REASON_ROOM ((size_t)128)
+
 enum dn_status {
     DN_OK = 0,
     DN_EXHAUSTED = 1,       /* the handle answered 2^62 calls before: nothing changes any more */
@@ -97,6 +100,20 @@ enum dn_fault_kind {
     DN_OUT_OF_RANGE = 4,  /* this word is a number outside its range */
     DN_LEFT_OUT = 5,      /* ipfw(8) has this word, and this library leaves it out */
     DN_NEEDS_PIPE = 6     /* the line of a queue, which this word begins, doesn't name its pipe */
+};
+
+/* What a call of a history asked for: one of dn_configure, dn_submit, dn_advance, dn_collect or dn_show. */
+enum dn_call { DN_CONFIGURE = 0, DN_SUBMIT = 1, DN_ADVANCE = 2, DN_COLLECT = 3, DN_SHOW = 4 };
+
+/* What the reply to a call of a history tells. A history that isn't lawful can have any reply to any call. */
+enum dn_reply {
+    DN_REFUSED = 0,    /* only its status, which isn't DN_OK */
+    DN_CONFIGURED = 1, /* a configuration was obeyed */
+    DN_DELETED = 2,    /* a delete was obeyed */
+    DN_FATE = 3,       /* what became of a packet */
+    DN_CLOCK = 4,      /* where the clock stands */
+    DN_DELIVERIES = 5, /* where the clock stands, and the packets that are due */
+    DN_FLOWS = 6       /* the states of flows */
 };
 
 /* What an audit finds of a history. */
@@ -176,6 +193,31 @@ struct dn_flow {
     uint32_t reserved2;
 };
 
+/* A call of a history, and the reply to it. */
+struct dn_entry {
+    struct dn_packet packet; /* of DN_SUBMIT; of DN_ADVANCE and DN_COLLECT `moment` alone, and else 0 */
+    struct dn_fate fate;     /* under DN_FATE; under DN_CLOCK and DN_DELIVERIES `at` alone, where the clock stands, and else 0 */
+    uint64_t caller;         /* who made the call, from 0 to 15 */
+    uint64_t line;           /* where the line of DN_CONFIGURE begins in the list of lines, in bytes */
+    uint64_t size;           /* how many bytes it has; 0 for other calls */
+    uint64_t first;          /* where the items of its reply begin: under DN_FLOWS in the list of flows, else in that of deliveries */
+    uint64_t count;          /* how many they are; 0 but under DN_DELIVERIES and DN_FLOWS */
+    uint32_t status;         /* under DN_REFUSED DN_EXHAUSTED or a refusal of dn_configure, else DN_OK */
+    uint8_t call;            /* an enum dn_call */
+    uint8_t reply;           /* an enum dn_reply */
+    uint16_t reserved;
+};
+
+/* The rule of a history, and how long the lists are that it is read into. */
+struct dn_history {
+    uint64_t entries;
+    uint64_t bytes; /* of all lines */
+    uint64_t deliveries;
+    uint64_t flows;
+    uint32_t rule; /* an enum dn_rule */
+    uint32_t reserved;
+};
+
 /* What was found of a history. */
 struct dn_verdict {
     uint64_t entries; /* the entries of the history, each a call and its reply */
@@ -235,6 +277,13 @@ uint32_t dn_show(struct dn_handle *handle, struct dn_flow *list, size_t room, ui
    comes, or DN_NEVER. Each dn_collect before it gives nothing. It changes nothing, and counts as no call. */
 uint32_t dn_wake(struct dn_handle *handle, uint64_t *moment);
 
+/* Says in words why a call of either header was answered by the status, as `no such pipe`, or under DN_LINE what is wrong with the line,
+   as `word 5: bad number`. The fault is what the call wrote; it is read under DN_LINE alone, and one at the word 0 is written without its
+   word, as `bad number`. A number that is no status is written as `status 99`, and one that is no kind of a fault as `fault 99`. The call uses
+   no handle and no memory. DN_OK: the first *length bytes of `text`, which has `room` bytes, are the words, with no 0 behind them, and the
+   others are as they were. DN_ROOM: the words have *length bytes, which is more than `room`. */
+uint32_t dn_reason(uint32_t status, const struct dn_fault *fault, uint8_t *text, size_t room, uint64_t *length);
+
 /* The next four write a call and its answer as lines of a history file, which `dummynet audit` checks. They use no handle. DN_OK: the
    first *length bytes of `text`, which has `room` bytes, are these lines, and the others are as they were. DN_ROOM: the lines have
    *length bytes, which is more than `room`. DN_MEMORY: nothing is written. A history has callers 0 to 15, and a handle's is 0. */
@@ -266,6 +315,16 @@ uint32_t dn_collect_text(uint64_t caller, uint64_t moment, uint64_t at, const st
    field, 0 if it hasn't ten; no packet is written. */
 uint32_t dn_read_packets(const uint8_t *text, size_t length, struct dn_packet *packets, size_t room, uint64_t *count, uint64_t *used,
                          uint64_t *row, uint64_t *field);
+
+/* Reads the whole text of a history file, `length` bytes, or of the transcript of a live session, into lists. The call uses no handle, and
+   doesn't ask whether the replies are the emulator's. DN_OK writes *history, and as many first places of each list as it says; the others are
+   as they were. `entries` are the calls in order, and name parts of the other lists: `lines` are the configuration lines in canonical form, one
+   behind the other with nothing between them, and `deliveries` and `flows` are what the replies list. DN_ROOM writes *history: a list has fewer
+   places than it says. DN_BAD_RECORD: *record is the first bad record of the text, from 1, or the number that a missing one would have.
+   DN_MEMORY: nothing is written. The call takes about as much memory as the lists that it writes have. */
+uint32_t dn_read_history(const uint8_t *text, size_t length, struct dn_entry *entries, size_t entry_room, uint8_t *lines, size_t line_room,
+                         struct dn_delivery *deliveries, size_t delivery_room, struct dn_flow *flows, size_t flow_room,
+                         struct dn_history *history, uint64_t *record);
 
 /* The next five audit a history file, or the transcript of a live session, as `dummynet audit` does: they make its calls again, and compare
    each reply with the one in the file. Of a file that is written as the library writes it they keep neither text nor entries. No verdict

@@ -2,6 +2,7 @@ pub mod Answering
 pub mod AuditHandles
 pub mod Audits
 pub mod CallerHandles
+pub mod EntryLists
 pub mod Handles
 pub mod Listing
 pub mod Many

@@ -1,7 +1,7 @@
 -- A line as the command that it is, and what is wrong with it, in C's words.
-use Rattle.std.specs.Prelude.{◌≡◌, ◌≢◌, ℕ, IsUtf8, List, Ok, Err, Some, unwrap_or}
+use Rattle.std.specs.Prelude.{◌≡◌, ◌≢◌, ℕ, IsUtf8, List, Ok, Err, Some}
 use Rattle.dn_config.specs.Line.{answer}
-use Rattle.dn_config.specs.Positions.{position_of}
+use Rattle.dn_config.specs.Faults.{word_of}
 use Rattle.dn_config.specs.declared.fault.LineFault.{LineFault}
 use Rattle.dn_config.specs.declared.fault.LineFault.TheVariants.{UnknownWord, MissingValue, BadNumber, OutOfRange, LeftOut, NeedsPipe, OutOfMemory}
 use Rattle.dn_types.specs.declared.command.Command.{Command}
@@ -26,7 +26,7 @@ kind_of OutOfMemory = 7
 
 -- The fault of a line, and that of a text that is no UTF-8.
 abbrev pub fault_of : LineFault → CFault
-fault_of found = record { word = unwrap_or (position_of found) 0; kind = kind_of found; reserved = 0 }
+fault_of found = record { word = word_of found; kind = kind_of found; reserved = 0 }
 
 abbrev pub no_text : CFault
 no_text = record { word = 0; kind = 0; reserved = 0 }

@@ -1,9 +1,12 @@
 pub mod Audits
 pub mod Clients
+pub mod Entries
+pub mod EntryRecords
 pub mod Faults
 pub mod Handles
 pub mod Lists
 pub mod Many
+pub mod Reasons
 pub mod Room
 pub mod Rows
 pub mod Services

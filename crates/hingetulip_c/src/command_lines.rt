@@ -27,7 +27,7 @@ pub(crate) fn fault_of(found: &LineFault) -> CFault
         LineFault::OutOfMemory => 7,
     };
     CFault {
-        word: found.position().unwrap_or(0) as u64,
+        word: found.word() as u64,
         kind,
         reserved: 0,
     }

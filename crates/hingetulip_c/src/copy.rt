@@ -7,7 +7,7 @@ use crate::records::{CDelivery, CFlow};
 use crate::status::{EXHAUSTED, OK};
 use dn_types::{Delivery, FlowStatus, Reply, Target};
 
-fn delivery_of(delivery: &Delivery) -> CDelivery
+pub(crate) fn delivery_of(delivery: &Delivery) -> CDelivery
     ensures { result ≡ c_delivery delivery.now }
 {
     CDelivery {
@@ -19,7 +19,7 @@ fn delivery_of(delivery: &Delivery) -> CDelivery
     }
 }
 
-fn flow_of(flow: &FlowStatus) -> CFlow
+pub(crate) fn flow_of(flow: &FlowStatus) -> CFlow
     ensures { result ≡ c_flow flow.now }
 {
     let (kind, number) = match flow.key.target {

@@ -5,7 +5,8 @@ ghost use Rattle.dn_history.specs.HistoryText.{entry_records, part_text};
 ghost use Rattle.dn_records.specs.Records.{text_of};
 ghost use Rattle.hingetulip_c.specs.Services.{next_text};
 
-use crate::status::{MEMORY, OK, ROOM};
+use crate::put::put_text;
+use crate::status::MEMORY;
 use dn_history::write_entry;
 use dn_records::RecordWriter;
 use dn_types::Entry;
@@ -59,15 +60,6 @@ pub(crate) fn texts_within(
     Ok(Texts { text, count, size })
 }
 
-/// Puts the line into the first bytes of the text.
-pub(crate) fn put_line(line: &[u8], text: &mut [u8])
-    requires { length line.now ≤ length text.old }
-    ensures line { take (length line.now) text.new ≡ line.now }
-    ensures others { drop (length line.now) text.new ≡ drop (length line.now) text.old }
-{
-    text[..line.len()].copy_from_slice(line);
-}
-
 /// Writes the text of an entry if it has room, and how many bytes it has.
 pub(crate) fn put_entry(alloc: Global, entry: &Entry, text: &mut [u8], size: &mut u64) -> u32
     ensures statuses { (result ≡ 0) ⊎ (result ≡ 6) ⊎ (result ≡ 7) }
@@ -81,10 +73,5 @@ pub(crate) fn put_entry(alloc: Global, entry: &Entry, text: &mut [u8], size: &mu
     let Ok(line) = entry_text(alloc, entry) else {
         return MEMORY;
     };
-    *size = line.len() as u64;
-    if text.len() < line.len() {
-        return ROOM;
-    }
-    put_line(line.as_slice(), text);
-    OK
+    put_text(line.as_slice(), text, size)
 }

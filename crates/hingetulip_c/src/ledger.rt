@@ -8,7 +8,8 @@ ghost use Rattle.hingetulip_c.specs.Clients.{IsOther};
 ghost use Rattle.hingetulip_c.specs.Services.{next_text, service_losing, waiting, NotTaken, TakenOut, Written, WrittenMany};
 
 use crate::copy_part::{first_of, rest_from};
-use crate::history_lines::{entry_text, put_line, texts_within};
+use crate::history_lines::{entry_text, texts_within};
+use crate::put::put_list;
 use crate::status::{BUSY, MEMORY, NO_ENTRY, OK, ROOM, UNWRITTEN};
 use dn_service::{Segment, Taker};
 use dn_types::Entry;
@@ -105,7 +106,7 @@ impl Ledger {
                 if text.len() < line.len() {
                     return ROOM;
                 }
-                put_line(line.as_slice(), text);
+                put_list(line.as_slice(), text);
                 self.written += 1;
                 OK
             }
@@ -141,7 +142,7 @@ impl Ledger {
             *size = made.text.len() as u64;
             return ROOM;
         }
-        put_line(first_of(made.text.as_slice(), made.size), text);
+        put_list(first_of(made.text.as_slice(), made.size), text);
         *size = made.size as u64;
         *count = made.count as u64;
         self.written += made.count;

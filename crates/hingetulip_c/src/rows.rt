@@ -11,7 +11,8 @@ use dn_files::{ReplayFault, Row, rows_below_header};
 use dn_types::Target;
 use std::alloc::Global;
 
-fn packet_of(row: &Row) -> CPacket
+/// A row as C reads it.
+pub(crate) fn packet_of(row: &Row) -> CPacket
     ensures { result ≡ c_packet row.now }
 {
     let (kind, number) = match row.target {

@@ -1,4 +1,5 @@
 //! Why calls are not obeyed.
+use crate::raw;
 use core::fmt;
 
 /// What is wrong with a line.
@@ -45,6 +46,8 @@ pub enum Error {
     TooLong,
     /// A record of a history is none or is missing: its number, from 1.
     Record(u64),
+    /// A row of a packet file isn't of the packet form: its number, from 1, or 0 for the header, and its first bad field, or 0 if it hasn't ten.
+    Row(u64, u64),
     /// The audit has ended by an earlier error.
     Closed,
     /// Memory was refused; the same call may be made again, except that of an audit.
@@ -55,63 +58,56 @@ pub enum Error {
     Status(u32),
 }
 
+/// The errors that say no more than their status.
+const PLAIN: [(u32, Error); 11] = [
+    (1, Error::Exhausted),
+    (2, Error::NoSuchPipe),
+    (3, Error::PipeHasQueues),
+    (4, Error::NoSuchQueue),
+    (5, Error::Closed),
+    (6, Error::Memory),
+    (9, Error::Moment),
+    (12, Error::Number),
+    (13, Error::Length),
+    (16, Error::Count),
+    (23, Error::TooLong),
+];
+
 impl Error {
     pub(crate) fn of(status: u32) -> Self {
-        match status {
-            1 => Self::Exhausted,
-            2 => Self::NoSuchPipe,
-            3 => Self::PipeHasQueues,
-            4 => Self::NoSuchQueue,
-            5 => Self::Closed,
-            6 => Self::Memory,
-            9 => Self::Moment,
-            12 => Self::Number,
-            13 => Self::Length,
-            16 => Self::Count,
-            23 => Self::TooLong,
-            other => Self::Status(other),
-        }
+        PLAIN.iter().find(|it| it.0 == status).map_or(Self::Status(status), |it| it.1)
     }
 
     pub(crate) fn of_line(kind: u32, word: u64) -> Self {
         const KINDS: [FaultKind; 7] = [FaultKind::NotUtf8, FaultKind::UnknownWord, FaultKind::MissingValue, FaultKind::NotANumber,
             FaultKind::OutOfRange, FaultKind::LeftOut, FaultKind::NeedsPipe];
-        KINDS.get(kind as usize).map_or(Self::Status(crate::raw::LINE), |kind| Self::Line(*kind, word))
+        KINDS.get(kind as usize).map_or(Self::Status(raw::LINE), |kind| Self::Line(*kind, word))
     }
+}
+
+/// Writes the library's words for a status, under LINE for a fault.
+fn write_reason(to: &mut fmt::Formatter<'_>, status: u32, word: u64, kind: u32) -> fmt::Result {
+    let (fault, mut text, mut length) = (raw::Fault { word, kind, reserved: 0 }, [0; raw::REASON_ROOM], 0);
+    // SAFETY: the fault is read, and the text, of that length, and its length are written.
+    unsafe { raw::dn_reason(status, &fault, text.as_mut_ptr(), text.len(), &mut length) };
+    to.write_str(core::str::from_utf8(&text[..length as usize]).unwrap_or_default())
 }
 
 impl fmt::Display for FaultKind {
     fn fmt(&self, to: &mut fmt::Formatter<'_>) -> fmt::Result {
-        to.write_str(match self {
-            Self::NotUtf8 => "not UTF-8",
-            Self::UnknownWord => "unknown word",
-            Self::MissingValue => "missing value",
-            Self::NotANumber => "bad number",
-            Self::OutOfRange => "out of range",
-            Self::LeftOut => "left out",
-            Self::NeedsPipe => "needs a pipe",
-        })
+        write_reason(to, raw::LINE, 0, *self as u32)
     }
 }
 
 impl fmt::Display for Error {
     fn fmt(&self, to: &mut fmt::Formatter<'_>) -> fmt::Result {
         match self {
-            Self::Line(kind, 0) => write!(to, "{kind}"),
-            Self::Line(kind, word) => write!(to, "word {word}: {kind}"),
-            Self::NoSuchPipe => to.write_str("no such pipe"),
-            Self::PipeHasQueues => to.write_str("pipe has queues"),
-            Self::NoSuchQueue => to.write_str("no such queue"),
-            Self::Moment => to.write_str("a moment isn't in 0 to 2^62 ns"),
-            Self::Number => to.write_str("the number of a pipe or queue isn't in 1 to 65535"),
-            Self::Length => to.write_str("a length isn't in 1 to 65535 bytes"),
-            Self::Count => to.write_str("the number of callers isn't in 1 to 15"),
-            Self::TooLong => to.write_str("history too long"),
+            Self::Line(kind, word) => write_reason(to, raw::LINE, *word, *kind as u32),
             Self::Record(number) => write!(to, "history record {number}: bad"),
+            Self::Row(row, field) => write!(to, "packet row {row}, field {field}: bad"),
             Self::Closed => to.write_str("the audit has ended"),
-            Self::Memory => to.write_str("out of memory"),
-            Self::Exhausted => to.write_str("the shaper answered 2^62 calls before"),
             Self::Status(status) => write!(to, "status {status}"),
+            plain => PLAIN.iter().filter(|it| it.1 == *plain).try_for_each(|it| write_reason(to, it.0, 0, 0)),
         }
     }
 }

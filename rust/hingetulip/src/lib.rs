@@ -4,6 +4,7 @@
 mod audit;
 mod caller;
 mod delivery;
+mod entry;
 mod error;
 mod fate;
 mod flow;
@@ -19,6 +20,7 @@ mod words;
 pub use audit::{Audit, Verdict, HISTORY_LIMIT};
 pub use caller::Caller;
 pub use delivery::{Deliveries, Delivery};
+pub use entry::{Call, Entry, Reply};
 pub use error::{Error, FaultKind};
 pub use fate::{Fate, Outcome};
 pub use flow::Flow;

@@ -1,6 +1,21 @@
 //! Packets that arrive.
-use crate::raw;
+use crate::shaper::answered;
+use crate::{raw, Error, Result};
 use std::net::Ipv4Addr;
+
+const HEADER: &[u8] = b"moment,target,number,src,dst,proto,sport,dport,len,word";
+const MARK: &[u8] = b"\xef\xbb\xbf"; // a byte order mark, which the program skips too
+
+/// What follows the header of a packet file.
+fn rows_of(text: &[u8]) -> Result<&[u8]> {
+    let text = text.strip_prefix(MARK).unwrap_or(text);
+    let end = text.iter().position(|byte| *byte == b'\n').unwrap_or(text.len());
+    let header = &text[..end];
+    if !text.is_empty() && header.strip_suffix(b"\r").unwrap_or(header) != HEADER {
+        return Err(Error::Row(0, 0));
+    }
+    Ok(text.get(end + 1..).unwrap_or_default())
+}
 
 /// What a packet is sent to, by its number, from 1.
 #[derive(Debug, Clone, Copy, PartialEq, Eq, Hash)]
@@ -63,6 +78,49 @@ impl Packet {
     pub fn new(moment: u64, target: Target, length: u16) -> Self {
         let none = Ipv4Addr::UNSPECIFIED;
         Self { moment, target, src: none, dst: none, proto: 0, sport: 0, dport: 0, length, word: u32::MAX }
+    }
+
+    /// The packets of a packet file, which `dummynet replay` takes, in the order of its rows.
+    ///
+    /// ```
+    /// use hingetulip::{Error, Packet, Target};
+    ///
+    /// let text = b"moment,target,number,src,dst,proto,sport,dport,len,word\n5,pipe,1,10.0.0.1,10.0.0.2,17,3,4,1000,9\n";
+    /// let packets = Packet::read(text)?;
+    /// assert_eq!((packets.len(), packets[0].target, packets[0].length, packets[0].word), (1, Target::Pipe(1), 1000, 9));
+    /// assert_eq!(Packet::read(&text[56..]), Err(Error::Row(0, 0)));
+    /// # Ok::<(), Error>(())
+    /// ```
+    ///
+    /// # Errors
+    /// [`Error::Row`] and [`Error::Memory`].
+    pub fn read(text: &[u8]) -> Result<Vec<Self>> {
+        const PART: usize = 4096; // rows that one call reads at most, if they are plain
+        let (mut rows, mut packets, mut room) = (rows_of(text)?, Vec::new(), vec![raw::Packet::default(); PART]);
+        let (mut count, mut used, mut row, mut field) = (0, 0, 0, 0);
+        while !rows.is_empty() {
+            // SAFETY: the rows and the room are as long as they say, and the other numbers are written at most.
+            let status = unsafe {
+                raw::dn_read_packets(rows.as_ptr(), rows.len(), room.as_mut_ptr(), room.len(), &mut count, &mut used, &mut row, &mut field)
+            };
+            match status {
+                raw::ROOM => room.resize(count as usize, raw::Packet::default()),
+                raw::BAD_ROW => return Err(Error::Row(packets.len() as u64 + row, field)),
+                _ => {
+                    answered(status)?;
+                    packets.extend(room[..count as usize].iter().map(Self::of));
+                    rows = &rows[used as usize..];
+                }
+            }
+        }
+        Ok(packets)
+    }
+
+    pub(crate) fn of(raw: &raw::Packet) -> Self {
+        Self {
+            moment: raw.moment, target: Target::of(raw.kind, raw.number), src: raw.src.into(), dst: raw.dst.into(), proto: raw.proto,
+            sport: raw.sport, dport: raw.dport, length: raw.length, word: raw.word,
+        }
     }
 
     pub(crate) fn raw(&self) -> raw::Packet {

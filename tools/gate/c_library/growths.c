@@ -57,6 +57,24 @@ static void read_rows(void) {
     }
 }
 
+/* Entries of a history, which name items of each list. */
+static void read_entries(void) {
+    static const char TEXT[] = DN_HISTORY_FRONT "c,1,configure,pipe 1 config bw 8Mbit/s delay 20 queue 9\nr,configured\n"
+                                                "c,2,collect,7\nr,delivered,7,2\nd,0,0,1,2\nd,1,0,2,3\nc,2,show\nr,status,1\n"
+                                                "f,0,pipe,1,1,0.0.0.0,0.0.0.0,0,0,0,0.0.0.0,0.0.0.0,0,0,0,1,2,3,4,5,6\nend,3\n";
+    struct dn_entry entries[3];
+    struct dn_delivery deliveries[2];
+    struct dn_flow flow;
+    struct dn_history history;
+    uint8_t lines[64];
+    uint64_t record;
+    memset(entries, 0, sizeof entries), memset(deliveries, 0, sizeof deliveries), memset(&flow, 0, sizeof flow);
+    memset(&history, 0, sizeof history), memset(lines, 0, sizeof lines);
+    ASKED(dn_read_history((const uint8_t *)TEXT, sizeof TEXT - 1, entries, 3, lines, sizeof lines, deliveries, 2, &flow, 1, &history, &record));
+    mix(entries, sizeof entries), mix(lines, sizeof lines), mix(deliveries, sizeof deliveries), mix(&flow, sizeof flow);
+    mix(&history, sizeof history);
+}
+
 static void packets_arrive(struct dn_handle *handle) {
     static struct dn_delivery list[512];
     static struct dn_flow flows[512];
@@ -98,6 +116,7 @@ static void run(void) {
     ASKED(dn_open_with_key(&handle, DN_ORDERED, 1, 2));
     for (size_t i = 0; i < sizeof LINES / sizeof *LINES; i++) ASKED(dn_configure(&handle, (const uint8_t *)LINES[i], strlen(LINES[i]), &fault));
     packets_arrive(&handle);
+    read_entries();
     ASKED(dn_close(&handle));
 }
 

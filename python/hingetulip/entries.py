@@ -1,0 +1,159 @@
+"""The entries of a history: each a call of the emulator, with the reply to it."""
+
+from __future__ import annotations
+
+from ctypes import byref, c_char, c_size_t, c_uint64
+from enum import IntEnum
+from itertools import chain
+from pathlib import Path
+from typing import NamedTuple, Optional, Sequence, Union
+
+from hingetulip.batches import read_fate
+from hingetulip.errors import HingetulipError, HistoryError
+from hingetulip.layout import DELIVERY, ENTRY, FATE, FLOW, HISTORY, PACKET
+from hingetulip.library import BAD_RECORD, CALLS, LIBRARY, ROOM, failure, reason
+from hingetulip.records import Delivery, Fate, FlowStatus, Rule
+from hingetulip.shaper import read_flow
+
+
+class EntryCall(IntEnum):
+    """What a call of a history asked for."""
+
+    CONFIGURE = 0
+    SUBMIT = 1
+    ADVANCE = 2
+    COLLECT = 3
+    SHOW = 4
+
+
+class EntryReply(IntEnum):
+    """What the reply to a call tells.
+
+    REFUSED: a reason alone. CONFIGURED, DELETED: the line was obeyed. FATE: what became of the packet. CLOCK: where the clock stands.
+    DELIVERIES: that and the packets that are due. FLOWS: the states of flows.
+    """
+
+    REFUSED = 0
+    CONFIGURED = 1
+    DELETED = 2
+    FATE = 3
+    CLOCK = 4
+    DELIVERIES = 5
+    FLOWS = 6
+
+
+class Submitted(NamedTuple):
+    """The packet of a submit, by the names of `Shaper.submit`: `shaper.submit(**entry.packet._asdict())` submits it again."""
+
+    moment: int
+    length: int
+    pipe: Optional[int]
+    queue: Optional[int]
+    src: int
+    dst: int
+    proto: int
+    sport: int
+    dport: int
+    word: int
+
+
+class Entry(NamedTuple):
+    """A call by a caller of a history, and the reply. What a call or a reply of its kind doesn't tell is None, and a list empty.
+
+    `moment` is that of a submit, an advance or a collect. `line` is a configuration line in its canonical form. `at` is the moment that
+    counted, or where the clock stands. `refusal` says why a call was refused, as `no such pipe`. Replies of a history that isn't
+    lawful can be of a kind that no call of this kind has.
+    """
+
+    caller: int
+    call: EntryCall
+    reply: EntryReply
+    moment: Optional[int]
+    line: Optional[str]
+    packet: Optional[Submitted]
+    at: Optional[int]
+    fate: Optional[Fate]
+    deliveries: list[Delivery]
+    flows: list[FlowStatus]
+    refusal: Optional[str]
+
+
+class History(NamedTuple):
+    """The entries of a history in order, and the rule by which an audit makes their calls again."""
+
+    rule: Rule
+    entries: list[Entry]
+
+
+CALLS_BY_NUMBER, REPLIES_BY_NUMBER = tuple(EntryCall), tuple(EntryReply)
+TIMED_CALLS = (EntryCall.SUBMIT, EntryCall.ADVANCE, EntryCall.COLLECT)
+TIMED_REPLIES = (EntryReply.FATE, EntryReply.CLOCK, EntryReply.DELIVERIES)
+WIDTHS = (ENTRY.size, 1, DELIVERY.size, FLOW.size)  # of the lists that the library writes
+LINE_ROOM = 256  # bytes, which hardly a line exceeds
+
+
+def submitted(
+    moment: int, src: int, dst: int, word: int, sport: int, dport: int, length: int, number: int, kind: int, proto: int
+) -> Submitted:
+    """A packet from the fields of the library's struct."""
+    pipe, queue = (None, number) if kind else (number, None)
+    return Submitted(moment, length, pipe, queue, src, dst, proto, sport, dport, word)
+
+
+class Lists:
+    """What the library tells of a history's text. HistoryError: a record is none, or is missing."""
+
+    def __init__(self, text: bytes) -> None:
+        rooms = (text.count(b"\nc,"), LINE_ROOM * text.count(b",configure,"), text.count(b"\nd,"), text.count(b"\nf,"))
+        status = self._read(text, rooms)
+        if status == ROOM:  # for records that are written otherwise than the program writes them
+            status = self._read(text, self.sizes)
+        if status == BAD_RECORD:
+            raise HistoryError("", self.record.value)
+        if status:
+            raise failure(status)
+        entries, lines, deliveries, flows = (
+            written.raw[: width * size] for written, width, size in zip(self.lists, WIDTHS, self.sizes)
+        )
+        self.entries, self.lines = entries, lines
+        self.deliveries = [Delivery._make(fields) for fields in DELIVERY.record.iter_unpack(deliveries)]
+        self.flows = [read_flow(*fields) for fields in FLOW.record.iter_unpack(flows)]
+
+    def _read(self, text: bytes, rooms: Sequence[int]) -> int:
+        history, self.record = (c_char * HISTORY.size)(), c_uint64()
+        self.lists = [(c_char * (width * room))() for width, room in zip(WIDTHS, rooms)]
+        written = chain.from_iterable((one, c_size_t(room)) for one, room in zip(self.lists, rooms))
+        status: int = CALLS.dn_read_history(text, c_size_t(len(text)), *written, history, byref(self.record))
+        *self.sizes, self.rule = HISTORY.record.unpack(history)
+        return status
+
+    def entry(self, packet: bytes, fate: bytes, *numbers: int) -> Entry:
+        """An entry from the fields of the library's struct."""
+        caller, line, size, first, count, status, call_number, reply_number = numbers
+        call, reply = CALLS_BY_NUMBER[call_number], REPLIES_BY_NUMBER[reply_number]
+        sent, answer = PACKET.record.unpack(packet), FATE.record.unpack(fate)
+        return Entry(
+            caller,
+            call,
+            reply,
+            sent[0] if call in TIMED_CALLS else None,
+            self.lines[line : line + size].decode() if call is EntryCall.CONFIGURE else None,
+            submitted(*sent) if call is EntryCall.SUBMIT else None,
+            answer[0] if reply in TIMED_REPLIES else None,
+            read_fate(*answer) if reply is EntryReply.FATE else None,
+            self.deliveries[first : first + count] if reply is EntryReply.DELIVERIES else [],
+            self.flows[first : first + count] if reply is EntryReply.FLOWS else [],
+            reason(status) if reply is EntryReply.REFUSED else None,
+        )
+
+
+def read_history(file: Union[str, Path, bytes]) -> History:
+    """The entries of a history, given as its path or as its bytes, or of the transcript of a live session.
+
+    `audit` tells whether the replies are the emulator's. HistoryError: a record is none, or is missing. HingetulipError: the
+    library is of before 2.0.
+    """
+    if not hasattr(CALLS, "dn_read_history"):
+        raise HingetulipError(f"the library {LIBRARY} is of before 2.0 and reads no histories")
+    lists = Lists(file if isinstance(file, bytes) else Path(file).read_bytes())
+    return History(Rule(lists.rule), [lists.entry(*fields) for fields in ENTRY.record.iter_unpack(lists.entries)])

@@ -1,0 +1,52 @@
+"""Packet files, which `dummynet replay` takes, as packets for `submit_many`."""
+
+from __future__ import annotations
+
+from ctypes import byref, c_char, c_char_p, c_size_t, c_uint64, c_void_p, cast
+from pathlib import Path
+from typing import Union
+
+from hingetulip.batches import Packets
+from hingetulip.errors import HingetulipError, RowError
+from hingetulip.layout import PACKET
+from hingetulip.library import BAD_ROW, CALLS, LIBRARY, failure
+
+HEADER = b"moment,target,number,src,dst,proto,sport,dport,len,word"
+MARK = b"\xef\xbb\xbf"  # a byte order mark, which the program skips too
+
+
+def rows_of(text: bytes) -> bytes:
+    """What follows the header. RowError: the first line isn't the header."""
+    header, _, rows = text.removeprefix(MARK).partition(b"\n")
+    if text and header.rstrip(b"\r") != HEADER:
+        raise RowError(0, 0)
+    return rows
+
+
+def address(text: bytes) -> int:
+    return cast(c_char_p(text), c_void_p).value or 0
+
+
+def read_packets(file: Union[str, Path, bytes]) -> Packets:
+    """The packets of a packet file, given as its path or as its bytes, in the order of its rows.
+
+    RowError: a row isn't of the packet form. HingetulipError: the library is of before 1.4.
+    """
+    if not hasattr(CALLS, "dn_read_packets"):
+        raise HingetulipError(f"the library {LIBRARY} is of before 1.4 and reads no packet files")
+    rows = rows_of(file if isinstance(file, bytes) else Path(file).read_bytes())
+    records = bytearray(PACKET.size * (rows.count(b"\n") + rows.count(b"\r") + 1))
+    text, packets = address(rows), (c_char * len(records)).from_buffer(records)
+    count, used, row, field = (c_uint64() for _ in range(4))
+    answers = byref(count), byref(used), byref(row), byref(field)
+    at = done = 0
+    while at < len(rows):
+        room = len(records) // PACKET.size - done
+        rest = c_void_p(text + at), c_size_t(len(rows) - at)
+        status = CALLS.dn_read_packets(*rest, byref(packets, PACKET.size * done), c_size_t(room), *answers)
+        if status == BAD_ROW:
+            raise RowError(done + row.value, field.value)
+        if status:
+            raise failure(status)
+        at, done = at + used.value, done + count.value
+    return Packets.of_records(memoryview(records)[: PACKET.size * done])
