@@ -3,7 +3,7 @@ another link, once, not before it came, and in the order of its flow."""
 
 from __future__ import annotations
 
-from collections import deque
+from collections import Counter, deque
 from dataclasses import dataclass
 
 from hinge.lazy import Integers, Mask, np
@@ -136,14 +136,17 @@ def matched_by_places(passages: Passages, handings_on: Handings) -> tuple[Intege
     return match, np.unique(handings_on.sent_key[~behind])
 
 
-def matched_one_by_one(passages: Passages, handings_on: Handings, match: Integers, keys: Integers) -> tuple[list[int], list[int]]:
+def matched_one_by_one(
+    passages: Passages, handings_on: Handings, match: Integers, keys: Integers
+) -> tuple[list[int], list[int], Integers]:
     """Mends the matches of these keys: what is sent continues the first that was got and isn't continued. The places in
-    `sent` of what continues nothing: what came from nowhere, and what had been sent before."""
+    `sent` of what continues nothing: what came from nowhere, and what had been sent before. And the earliest match that
+    each can have, since of packets that are alike nobody knows which one was sent twice."""
     receipts, packet = np.flatnonzero(np.isin(handings_on.got_key, keys)), np.flatnonzero(np.isin(handings_on.sent_key, keys))
     moments = [(int(passages.handed[handings_on.got[at]]), int(handings_on.got_key[at]), at, True) for at in receipts.tolist()]
     moments += [(int(passages.submitted[handings_on.sent[at]]), int(handings_on.sent_key[at]), at, False) for at in packet.tolist()]
     waiting: dict[int, deque[int]] = {key: deque() for key in keys.tolist()}
-    members: set[int] = set()
+    sent: dict[int, list[int]] = {key: [] for key in keys.tolist()}
     nowhere: list[int] = []
     twice: list[int] = []
     for _, key, at, is_got in sorted(moments):
@@ -151,21 +154,31 @@ def matched_one_by_one(passages: Passages, handings_on: Handings, match: Integer
             waiting[key].append(at)
         elif waiting[key]:
             match[at] = waiting[key].popleft()
-            members.add(key)
+            sent[key].append(at)
         else:
             match[at] = NONE
-            (twice if key in members else nowhere).append(at)
-    return nowhere, twice
+            (twice if sent[key] else nowhere).append(at)
+    earliest = match.copy()
+    for key, copies in Counter(handings_on.sent_key[twice].tolist()).items():
+        earliest[sent[key]] = match[[sent[key][max(0, place - copies)] for place in range(len(sent[key]))]]
+    return nowhere, twice, earliest
 
 
-def out_of_order(passages: Passages, packet: Integers, before: Integers) -> Integers:
-    """Those sent behind a packet of their flow that had come later to the host."""
+def continued(passages: Passages, handings_on: Handings, match: Integers) -> Integers:
+    """The passage that each one continues by a match of what was sent, NONE for the others."""
+    before = np.full(len(passages), NONE)
+    before[handings_on.sent] = np.where(match != NONE, handings_on.got[match] if len(handings_on.got) else NONE, NONE)
+    return before
+
+
+def out_of_order(passages: Passages, packet: Integers, before: Integers, earliest: Integers) -> Integers:
+    """Those sent behind a packet of their flow that had come later to the host, whichever of those alike it was."""
     choice = packet[before[packet] != NONE]
     flow, _ = numbered(passages.start[choice], *passages.flow[:, choice])
     order = in_order_of(flow, passages.submitted[choice])
-    came = passages.handed[before[choice]][order]
+    came, least = (passages.handed[of[choice]][order] for of in (before, earliest))
     base = flow[order] * (int(came.max(initial=0)) + 1)
-    highest = np.maximum.accumulate(base + came) if len(order) else base
+    highest = np.maximum.accumulate(base + least) if len(order) else base
     return np.sort(choice[order][base + came < highest])
 
 
@@ -186,14 +199,13 @@ def match(passages: Passages, end: int, table: dict[int, int]) -> Matched:
     topology, ends = passages.topology, ends_of(passages)
     result = handings(passages, ends)
     matches, keys = matched_by_places(passages, result)
-    nowhere, twice = matched_one_by_one(passages, result, matches, keys)
-    before = np.full(len(passages), NONE)
-    before[result.sent] = np.where(matches != NONE, result.got[matches] if len(result.got) else NONE, NONE)
+    nowhere, twice, earliest_matches = matched_one_by_one(passages, result, matches, keys)
+    before, earliest = (continued(passages, result, each) for each in (matches, earliest_matches))
     is_handed_on = np.isin(np.arange(len(passages)), before)  # once at least
     rest = np.unique(result.got)
     rest = rest[~is_handed_on[rest] & ~ends.may_end[rest]]
     last = max(int(passages.came.max(initial=0)), int(passages.due.max(initial=0)))
-    may_be_there = (passages.due[rest] > last - end) & ~last_sent(passages, before, result.sent, rest)
+    may_be_there = (passages.due[rest] > last - end) & ~last_sent(passages, earliest, result.sent, rest)
     losses = rest[~may_be_there]
     hosts = passages.end[losses]
     told_of = np.array([min(int((hosts == host).sum()), count) for host, count in table.items()], np.int64)
@@ -205,7 +217,7 @@ def match(passages: Passages, end: int, table: dict[int, int]) -> Matched:
     faults = dict(
         zip(
             KINDS,
-            (result.sent[nowhere], again, early, out_of_order(passages, result.sent, before), losses[excess[hosts]]),
+            (result.sent[nowhere], again, early, out_of_order(passages, result.sent, before, earliest), losses[excess[hosts]]),
         )
     )
     hand_over = passages.handed >= 0

@@ -162,6 +162,16 @@ class Paths(unittest.TestCase):
         self.assertEqual(self.told(text)[0], 1)
         self.assertEqual([self.told(text.replace("#,pipe,1", f"#,copies,{pipe}\n#,pipe,1", 1))[0] for pipe in (1, 2, 3)], [1, 1, 0])
 
+    def test_copies_of_packets_that_are_alike_are_in_order(self) -> None:
+        """The router hands on at once what came before: of two that are alike, the first twice, and one between them."""
+        holds = {1: [2_500_000, 2_500_000], 2: [1_500_000], 3: [500_000]}
+        text = Net(lambda number, packet: [(hold, packet) for hold in holds[number]], [Packet(1), Packet(2), Packet(1)]).text
+        self.assertEqual(faults_of(text), {"came twice": 1})
+        self.assertEqual(faults_of(text.replace("#,pipe,1", "#,copies,3\n#,pipe,1", 1)), {})
+        holds[2] = [3_500_000]
+        text = Net(lambda number, packet: [(hold, packet) for hold in holds[number]], [Packet(place) for place in range(3)]).text
+        self.assertEqual(faults_of(text), {"came twice": 1, "out of order": 1})
+
     def test_pipes_of_a_second_pass_are_told_together(self) -> None:
         """Those of r > b, from where the jitter begins."""
         text = Net(good, [Packet(place) for place in range(10)]).text.replace(
