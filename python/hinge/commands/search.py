@@ -7,12 +7,12 @@ import os
 import shlex
 import signal
 import sys
-import tempfile
 from pathlib import Path
 from typing import Optional
 
 from hinge.arguments import bounded
-from hinge.border.terminal import show
+from hinge.border.scratch import scratch
+from hinge.border.terminal import several, show
 from hinge.command import FILES, Fault, parser, say
 from hinge.commands.sweep import seeds
 from hinge.outputs import refuse_inputs, written
@@ -67,7 +67,7 @@ def show_runs(runs: Runs, numbers: "list[int]") -> "list[int]":
     for seed in product:
         ran = runs.of(seed)
         if ran.status:
-            show(f"seed {seed}: status {ran.status}: {ran.last_line()}")
+            show(f"seed {seed}: status {ran.status}: {ran.last_line()}".rstrip(": "))
         if ran.failed:
             failure.append(seed)
     rest = len(numbers) - len(product)
@@ -105,8 +105,8 @@ def tell_least(options: Asked, case: Case, count: int, file: Optional[Path]) -> 
     command = command_of(options, what, case.seed, case.pauses())
     if file is not None:
         with written(file) as place:
-            place.write_text(f"# {command}\n{case.net()}", encoding="utf-8")
-    show(f"{file or command}: seed {case.seed} fails with {case.told()}, found in {count} runs")
+            place.write_text(f"# {command}\n{case.net()}", encoding="utf-8", errors="surrogateescape")
+    show(f"{file or command}: seed {case.seed} fails with {case.told()}, found in {several(count, 'run')}")
 
 
 def search(line: argparse.Namespace, least_file: Optional[Path], folder: Path) -> int:
@@ -140,7 +140,9 @@ def least_file(line: argparse.Namespace) -> Optional[Path]:
 def main() -> None:
     line = command_line()
     file = least_file(line)
-    signal.signal(signal.SIGTERM, lambda number, frame: sys.exit(SIGNALLED + number))
-    with refusals(), tempfile.TemporaryDirectory(prefix="hinge-") as place:
+    for ending in (signal.SIGTERM, signal.SIGHUP):
+        if signal.getsignal(ending) == signal.SIG_DFL:
+            signal.signal(ending, lambda number, frame: sys.exit(SIGNALLED + number))
+    with refusals(), scratch() as place:
         found()  # a kernel, before anything starts
-        sys.exit(search(line, file, line.runs or Path(place)))
+        sys.exit(search(line, file, line.runs or place))

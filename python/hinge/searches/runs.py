@@ -12,6 +12,7 @@ from pathlib import Path
 from typing import Any, Iterator, NamedTuple, Optional, Sequence
 
 from hinge.border.files import read_object
+from hinge.border.scratch import scratch
 from hinge.command import ROWS, Bar, Fault
 from hinge.program import HINGE
 from hinge.searches.case import Case
@@ -66,8 +67,8 @@ class Runner:
         self.asked, self.running, self.is_over = options, set[subprocess.Popen[str]](), False
 
     def run(self, what: "Sequence[str]", seed: int, pauses: Optional[str]) -> Ran:
-        with tempfile.TemporaryDirectory(prefix="hinge-") as place:
-            summary = Path(place) / "summary"
+        with scratch() as place:
+            summary = place / "summary"
             name, *options = words_of(self.asked, what, seed, pauses)
             words = [*HINGE, name, "--json", str(summary), "--quiet", *options]
             status, output = self.ended(words)
@@ -154,14 +155,13 @@ class Runs:
         todo = [seed for seed in seeds if not self.path(seed).exists()]
         bar = Bar("runs", len(todo))
         with ThreadPoolExecutor(at_once) as pool:
-            tasks = [pool.submit(self.make, seed) for seed in todo]
-            try:
-                for task in as_completed(tasks):
+            try:  # around what submits them, as the first run may have begun when a signal comes
+                for task in as_completed([pool.submit(self.make, seed) for seed in todo]):
                     task.result()
                     bar.step()
             except BaseException:
-                pool.shutdown(wait=False, cancel_futures=True)
                 self.runner.end()
+                pool.shutdown(wait=False, cancel_futures=True)
                 raise
             finally:
                 bar.clear()

@@ -80,6 +80,7 @@ class Study:
             raise Fault(f"{template}: {odd} must stand in braces in the configuration and in --set alike", CONFIGURATION)
         names = [*values, SEED]
         runs = [dict(zip(names, run)) for run in itertools.product(*values.values(), map(str, seeds))]
+        packets.stat()  # so that one that isn't there is told before the folder is
         folder.mkdir(parents=True, exist_ok=True)
         with writing(str(folder / "link.config")) as out:
             out.write(text)
@@ -117,7 +118,7 @@ class Study:
         text = PLACE.sub(lambda result: values[result[1]], read_text(self.folder / "link.config"))
         with scratch() as work:
             config, packets, report = (Path(work, name) for name in ("config", "packets", "report"))
-            config.write_text(text, encoding="utf-8")
+            config.write_text(text, encoding="utf-8", errors="surrogateescape")
             with open(packets, "w", encoding="utf-8") as out:
                 out.writelines(reseeded(self.packets, int(values[SEED])))
             copy_addresses(self.packets, packets)
@@ -146,12 +147,11 @@ class Study:
         todo = self.missing()
         bar = Bar("runs", len(todo))
         with ProcessPoolExecutor(processes) as pool:
-            tasks = [pool.submit(self.run, number) for number in todo]
             try:
-                for task in as_completed(tasks):
+                for task in as_completed([pool.submit(self.run, number) for number in todo]):
                     tell_run(task.exception(), bar)
             except BaseException:
-                pool.shutdown(wait=False, cancel_futures=True)
+                pool.shutdown(cancel_futures=True)  # and waits, since the end of the block would take the cancelling back
                 raise
             finally:
                 bar.clear()

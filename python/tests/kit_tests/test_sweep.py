@@ -44,6 +44,11 @@ class Sweep(unittest.TestCase):
         lines = plot_lines(rows, ["bw", "queue", "seed"], "p95_ns", "bw", "all")
         self.assertEqual({value: len(found) for value, found in lines["queue 9"].items()}, {"3Mbit/s": 2, "8Mbit/s": 2})
 
+    def test_packets_that_are_not_there_leave_no_folder(self) -> None:
+        done = run("sweep", "plan", "none", "none.csv", write("none.config", "pipe 1 config\n"))
+        self.assertEqual((done.returncode, done.stderr), (6, "hinge sweep: none.csv: No such file or directory\n"))
+        self.assertFalse((folder() / "none").exists())
+
     def judge_run(self, rows: list[dict[str, str]], packets: os.PathLike[str]) -> None:
         """Run 4 by itself."""
         config = write("run4.config", "pipe 1 config bw 8Mbit/s delay 5 queue 9 plr 0.05\n")

@@ -5,9 +5,11 @@ from __future__ import annotations
 import shlex
 import signal
 import subprocess
+import sys
 import time
 import unittest
 from pathlib import Path
+from tempfile import TemporaryDirectory
 from typing import Any
 
 from hinge.searches.case import KINDS, Case, Part, faults_of, lossless
@@ -36,7 +38,27 @@ def below_of(process: int) -> "list[int]":
     return children + [below for child in children for below in below_of(child)]
 
 
+SIGNALLED = """\
+import os, pathlib, signal, sys, time
+from hinge.searches.runs import Runs
+class Runner:
+    is_over = False
+    def end(self): self.is_over = True
+class Begun(Runs):
+    def make(self, seed):
+        if seed == 1: os.kill(os.getpid(), signal.SIGHUP)
+        while not self.runner.is_over: time.sleep(0.01)
+signal.signal(signal.SIGHUP, lambda number, frame: sys.exit(128 + number))
+Begun(pathlib.Path(sys.argv[1]), Runner()).make_all(list(range(1, 999)), 2)
+"""
+
+
 class OfCases(unittest.TestCase):
+    def test_a_signal_before_all_runs_are_submitted_ends_those_that_began(self) -> None:
+        with TemporaryDirectory() as folder:
+            done = subprocess.run([sys.executable, "-c", SIGNALLED, folder], capture_output=True, timeout=60)
+        self.assertEqual(done.returncode, 128 + signal.SIGHUP, done.stderr)
+
     def test_a_fault_is_left_out_with_its_end(self) -> None:
         lines = ["at 1s kill a", "at 2s cut b 3s", "at 3s kill b", "at 4s restart a", "at 5s restart b", "at 6s a b 5ms"]
         self.assertEqual(
@@ -114,6 +136,21 @@ class OfSearches(Simulated):
         while any(Path(f"/proc/{one}").exists() for one in below) and time.monotonic() < end:
             time.sleep(0.05)  # those that were killed end when they have a processor
         self.assertEqual((left(temporary), [one for one in below if Path(f"/proc/{one}").exists()]), ([], []))
+
+    def test_a_terminal_that_is_closed_leaves_nothing(self) -> None:
+        words = [*HINGE, "search", "run", "--seeds", "1-2", "--", "sh", "-c", "while :; do :; done"]
+        with subprocess.Popen(
+            words, env=environment(TMPDIR=str(self.folder)), stdin=subprocess.DEVNULL, stdout=subprocess.PIPE
+        ) as process:
+            while not (below := below_of(process.pid)):
+                time.sleep(0.05)
+            process.send_signal(signal.SIGHUP)
+            process.communicate()
+        self.assertEqual((process.returncode, left(self.folder)), (128 + signal.SIGHUP, []))
+        end = time.monotonic() + 60
+        while any(Path(f"/proc/{one}").exists() for one in below):
+            self.assertLess(time.monotonic(), end)
+            time.sleep(0.05)
 
     def test_none_that_fails(self) -> None:
         (self.folder / "two.net").write_text("main a true\nhost b\nlink a b 1ms\n")
