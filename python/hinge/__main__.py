@@ -2,18 +2,13 @@
 
 from __future__ import annotations
 
-import importlib
+import _signal  # type: ignore[import]  # which Python has loaded, unlike signal
+import os
 import sys
-from pathlib import Path
-from typing import NoReturn
 
 # as a file, since `python -m hinge` looks for modules in the folder where it is called, before all others
 if not __package__:
-    sys.path[0] = str(Path(__file__).resolve().parents[1])
-
-from hinge import command  # noqa: E402
-from hinge.border import terminal  # noqa: E402
-from hinge.version import version  # noqa: E402
+    sys.path[0] = os.path.dirname(os.path.dirname(os.path.realpath(__file__)))
 
 COMMANDS = {
     "try": "a first look, by Python alone: a download over a link, as a picture of text",
@@ -51,10 +46,11 @@ def list_of_commands() -> str:
     )
 
 
-def refuse(words: list[str], program: str = "hinge") -> NoReturn:
+def refuse(words: list[str], program: str = "hinge") -> None:
     """Ends the kit because the first word is no command of it or of dummynet, with what to type."""
-    import difflib  # which a wrong word alone needs, as the next
+    import difflib  # which a wrong word alone needs
 
+    from hinge.border import terminal
     from hinge.elsewhere import answer_of
 
     answer, near = answer_of(words), difflib.get_close_matches(words[0], COMMANDS, 1)
@@ -69,16 +65,19 @@ def refuse(words: list[str], program: str = "hinge") -> NoReturn:
 
 
 def run_module(word: str) -> None:
-    """Runs a command over the words behind it. Fault: numpy is missing."""
-    try:
-        importlib.import_module(f"hinge.commands.{word.replace('-', '_')}").main()
-    except ModuleNotFoundError as missing:
-        if missing.name != "numpy":
-            raise
-        raise command.Fault(command.lacking("numpy", "python3-numpy"), command.MISSING) from None
+    """Runs a command over the words behind it."""
+    import importlib
+
+    importlib.import_module(f"hinge.commands.{word.replace('-', '_')}").main()
 
 
 def main() -> None:
+    if _signal.getsignal(_signal.SIGINT) is _signal.default_int_handler:
+        _signal.signal(_signal.SIGINT, _signal.SIG_DFL)  # ends it without a word, until `command.run` has its own
+    from hinge import command
+    from hinge.border import terminal
+    from hinge.version import version
+
     command.open_closed_streams()
     words = sys.argv[1:]
     if words[:1] == ["help"] and len(words) > 1:

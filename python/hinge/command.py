@@ -7,6 +7,7 @@ import errno
 import importlib
 import os
 import shutil
+import signal
 import sys
 import textwrap
 import threading
@@ -20,16 +21,29 @@ from hinge.border.terminal import printable, silence, tell, tell_over
 USAGE, CONFIGURATION, ROWS, FILES, MISSING = 2, 3, 4, 6, 7
 STATUSES = "0 done, 2 command line, 3 configuration, 4 packet file, report or capture, 6 files, 7 a package is missing"
 WIDTH = 80  # columns of a help
-# of a write, whose file has no name where it is standard output
-WRITING = (errno.ENOSPC, errno.EIO, errno.EBADF, errno.EFBIG, errno.EDQUOT)
+FULL = (errno.ENOSPC, errno.EFBIG, errno.EDQUOT)  # of a write alone
+WRITING = (*FULL, errno.EIO, errno.EBADF)  # of a write, whose file has no name where it is standard output
 PROGRESS_AFTER = 2  # seconds
-LONGEST = 4000  # letters of a line
+LONGEST, MOST_TOLD = 4000, 200  # letters of a line, and of an exception
+NEAR, OUTPUT = 0.82, ("--out", "--output")  # of what was typed, and of what is meant
 NAME = ["hinge"]  # as the user typed it, with the command
 CLOSED = list[int]()  # the standard streams that were closed at first
 
 
 class Told(Exception):
     """One whose text is a line for the user."""
+
+
+class Parser(argparse.ArgumentParser):
+    """A command line that names the option which an unknown one may mean."""
+
+    def error(self, message: str) -> NoReturn:
+        import difflib  # which takes longer to load than a help may
+
+        option = message.partition("unrecognized arguments: ")[2].partition(" ")[0].partition("=")[0]
+        names = [name for name, action in self._option_string_actions.items() if action.help is not argparse.SUPPRESS]
+        near = ["-o"] if option in OUTPUT and "-o" in names else difflib.get_close_matches(option, names, 1, NEAR)
+        super().error(message + (f"; did you mean {near[0]}?" if near and option.startswith("--") else ""))
 
 
 class Fault(Told):
@@ -53,7 +67,7 @@ def parser(
 ) -> argparse.ArgumentParser:
     """A command line whose help says what the command does and what it takes, and ends in an example and the exit statuses.
     `words` are of a file, in lines of their own."""
-    return argparse.ArgumentParser(
+    return Parser(
         prog=NAME[0],
         usage=usage,
         description=filled(what),
@@ -81,6 +95,8 @@ def say(line: str) -> None:
 
 def run(main: Callable[[], object]) -> NoReturn:
     """Runs a command. A fault is one line on standard error; a reader that went away is none."""
+    if signal.getsignal(signal.SIGINT) == signal.SIG_DFL:
+        signal.signal(signal.SIGINT, signal.default_int_handler)
     try:
         main()
         sys.stdout.flush()
@@ -106,17 +122,18 @@ def path_of_program(name: str, package: str) -> str:
     return path
 
 
-def lacking(name: str, package: str) -> str:
-    """What is told where a module of Python isn't there: how to get it from pip and from Debian, by its own name."""
-    return f"needs Python's {name}: pip install {name}, or apt-get install {package}"
-
-
 def module(name: str, package: str) -> ModuleType:
-    """A Python module that pip or a Debian package brings. Fault: it isn't installed."""
+    """A Python module that pip or a Debian package brings. Fault: it isn't installed, or can't be loaded."""
     try:
         return importlib.import_module(name)
-    except ImportError:
-        raise Fault(lacking(name.partition(".")[0], package), MISSING) from None
+    except ImportError as fault:
+        name = name.partition(".")[0]
+        why = "" if fault.name == name else f"; this one fails: {' '.join(str(fault).split())[:MOST_TOLD]}"
+        raise Fault(f"needs Python's {name}: pip install {name}, or apt-get install {package}{why}", MISSING) from None
+
+
+def numpy() -> ModuleType:
+    return module("numpy", "python3-numpy")
 
 
 @contextmanager

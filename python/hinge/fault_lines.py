@@ -11,7 +11,7 @@ from __future__ import annotations
 import re
 from dataclasses import dataclass
 from pathlib import Path
-from typing import Tuple, Union
+from typing import Iterable, Tuple, Union
 
 from hinge.border.files import read_text
 
@@ -55,10 +55,18 @@ class Faults(Tuple[Fault, ...]):
         return "".join(f"{fault}\n" for fault in self)
 
 
+def faults_in(path: Union[str, Path], lines: Iterable[str]) -> Faults:
+    """The faults of a file's lines, in which comments begin with `#`. ValueError: a line is none."""
+    faults = list[Fault]()
+    for number, line in enumerate(lines, 1):
+        text = line.partition("#")[0].strip()
+        try:
+            faults += [read_fault(text)] if text else []
+        except ValueError as error:
+            raise ValueError(f"{path} line {number}: {error}") from None
+    return Faults(*faults)
+
+
 def read_faults(path: Union[str, Path]) -> Faults:
-    """The faults of a file, whose comments begin with `#`. ValueError: a line is none."""
-    lines = [line.partition("#")[0].strip() for line in read_text(path).splitlines()]
-    try:
-        return Faults(*filter(None, lines))
-    except ValueError as error:
-        raise ValueError(f"{path}: {error}") from None
+    """The faults of a file. ValueError: a line is none."""
+    return faults_in(path, read_text(path).splitlines())

@@ -7,18 +7,20 @@ import importlib
 from types import ModuleType
 from typing import TYPE_CHECKING, Any
 
+from hinge.command import Fault, numpy
+
 
 class Lazy(ModuleType):
-    """A module that isn't loaded yet, and the one that stands for it where it isn't there, if there is one."""
+    """numpy, which isn't loaded yet, and the module that stands for it where it can't be, if there is one."""
 
-    def __init__(self, name: str, other: str = "") -> None:
-        super().__init__(name)
+    def __init__(self, other: str = "") -> None:
+        super().__init__("numpy")
         self.other = other
 
     def __getattr__(self, name: str) -> Any:
         try:
-            module = importlib.import_module(self.__name__)
-        except ModuleNotFoundError:
+            module = numpy()
+        except Fault:
             if not self.other:
                 raise
             module = importlib.import_module(self.other)
@@ -38,7 +40,7 @@ if TYPE_CHECKING:
     Octets = NDArray[np.uint8]  # of a file
     Words = NDArray[np.uint64]  # of eight octets
 else:
-    np, few = Lazy("numpy"), Lazy("numpy", "hinge.plain")
+    np, few = Lazy(), Lazy("hinge.plain")
     Integers = Reals = Mask = Octets = Words = Any
 
 __all__ = ["Integers", "Mask", "Octets", "Reals", "Words", "few", "np"]

@@ -12,7 +12,7 @@ from typing import Iterable, Iterator, Mapping, Optional, TextIO, Union
 
 from hinge.border.scratch import held
 from hinge.border.terminal import standard_output
-from hinge.command import WRITING, Fault
+from hinge.command import FULL, WRITING, Fault
 
 COMMAND_LINE = 2
 Name = Union[str, Path, None]
@@ -98,8 +98,8 @@ def written(name: Union[str, Path]) -> Iterator[Path]:
         else:
             give_name(place, path, beside)
     except OSError as error:
-        if error.filename is None and error.errno in WRITING:
-            error.filename = str(name)  # else nobody knows what couldn't be written
+        if error.errno in FULL or (error.filename is None and error.errno in WRITING):
+            error.filename = str(name)  # and not the file of which it is a copy
         raise
     finally:
         if nameless is None:
@@ -152,7 +152,7 @@ def writing(name: Optional[str]) -> Iterator[TextIO]:
     if name is None or name == "-":
         yield standard_output()
         return
-    with written(name) as path, open(path, "w", encoding="utf-8", newline="\n") as file:
+    with written(name) as path, open(path, "w", encoding="utf-8", errors="surrogateescape", newline="\n") as file:
         yield file
 
 

@@ -108,8 +108,10 @@ def option_word(kind: str, before: str, text: str, more: Sequence[str] = ()) -> 
         return Advice("keywords are lower case", f"write {text.lower()}", text.lower())
     if text in UNKNOWN_ELSEWHERE:
         return Advice("dummynet has no such option", "leave it and its value out")
-    name = OTHER_NAMES.get(text.lower()) or next(iter(difflib.get_close_matches(text, options, 1)), None)
-    if name in options and before not in (*FIELD_BITS, "all"):
+    names = [*options, *more]
+    name = OTHER_NAMES.get(text.lower()) or next(iter(difflib.get_close_matches(text, names, 1)), None)
+    name = "loss" if name == "plr" and "loss" in more else name
+    if name in names and before not in (*FIELD_BITS, "all"):
         return Advice("no option", f"write {name}", name)
     return Advice("no option", takes)
 

@@ -194,8 +194,9 @@ class Words:
         """A percentage as the part of one that `plr` takes."""
         share = PERCENT.fullmatch(text)
         if not share:
-            is_number = re.fullmatch(r"\d*\.?\d+", text, re.ASCII)
-            right = f"write loss {text}%, or plr {text} for a part of one" if is_number else "write it as loss 1%"
+            right = "write it as loss 1%"
+            if re.fullmatch(r"\d*\.?\d+", text, re.ASCII):
+                right = f"write loss {text}%" + f", or plr {text} for a part of one" * (float(text) <= 1)
             raise WordError(f"loss {text}", Advice("a loss is a percentage here", right))
         part = Fraction(share[1]) / 100
         if part > 1:
@@ -224,7 +225,8 @@ class Words:
         if word.isdigit():
             return WordError(*number_alone(word, self.rest[0] if self.rest else ""))
         is_value = word[:1].isdigit() or re.match(r"[-.]\d", word)
-        return WordError(word, unknown(word) if is_value else option_word(self.kind, self.before, word, tuple(MISSING)))
+        more = ["loss"] if self.place is Place.DUMMYNET else [*MISSING]
+        return WordError(word, unknown(word) if is_value else option_word(self.kind, self.before, word, more))
 
 
 def read_words(text: str, place: Place, kind: str = "pipe") -> Link:

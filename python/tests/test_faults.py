@@ -100,7 +100,7 @@ class Lines(unittest.TestCase):
             path.write_text(f"# of a test\n\n{Faults(*lines)}  a > b packet 4 lost  # one more\n")
             faults = read_faults(path)
             path.write_text("a > b packet 3 late\n")
-            with self.assertRaisesRegex(ValueError, "link.faults: 'a > b packet 3 late': no fault; write "):
+            with self.assertRaisesRegex(ValueError, "link.faults line 1: 'a > b packet 3 late': no fault; write "):
                 read_faults(path)
         self.assertEqual(faults, (*Faults(*lines), Fault("a > b", 4, "lost")))
         self.assertEqual(eval(repr(faults)), faults)

@@ -14,11 +14,10 @@ from typing import Any, BinaryIO, Iterator, NamedTuple, Union, cast
 
 from hinge.border.scratch import unnamed
 from hinge.border.terminal import note_defect
-from hinge.command import CLOSED, FILES, ROWS, Fault, Told
+from hinge.command import CLOSED, FILES, MOST_TOLD, ROWS, Fault, Told
 
 Name = Union[str, Path]
 GZIP = b"\x1f\x8b"  # the front of a compressed file
-MOST_TOLD = 200  # letters of an exception
 MOST_TEXT, MOST_OBJECT = 1 << 28, 1 << 26  # bytes of a text of lines, and of JSON, which takes some 20 times its length
 TOO_DEEP, TOO_LARGE = "its parts are too deep in one another", "it takes more memory than there is"
 

@@ -1,5 +1,5 @@
 """Files and folders that a process has for a while. Nothing is left of a file, since it has no name. A folder goes with SIGTERM
-too; where its process was killed, the next one that makes such a folder removes it."""
+and SIGHUP too; where its process was killed, the next one that makes such a folder removes it."""
 
 from __future__ import annotations
 
@@ -24,7 +24,7 @@ def held(path: Union[str, Path]) -> int:
 
 
 class Ended(BaseException):
-    """SIGTERM came."""
+    """A signal came that ends this process."""
 
 
 @contextmanager
@@ -75,26 +75,36 @@ def remove_unlocked(path: str) -> None:
 
 
 def end(number: int, frame: Optional[FrameType]) -> NoReturn:
-    raise Ended
+    raise Ended(number)
+
+
+@contextmanager
+def clean_end() -> Iterator[None]:
+    """Within it SIGTERM and SIGHUP are exceptions, behind which they end this process as ever."""
+    is_main = threading.current_thread() is threading.main_thread()
+    taken = [one for one in (signal.SIGTERM, signal.SIGHUP) if is_main and signal.getsignal(one) == signal.SIG_DFL]
+    came = 0
+    for number in taken:
+        signal.signal(number, end)
+    try:
+        yield
+    except Ended as ended:
+        if not taken:
+            raise
+        came = ended.args[0]
+    finally:
+        for number in taken:
+            signal.signal(number, signal.SIG_DFL)
+    if came:
+        os.kill(os.getpid(), came)
 
 
 @contextmanager
 def scratch(within: Union[str, Path, None] = None, prefix: str = PREFIX) -> Iterator[Path]:
-    """A folder for a while. SIGTERM ends this process as ever, once the folder is gone."""
-    takes = threading.current_thread() is threading.main_thread() and signal.getsignal(signal.SIGTERM) == signal.SIG_DFL
-    if takes:
-        signal.signal(signal.SIGTERM, end)
-    try:
+    """A folder for a while, of which a signal leaves nothing."""
+    with clean_end():
         folder = Folder(within, prefix)
         try:
             yield folder.path
         finally:
             folder.remove()
-    except Ended:
-        if not takes:
-            raise
-        signal.signal(signal.SIGTERM, signal.SIG_DFL)
-        os.kill(os.getpid(), signal.SIGTERM)
-    finally:
-        if takes:
-            signal.signal(signal.SIGTERM, signal.SIG_DFL)

@@ -20,6 +20,11 @@ def lines(text: str) -> str:
     return text if text.isprintable() else "\n".join(map(printable, text.split("\n")))
 
 
+def several(count: int, name: str) -> str:
+    """As 1 fault, and 2 faults."""
+    return f"{count:,} {name}{'s' * (count != 1)}"
+
+
 def blocks() -> str:
     """Eight letters of growing height, or darkness where standard output has no others than ASCII."""
     try:

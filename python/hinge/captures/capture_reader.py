@@ -25,7 +25,7 @@ def as_pcapng(capture: Input, files: ExitStack) -> IO[bytes]:
     product, path = files.enter_context(unnamed())
     process = subprocess.run([editcap, "-F", "pcapng", capture.path, path], capture_output=True, text=True)
     if process.returncode != 0:
-        raise Fault(f"{capture.name}: {' '.join(process.stderr.split())[:300]}", ROWS)
+        raise Fault(f"{capture.name}: neither pcap nor pcapng; {' '.join(process.stderr.split())[:300]}", ROWS)
     return product
 
 
@@ -48,12 +48,14 @@ def unpack(name: str, archive: BinaryIO, plain: IO[bytes]) -> bool:
 
 
 def plain_capture(capture: Input, files: ExitStack) -> tuple[IO[bytes], bool]:
-    """A capture of any form, and whether the archive is whole where it is one."""
+    """A capture of any form, and whether the archive is whole where it is one. Fault: the file is empty."""
     file: IO[bytes] = files.enter_context(opened(capture.path))
     front, is_whole = front_of(file), True
     if front[:2] == GZIP:
         archive, (file, _) = file, files.enter_context(unnamed())
         is_whole = unpack(capture.name, cast(BinaryIO, archive), file)
         front = front_of(file)
+    if not front and is_whole:
+        raise Fault(f"{capture.name}: an empty file, and no capture", ROWS)
     is_known = front.hex() in FRONTS or not is_whole and len(front) < FRONT
     return (file if is_known else as_pcapng(capture, files)), is_whole

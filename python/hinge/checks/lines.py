@@ -2,6 +2,7 @@
 
 from __future__ import annotations
 
+import os
 import re
 import subprocess
 from collections import Counter
@@ -64,7 +65,7 @@ class Placed(NamedTuple):
 def corrected(line: str) -> Optional[str]:
     """The line with each wrong word exchanged for the one that its fault says to write, if the program takes it then."""
     for _ in range(MOST_CORRECTIONS):
-        verdict = next(judged_lines([line.encode()]), None)
+        verdict = next(judged_lines([os.fsencode(line)]), None)
         if verdict is None or verdict.name != "bad":
             return line
         other = replaced(line, verdict.text)
@@ -78,7 +79,7 @@ def refuse_wrong(lines: Sequence[Placed]) -> None:
     """Fault: a line is no command; it says what to write. Without the program the host refuses such a line later."""
     texts = list(dict.fromkeys(line.text for line in lines))  # long files say the same again and again
     try:
-        report = session_of(text.encode("utf-8", "surrogateescape") for text in texts) if texts else b""
+        report = session_of(map(os.fsencode, texts)) if texts else b""
     except Fault:
         return
     if b"\n#,bad," in report and (wrong := BAD.search(report)):

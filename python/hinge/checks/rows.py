@@ -3,25 +3,24 @@ takes."""
 
 from __future__ import annotations
 
-import csv
 import io
 import re
 import subprocess
-import sys
 from collections import Counter
 from dataclasses import dataclass, field
 from fractions import Fraction
-from typing import Iterator, NamedTuple, Optional
+from itertools import chain, islice
+from typing import Iterator, Optional
 
 from hinge.arguments import is_number
 from hinge.checks.findings import MOST_FAULTS, Findings
 from hinge.command import ROWS
 from hinge.configurations.configured import InForce, Setting
 from hinge.program import dummynet
-
-csv.field_size_limit(sys.maxsize)  # a field may be as long as its file
+from hinge.replays.record_lines import BYTE_ORDER_MARK, Row, rows_of
 
 HEADER = ["moment", "target", "number", "src", "dst", "proto", "sport", "dport", "len", "word"]
+HEAD = ",".join(HEADER).encode()
 ADDRESS = "four numbers 0 to 255, as 10.0.0.1"
 PORT = "0 to 65535"
 LIMITS = ("0 to 4611686018427387904", "pipe or queue", "1 to 65535", ADDRESS, ADDRESS, "0 to 255", PORT, PORT, "1 to 65535")
@@ -33,33 +32,6 @@ LONGEST_FRAME = 9216  # bytes of a packet that a card sends in one
 FAR = 10**14  # ns at which a first packet is hardly sent
 NS_PER_DAY = 86_400 * 10**9
 STRETCH = 10_000  # rows that are judged at once behind a bad one
-
-
-class Row(NamedTuple):
-    """A record of a file as the program counts them: the line where it begins, and its text."""
-
-    line: int
-    text: bytes
-
-    def fields(self) -> list[str]:
-        return next(csv.reader([self.text.decode("utf-8", "replace")]), [])
-
-
-def records(data: bytes, line: int) -> Iterator[Row]:
-    """The records of a text that begins in this line; a field in quotes may go over several."""
-    data = data.removeprefix(b"\xef\xbb\xbf") if line == 1 else data
-    lines = io.StringIO(data.decode("latin-1"), newline="").readlines()
-    texts: list[str] = []
-    is_open = False
-    for number, text in enumerate(lines, line):
-        texts.append(text)
-        is_open ^= text.count('"') % 2 == 1
-        if not is_open:
-            if whole := "".join(texts).rstrip("\r\n"):
-                yield Row(number - len(texts) + 1, whole.encode("latin-1"))
-            texts = []
-    if texts:
-        yield Row(line + len(lines) - len(texts), "".join(texts).encode("latin-1"))
 
 
 def of_moment(text: str) -> Optional[str]:
@@ -120,29 +92,23 @@ def separator(text: str) -> Optional[str]:
 
 def wrong(record: Row, field_number: int) -> str:
     """What is wrong with a row, by the field that the program names; 0 is the whole row."""
-    texts = record.fields()
     if field_number:
-        name, text = HEADER[field_number - 1], texts[field_number - 1]
+        name, text = HEADER[field_number - 1], record.fields[field_number - 1]
         return f"field {field_number} ({name}) {text!r}: {field_advice(name, text)}"
-    other = separator(record.text.decode("utf-8", "replace"))
-    return f"{len(texts)} fields in place of {len(HEADER)}; write " + (f"commas for {other!r}" if other else ",".join(HEADER))
+    other = separator(record.text)
+    what = f"commas for {other!r}" if other else ",".join(HEADER)
+    return f"{len(record.fields)} fields in place of {len(HEADER)}; write {what}"
 
 
 def wrong_header(text: str) -> str:
-    other = separator(text)
-    what = (
-        f"fields are parted by commas, not by {other!r}"
-        if other
-        else "no header"
-        if text[:1].isdigit()
-        else f"another header, {text[:60]!r}"
-    )
+    what = "no header" if text[:1].isdigit() else f"another header, {text[:60]!r}"
+    if other := separator(text):
+        what = f"fields are parted by commas, not by {other!r}"
     return f"{what}; write {','.join(HEADER)}"
 
 
-def verdict(rows: list[Row]) -> tuple[int, str]:
-    """The program's status for these rows below a header, and its fault."""
-    text = b"\n".join([",".join(HEADER).encode(), *(row.text for row in rows)])
+def verdict(text: bytes) -> tuple[int, str]:
+    """The program's status for a packet file, and its fault."""
     process = subprocess.run(
         [dummynet(), "replay", "/dev/null", "/dev/stdin"], input=text, stdout=subprocess.DEVNULL, stderr=subprocess.PIPE
     )
@@ -163,16 +129,15 @@ class Sums:
     first_line: dict[str, int] = field(default_factory=dict)
 
     def add(self, row: Row) -> None:
-        fields = row.text.decode().split(",") if b'"' not in row.text else row.fields()
-        moment, target = int(fields[0]), f"{fields[1]} {fields[2]}"
+        moment, target = int(row.fields[0]), f"{row.fields[1]} {row.fields[2]}"
         if moment < self.clock:
             self.late.append(row.line)
         self.clock, self.first_moment = max(self.clock, moment), min(self.first_moment, moment)
-        self.count, self.longest = self.count + 1, max(self.longest, int(fields[8]))
+        self.count, self.longest = self.count + 1, max(self.longest, int(row.fields[8]))
         self.targets[target] += 1
         self.first_line.setdefault(target, row.line)
         if len(self.words) < 2:
-            self.words.add(fields[9])
+            self.words.add(row.fields[9])
 
 
 @dataclass
@@ -187,40 +152,52 @@ class RowCheck:
     line: int = 1
 
     def check(self) -> None:
-        items = list(records(self.data, self.line))
-        if not items:
+        self.data = self.data.removeprefix(BYTE_ORDER_MARK if self.line == 1 else b"")
+        header = next(self.rows(0), None)
+        if header is None:
             self.found.warn(self.name, "it has no rows")
-            return
-        header, *rows = items
-        if header.fields() != HEADER:
-            self.found.fault(f"{self.name}:{header.line}", wrong_header(header.text.decode("utf-8", "replace")), ROWS)
-            if separator(header.text.decode("utf-8", "replace")) is None:
-                self.judge(rows if header.text[:1].isalpha() else [header, *rows])
-        elif self.judge(rows):
-            self.warn(rows)
+        elif header.fields != HEADER:
+            self.found.fault(f"{self.name}:{header.line}", wrong_header(header.text.rstrip("\r\n")), ROWS)
+            if separator(header.text) is None:
+                self.put_header(header)
+                self.judge()
+        elif self.judge():
+            self.warn()
 
-    def judge(self, rows: list[Row]) -> bool:
+    def put_header(self, other: Row) -> None:
+        """Puts a header in place of another one, and above what is a row."""
+        lines = other.text.encode().splitlines()
+        count = 1 + (other.line - self.line + len(lines)) * lines[0][:1].isalpha()
+        rest = re.split(rb"\r\n?|\n", b"\n" + self.data, count)[count:]
+        self.data, self.line = b"\n".join([HEAD, *rest]), self.line + count - 2
+
+    def rows(self, begin: int = 1) -> Iterator[Row]:
+        return islice(rows_of(io.BytesIO(self.data), self.line, "utf-8"), begin, None)
+
+    def judge(self) -> bool:
         """Whether the program takes all rows; those that it doesn't take are told."""
-        begin, reports, step = 0, 0, len(rows)
-        while begin < len(rows) and reports < MOST_FAULTS:
-            status, fault = verdict(rows[begin : begin + step])
-            if status == 0:
-                begin += step
-                continue
-            place = re.fullmatch(r"packet row (\d+), field (\d+): bad", fault)
-            if not place:
+        text, rows, stretch, reports = self.data, self.rows(), list[Row](), 0
+        while reports < MOST_FAULTS:
+            status, fault = verdict(text)
+            if place := re.fullmatch(r"packet row (\d+), field (\d+): bad", fault):
+                rows = chain(stretch, rows)
+                bad = next(islice(rows, int(place[1]) - 1, None))
+                self.found.fault(f"{self.name}:{bad.line}", wrong(bad, int(place[2])), ROWS)
+                reports += 1
+            elif status:
                 more = "; `dummynet replay --most-packets BYTES` replays longer ones" if "too long" in fault else ""
                 self.found.fault(self.name, fault + more, status)
                 return False
-            begin, reports, step = begin + int(place[1]), reports + 1, STRETCH
-            self.found.fault(f"{self.name}:{rows[begin - 1].line}", wrong(rows[begin - 1], int(place[2])), ROWS)
-        if begin < len(rows):
-            self.found.warn(self.name, f"{MOST_FAULTS} faults; the rows behind them weren't looked at")
-        return reports == 0
+            stretch = list(islice(rows, STRETCH)) if reports else []
+            if not stretch:
+                return not reports
+            text = b"\n".join([HEAD, "".join(row.text for row in stretch).encode()])
+        self.found.warn(self.name, f"{MOST_FAULTS} faults; the rows behind them weren't looked at")
+        return False
 
-    def warn(self, rows: list[Row]) -> None:
+    def warn(self) -> None:
         sums = Sums()
-        for row in rows:
+        for row in self.rows():
             sums.add(row)
         if not sums.count:
             self.found.warn(self.name, "it has no rows")

@@ -6,13 +6,13 @@ import sys
 from typing import Optional
 
 from hinge.border.files import read_bytes
-from hinge.border.terminal import tell
+from hinge.border.terminal import several, tell
 from hinge.checks.findings import Findings
 from hinge.checks.histories import check_history
 from hinge.checks.lines import LineCheck
 from hinge.checks.rows import RowCheck
 from hinge.checks.waits import told_wait
-from hinge.command import ROWS, parser
+from hinge.command import CONFIGURATION, ROWS, parser
 
 WHAT = """\
 Says what is wrong with configuration lines, packet files and histories, and what to write: the file, the line, the word
@@ -20,6 +20,8 @@ or field as it stands there, and what would be right. The program dummynet is th
 most. Packet files are also held against the configuration that is named with them. Of a pipe without queues it also
 tells how long a packet waits at most. The exit status is that of the first fault, 1 for a history that isn't lawful."""
 CAPTURES = (b"\xd4\xc3\xb2\xa1", b"\xa1\xb2\xc3\xd4", b"\x4d\x3c\xb2\xa1", b"\xa1\xb2\x3c\x4d", b"\x0a\x0d\x0d\x0a")
+NET = (b"host", b"main", b"router", b"link", b"switch")  # first words of a net
+LINES = (b"pipe", b"queue", b"ipfw", b"--", b"moment")  # and of what dummynet reads
 ROW_MARKS = 8  # commas, semicolons or tabs that a header has at least
 
 
@@ -32,9 +34,19 @@ def kind_of(path: str, data: bytes) -> str:
         return "history"
     if head.startswith(b"event,row,flow"):
         return "report"
+    if (word := first_word(data)) in NET:
+        return "net"
+    if word not in (b"", *LINES) and b"\0" in data[:4096]:
+        return "other"
     if head.startswith(b"moment") or path.endswith(".csv") or sum(head.count(mark) for mark in (b",", b";", b"\t")) >= ROW_MARKS:
         return "packets"
     return "config"
+
+
+def first_word(data: bytes) -> bytes:
+    """That of the first line that is no comment."""
+    lines = (line.split(None, 1) for line in data[:4096].split(b"\n"))
+    return next((words[0] for words in lines if words and not words[0].startswith(b"#")), b"")
 
 
 class Check:
@@ -51,6 +63,10 @@ class Check:
             self.found.fault(path, f"a capture, not a packet file; `hinge packets {path} -o packets.csv` writes one", ROWS)
         elif kind == "report":
             self.found.fault(path, "a report of a replay, not a packet file", ROWS)
+        elif kind == "other":
+            self.found.fault(path, "neither a configuration nor a packet file nor a history, as it is no text", ROWS)
+        elif kind == "net":
+            self.found.fault(path, f"a net, not a configuration; `hinge net {path} --dry-run` checks it", CONFIGURATION)
         elif kind == "history":
             check_history(path, path, data, self.found)
         elif kind == "packets":
@@ -89,6 +105,7 @@ def main() -> None:
     check.finish()
     check.tell_waits()
     findings = check.found
-    tell(f"{findings.faults} faults, {findings.warnings} warnings" if findings.faults or findings.warnings else "nothing to say")
+    counts = f"{several(findings.faults, 'fault')}, {several(findings.warnings, 'warning')}"
+    tell(counts if findings.faults or findings.warnings else "nothing to say")
     sys.stdout.flush()
     sys.exit(findings.status)

@@ -2,7 +2,6 @@
 
 from __future__ import annotations
 
-import importlib.util
 import os
 import shutil
 import subprocess
@@ -11,7 +10,7 @@ from typing import Callable, Iterator, NamedTuple, Optional
 
 from hinge.border.files import read_system
 from hinge.border.terminal import show
-from hinge.command import Told, parser
+from hinge.command import Fault, Told, module, parser
 from hinge.program import HINGE, dummynet
 from hinge.simulated.build import lacking, source
 from hinge.simulated.kernel import found as kernel
@@ -80,8 +79,15 @@ def simulated() -> Finding:
 
 
 def modules(**packages: str) -> Finding:
-    lacking = {name: package for name, package in packages.items() if importlib.util.find_spec(name) is None}
+    lacking = {name: package for name, package in packages.items() if not is_loaded(name, package)}
     return Finding(f"Python lacks {', '.join(lacking)}", tuple(lacking.values())) if lacking else Finding()
+
+
+def is_loaded(name: str, package: str) -> bool:
+    try:
+        return bool(module(name, package))
+    except Fault:
+        return False
 
 
 def realtime() -> Finding:

@@ -33,7 +33,10 @@ def main() -> None:
     refuse_inputs((arguments.o,), arguments.files)
     conversion = Conversion()
     for name in arguments.files:
-        conversion.read(told_name(name), read_text(name, "replace"))
+        text = read_text(name, "replace")
+        if "\0" in text:
+            raise Fault(f"{told_name(name)}: it is no text", CONFIGURATION)
+        conversion.read(told_name(name), text)
     conversion.settle()
     with writing(arguments.o) as out:
         out.writelines(f"{text}\n" for text in conversion.lines)

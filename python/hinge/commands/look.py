@@ -4,11 +4,10 @@ from __future__ import annotations
 
 import argparse
 import os
-from importlib.util import find_spec
 
 from hinge.arguments import PICTURE_FLOWS, SOURCE, TABLE_FLOWS, LookOptions, add_flows, add_source, bounded, file_of, rows_between
 from hinge.border.terminal import lines
-from hinge.command import MISSING, STATUSES, Fault, lacking, parser
+from hinge.command import MISSING, STATUSES, Fault, numpy, parser
 from hinge.outputs import CAPTURES, PICTURES, TABLES, Format
 
 WHAT = """\
@@ -117,13 +116,13 @@ def is_net(options: LookOptions) -> bool:
     return os.path.isdir(first) or (len(more) == 1 and not options.diff and more[0].endswith(".json") and is_history_file(first))
 
 
-def look_at_ways(options: LookOptions) -> None:
-    """The ways of a net, as its history alone has them. Fault: always, since paths need numpy."""
+def look_at_ways(options: LookOptions, fault: Fault) -> None:
+    """The ways of a net, as its history alone has them. Fault: always, since paths need numpy, which this one says."""
     from hinge.paths.folder import session_of
     from hinge.replays.looked import look
 
     look(LookOptions(**vars(options) | {"source": session_of(*options.source).files[:1], "by": "target"}), MOST_REPORTS)
-    raise Fault(f"the hosts, the paths and the check between links: {lacking('numpy', 'python3-numpy')}", MISSING)
+    raise Fault(f"the hosts, the paths and the check between links: {fault}", MISSING)
 
 
 def main() -> None:
@@ -134,9 +133,11 @@ def main() -> None:
 
         one, other = options.source
         tell_difference(one, other, options.json)
-    elif is_net(options) and find_spec("numpy") is None:
-        look_at_ways(options)
     elif is_net(options):
+        try:
+            numpy()
+        except Fault as fault:
+            look_at_ways(options, fault)
         from hinge.paths.looked import look_at_net
 
         look_at_net(options, *options.source)

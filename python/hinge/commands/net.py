@@ -26,7 +26,7 @@ from hinge.net.statements import Unobeyed
 from hinge.net.ways import gap
 from hinge.run.first import BLOCKED, live, status_of
 from hinge.run.host import program
-from hinge.run.options import draws, drawn_seed, limit_of, mtu, refuse_lost_summary, seed
+from hinge.run.options import draws, drawn_seed, limit_of, mtu, seed
 from hinge.run.outside import Outside
 from hinge.run.plan import MOST
 from hinge.run.processes import Mask
@@ -34,7 +34,7 @@ from hinge.run.refusals import refusals
 from hinge.run.rooms import leave_the_system
 from hinge.run.settings import NetOptions
 from hinge.run.system import is_simulated
-from hinge.run.transcripts import refuse_own_input
+from hinge.run.transcripts import refuse_lost, refuse_own_input
 from hinge.run.words import Wrong, duration
 from hinge.simulated import start
 from hinge.simulated.time_options import add_simulated, refuse_alone
@@ -173,15 +173,16 @@ def absolute(path: Optional[str]) -> Optional[str]:
 
 def with_files(options: NetOptions) -> NetOptions:
     """With the transcript and the summary in the folder for both, where they can be written."""
+    refuse_own_input("--transcripts", options.transcripts, [options.file])
     for path in (options.transcripts, options.logs):
         if path:
             os.makedirs(path, exist_ok=True)
     if options.transcripts:
         history, summary = (os.path.join(options.transcripts, name) for name in ("net.history", "net.json"))
         options = replace(options, transcript=options.transcript or history, json=options.json or summary)
-    refuse_own_input("--transcript", options.transcript, [options.file])
-    refuse_own_input("--json", options.json, [options.file, options.transcript])
-    refuse_lost_summary(options.json)
+    refuse_lost("--transcript", options.transcript, [options.file])
+    refuse_lost("--json", options.json, [options.file, options.transcript])
+    refuse_own_input("--control", options.control, [options.file, options.transcript, options.json])
     return options
 
 
@@ -191,6 +192,11 @@ def outside_of(options: NetOptions, net: Description) -> Optional[str]:
     if result is not None and not net.is_room(result):
         raise Wrong(f"--outside {result}: no host of {options.file}")
     return result
+
+
+def end_wait_of(options: NetOptions) -> float:
+    """The seconds of --end-wait."""
+    return duration(options.end_wait, "--end-wait") / 1e9
 
 
 def net_order(options: NetOptions, net: Description, mask: Mask) -> NetOrder:
@@ -210,7 +216,7 @@ def net_order(options: NetOptions, net: Description, mask: Mask) -> NetOrder:
         seed=seed,
         draws=draws(plan) or bool(net_plan.drawn),
         limit=limit_of(options.late),
-        end_wait=duration(options.end_wait) / 1e9,
+        end_wait=end_wait_of(options),
         transcript=options.transcript,
         json=options.json,
         logs=options.logs,
@@ -267,9 +273,9 @@ def main() -> None:
     with net_refusals():
         refuse_gap(read_description(arguments.file), arguments)
         net = net_of(arguments)
-        if arguments.dry_run or arguments.simulated:
-            seed = drawn_seed(arguments.seed)
-            net_plan = NetPlan(net, net.longest(arguments.mtu), seed)  # so that a wrong line is told before anything starts
+        seed = drawn_seed(arguments.seed)
+        net_plan = NetPlan(net, net.longest(arguments.mtu), seed)  # so that a wrong word is told before folders are made
+        limit_of(arguments.late), end_wait_of(arguments), outside_of(arguments, net)
         if arguments.dry_run:
             show_net(net)
             show_drawn(net_plan, seed)

@@ -130,7 +130,7 @@ def begin(run: RunOptions) -> NoReturn:
         program()
         ends = ends_of(run.net)
         network = network_of(run.netns) if run.netns is not None else None
-        order = order_of(run, run.mtu, mask, run.server_end)
+        order = order_of(run, run.mtu, mask, run.server_wait, run.server_end)
         signal.pthread_sigmask(signal.SIG_BLOCK, BLOCKED)  # once all files are read, which a FIFO may put off for ever
         if not is_simulated():
             tell_hints(run)

@@ -10,7 +10,7 @@ from pathlib import Path
 from typing import Optional
 
 from hinge.arguments import bounded, file_of
-from hinge.border.terminal import standard_output
+from hinge.border.terminal import several, standard_output
 from hinge.command import parser, say
 from hinge.outputs import PICTURES, format_of, refuse_inputs, writing, written
 from hinge.pictures.chart import save_figure
@@ -118,7 +118,7 @@ def main() -> None:
     arguments = command_line()
     if arguments.step == "plan":
         study = Study.plan(arguments.folder, arguments.packets, arguments.config, dict(arguments.set), arguments.seeds)
-        say(f"{len(study.runs)} runs in {arguments.folder}")
+        say(f"{several(len(study.runs), 'run')} in {arguments.folder}")
         return
     study = Study.load(arguments.folder)
     if arguments.step == "missing":

@@ -147,5 +147,7 @@ def main() -> None:
             if not server.port:
                 raise Wrong("SERVER: port 0 is none at which a server listens")
             _, place = found_address(server, front.family)
+            if place == front.getsockname()[:2]:
+                raise Wrong(f"SERVER: {socket_address(*place)} is LISTEN itself, and each datagram would come again for ever")
             status = what_is_carried(order, front, place)
     sys.exit(status)

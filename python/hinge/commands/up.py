@@ -4,12 +4,14 @@ from __future__ import annotations
 
 import argparse
 import os
+import shutil
 import subprocess
 import time
 from pathlib import Path
 
 from hinge.border.asking import ask, is_answered
 from hinge.border.files import read_log
+from hinge.border.scratch import clean_end
 from hinge.border.terminal import show
 from hinge.command import NAME, Fault, parser, say
 from hinge.program import in_background
@@ -63,12 +65,20 @@ def main() -> None:
         socket, folder = new_socket(arguments.name), Path(arguments.transcripts)
         if os.path.exists(socket) and is_answered(socket):
             raise Wrong(f"{arguments.name} runs already: hinge down {arguments.name} ends it, and --name gives another name")
+        is_new, log = not folder.exists(), folder / "net.log"
         folder.mkdir(parents=True, exist_ok=True)
-        log = folder / "net.log"
         logs = [] if "--logs" in arguments.more else ["--logs", str(folder / "logs")]
         words = ["net", arguments.file, "--transcripts", str(folder), *logs, "--stay", "--control", socket, *arguments.more]
         process = in_background(words, log)
-        silent = wait_until_ready(process, socket, log)
+        with clean_end():
+            try:
+                silent = wait_until_ready(process, socket, log)
+            except BaseException:
+                process.terminate()
+                process.wait()
+                if is_new and [*folder.iterdir()] == [log]:
+                    shutil.rmtree(folder)
+                raise
     show(
         "".join(f"{line}\n" for line in silent)
         + f"{arguments.name} runs, and keeps what it does in {folder}: hinge down {arguments.name} ends it"

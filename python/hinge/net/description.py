@@ -16,6 +16,7 @@ NAME = re.compile(r"[A-Za-z][A-Za-z0-9-]{0,62}", re.ASCII)
 ACTS = ("kill", "stop", "cont", "restart", "skew", "crash")  # of hosts
 TAKEN = {"localhost", "cut", "heal", "from", *ACTS}
 HOST, MAIN, ROUTER = "host NAME [COMMAND]", "main NAME [COMMAND]", "router NAME [COMMAND]"
+NO_HOST = "no host of this net"
 MTU, ROUTES = "mtu A B [N] BYTES", "routes none"
 LINK, SWITCH, WAIT = "link A B LINK [/ LINK]", "switch NAME A B .. LINK [/ LINK]", "wait NAME port N [TIME]"
 PATIENCE = 30.0  # s for which a port is waited for
@@ -84,7 +85,7 @@ class Description:
     def host(self, statement: Statement, form: str) -> str:
         name = statement.take(form)
         if name not in self.hosts:
-            raise statement.unknown(name, self.hosts, "no host of this net")
+            raise statement.unknown(name, self.hosts, NO_HOST)
         return name
 
     def is_room(self, name: str) -> bool:
@@ -136,7 +137,7 @@ class Description:
         while statement.peek() in self.hosts:
             members.append(statement.take(SWITCH))
         if not members:
-            raise statement.unknown(statement.peek(), self.hosts, f"no host of this net: {SWITCH}")
+            raise statement.unknown(statement.peek(), self.hosts, f"{NO_HOST}: {SWITCH}")
         for member in members:
             self.add_link(statement, member, name, statement.rest)
 

@@ -8,7 +8,7 @@ from hinge.border.messages import ObeyedLine
 from hinge.net.clocks import IN_REAL_TIME
 from hinge.net.description import ACTS
 from hinge.net.net_summary import net_record
-from hinge.run.control import Control, HostRoom, opened
+from hinge.run.control import Control, HostRoom
 from hinge.run.doors import Doors
 from hinge.run.words import Wrong
 
@@ -47,4 +47,5 @@ def opened_control(net: NetInside) -> Optional[Control]:
         del net_plan.acts[timetable:]
         return net.acts.ask(new)
 
-    return opened(net.order.control, net.order.made.plan, net.page, event, status, enter_host, net.lines, act)
+    path = net.order.control
+    return Control(path, net.order.made.plan, net.page, event, status, enter_host, net.lines, act) if path else None

@@ -10,7 +10,7 @@ from hinge.border.files import untrusted
 from hinge.captures.rule_words import NETS
 from hinge.checks.lines import judged_lines
 from hinge.net.clocks import MOST_CLOCKS, number_of, read_skew
-from hinge.net.description import ACTS, Description
+from hinge.net.description import ACTS, NO_HOST, Description
 from hinge.net.disks import DISK
 from hinge.net.moments import ENDS, Act, Moment, Said
 from hinge.net.nemesis import FORM, OF_MOMENTS, SPAN, Draw, drawn_lines, read_nemesis, read_span
@@ -64,9 +64,9 @@ class NetPlan:
 
     def said(self, statement: Statement, add: Callable[[Statement], None]) -> None:
         """A fault of another part gets the line at which it is."""
-        where = f"{statement.path} line {statement.number}: "
+        where = f"{statement.place}: "
         try:
-            with untrusted(where.removesuffix(": ")):
+            with untrusted(statement.place):
                 add(statement)
         except Wrong as wrong:
             raise wrong if str(wrong).startswith(where) else Wrong(
@@ -156,7 +156,7 @@ class NetPlan:
 
     def at_once(self, moment: str, words: str) -> None:
         """What `hinge change` says, at a moment of the links as 5ns."""
-        self.said(Statement("change", 1, f"at start+{moment} {words}"), self.at)
+        self.said(Statement(f"'{words}'", 0, f"at start+{moment} {words}"), self.at)
 
     def nemesis(self, statement: Statement) -> None:
         read = read_nemesis(self.net, statement)
@@ -175,6 +175,8 @@ class NetPlan:
         if statement.peek() in ACTS:
             self.act(statement, moment)
             return
+        if statement.peek() and statement.peek() not in self.net.hosts:
+            raise statement.unknown(statement.peek(), [*self.net.hosts, *ACTS, "cut", "heal"], NO_HOST)
         number, is_back = self.net.between(statement, AT)
         way = [statement.take(AT)] if statement.peek() in WAYS else []
         way = [BACK[word] if is_back else word for word in way]
@@ -238,6 +240,8 @@ class NetPlan:
         form = CUT if word == "cut" else HEAL
         statement.take(form)
         result = self.links_of(statement, form)
+        if statement.peek() in self.net.hosts:
+            raise statement.wrong(statement.peek(), f"write `from {statement.peek()}`: {form}")
         length = statement.take_time(form) if word == "cut" and statement.peek() else LAST_MOMENT - moment.ns
         statement.done(form)
         changes = self.changes_by(moment)

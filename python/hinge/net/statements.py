@@ -22,7 +22,7 @@ class Statement:
 
     @property
     def place(self) -> str:
-        return f"{self.path} line {self.number}"
+        return f"{self.path} line {self.number}" if self.number else self.path
 
     def wrong(self, word: str, why: str) -> Wrong:
         return Wrong(f"{self.place}: {word!r}: {why}" if word else f"{self.place}: {why}")

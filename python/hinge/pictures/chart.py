@@ -2,6 +2,7 @@
 
 from __future__ import annotations
 
+import logging
 import textwrap
 from functools import singledispatch
 from typing import TYPE_CHECKING, Optional, Sequence
@@ -253,9 +254,15 @@ def frame(fig: Figure, names: float, title: list[str], below: list[str]) -> None
     fig.tight_layout(rect=(0, (foot + 0.1 * bool(below)) / height, 1, 1 - 0.25 * len(title) / height))
 
 
+def begin_drawing() -> None:
+    """Has matplotlib need no screen, and say nothing of its own folders."""
+    logging.getLogger("matplotlib").setLevel(logging.ERROR)
+    module("matplotlib", "python3-matplotlib").use("Agg")
+
+
 def save(drawings: list[Drawing], path: str, kind: str, title: str) -> None:
     """Draws into a file, whose kind is the ending of a name."""
-    module("matplotlib", "python3-matplotlib").use("Agg")
+    begin_drawing()
     with working("drawing"):
         save_figure(figure(drawings, title), path, kind)
 

@@ -169,4 +169,4 @@ def save_page(flows_in_time: Series, explainer: Explainer | None, drawing: Drawi
     packed = b64encode(gzip.compress(record.encode(), PACKING, mtime=0)).decode("ascii")
     name = html.escape(" ".join(title.split()) or drawing.name, quote=False)
     page = PAGE.read_text(encoding="utf-8").replace("PACKED", packed).replace("NAME", name, 1)
-    Path(path).write_text(page, encoding="utf-8")
+    Path(path).write_text(page, encoding="utf-8", errors="surrogateescape")

@@ -5,6 +5,7 @@ from __future__ import annotations
 from dataclasses import dataclass, field
 from typing import Iterable, Iterator, Optional
 
+from hinge.border.terminal import several
 from hinge.lazy import Integers, Reals, np
 from hinge.pictures.settings import Limits, capacities, limits, pipe_names
 from hinge.replays.bounds import Bounded
@@ -211,7 +212,7 @@ def named_places(replay: Replay, groups: Groups, pipes: dict[str, str]) -> Itera
         parts = {pipe: there for pipe, there in parts.items() if len(there)}
         for pipe, there in parts.items():
             count = len(np.unique(groups.each[there])) if groups.each is not None else 0
-            yield (f"{count:,} others of {pipe}" if len(parts) > 1 else name), there, True
+            yield (f"{several(count, 'other')} of {pipe}" if len(parts) > 1 else name), there, True
 
 
 def offered(replay: Replay, places: Integers, steps: Steps) -> Reals:

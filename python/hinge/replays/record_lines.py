@@ -7,7 +7,8 @@ import io
 import sys
 from dataclasses import dataclass
 from functools import cached_property
-from typing import Iterator, Union
+from itertools import islice, tee
+from typing import BinaryIO, Iterator, NamedTuple, Union
 
 from hinge.border.files import opened, read_front
 from hinge.lazy import Integers, Mask, Octets, few as np
@@ -19,6 +20,25 @@ BYTE_ORDER_MARK = b"\xef\xbb\xbf"
 COMMA, LINE_FEED, REMARK = b",\n#"
 BLOCK, PIECE = 1 << 19, 1 << 17  # bytes of a file that are read together, and that the processor has at hand
 BEGINNINGS = (b"dummynet-history,", b"dummynet-live,")
+
+
+class Row(NamedTuple):
+    """A record that is read by itself: the line where it begins, its text with what ends it, and its fields."""
+
+    line: int
+    text: str
+    fields: list[str]
+
+
+def rows_of(file: BinaryIO, line: int = 1, encoding: str = "utf-8-sig") -> Iterator[Row]:
+    """The records of a file from this line on; a field in quotes may go over several, and empty lines are none."""
+    lines, copies = tee(io.TextIOWrapper(file, encoding, "replace", newline=""))
+    reader, count = csv.reader(lines), 0
+    for fields in reader:
+        text = "".join(islice(copies, reader.line_num - count))
+        if fields:
+            yield Row(line + count, text, fields)
+        count = reader.line_num
 
 
 def plain(text: bytes, errors: str = "strict") -> bytes:

@@ -7,6 +7,7 @@ from dataclasses import dataclass, field
 from functools import cached_property
 from typing import Iterator, Optional
 
+from hinge.border.terminal import several
 from hinge.command import ROWS, USAGE, Fault
 from hinge.lazy import few as np
 from hinge.replays.bounds import Bounded, bounds
@@ -74,7 +75,7 @@ def untargeted_lines(replay: Replay) -> Iterator[str]:
     target."""
     table = untargeted(replay)
     for target, count in table.items():
-        yield f"{count:,} rows went to {target}, which isn't configured"
+        yield f"{several(count, 'row')} went to {target}, which isn't configured"
     if table and sum(table.values()) == len(replay.packets):
         yield "no row has a target: nothing went through a link"
 

@@ -3,7 +3,6 @@
 from __future__ import annotations
 
 import csv
-import io
 from contextlib import suppress
 from itertools import islice
 from pathlib import Path
@@ -13,7 +12,7 @@ from hinge.border.files import opened, read_again, untrusted
 from hinge.command import ROWS, Fault, working
 from hinge.lazy import Integers
 from hinge.replays.columns import Bad, Column, Fields
-from hinge.replays.record_lines import LINE_FEED, Records, blocks_of, joined
+from hinge.replays.record_lines import LINE_FEED, Records, blocks_of, joined, rows_of
 
 
 class Columns:
@@ -62,10 +61,9 @@ def lines_of(text: bytes) -> Records:
 def located(name: str, path: str, columns: dict[str, Column], place: int) -> Fault:
     """The fault of a row that can't be read, told by its line."""
     with opened(path) as file:
-        reader = csv.reader(io.TextIOWrapper(file, "utf-8-sig", "replace", newline=""))
-        row = next(islice(filter(None, reader), place + 1, None), None)
-        fault = row and fault_of(row, columns)
-    return Fault(f"{name} line {reader.line_num}: {fault}" if fault else f"{name}: can't be read", ROWS)
+        row = next(islice(rows_of(file), place + 1, None), None)
+    fault = row and fault_of(row.fields, columns)
+    return Fault(f"{name} line {row.line}: {fault}" if row and fault else f"{name}: can't be read", ROWS)
 
 
 def add_rows(name: str, path: str, columns: dict[str, Column], add: Callable[[Records], None], errors: str) -> None:

@@ -3,6 +3,7 @@ speak to it."""
 
 from __future__ import annotations
 
+import errno
 import os
 import signal
 import threading
@@ -60,7 +61,8 @@ class Control:
         try:
             self.server = Server(path)
         except OSError as error:
-            raise Missing(f"--control {path}: {error.strerror or error}") from None
+            is_taken = error.errno == errno.EADDRINUSE
+            raise Missing(f"--control {path}: {'a run or a file has this name' if is_taken else error.strerror or error}") from None
 
     def serve(self) -> None:
         self.server.serve(self.obeyed_order)
@@ -104,7 +106,10 @@ class Control:
             return [result]
         changes, moment = self.plan.changes, self.moment()
         lines, outages = len(changes.lines), len(changes.outages)
-        self.event(f"{moment}ns", words)
+        try:
+            self.event(f"{moment}ns", words)
+        except Wrong as wrong:
+            raise Wrong(str(wrong).replace(f"{moment}ns: ", f"'{words}': ", 1)) from None
         new, holds = changes.lines[lines:], changes.outages[outages:]
         del changes.lines[lines:], changes.outages[outages:]
         if holds:
@@ -143,16 +148,3 @@ class Control:
         """Has it obey a line so many ns later; the line that the pipe gets then, if nothing else comes before."""
         answer = self.lines.ask(f"at {later} {line}" if later else f"line {line}", self.until, self.is_wanted)
         return ObeyedLine(answer.moment + later, answer.line or line, answer.wrong)
-
-
-def opened(
-    path: Optional[str],
-    plan: Plan,
-    page: Page,
-    event: Callable[[str, str], None],
-    status: Callable[[], Record],
-    enter: Enter = nobody,
-    lines: Optional[HostLines] = None,
-    act: Optional[Act] = None,
-) -> Optional[Control]:
-    return Control(path, plan, page, event, status, enter, lines, act) if path else None

@@ -7,8 +7,9 @@ import signal
 import sys
 from typing import Callable, NoReturn
 
-from hinge.command import say
-from hinge.run.system import Missing, die_with_parent
+from hinge.border.terminal import tell
+from hinge.command import Told, say
+from hinge.run.system import die_with_parent
 
 REFUSED, INTERRUPTED = 6, 130
 BLOCKED = {signal.SIGCHLD, signal.SIGTERM, signal.SIGHUP, signal.SIGINT}
@@ -20,10 +21,14 @@ def live(run: Callable[[], int]) -> NoReturn:
     try:
         die_with_parent()
         status = run()
-    except Missing as missing:
-        say(str(missing))
+    except Told as told:
+        say(str(told))
     except OSError as error:
         say(f"{error.filename or 'the system'}: {error.strerror}")
+    except Exception:  # a defect of the kit, which would be silent below
+        import traceback
+
+        tell(traceback.format_exc(), "")
     finally:
         sys.stderr.flush()
         os._exit(status)

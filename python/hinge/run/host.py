@@ -39,8 +39,8 @@ def program() -> str:
 def plan_file(text: str) -> int:
     """A descriptor from which a plan can be read."""
     descriptor = os.memfd_create("plan")
-    with os.fdopen(os.dup(descriptor), "w") as file:
-        file.write(text)
+    with os.fdopen(os.dup(descriptor), "wb") as file:
+        file.write(os.fsencode(text))  # which may name files of any bytes
     os.lseek(descriptor, 0, os.SEEK_SET)
     return descriptor
 
@@ -78,9 +78,12 @@ class Link:
 
     def failed(self) -> Optional[int]:
         """Waits until the link is ready; the status of a host that ended before, which has told why, or that of a
-        signal that came."""
+        signal that came, behind which nothing of the link is left."""
         came = self.processes.poll(lambda: self.page.state() != STARTING or self.process in self.processes.ended, math.inf, POLL)
-        return SIGNALLED + came if came else self.processes.ended.get(self.process)
+        fault = SIGNALLED + came if came else self.processes.ended.get(self.process)
+        if fault is not None:
+            self.end()
+        return fault
 
     def end(self) -> None:
         self.processes.end(self.process, 5)

@@ -2,6 +2,7 @@
 
 from __future__ import annotations
 
+import os
 import select
 import socket
 import threading
@@ -49,7 +50,7 @@ class HostLines:
 
     def ask(self, text: str, until: Optional[float] = None, is_wanted: Callable[[], bool] = always) -> Answer:
         """The host's answer to a line that it takes by a moment and while it is wanted. Wrong: the line is too long."""
-        if len(text.encode()) > LONGEST_LINE:
+        if len(os.fsencode(text)) > LONGEST_LINE:
             raise Wrong("a line of more than 4,000 bytes")
         with self.lock:
             head, _, line = self.answer(text, until or time.monotonic() + PATIENCE, is_wanted).partition("\n")
@@ -59,7 +60,7 @@ class HostLines:
 
     def answer(self, text: str, until: float, is_wanted: Callable[[], bool]) -> str:
         try:
-            self.own.send(text.encode())
+            self.own.send(os.fsencode(text))
             while not self.has_answered(LOOK):
                 if (time.monotonic() > until or not is_wanted()) and self.is_taken_back():
                     return f"{self.latest} {UNTAKEN}"

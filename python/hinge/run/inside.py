@@ -22,7 +22,7 @@ from hinge.run.summary import record
 from hinge.run.system import enter
 from hinge.run.two_hosts import ends_of
 from hinge.run.watch import Watch
-from hinge.run.words import Wrong, duration
+from hinge.run.words import Wrong
 
 HOSTS = ("client", "server")
 WATCHED = {signal.SIGCHLD, signal.SIGTERM, signal.SIGHUP}
@@ -35,8 +35,7 @@ class Inside:
         self, options: RunOptions, order: Order, own_users: bool, outside: Optional[Outside], network: Optional[int]
     ) -> None:
         """`network` is one that is there already."""
-        self.options, self.server_wait = options, duration(options.server_wait) / 1e9
-        self.order, self.outside, self.page = order, outside, Page()
+        self.options, self.order, self.outside, self.page = options, order, outside, Page()
         self.processes = Processes(WATCHED if options.command else WATCHED | {signal.SIGINT})
         self.joined = None if network is None else Joined(network, options.mtu, own_users)
         self.rooms = self.joined or Rooms(options.mtu, own_users, ends_of(options.net))
@@ -48,11 +47,13 @@ class Inside:
             return None, None
         server = self.rooms.start_server(self.options.server, self.order.mask)
         enter(self.rooms.server)
-        came = self.processes.poll(lambda: something_listens() or server in self.processes.ended, self.server_wait, LISTEN_POLL)
+        came = self.processes.poll(
+            lambda: something_listens() or server in self.processes.ended, self.order.server_wait, LISTEN_POLL
+        )
         if came is None and server in self.processes.ended:
             say(f"the server ended with {name_of(self.processes.ended[server])} before it listened")
         elif came is None and not something_listens():
-            say(f"the server doesn't listen after {self.server_wait:g} s; the command begins")
+            say(f"the server doesn't listen after {self.order.server_wait:g} s; the command begins")
         return server, came
 
     def commanded(self, link: Link) -> tuple[int, bool]:

@@ -3,7 +3,6 @@
 from __future__ import annotations
 
 import argparse
-import os
 import random
 from typing import NoReturn, Optional
 
@@ -14,7 +13,7 @@ from hinge.checks.lines import Placed, refuse_wrong
 from hinge.run.plan import MOST, Plan
 from hinge.run.refusals import refusals
 from hinge.run.settings import LinkOptions, LiveOptions
-from hinge.run.transcripts import refuse_own_input
+from hinge.run.transcripts import refuse_lost, refuse_own_input
 from hinge.run.words import Target, Wrong, bare, bytes_of_mtu, duration, link_of, read_lines, target_of
 from hingetulip_words.link import Place, corrected
 from hingetulip_words.presets import Preset, preset, table
@@ -215,28 +214,20 @@ def lines_of(options: LinkOptions) -> list[str]:
     return [*first, *inputs, *last]
 
 
-def refuse_lost_summary(path: Optional[str]) -> None:
-    """Wrong: the file for the summary can't be written, which is told before the run."""
-    if path is not None and (
-        os.path.isdir(path) or not os.access(path if os.path.exists(path) else os.path.dirname(path) or ".", os.W_OK)
-    ):
-        raise Wrong(f"--json {path}: it can't be written")
-
-
 def limit_of(late: Optional[str]) -> Optional[float]:
     """The limit of --late, in ms. Wrong: it has no unit, which one user would take for ms, and another for s."""
     if late is None:
         return None
     if late.replace(".", "", 1).isdecimal():
         raise Wrong(f"--late {late}: it has no unit; write {late}ms or {late}s")
-    return duration(late) / 1e6
+    return duration(late, "--late") / 1e6
 
 
 def plan_of(options: LiveOptions, longest: int) -> Plan:
     """What the link shall do, for packets of at most so many bytes."""
-    refuse_own_input("--transcript", options.transcript, options.files())
-    refuse_own_input("--json", options.json, [*options.files(), options.transcript])
-    refuse_lost_summary(options.json)
+    refuse_lost("--transcript", options.transcript, options.files())
+    refuse_lost("--json", options.json, [*options.files(), options.transcript])
+    refuse_own_input("--control", options.control, [*options.files(), options.transcript, options.json])
     plan = Plan(longest)
     for line in lines_of(options):
         plan.link(line)
@@ -252,8 +243,8 @@ def plan_of(options: LiveOptions, longest: int) -> Plan:
         plan.timeline(options.timeline)
     for way, path in enumerate((options.up_trace, options.down_trace)):
         if path:
-            bin_ns = max(BIN_LEAST, duration(options.bin)) if options.bin else None
-            plan.trace(way, path, bin_ns, duration(options.trace_for))
+            bin_ns = max(BIN_LEAST, duration(options.bin, "--bin")) if options.bin else None
+            plan.trace(way, path, bin_ns, duration(options.trace_for, "--trace-for"))
     return plan
 
 

@@ -7,7 +7,7 @@ from typing import Callable, NamedTuple, Optional, Sequence
 
 from hinge.command import FILES, say
 from hinge.outputs import write_json
-from hinge.run.control import Control, Enter, Record, nobody, opened
+from hinge.run.control import Control, Enter, Record, nobody
 from hinge.run.options import draws, drawn_seed, limit_of, plan_of
 from hinge.run.page import NOT_ALLOWED, Page
 from hinge.run.plan import Plan
@@ -27,7 +27,8 @@ class Order(NamedTuple):
     seed: int
     draws: bool
     mask: Mask  # of what is started
-    server_end: float  # s that the server has to end after SIGTERM
+    server_wait: float  # s within which the server is to listen
+    server_end: float  # s that it has to end after SIGTERM
     made: Plan
 
     def control(self, page: Page, status: Callable[[], Record], enter: Enter = nobody) -> Optional[Control]:
@@ -36,17 +37,19 @@ class Order(NamedTuple):
         def event(moment: str, words: str) -> None:
             self.made.event([moment, *words.split()])
 
-        return opened(self.options.control, self.made, page, event, status, enter)
+        path = self.options.control
+        return Control(path, self.made, page, event, status, enter) if path else None
 
 
-def order_of(options: LiveOptions, longest: int, mask: Mask, server_end: str = "0") -> Order:
+def order_of(options: LiveOptions, longest: int, mask: Mask, server_wait: str = "0", server_end: str = "0") -> Order:
     """For packets of at most so many bytes."""
     plan, seed = plan_of(options, longest), drawn_seed(options.seed)
     transcript = os.path.abspath(options.transcript) if options.transcript else None
     text = plan.text(seed, transcript, options.realtime, options.most, is_simulated())
     changes = [(change.moment, change.told) for change in plan.changes.all()] if options.watch else []
-    limit, patience = limit_of(options.late), duration(server_end) / 1e9
-    return Order(options, text, changes, limit, seed, draws(plan), mask, patience, plan)
+    limit = limit_of(options.late)
+    wait, end = duration(server_wait, "--server-wait") / 1e9, duration(server_end, "--server-end") / 1e9
+    return Order(options, text, changes, limit, seed, draws(plan), mask, wait, end, plan)
 
 
 def note_realtime(page: Page) -> None:

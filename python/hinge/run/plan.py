@@ -40,7 +40,7 @@ from typing import Iterable, Iterator, Optional, Sequence
 from hinge.arguments import is_number
 from hinge.border.files import untrusted
 from hinge.checks.lines import Placed, refuse_wrong
-from hinge.fault_lines import IS_LATE, IS_LOST, IS_TWICE, Fault, read_faults
+from hinge.fault_lines import IS_LATE, IS_LOST, IS_TWICE, Fault, faults_in
 from hinge.run.changes import Change, Changes, Outage
 from hinge.run.losses import loss_lines, model_name
 from hinge.run.rules import Rule
@@ -130,7 +130,7 @@ class Plan:
         """The faults of a file, which decide about all losses. The ways have these names. Wrong: a line of the file isn't a fault of one."""
         by_names: dict[str, list[Fault]] = {name: [] for name in names}
         try:
-            for fault in read_faults(path):
+            for fault in faults_in(path, read_lines(path)):
                 if fault.link not in by_names:
                     raise ValueError(f"{path}: '{fault}': no such link; write {' or '.join(list(by_names)[:2])}")
                 by_names[fault.link].append(fault)

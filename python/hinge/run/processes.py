@@ -116,7 +116,7 @@ class Processes:
             signal.sigtimedwait({signal.SIGCHLD}, max(0.0, until - time.monotonic()))
         for process in victims:
             signal_group(process, signal.SIGKILL)
-            self.wait(process, patience)
+            self.wait_for_end(process, patience)
         return victims
 
     def endings(self, processes: dict[str, int], start: float, patience: float) -> dict[str, Ended]:
@@ -148,4 +148,11 @@ class Processes:
         self.reap()
         if process not in self.ended:
             os.kill(process, signal.SIGTERM)
-            self.wait(process, patience)
+            self.wait_for_end(process, patience)
+
+    def wait_for_end(self, process: int, patience: float) -> None:
+        """Waits so many seconds for a process that was told to end; a signal that comes meanwhile asks for no more."""
+        until = time.monotonic() + patience
+        while process not in self.ended and (remainder := until - time.monotonic()) > 0:
+            signal.sigtimedwait({signal.SIGCHLD}, remainder)
+            self.reap()

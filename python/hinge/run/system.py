@@ -62,12 +62,14 @@ def enter(network: int) -> None:
 
 def mount(source: str, target: str, kind: str, flags: int, more: Optional[str] = None) -> None:
     """`more` are the options of its kind."""
-    must(libc.mount(source.encode(), target.encode(), kind.encode(), ctypes.c_ulong(flags), more.encode() if more else None))
+    must(
+        libc.mount(os.fsencode(source), os.fsencode(target), kind.encode(), ctypes.c_ulong(flags), more.encode() if more else None)
+    )
 
 
 def unmount(target: str) -> None:
     """What uses it keeps it."""
-    must(libc.umount2(target.encode(), DETACH))
+    must(libc.umount2(os.fsencode(target), DETACH))
 
 
 def keep_mounts_to_itself() -> None:

@@ -23,6 +23,15 @@ def refuse_own_input(option: str, path: Optional[str], others: Iterable[Optional
             raise Wrong(f"{option} {path}: the same file as {other}")
 
 
+def refuse_lost(option: str, path: Optional[str], others: Iterable[Optional[str]]) -> None:
+    """Wrong: the same, or the file can't be written, which is told before the run."""
+    refuse_own_input(option, path, others)
+    if path is None or path == "-":
+        return
+    if os.path.isdir(path) or not os.access(path if os.path.exists(path) else os.path.dirname(path) or ".", os.W_OK):
+        raise Wrong(f"{option} {path}: it can't be written")
+
+
 def parts_of(transcript: str, count: int) -> list[str]:
     return [transcript, *(f"{transcript}.{number}" for number in range(1, count))]
 

@@ -26,15 +26,17 @@ class Wrong(Told):
     """A word of the command line or of a file that can't be obeyed."""
 
 
-def duration(text: str) -> int:
-    """The ns of a time as 5s, 600ms, 2min; without a unit it is in seconds. Wrong: it is none, or too long."""
+def duration(text: str, option: str = "") -> int:
+    """The ns of a time as 5s, 600ms, 2min; without a unit it is in seconds. Wrong: it is none, or too long; the option of the
+    command line is named."""
     match = TIME.fullmatch(text)
+    place = f"{option} {text}".lstrip()
     if not match:
-        raise Wrong(f"{text}: no time, as 5s or 600ms")
+        raise Wrong(f"{place}: no time, as 5s or 600ms")
     number, unit = match.groups("s")
     ns = float(number) * SCALE[unit]
     if ns > LAST_MOMENT:
-        raise Wrong(f"{text}: above 2^62 ns")
+        raise Wrong(f"{place}: above 2^62 ns")
     return round(ns)
 
 

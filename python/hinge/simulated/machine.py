@@ -137,7 +137,7 @@ class Machine:
                 select.select([descriptor], [], [], self.interrupts.look())
                 self.processor.look(self.process.pid)
                 self.hold_back()
-                if any(copier.is_broken for copier in self.copiers):
+                if self.lost():
                     self.end(SIGNALLED + signal.SIGPIPE)
                 elif limit is not None and self.real() > limit:
                     self.end(TIMED_OUT)
@@ -145,6 +145,10 @@ class Machine:
             os.close(descriptor)
         for copier in self.copiers:
             copier.finish()
+
+    def lost(self) -> Optional[OSError]:
+        """Why not all of its output was taken."""
+        return next((copier.fault for copier in self.copiers if copier.fault), None)
 
     def real(self) -> float:
         """The seconds since its beginning."""

@@ -116,6 +116,6 @@ def reports(item: pytest.Item, mark: pytest.Mark, links: list[str], seed: int) -
     wrong = [report for report in result if report.failed]
     for report in wrong:
         report.sections.append(("simulated run", lines(of_the_link(run.told, seed, folder / HISTORY))))
-    if not wrong:
+    if not wrong or not any(path.is_file() for path in folder.rglob("*")):
         shutil.rmtree(folder, ignore_errors=True)
     return result

@@ -2,6 +2,7 @@
 
 from __future__ import annotations
 
+import errno
 import shutil
 import signal
 import threading
@@ -98,8 +99,10 @@ def hand_over(machine: Machine, transcript: Optional[str]) -> None:
 
 
 def report_of_machine(machine: Machine, options: SimulatedOptions, settings: Settings, kernel: Kernel) -> int:
-    """Tells how a run went; its status. Missing: this kernel lacks pauses."""
+    """Tells how a run went; its status. Missing: this kernel lacks pauses. OSError: the disk of its output is full."""
     hand_over(machine, options.transcript)
+    if (fault := machine.lost()) and fault.errno != errno.EPIPE:
+        raise fault
     if machine.cut is not None:
         if machine.cut == TIMED_OUT:
             say(f"it was ended after {real_limit_of(options):g} s of real time, by --real-limit")

@@ -8,6 +8,7 @@ import shutil
 import threading
 import time
 from pathlib import Path
+from typing import Optional
 
 from hinge.border.files import opened
 from hinge.command import say
@@ -26,7 +27,8 @@ class Copier(threading.Thread):
     def __init__(self, path: Path, to: int, keeps: bool) -> None:
         super().__init__(daemon=True)
         self.file, self.to, self.keeps = os.open(path, os.O_RDWR | os.O_CLOEXEC), to, keeps
-        self.copied, self.is_last, self.is_broken = 0, False, False
+        self.copied, self.is_last = 0, False
+        self.fault: Optional[OSError] = None  # nobody reads it any more, or its disk is full
         self.start()
 
     def ahead(self) -> int:
@@ -53,8 +55,8 @@ class Copier(threading.Thread):
                 if last:
                     return
                 time.sleep(PAUSE)
-        except OSError:
-            self.is_broken = True  # nobody reads it any more, or its disk is full
+        except OSError as fault:
+            self.fault = fault
 
     def finish(self) -> None:
         self.is_last = True

@@ -93,4 +93,4 @@ def refuse_outside(options: SimulatedOptions, has_terminal: bool) -> None:
 
 def real_limit_of(options: SimulatedOptions) -> Optional[float]:
     """The seconds of --real-limit."""
-    return None if options.real_limit is None else duration(options.real_limit) / 1e9
+    return None if options.real_limit is None else duration(options.real_limit, "--real-limit") / 1e9

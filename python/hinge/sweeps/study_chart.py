@@ -7,6 +7,7 @@ from collections import defaultdict
 from typing import TYPE_CHECKING, Optional
 
 from hinge.command import CONFIGURATION, Fault, module
+from hinge.pictures.chart import begin_drawing
 from hinge.pictures.panels import COLORS
 from hinge.sweeps.study import SEED
 
@@ -40,7 +41,7 @@ def plot_lines(rows: list[dict[str, str]], names: list[str], figure: str, agains
 
 def study_figure(lines: Lines, figure: str, against: str, flow: str) -> Figure:
     """A line through the means of the seeds, with bars from the least to the greatest."""
-    module("matplotlib", "python3-matplotlib").use("Agg")
+    begin_drawing()
     fig, axes = module("matplotlib.pyplot", "python3-matplotlib").subplots(figsize=(8, 5))
     scale, unit = (1e6, " (ms)") if figure.endswith("_ns") else (1, "")
     values = list(dict.fromkeys(value for line in lines.values() for value in line))

@@ -202,13 +202,14 @@ class Rows(unittest.TestCase):
             "",
             GOOD + "2",
             GOOD + "x",
+            GOOD + '5"',
             '"' + GOOD.replace(",", '","') + '3"',
             GOOD + "1,2",
         ]
         path = file("p.csv", HEAD + "\n".join(rows) + "\n")
         status, out = check(path)
         self.assertEqual(
-            (status, [line.split(": ", 1)[0] for line in out.splitlines()]), (4, [f"{path}:{number}" for number in (3, 6, 8)])
+            (status, [line.split(": ", 1)[0] for line in out.splitlines()]), (4, [f"{path}:{number}" for number in (3, 6, 7, 9)])
         )
 
     def test_headers(self) -> None:

@@ -6,13 +6,14 @@ import contextlib
 import errno
 import io
 import os
+import signal
 import subprocess
 import sys
 import unittest
 from typing import Callable
 from unittest import mock
 
-from kit import folder
+from kit import TOP, folder
 
 from hinge import command
 
@@ -100,6 +101,16 @@ class Ends(unittest.TestCase):
 
     def test_an_interrupt_is_no_fault(self) -> None:
         self.assertEqual(self.raised(KeyboardInterrupt()), (130, ""))
+
+    def test_an_interrupt_while_python_loads_the_kit_ends_it_without_a_word(self) -> None:
+        module, kit = folder() / "early" / "textwrap.py", TOP / "python" / "hinge" / "__main__.py"
+        module.parent.mkdir()
+        module.write_text("import os, signal\nos.kill(os.getpid(), signal.SIGINT)\n")
+        for words in ([TOP / "hinge"], [sys.executable, kit]):
+            done = subprocess.run(
+                [*words, "help"], env={**os.environ, "PYTHONPATH": str(module.parent)}, capture_output=True, text=True
+            )
+            self.assertEqual((done.returncode, done.stdout, done.stderr), (-signal.SIGINT, "", ""))
 
     def test_what_is_lacking_is_told_with_its_package(self) -> None:
         self.assertEqual(

@@ -111,6 +111,18 @@ class Help(unittest.TestCase):
             done = run(*words)
             self.assertEqual((2, f"hinge: no command 'shard'; write {gone} (hinge docs FILES)\n"), (done.returncode, done.stderr))
 
+    def test_an_option_that_is_none_is_answered_by_the_one_that_is_near(self) -> None:
+        for words, near in (
+            (["run", "--presett", "lte", "--", "true"], "--presett; did you mean --preset?"),
+            (["look", "x", "--tp=4"], "--tp=4; did you mean --top?"),
+            (["packets", "x", "--output", "y"], "--output y; did you mean -o?"),
+            (["search", "x.net", "--sed", "1"], "--sed 1; did you mean --seeds?"),
+            (["check", "x", "--output", "y"], "--output y"),
+            (["run", "--rata", "5", "--", "true"], "--rata"),
+        ):
+            done = run(*words)
+            self.assertEqual((done.returncode, done.stderr.splitlines()[-1].split("arguments: ")[1]), (2, near))
+
     def test_the_version_is_that_of_the_file(self) -> None:
         version = (PACKAGE.parents[1] / "VERSION").read_text()
         self.assertEqual((run("--version").stdout, run("-V").stdout), (f"hinge {version}",) * 2)

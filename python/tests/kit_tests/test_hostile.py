@@ -4,10 +4,11 @@ from __future__ import annotations
 
 import os
 import subprocess
-import tempfile
 import unittest
 from pathlib import Path
 from typing import NamedTuple, Sequence
+
+from with_folder import WithFolder
 
 from hinge.program import HINGE
 
@@ -57,11 +58,9 @@ def ended(words: Sequence[object], folder: Path) -> Ended:
     return Ended(process.returncode, text, used.ru_maxrss << 10, used.ru_utime + used.ru_stime)
 
 
-class OfFiles(unittest.TestCase):
+class OfFiles(WithFolder):
     def setUp(self) -> None:
-        folder = tempfile.TemporaryDirectory()
-        self.addCleanup(folder.cleanup)
-        self.folder = Path(folder.name)
+        super().setUp()
         (self.folder / "net").mkdir()
         self.file, self.net, self.config = self.folder / "x", self.folder / "net" / "net.history", self.folder / "c"
         self.config.write_text("pipe 1 config\n")

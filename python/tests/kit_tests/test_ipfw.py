@@ -43,6 +43,18 @@ class Ipfw(unittest.TestCase):
             )
         self.assertIn("5 commands for pipes and queues were left out", notes[-1])
 
+    def test_a_file_that_is_no_text_is_one_fault(self) -> None:
+        path = folder() / "picture.png"
+        path.write_bytes(b"\x89PNG\r\n\x1a\n\0\0\0\rIHDR\n" * 50)
+        done = run("ipfw", path)
+        self.assertEqual((done.returncode, done.stdout, done.stderr), (3, "", f"hinge ipfw: {path}: it is no text\n"))
+        told = "neither a configuration nor a packet file nor a history, as it is no text"
+        done = run("check", path)
+        self.assertEqual((done.returncode, done.stdout, done.stderr), (4, f"{path}: {told}\n", "1 fault, 0 warnings\n"))
+        net = write("two.net", "# a net\n\nhost a\n")
+        told = f"a net, not a configuration; `hinge net {net} --dry-run` checks it"
+        self.assertEqual(run("check", net).stdout, f"{net}: {told}\n")
+
     def test_what_comes_out_is_taken(self) -> None:
         replies = configured(FastDummynet(), EXPECTED.encode())
         self.assertEqual(len(replies), len(EXPECTED.splitlines()))

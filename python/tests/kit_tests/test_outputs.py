@@ -2,6 +2,7 @@
 
 from __future__ import annotations
 
+import errno
 import os
 import signal
 import subprocess
@@ -86,6 +87,12 @@ class Outputs(unittest.TestCase):
         self.assertEqual(("whole", 0o640), (report.read_text(), report.stat().st_mode & 0o777))
         self.assertEqual([], [name for name in os.listdir(folder()) if name.startswith(".")])
 
+    def test_a_full_disk_is_told_of_the_file_that_is_written(self) -> None:
+        """And not of the one that is copied, which the system names too."""
+        with self.assertRaises(OSError) as raised, written(folder() / "copied"):
+            raise OSError(errno.ENOSPC, "No space left on device", "original")
+        self.assertEqual(raised.exception.filename, str(folder() / "copied"))
+
     def test_nothing_is_left_however_a_command_ends(self) -> None:
         place, written_half = folder() / "killed", (
             "import os, signal, sys; from hinge.outputs import written\n"
@@ -117,8 +124,9 @@ class Outputs(unittest.TestCase):
 
 
 SCRATCH = """
-import sys, time
+import signal, sys, time
 from hinge.border.scratch import scratch
+signal.signal(signal.SIGHUP, signal.SIG_DFL)  # which nohup has ignored
 with scratch(sys.argv[1]) as folder:
     (folder / "file").touch()
     print(folder, flush=True)
@@ -146,10 +154,11 @@ class OfScratch(unittest.TestCase):
         process.communicate()
         return process.returncode
 
-    def test_sigterm_takes_it_away(self) -> None:
-        process, made = self.holder()
-        self.assertEqual(self.ended(process, signal.SIGTERM), -signal.SIGTERM)
-        self.assertFalse(made.exists())
+    def test_sigterm_and_sighup_take_it_away(self) -> None:
+        for number in (signal.SIGTERM, signal.SIGHUP):
+            process, made = self.holder()
+            self.assertEqual(self.ended(process, number), -number)
+            self.assertFalse(made.exists())
 
     def test_the_next_one_takes_away_what_sigkill_left(self) -> None:
         (lives, kept), (dies, _) = self.holder(), self.holder()

@@ -67,6 +67,12 @@ class Packets(unittest.TestCase):
         self.assertEqual(expected_of(rows), expected)
         self.assertEqual(tshark_totals(folder() / "other.pcapng"), (3, 113))
 
+    def test_what_is_no_capture(self) -> None:
+        for text, told in (("", "an empty file, and no capture"), ("some text\n", "neither pcap nor pcapng; ")):
+            (path := folder() / "none.pcap").write_text(text)
+            done = run("packets", path)
+            self.assertEqual((done.returncode, done.stdout, f"{path}: {told}" in done.stderr), (4, "", True), done.stderr)
+
     def test_cut_frames_keep_their_length(self) -> None:
         expected = odd_ethernet(folder() / "odd.pcap")
         subprocess.run(

@@ -81,7 +81,7 @@ class Panels(unittest.TestCase):
         replay.packets.target[39::40] = 1
         replay.packets.targets.append(("pipe", 2))
         found = series(replay, group(replay, "tuple").largest(replay.packets.length, 3), NS_PER_S // 2, span_of([replay]))
-        self.assertEqual([flow.name for flow in found.flows][3:], ["36 others of pipe 1", "1 others of pipe 2"])
+        self.assertEqual([flow.name for flow in found.flows][3:], ["36 others of pipe 1", "1 other of pipe 2"])
         self.assertEqual(list(found.carried), ["pipe 1", "pipe 2"])
         self.assertEqual(found.carried["pipe 2"].tolist(), found.flows[4].carried.tolist())
         self.assertAlmostEqual(

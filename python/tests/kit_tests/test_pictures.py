@@ -4,6 +4,7 @@ from __future__ import annotations
 
 import gzip
 import json
+import os
 import re
 import unittest
 from base64 import b64decode
@@ -92,6 +93,13 @@ class Figures(unittest.TestCase):
                     self.assertLessEqual(highest, axis.get_ylim()[1], axis.get_title())
             highest = max(int(sum(found.drops.values()).max()) for found in replays)
             self.assertGreaterEqual(axes[10].get_ylim()[1], highest)
+
+    def test_a_home_that_is_not_there_is_no_matter(self) -> None:
+        _, packets, report = mixed("dsl")
+        done = run(
+            "look", packets, report, "-o", "homeless.png", env={**os.environ, "HOME": "/dev/null", "XDG_CONFIG_HOME": "/dev/null"}
+        )
+        self.assertEqual((done.returncode, done.stderr), (0, ""))
 
     def test_a_page_tells_of_its_packets_without_network(self) -> None:
         config, packets, report = mixed("shared")

@@ -2,6 +2,7 @@
 
 from __future__ import annotations
 
+import os
 import random
 import shutil
 import subprocess
@@ -19,6 +20,14 @@ START = TOP / "python" / "hinge" / "__main__.py"
 def without_numpy(*words: object) -> subprocess.CompletedProcess[str]:
     """A command of the kit by a Python that looks at no other package."""
     return subprocess.run([sys.executable, "-S", START, *map(str, words)], capture_output=True, text=True, cwd=folder())
+
+
+def with_broken_numpy(line: str, *words: object) -> subprocess.CompletedProcess[str]:
+    """A command of the kit by a Python whose numpy is this line."""
+    (folder() / "broken" / "numpy").mkdir(parents=True, exist_ok=True)
+    (folder() / "broken" / "numpy" / "__init__.py").write_text(line)
+    names = {**os.environ, "PYTHONPATH": str(folder() / "broken"), "PYTHONDONTWRITEBYTECODE": "1"}
+    return subprocess.run([sys.executable, START, *map(str, words)], capture_output=True, text=True, cwd=folder(), env=names)
 
 
 class WithoutNumpy(unittest.TestCase):
@@ -49,6 +58,18 @@ class WithoutNumpy(unittest.TestCase):
         self.assertIn("all", self.same("look", path))
         self.same("why", 1, 400, 5000, path)
         self.same("look", path, "--by", "target", "--csv")
+
+    def test_one_that_cannot_be_loaded_is_as_none_and_is_told(self) -> None:
+        path = self.history()
+        for line, why in (
+            ("raise ImportError('no libblas\\nread on')", "no libblas read on"),
+            ("import none", "No module named 'none'"),
+        ):
+            self.assertEqual(with_broken_numpy(line, "look", path).stdout, run("look", path).stdout)
+            done = with_broken_numpy(line, "look", path, "-o", "broken.png")
+            told = "hinge look: needs Python's numpy: pip install numpy, or apt-get install python3-numpy; this one fails: "
+            self.assertEqual((done.returncode, done.stdout, done.stderr), (7, "", f"{told}{why}\n"))
+            self.assertIn("no   pages (.html): Python lacks numpy\n", with_broken_numpy(line, "doctor").stdout)
 
     def test_a_net_has_its_ways_alone(self) -> None:
         place = folder() / "plain.session"

@@ -57,7 +57,7 @@ class ByHand(unittest.TestCase):
         self.assertEqual(",".join(row), f"{names}jitter_ns,queueing_ns,transmission_ns,link_delay_ns")
         self.assertEqual(",".join(row.values()), f"udp 10.0.0.1:1 > 10.0.0.2:2,5,5000,20.000000,12.000000,3,0,1,1,0,{times}")
         done = run("look", packets, report, "--by", "target")
-        self.assertIn("1 rows went to pipe 9, which isn't configured", done.stderr)
+        self.assertIn("1 row went to pipe 9, which isn't configured", done.stderr)
         lines = done.stdout.splitlines()
         self.assertEqual(
             [line[5:].split("  ")[0] for line in lines[:5]], ["flow", lines[1][5:].split("  ")[0], "pipe 1", "pipe 9", "all"]

@@ -4,21 +4,15 @@ from __future__ import annotations
 
 import json
 import subprocess
-import tempfile
-import unittest
 from typing import Any
 
 from linked import Done, run
+from with_folder import WithFolder
 
 CERTIFICATE = ["openssl", "req", "-x509", "-newkey", "rsa:2048", "-nodes", "-subj", "/CN=server", "-days", "2"]
 
 
-class Behind(unittest.TestCase):
-    def setUp(self) -> None:
-        folder = tempfile.TemporaryDirectory()
-        self.addCleanup(folder.cleanup)
-        self.folder = folder.name
-
+class Behind(WithFolder):
     def summary(self, *words: str, seconds: float = 60) -> tuple[Done[str], dict[str, Any]]:
         """Runs a command, and reads the summary too."""
         done = run("--json", f"{self.folder}/json", *words, seconds=seconds)

@@ -8,12 +8,11 @@ import resource
 import signal
 import socket
 import subprocess
-import tempfile
 import time
-import unittest
 from typing import Iterator, Optional
 
 from linked import HINGE, found
+from with_folder import WithFolder
 
 # bytes of a datagram, 1,000 with its headers; the seconds that it takes there and back at 8 Mbit/s and 2 x 20 ms
 SIZE, ROUND = 972, 0.041
@@ -79,12 +78,7 @@ def counts(said: str, way: str) -> dict[str, int]:
     return {words: int(number) for number, words in re.findall(r"(\d+) ([a-zA-Z ]+)", line)}
 
 
-class InAFolder(unittest.TestCase):
-    def setUp(self) -> None:
-        folder = tempfile.TemporaryDirectory()
-        self.addCleanup(folder.cleanup)
-        self.folder = folder.name
-
+class InAFolder(WithFolder):
     def written(self, name: str, text: str) -> str:
         with open(f"{self.folder}/{name}", "w") as file:
             file.write(text)

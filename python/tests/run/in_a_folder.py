@@ -3,19 +3,15 @@
 from __future__ import annotations
 
 import json
-import tempfile
-import unittest
-from pathlib import Path
 from typing import Any
 
 from linked import Done, audited_as_lawful, hinge
+from with_folder import WithFolder
 
 
-class InAFolder(unittest.TestCase):
+class InAFolder(WithFolder):
     def setUp(self) -> None:
-        folder = tempfile.TemporaryDirectory()
-        self.addCleanup(folder.cleanup)
-        self.folder = Path(folder.name)
+        super().setUp()
         self.file = self.folder / "x.net"
 
     def net(self, text: str, *words: str, seconds: float = 60) -> Done[str]:

@@ -127,6 +127,18 @@ def with_sigterm(process: int) -> bool:
 
 
 @contextmanager
+def web_server(folder: Word, address: str) -> Iterator[str]:
+    """The port of a server of this folder's files, outside of every link."""
+    words = [sys.executable, "-u", "-m", "http.server", "0", "--bind", address]
+    with subprocess.Popen(words, cwd=folder, stdout=subprocess.PIPE, stderr=subprocess.DEVNULL, text=True) as server:
+        assert server.stdout
+        try:
+            yield found(r"port (\d+)", server.stdout.readline())[0]
+        finally:
+            server.terminate()
+
+
+@contextmanager
 def stopped(process: int) -> Iterator[None]:
     """Stops a process meanwhile, so that what comes to it waits."""
     os.kill(process, signal.SIGSTOP)

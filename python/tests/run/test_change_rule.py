@@ -2,9 +2,9 @@
 
 from __future__ import annotations
 
-import tempfile
 import unittest
-from pathlib import Path
+
+from with_folder import WithFolder
 
 from hinge.configurations.configured import spelled_lines
 from hinge.net.described import Described
@@ -42,12 +42,7 @@ def begun() -> Plan:
     return plan
 
 
-class OneRule(unittest.TestCase):
-    def setUp(self) -> None:
-        folder = tempfile.TemporaryDirectory()
-        self.addCleanup(folder.cleanup)
-        self.folder = Path(folder.name)
-
+class OneRule(WithFolder):
     def by_change(self, words: str) -> str:
         taken, plan = list[str](), begun()
         control = Control(str(self.folder / "s"), plan, Page(), lambda moment, words: plan.event([moment, *words.split()]), dict)

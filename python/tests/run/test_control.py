@@ -9,21 +9,36 @@ import shutil
 import signal
 import socket
 import subprocess
-import tempfile
+import sys
 import unittest
 from pathlib import Path
 from typing import Callable, Iterator, Optional
 
 from linked import HINGE, Done, audited_as_lawful, found, hinge, needs, needs_host, needs_rooms, run, until
+from with_folder import WithFolder
 
 from hinge.border.asking import ask
 
 
-class InAFolder(unittest.TestCase):
+SLOW_END = """\
+import os, signal, subprocess
+from hinge.run.processes import Processes
+signals = {signal.SIGCHLD, signal.SIGTERM}
+words = ["sh", "-c", "trap 'sleep 0.3; exit 5' TERM; echo; while :; do sleep 0.05; done"]
+child = subprocess.Popen(words, stdout=subprocess.PIPE)
+child.stdout.read(1)
+signal.pthread_sigmask(signal.SIG_BLOCK, signals)
+os.kill(os.getpid(), signal.SIGTERM)
+processes = Processes(signals)
+processes.end(child.pid, 20)
+print(processes.ended.get(child.pid), flush=True)
+os._exit(0)
+"""
+
+
+class InAFolder(WithFolder):
     def setUp(self) -> None:
-        folder = tempfile.TemporaryDirectory()
-        self.addCleanup(folder.cleanup)
-        self.folder = Path(folder.name)
+        super().setUp()
         self.socket, self.go, self.history = self.folder / "socket", self.folder / "go", self.folder / "history"
 
     @contextlib.contextmanager
@@ -121,10 +136,39 @@ class OfRuns(InAFolder):
             self.assertEqual(status.keys(), told.keys())  # type: ignore[union-attr]
         self.assertEqual((told["status"], told["up"]["came"], told["void"]), (None, 0, []))
 
+    def test_a_signal_while_the_host_starts_leaves_nothing(self) -> None:
+        host, mark = self.folder / "host", f"{5000 + os.getpid() % 1000}.63"
+        host.write_text(f"#!/bin/sh\nexec sleep {mark}\n")  # which is never ready
+        host.chmod(0o755)
+        for words in (["udp", "0", "1"], ["run", "--up", "1ms", "--", "true"]):
+            words[1:1] = ["--control", str(self.socket)]
+            with subprocess.Popen([*HINGE, *words], env={**os.environ, "HINGE_LINK": str(host)}) as process:
+                until(lambda: subprocess.run(["pgrep", "-f", f"^sleep {mark}"], capture_output=True).stdout)
+                process.terminate()
+            self.assertEqual((process.returncode, self.socket.exists()), (143, False), words)
+            until(lambda: not subprocess.run(["pgrep", "-f", f"^sleep {mark}"], capture_output=True).stdout, 5)
+
+    def test_a_signal_while_a_process_ends_does_not_cut_the_wait(self) -> None:
+        """As a ^C of which the launcher tells the first process, while the link ends because its command has."""
+        done = subprocess.run([sys.executable, "-c", SLOW_END], capture_output=True, text=True)
+        self.assertEqual((done.stdout, done.stderr), ("5\n", ""))
+
+    def test_a_defect_of_the_first_process_is_no_silent_end(self) -> None:
+        for fault, told in (("Wrong('no such word')", "no such word\n"), ("KeyError('gone')", "KeyError: 'gone'\n")):
+            script = f"from hinge.run.words import Wrong; from hinge.run.first import live\ndef run(): raise {fault}\nlive(run)"
+            done = subprocess.run([sys.executable, "-c", script], capture_output=True, text=True)
+            self.assertEqual((done.returncode, done.stderr[-len(told) :]), (6, told))
+
+    def test_a_wrong_word_is_told_by_what_was_typed(self) -> None:
+        with self.running("run", "--up", "5ms"):
+            self.assertEqual(self.change("up", "9msec").stderr, "hinge change: 'up 9msec': '9msec': not a delay; write 9ms\n")
+
     def test_a_place_that_is_taken_and_one_that_was_left(self) -> None:
         self.socket.write_text("")
         done = run("--up", "1ms", "--control", self.socket, "--", "true")
-        self.assertEqual((done.returncode, done.stderr), (6, f"hinge run: --control {self.socket}: Address already in use\n"))
+        self.assertEqual(
+            (done.returncode, done.stderr), (6, f"hinge run: --control {self.socket}: a run or a file has this name\n")
+        )
         self.socket.unlink()
         with socket.socket(socket.AF_UNIX) as left:
             left.bind(str(self.socket))
@@ -147,7 +191,7 @@ class OfNets(InAFolder):
             )
             self.assertEqual(found(r"s: (.*)$", self.change("c", "b", "up", "9ms").stdout), ["pipe 6 config delay 9"])
             refused = self.change("c", "d", "9ms")
-            self.assertEqual((refused.returncode, refused.stderr), (2, "hinge change: change line 1: 'd': no host of this net\n"))
+            self.assertEqual((refused.returncode, refused.stderr), (2, "hinge change: 'c d 9ms': 'd': no host of this net\n"))
             self.assertEqual([way["pipe"] for way in json.loads(hinge("status", self.socket).stdout)["ways"]], [1, 2, 3, 4, 5, 6])
         self.assertEqual(self.obeyed()[6:], ["pipe 3 config delay 2 plr 1", "pipe 4 config delay 2 plr 1", "pipe 6 config delay 9"])
 

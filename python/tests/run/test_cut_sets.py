@@ -7,13 +7,12 @@ from __future__ import annotations
 
 import os
 import random
-import tempfile
 import unittest
-from pathlib import Path
 from typing import NamedTuple
 from unittest import mock
 
 from linked import Linked, audited_as_lawful, needs_host, until
+from with_folder import WithFolder
 
 from hinge.border.messages import ObeyedLine, Reply
 from hinge.net import Net
@@ -142,12 +141,7 @@ def courses(history: str, base: int) -> dict[int, dict[int, State]]:
     return {pipe: changes(states) for pipe, states in found.items()}
 
 
-class OfNets(unittest.TestCase):
-    def setUp(self) -> None:
-        folder = tempfile.TemporaryDirectory()
-        self.addCleanup(folder.cleanup)
-        self.folder = Path(folder.name)
-
+class OfNets(WithFolder):
     def made(self, text: str) -> NetPlan:
         file = self.folder / "x.net"
         file.write_text(text)

@@ -13,7 +13,7 @@ import unittest
 from behind import Behind
 from hinge.run.interfaces import leads_out_in_ipv6
 from hinge.run.outside import GATEWAY, GATEWAY6
-from linked import AS_IN_A_CONTAINER, HINGE, audited_as_lawful, found, needs, needs_mounts, needs_rooms, run
+from linked import AS_IN_A_CONTAINER, HINGE, audited_as_lawful, found, needs, needs_mounts, needs_rooms, run, web_server
 
 
 @needs_rooms
@@ -172,15 +172,7 @@ class OfOutside(Behind):
     def answer(self, path: str, own: str, gateway: str, option: str, *before: str) -> str:
         with open(f"{self.folder}/data", "w") as file:
             file.write("from outside")
-        with subprocess.Popen(
-            [sys.executable, "-u", "-m", "http.server", "0", "--bind", own],
-            cwd=self.folder,
-            stdout=subprocess.PIPE,
-            stderr=subprocess.DEVNULL,
-            text=True,
-        ) as server:
-            assert server.stdout
-            port = found(r"port (\d+)", server.stdout.readline())[0]
+        with web_server(self.folder, own) as port:
             ask = ["curl", "-s", "-m", "9", "-w", " %{time_total}", f"http://{gateway}:{port}/data"]
             done = subprocess.run(
                 [*before, *HINGE, "run", "--quiet", option, "--up", "30ms", "--down", "30ms", "--", *ask],
@@ -190,7 +182,6 @@ class OfOutside(Behind):
                 stdin=subprocess.DEVNULL,
                 env={**os.environ, "PATH": path},
             )
-            server.terminate()
         self.assertEqual(done.stderr, "")
         return done.stdout
 

@@ -9,7 +9,6 @@ import shlex
 import shutil
 import subprocess
 import sys
-import tempfile
 import unittest
 from concurrent.futures import ThreadPoolExecutor
 from functools import partial
@@ -28,6 +27,7 @@ from hinge.run.settings import RunOptions
 from hinge.run.words import Wrong, link_of
 from hingetulip_words.link import Place, corrected
 from linked import needs, needs_rooms
+from with_folder import WithFolder
 
 PYTHON, DATA = Path(__file__).resolve().parents[2], Path(__file__).resolve().parents[1] / "kit_data"
 LINES = {
@@ -144,20 +144,18 @@ def typed(place: Path, text: str) -> Optional[str]:
 
 @needs_rooms
 @needs("slirp4netns")
-class Typed(unittest.TestCase):
+class Typed(WithFolder):
     def setUp(self) -> None:
-        folder = tempfile.TemporaryDirectory()
-        self.addCleanup(folder.cleanup)
-        self.place = Path(folder.name)
+        super().setUp()
         for name in ("bin", "run"):
-            (self.place / name).mkdir()
+            (self.folder / name).mkdir()
         for name, text in {**FILES, **{f"bin/{name}": f"#!/bin/sh\n{text}\n" for name, text in PROGRAMS.items()}}.items():
-            (self.place / name).write_text(text)
-            (self.place / name).chmod(0o755)
-        shutil.copy(DATA / "mixed.pcap", self.place / "CAPTURE")
+            (self.folder / name).write_text(text)
+            (self.folder / name).chmod(0o755)
+        shutil.copy(DATA / "mixed.pcap", self.folder / "CAPTURE")
         for text in ("hinge try --transcript HISTORY", "hinge up NAME.net"):
-            self.assertIsNone(typed(self.place, text))
-        self.addCleanup(typed, self.place, "hinge down NAME")
+            self.assertIsNone(typed(self.folder, text))
+        self.addCleanup(typed, self.folder, "hinge down NAME")
 
     def test_a_hundred_lines_of_other_manuals_get_what_works_as_it_stands(self) -> None:
         lines, texts = (DATA / "foreign.txt").read_text().splitlines(), list[str]()
@@ -169,8 +167,8 @@ class Typed(unittest.TestCase):
             texts.append(text)
         each = [text for text in dict.fromkeys(texts) if not text.startswith("hinge down")]
         with ThreadPoolExecutor(4) as pool:
-            faults = dict(zip(each, pool.map(partial(typed, self.place), each)))
-        faults["hinge down NAME"] = typed(self.place, "hinge down NAME")
+            faults = dict(zip(each, pool.map(partial(typed, self.folder), each)))
+        faults["hinge down NAME"] = typed(self.folder, "hinge down NAME")
         self.assertEqual(len(lines), 100)
         self.assertLessEqual(sum(faults[text] is not None for text in texts), 1, [*filter(None, faults.values())])
 

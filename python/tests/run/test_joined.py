@@ -6,12 +6,11 @@ import os
 import re
 import subprocess
 import sys
-import tempfile
 import time
 import unittest
-from pathlib import Path
 
 from linked import HINGE, Done, audited_as_lawful, needs, needs_rooms, run, until
+from with_folder import WithFolder
 
 OUTSIDE, INSIDE = "172.31.253.1", "172.31.253.2"
 RULES = "0: from all lookup local 32766: from all lookup main 32767: from all lookup default"
@@ -25,10 +24,11 @@ def ip(*words: str) -> str:
 @needs_rooms
 @needs("ip", "ping", "curl")
 @unittest.skipIf(os.geteuid() != 0, "only root can make a network that others enter")
-class OfNetworks(unittest.TestCase):
+class OfNetworks(WithFolder):
     """A network with one interface towards another one, as a container and its machine have it."""
 
     def setUp(self) -> None:
+        super().setUp()
         self.name, self.outer = (f"hinge-{os.getpid()}-{time.monotonic_ns()}-{place}" for place in ("in", "out"))
         for name in (self.name, self.outer):
             ip("netns", "add", name)
@@ -39,9 +39,7 @@ class OfNetworks(unittest.TestCase):
             ip("-n", name, "addr", "add", f"{address}/24", "dev", "eth0")
             ip("-n", name, "link", "set", "eth0", "up")
         ip("-n", self.name, "route", "add", "default", "via", OUTSIDE)
-        folder = tempfile.TemporaryDirectory()
-        self.addCleanup(folder.cleanup)
-        self.folder, self.path = Path(folder.name), f"/run/netns/{self.name}"
+        self.path = f"/run/netns/{self.name}"
 
     def inside(self, *words: str) -> Done[str]:
         return subprocess.run(["ip", "netns", "exec", self.name, *words], capture_output=True, text=True)

@@ -7,23 +7,15 @@ import json
 import os
 import signal
 import subprocess
-import tempfile
 import unittest
-from pathlib import Path
 from typing import Any, Optional
 
 from linked import HINGE, audited_as_lawful, found, hinge, needs, needs_rooms, run, until
-
-
-class InAFolder(unittest.TestCase):
-    def setUp(self) -> None:
-        folder = tempfile.TemporaryDirectory()
-        self.addCleanup(folder.cleanup)
-        self.folder = Path(folder.name)
+from with_folder import WithFolder
 
 
 @needs_rooms
-class OfServers(InAFolder):
+class OfServers(WithFolder):
     def server(self, command: str, *words: str) -> tuple[int, str, Any]:
         """The status, what is said, and what the summary has of the server."""
         done = run("--quiet", "--server", command, "--json", self.folder / "json", *words)
@@ -73,7 +65,7 @@ class OfServers(InAFolder):
 
 
 @needs_rooms
-class OfStreams(InAFolder):
+class OfStreams(WithFolder):
     def test_closed_ones_are_nothing(self) -> None:
         for closed in ("<&-", ">&-", "2>&-", "<&- >&- 2>&-"):
             done = subprocess.run(
@@ -87,7 +79,7 @@ class OfStreams(InAFolder):
 
 @needs_rooms
 @needs("pgrep")
-class OfFiles(InAFolder):
+class OfFiles(WithFolder):
     def test_a_transcript_and_a_summary_are_two_files(self) -> None:
         for name in ("new", "old"):
             (self.folder / "old").write_text("kept")

@@ -6,10 +6,9 @@ import os
 import shutil
 import signal
 import subprocess
-import sys
 import unittest
 
-from linked import HINGE, found, hinge, needs, needs_rooms, until
+from linked import HINGE, found, hinge, needs, needs_rooms, until, web_server
 
 from hinge.run.outside import GATEWAY
 from in_a_folder import InAFolder
@@ -24,15 +23,7 @@ class OfOutside(InAFolder):
 
     def answers(self, option: str, host: str) -> list[str]:
         """What each host gets of a server outside."""
-        with subprocess.Popen(
-            [sys.executable, "-u", "-m", "http.server", "0", "--bind", "127.0.0.1"],
-            cwd=self.folder,
-            stdout=subprocess.PIPE,
-            stderr=subprocess.DEVNULL,
-            text=True,
-        ) as server:
-            assert server.stdout
-            port = found(r"port (\d+)", server.stdout.readline())[0]
+        with web_server(self.folder, "127.0.0.1") as port:
             ask = f"curl -s -o /dev/null -m 3 -w '%{{http_code}} %{{time_total}}' http://{GATEWAY}:{port}/"
             done = self.net(
                 (
@@ -46,7 +37,6 @@ class OfOutside(InAFolder):
                 "--logs",
                 str(self.folder / "logs"),
             )
-            server.terminate()
         self.assertEqual(done.stderr, "")
         return [(self.folder / "logs" / f"{name}.log").read_text() for name in "ab"]
 

@@ -2,11 +2,11 @@
 
 from __future__ import annotations
 
-import tempfile
 import unittest
 from pathlib import Path
 
 from linked import hinge
+from with_folder import WithFolder
 from hinge.net.description import Description, read_description
 from hinge.net.net_plan import NetPlan
 from hinge.net.statements import Unobeyed
@@ -16,11 +16,10 @@ from hinge.run.words import LAST_MOMENT, Wrong
 TWO = "host a\nhost b\n"
 
 
-class OfFiles(unittest.TestCase):
+class OfFiles(WithFolder):
     def setUp(self) -> None:
-        folder = tempfile.TemporaryDirectory()
-        self.addCleanup(folder.cleanup)
-        self.path = Path(folder.name, "x.net")
+        super().setUp()
+        self.path = self.folder / "x.net"
 
     def net(self, text: str) -> Description:
         self.path.write_text(text)
@@ -63,6 +62,9 @@ WRONG = (  # a net's file, and what is said of it
     (TWO + "link a b\nat 1s cut a 1s\nat 3s heal a\n", "line 5: 'heal': no cut of such a link goes on then"),
     (TWO + "link a b\nat main+1s cut a\n", "line 4: main+1s: the net has no main command"),
     (TWO + "link a b\nat 1s kill c\n", "line 4: 'c': no host of this net"),
+    (TWO + "link a b\nat 1s kil a\n", "line 4: 'kil': no host of this net; did you mean 'kill'?"),
+    (TWO + "link a b\nat 1s cut a b\n", "line 4: 'b': write `from b`: at TIME cut A [from B ..] [LENGTH]"),
+    (TWO + "link a b\nfaults none\n", "none: No such file or directory"),
     (TWO + "link a b\nat 1s restart a\n", "line 4: 'a': it has no command that could begin again"),
     (TWO + "link a b\nat 1s skew a 2s\n", "line 4: '2s': how far the clock is ahead, as +2s, or behind, as -2s"),
     (TWO + "link a b\nat 1s skew a +2s 9\n", "line 4: '9': what the clock gains, as 100ppm or -50.5ppm"),

@@ -7,11 +7,10 @@ import signal
 import socket
 import subprocess
 import sys
-import tempfile
 import unittest
-from pathlib import Path
 
 from linked import needs, needs_rooms, until
+from with_folder import WithFolder
 
 from hinge.net import CommandFailed, Net, NetError
 
@@ -31,12 +30,7 @@ time.sleep(1000)
 """
 
 
-class InAFolder(unittest.TestCase):
-    def setUp(self) -> None:
-        folder = tempfile.TemporaryDirectory()
-        self.addCleanup(folder.cleanup)
-        self.folder = Path(folder.name)
-
+class InAFolder(WithFolder):
     def net(self, **how: object) -> Net:
         made = Net(self.folder / "net", **how)  # type: ignore[arg-type]
         self.addCleanup(made.close)

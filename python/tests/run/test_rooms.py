@@ -12,7 +12,7 @@ import sys
 import tempfile
 import unittest
 
-from linked import AS_IN_A_CONTAINER, HINGE, audited, audited_as_lawful, found, needs, needs_mounts, needs_rooms, run, until
+from linked import AS_IN_A_CONTAINER, HINGE, audited, audited_as_lawful, found, hinge, needs, needs_mounts, needs_rooms, run, until
 
 
 CHROOTED = """mount --make-rshared / && cd "$0" || exit 99
@@ -54,7 +54,18 @@ class OfCommands(unittest.TestCase):
                 "a rate of loss is a word of a link, as in --up 'loss 1%'\n",
             ),
             (["--line", "queue 1 config pipe 9"], 3, "hinge: queue 1 config pipe 9: no-such-pipe\n"),
-            (["--late", "soon"], 2, "hinge run: soon: no time, as 5s or 600ms\n"),
+            (["--late", "soon"], 2, "hinge run: --late soon: no time, as 5s or 600ms\n"),
+            *(
+                ([option, "soon"], 2, f"hinge run: {option} soon: no time, as 5s or 600ms\n")
+                for option in ("--server-wait", "--server-end")
+            ),
+            (["--transcript", "/none/history"], 2, "hinge run: --transcript /none/history: it can't be written\n"),
+            (["--faults", "/none"], 2, "hinge run: /none: No such file or directory\n"),
+            (
+                ["--transcript", "/tmp/both", "--control", "/tmp/both"],
+                2,
+                "hinge run: --control /tmp/both: the same file as /tmp/both\n",
+            ),
             (["--late", "2"], 2, "hinge run: --late 2: it has no unit; write 2ms or 2s\n"),
             (["--json", "/none/json"], 2, "hinge run: --json /none/json: it can't be written\n"),
             (["--config", "/none"], 2, "hinge run: /none: No such file or directory\n"),
@@ -74,6 +85,22 @@ class OfCommands(unittest.TestCase):
             self.assertEqual((got.returncode, got.stdout), (2, ""))
             self.assertIn(f"{option}: the words of a link are in --link; write --link '{words}'\n", got.stderr)
             self.assertIn("nothing came", run("--up", words, "--", "true").stderr)
+
+    def test_names_that_are_not_utf8(self) -> None:
+        with tempfile.TemporaryDirectory() as folder:
+            name, net = os.path.join(os.fsencode(folder), b"a \xff b"), os.path.join(folder, "x.net")
+            self.assertEqual(run("--line", os.fsdecode(b"\xff"), "--", "true").returncode, 3)
+            done = run("--up", "1ms", "--transcript", os.fsdecode(name), "--", "true")
+            self.assertEqual((done.returncode, done.stderr.count("nothing came")), (0, 2), done.stderr)
+            with open(net, "w") as file:
+                file.write("main a true\nhost b\nlink a b 1ms\n")
+            done = hinge("net", net, "--transcripts", f"{os.fsdecode(name)}.session")
+            self.assertEqual(done.returncode, 0, done.stderr)
+            for history in (name, name + b".session/net.history"):
+                with open(history, "rb") as file:
+                    self.assertEqual(file.readline()[:13], b"dummynet-live")
+            done = hinge("net", net, "--transcripts", f"{folder}/a\nb")
+            self.assertEqual((done.returncode, os.path.exists(f"{folder}/a\nb")), (2, False))
 
     def test_a_transcript_that_is_a_file_to_be_read_is_refused(self) -> None:
         with tempfile.TemporaryDirectory() as folder:

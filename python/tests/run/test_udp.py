@@ -165,6 +165,14 @@ class OfWords(InAFolder):
         self.assertEqual(self.refused("queue 1 config pipe 9"), (3, "hinge: queue 1 config pipe 9: no-such-pipe\n"))
         self.assertEqual(self.refused(f"{self.folder}/none"), (2, f"hinge udp: {self.folder}/none: No such file or directory\n"))
 
+    def test_a_server_that_is_itself(self) -> None:
+        with sockets(1) as [free]:
+            port = port_of(free)
+        for listen, server, told in ((f"{port}", f"localhost:{port}", "127.0.0.1"), (f"[::1]:{port}", f"[::1]:{port}", "[::1]")):
+            done = hinge("udp", listen, server)
+            again = f"{told}:{port} is LISTEN itself, and each datagram would come again for ever"
+            self.assertEqual((done.returncode, done.stderr), (2, f"hinge udp: SERVER: {again}\n"))
+
     def test_a_port_that_is_taken(self) -> None:
         with sockets(1) as [taken]:
             done = hinge("udp", str(port_of(taken)), "1")

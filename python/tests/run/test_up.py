@@ -4,22 +4,20 @@ from __future__ import annotations
 
 import json
 import os
+import shutil
 import signal
 import subprocess
-import tempfile
 import unittest
-from pathlib import Path
 
 from linked import HINGE, Done, needs, needs_host, needs_rooms, until
+from with_folder import WithFolder
 
 NET = "host a\nhost b\nlink a b 1ms\n"
 
 
-class Named(unittest.TestCase):
+class Named(WithFolder):
     def setUp(self) -> None:
-        folder = tempfile.TemporaryDirectory()
-        self.addCleanup(folder.cleanup)
-        self.folder = Path(folder.name)
+        super().setUp()
         (self.folder / "run").mkdir()
         self.sockets = self.folder / "run" / "hinge"
 
@@ -98,10 +96,27 @@ class OfNets(Named):
             (2, True, ""),
             done.stderr,
         )
+        done = self.up(NET, "--late", "soon", "--logs", "logs")
+        self.assertEqual((done.returncode, done.stderr), (2, "hinge up: --late soon: no time, as 5s or 600ms\n"))
+        self.assertEqual(sorted(os.listdir(self.folder)), ["run", "x.net", "x.session"])
+        shutil.rmtree(self.folder / "x.session")
+        for text, words in (("hots a\n", []), (NET, ["--end-wait", "soon"])):
+            self.assertEqual((self.up(text, *words).returncode, sorted(os.listdir(self.folder))), (2, ["run", "x.net"]))
         done = self.up(NET, "--name", "../x")
         self.assertEqual(
             (done.returncode, done.stderr), (2, "hinge up: --name ../x: a name has letters, digits, dots and hyphens\n")
         )
+
+    def test_a_signal_while_it_waits_ends_the_net(self) -> None:
+        (self.folder / "x.net").write_text("host a sleep 100\nhost b\nlink a b\nwait a port 7 100s\n")
+        for number in (signal.SIGINT, signal.SIGTERM, signal.SIGHUP):
+            env = {**os.environ, "XDG_RUNTIME_DIR": str(self.folder / "run")}
+            with subprocess.Popen([*HINGE, "up", "x.net"], cwd=self.folder, env=env, stderr=subprocess.PIPE) as process:
+                until(lambda: (self.sockets / "x").exists())
+                process.send_signal(number)
+                self.assertEqual(process.communicate()[1], b"")
+            self.assertIn(process.returncode, (-number, 128 + number))
+            self.assertEqual(list(self.sockets.iterdir()), [])
 
     def test_a_log_is_no_link_and_no_pipe(self) -> None:
         folder, kept = self.folder / "x.session", self.folder / "kept"

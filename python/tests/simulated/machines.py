@@ -15,6 +15,7 @@ from pathlib import Path
 from typing import Any, Callable, NamedTuple, TypeVar, Union
 
 from hinge.program import dummynet
+from with_folder import WithFolder
 
 HERE = Path(__file__).resolve().parent
 HINGE = [sys.executable, "-m", "hinge"]
@@ -55,12 +56,7 @@ def probe() -> str:
     return made
 
 
-class Simulated(unittest.TestCase):
-    def setUp(self) -> None:
-        folder = tempfile.TemporaryDirectory()
-        self.addCleanup(folder.cleanup)
-        self.folder = Path(folder.name)
-
+class Simulated(WithFolder):
     def hinge(self, *words: Word, **more: Any) -> "subprocess.CompletedProcess[str]":
         """A command of `hinge` in the test's folder."""
         streams = {"stdin": subprocess.DEVNULL, "stdout": subprocess.PIPE, "stderr": subprocess.PIPE}

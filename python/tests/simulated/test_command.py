@@ -94,6 +94,12 @@ class OfStreams(Simulated):
             process.stdout.close()
             self.assertEqual(process.wait(), 128 + signal.SIGPIPE)
 
+    def test_a_full_disk_is_told(self) -> None:
+        for words in (["echo", "hi"], ["sh", "-c", "echo hi; sleep 100000"]):
+            with open("/dev/full", "w") as full:
+                done = subprocess.run([*SIMULATED, "--quiet", "--", *words], stdin=NONE, stdout=full, stderr=PIPE, text=True)
+            self.assertEqual((done.returncode, done.stderr), (6, "hinge run: standard output: No space left on device\n"))
+
 
 class OfSurroundings(Simulated):
     def test_folder_environment_and_user(self) -> None:

@@ -90,9 +90,9 @@ def test_a_cut(simulated_net):
 
 @unittest.skipIf(importlib.util.find_spec("pytest") is None, "no pytest")
 class OfMarks(Simulated):
-    def run_pytest(self, tests: str) -> "subprocess.CompletedProcess[str]":
+    def run_pytest(self, tests: str, **more: str) -> "subprocess.CompletedProcess[str]":
         (self.folder / "test_them.py").write_text(tests)
-        names = {**os.environ, "PYTHONPATH": PYTHON, "PYTEST_DISABLE_PLUGIN_AUTOLOAD": "1"}
+        names = {**os.environ, "PYTHONPATH": PYTHON, "PYTEST_DISABLE_PLUGIN_AUTOLOAD": "1", **more}
         words = [sys.executable, "-m", "pytest", "-p", "hinge.pytest_plugin", "-q", "-rsP", "test_them.py"]
         return subprocess.run(words, cwd=self.folder, env=names, stdin=subprocess.DEVNULL, capture_output=True, text=True)
 
@@ -106,6 +106,13 @@ class OfMarks(Simulated):
         self.assertEqual([seed for _, seed, _ in drawn], ["1", "2", "1"])
         self.assertEqual(drawn[0], drawn[2])
         self.assertNotEqual(drawn[0][2], drawn[1][2])
+
+    def test_a_machine_that_never_began_leaves_no_folder(self) -> None:
+        place = self.folder / "temporary"
+        place.mkdir()
+        done = self.run_pytest("import pytest\n@pytest.mark.simulated(sed=3)\ndef test_it(): pass\n", TMPDIR=str(place))
+        self.assertIn("--sed; did you mean --seed?\n", done.stdout)
+        self.assertEqual([path.name for path in place.iterdir() if path.name.startswith("hinge-test-")], [])
 
     def test_nets(self) -> None:
         """One seed gives one run of a test's hosts, in folders of one name. A report has the net of one that fails."""
