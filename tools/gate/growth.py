@@ -66,6 +66,10 @@ def area_of(name: str) -> str:
     return next((area for area, pattern in AREAS.items() if re.fullmatch(pattern, name)), "")
 
 
+def is_python(file: Text) -> bool:
+    return file.name.endswith(".py") or bool(file.lines and re.match("#!.*python", file.lines[0]))
+
+
 def repeated(files: list[Text]) -> int:
     """How many runs of lines come again, in the same or another file, without what is empty or imports."""
     places: dict[int, int] = {}
@@ -107,7 +111,8 @@ def figures(top: Path, names: list[str]) -> dict[str, float]:
     lines = {area: sum(len(file.lines) for file in of_area) for area, of_area in by_area.items()}
     counts = Counter(area for area, of_area in by_area.items() for _ in of_area)
     proofs, rattle = by_area["proofs"], by_area["Rattle code"]
-    python = [*by_area["kit"], *by_area["module"], *by_area["tools"]]
+    python = [*by_area["kit"], *by_area["module"], *filter(is_python, by_area["tools"])]
+    c = [*by_area["hosts in C"], *(file for file in by_area["tools"] if file.name.endswith((".c", ".h")))]
     return {
         **{f"{area}, lines": number for area, number in lines.items()},
         "all text, lines": sum(len(file.lines) for file in files),
@@ -119,7 +124,7 @@ def figures(top: Path, names: list[str]) -> dict[str, float]:
         "repeated in proofs": repeated(proofs),
         "repeated in Rattle code": repeated(rattle),
         "repeated in Python": repeated(python),
-        "repeated in C": repeated(by_area["hosts in C"]),
+        "repeated in C": repeated(c),
         "participles in the kit, %": share_of_participles(top / "python" / "hinge"),
         "participles in tools, %": share_of_participles(top / "tools"),
         "habits in pages": habits(top, [name for name in names if name.endswith(".md")]),

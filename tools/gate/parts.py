@@ -14,6 +14,7 @@ from typing import NamedTuple, Optional
 import command
 import seeds
 from pytests import PLANS
+from tally import FAULT
 
 TOP = Path(__file__).resolve().parent.parent.parent
 TALLY = re.compile(r"(\d+) passed, (\d+) failed")
@@ -25,9 +26,7 @@ TEXTS_IN_C = 60
 AUDITS_IN_C = 120
 LONGEST = 7200  # s after which a part that hasn't ended is ended and counts as failed: the edits take that on one processor
 CALLS_BY_DEFINITIONS = 10_000
-# The seconds after which a part that hasn't ended is ended and counts as failed: ten times what the longest takes, and
-# for the edits what they take on one processor.
-LONGEST_PART, LONGEST_EDITS = 1800, 7200
+TOLD_LINES = 20  # of a part that failed without naming what
 FUZZED_IN_C, FUZZED_IN_PYTHON = 20_000, 800  # inputs of each target
 SYSTEMS = "/usr/bin/python3"
 NUMPY, MATPLOTLIB = (f"/usr/lib/python3/dist-packages/{name}/__init__.py" for name in ("numpy", "matplotlib"))
@@ -56,11 +55,12 @@ class Part(NamedTuple):
 
 
 class Tried(NamedTuple):
-    """How a part ended, and its processor seconds."""
+    """How a part ended, its processor seconds, and what failed in it."""
 
     name: str
     sum: Sum
     seconds: float
+    faults: str = ""
 
 
 def sum_in(text: str, status: int) -> Sum:
@@ -69,6 +69,12 @@ def sum_in(text: str, status: int) -> Sum:
     found = TALLY.match(lines[-1]) if lines else None
     told = Sum(int(found[1]), int(found[2])) if found else Sum(0, 1)
     return told if (status == 0) == (told.failed == 0) else Sum(told.passed, told.failed + 1)
+
+
+def faults_in(text: str) -> str:
+    """What the output of a part that failed names as such, or else its last lines."""
+    lines = text.splitlines()
+    return "\n".join([line for line in lines if line.startswith(FAULT)] or lines[-TOLD_LINES:])
 
 
 def growths() -> list[Part]:
@@ -177,4 +183,5 @@ def tried(part: Part, program: str) -> Tried:
     done = command.run(part.words, LONGEST, TOP, {**os.environ, "DUMMYNET": program})
     end = "" if done.text.endswith("\n") else "\n"
     print(f"== {part.name}, {time.monotonic() - begun:.0f} s\n{done.text}", end=end, flush=True)
-    return Tried(part.name, sum_in(done.text, done.status), done.seconds)
+    told = sum_in(done.text, done.status)
+    return Tried(part.name, told, done.seconds, faults_in(done.text) if told.failed else "")

@@ -57,7 +57,7 @@ def count(tally: Tally, files: list[str], env: Mapping[str, str], *options: str,
         return
     processors = str(len(os.sched_getaffinity(0)))
     at_once = ["-n", processors, "--dist", "loadfile"] if not is_alone and has(python, "xdist") else []
-    words = [python, "-m", "pytest", "-q", "-rs", "--tb=short", "-p", "no:cacheprovider", *at_once, *options, *files]
+    words = [python, "-m", "pytest", "-q", "-rsfE", "--tb=short", "-p", "no:cacheprovider", *at_once, *options, *files]
     status, text = output(words, {**env, "PYTHONDONTWRITEBYTECODE": "1"})
     lines = text.strip().splitlines()
     counts = {word.rstrip("s"): int(number) for number, word in COUNT.findall(lines[-1] if lines else "")}

@@ -2,16 +2,13 @@
 
     python3 tools/gate/run.py [--built | --quick | --needs] [--fresh]
 
-With --built the parts are tried over what an earlier `rt ci` built, without `rt ci`: that isn't the gate. With --quick
-the short ones are tried without `rt`, over the program of ./dummynet or the one that DUMMYNET names: an answer in some
-two minutes. Without `rt` on the path the short parts are tried, and the status is 2, since that isn't the gate. With
---needs it says which packages are missing here, and tries nothing. The seeds of random parts follow from the sources
-that they try, or are drawn by --fresh.
+With --quick the program is that of ./dummynet, or the one that DUMMYNET names. Without `rt` on the path the short parts are
+tried, and the status is 2, since that isn't the gate. The seeds of random parts follow from the sources that they try.
 
 Each part is a command whose last line is 'N passed, M failed'; one that ends otherwise counts as one that failed. The
 last line is the sum. A part that needs what this machine lacks passes nothing. The last line says how many were left
-out, and what is lacking. The table above it says where the minutes went, and is kept in built/minutes. DUMMYNET names
-the program for the parts that aren't told.
+out, and what is lacking. The lines above it name what failed, and the table above those says where the minutes went,
+which is kept in built/minutes. DUMMYNET names the program for the parts that aren't told.
 """
 
 from __future__ import annotations
@@ -30,7 +27,7 @@ import needs
 import seeds
 from machine import lanes
 from minutes import Minutes
-from parts import TALLY, TOP, Sum, Tried, edits_part, left_out, parts, sum_in, tried
+from parts import TALLY, TOP, Sum, Tried, edits_part, faults_in, left_out, parts, sum_in, tried
 
 MADE = TOP / "crates" / "dummynet" / "out" / "dummynet"
 NOT_THE_GATE = 2
@@ -59,7 +56,7 @@ def environment() -> dict[str, str]:
     return words
 
 
-def proved() -> Sum:
+def proved() -> Tried:
     """`rt ci`, whose lines are passed on; what it built becomes the program of ./dummynet."""
     before, text = sources(), ""
     how: dict[str, Any] = {"stdin": subprocess.DEVNULL, "stdout": subprocess.PIPE, "text": True, "errors": "replace"}
@@ -70,7 +67,7 @@ def proved() -> Sum:
     told = sum_in(text, ci.returncode)
     if told.failed == 0 and sources() == before:
         keep_program(before)
-    return told
+    return Tried("rt ci", told, 0, faults_in(text) if told.failed else "")
 
 
 def keep_program(sum: str) -> None:
@@ -111,20 +108,19 @@ def tell_minutes(minutes: Minutes, parts: list[Tried]) -> None:
     print(f"== where the minutes went, also in {MINUTES.relative_to(TOP)}\n{table}", end="", flush=True)
 
 
-def tried_and_told(words: list[str], is_quick: bool, fresh: Optional[int]) -> tuple[list[Sum], str]:
-    """Tries all that these words ask for. What was left out comes beside the sums."""
+def tried_and_told(words: list[str], is_quick: bool, fresh: Optional[int]) -> tuple[list[Tried], str]:
+    """Tries all that these words ask for. What was left out comes beside the parts."""
     minutes, done, note = Minutes(), list[Tried](), ""
-    sums = [] if words or is_quick else [proved()]
+    ci = [] if words or is_quick else [proved()]
     program = quick_program() if is_quick else MADE
     if program.exists():
         done += [] if is_quick else [tried(edits_part(), str(program))]
         others, note = tried_over(program, is_quick, fresh)
         done += others
     else:
-        print("no program of these sources is built, so nothing more is tried: ./build makes one")
-        sums.append(Sum(0, 1))
+        ci.append(Tried("the program", Sum(0, 1), 0, "none of these sources is built, so no part is tried: ./build makes one"))
     tell_minutes(minutes, done)
-    return [*sums, *(part.sum for part in done)], note
+    return [*ci, *done], note
 
 
 def main(words: list[str]) -> int:
@@ -139,11 +135,14 @@ def main(words: list[str]) -> int:
     # A shell that starts this in the background has ^C ignored, and so would all programs that the tests interrupt.
     signal.signal(signal.SIGINT, signal.default_int_handler)
     lacks_prover = not words and shutil.which("rt") is None
-    sums, note = tried_and_told(words, lacks_prover or words == ["--quick"], fresh)
+    done, note = tried_and_told(words, lacks_prover or words == ["--quick"], fresh)
     if lacks_prover:
         note += "; this isn't the gate: no proof, edit or test was tried, since there is no rt on the path"
-    failed = sum(one.failed for one in sums)
-    print(f"{sum(one.passed for one in sums)} passed, {failed} failed{note}")
+    for one in done:
+        if one.sum.failed:
+            print(f"== failed in {one.name}\n{one.faults}")
+    failed = sum(one.sum.failed for one in done)
+    print(f"{sum(one.sum.passed for one in done)} passed, {failed} failed{note}")
     return 1 if failed else NOT_THE_GATE if lacks_prover else 0
 
 
