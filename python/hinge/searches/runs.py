@@ -2,8 +2,6 @@
 
 from __future__ import annotations
 
-import json
-import os
 import subprocess
 import tempfile
 from concurrent.futures import ThreadPoolExecutor, as_completed
@@ -14,6 +12,7 @@ from typing import Any, Iterator, NamedTuple, Optional, Sequence
 from hinge.border.files import read_object
 from hinge.border.scratch import scratch
 from hinge.command import ROWS, Bar, Fault
+from hinge.outputs import write_json
 from hinge.program import HINGE
 from hinge.searches.case import Case
 
@@ -135,10 +134,7 @@ class Runs:
         if ran.status in (2, 3, 6):
             why = ran.last_line().removeprefix(f"hinge {self.runner.asked.what[0]}: ") or f"seed {seed}: status {ran.status}"
             raise Fault(why, ran.status)
-        with tempfile.NamedTemporaryFile("w", dir=self.folder, prefix=f".run-{seed}-", delete=False) as file:
-            json.dump(ran._asdict(), file, indent=1)
-        os.chmod(file.name, 0o644)
-        os.replace(file.name, self.path(seed))
+        write_json(str(self.path(seed)), ran._asdict())
 
     def made(self, seeds: "list[int]") -> "list[int]":
         return [seed for seed in seeds if self.path(seed).exists()]
