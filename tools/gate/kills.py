@@ -3,13 +3,14 @@
     python3 tools/gate/kills.py [--seed N] [KILLS]
 
 KILLS are tried in all (40), one in two by SIGKILL, at moments of a command's time that the seed draws. The seed follows from the sources of the
-kit, or is N, or a new one by `--seed fresh`. What a killed process leaves among the temporary files, its next run takes away. Each command has
-to write the same bytes twice, since there is no telling else whether a file is whole.
+kit, or is N, or a new one by `--seed fresh`. What a killed process leaves among the temporary files, its next run takes away, once the programs
+that the process had started have ended too. Each command has to write the same bytes twice, since there is no telling else whether a file is whole.
 """
 
 from __future__ import annotations
 
 import argparse
+import ctypes
 import os
 import random
 import shutil
@@ -18,6 +19,7 @@ import subprocess
 import sys
 import tempfile
 import time
+from contextlib import suppress
 from pathlib import Path
 
 import seeds
@@ -28,6 +30,7 @@ CAPTURE = TOP / "python" / "tests" / "kit_data" / "mixed.pcap"
 HINGE = [sys.executable, str(TOP / "hinge")]
 OLD = b"old\n"
 LONG_AGO = 3600  # s
+PR_SET_CHILD_SUBREAPER = 36
 INPUTS = [
     ["packets", str(CAPTURE), "-o", "p.csv", "--index", "i.csv"],
     ["sweep", "plan", "study", "p.csv", "c", "--set", "bw=1Mbit/s,2Mbit/s"],
@@ -99,7 +102,15 @@ def killed(place: Place, words: list[str], after: float, number: int) -> bool:
     time.sleep(after)
     process.send_signal(number)
     process.communicate()
+    wait_for_orphans()
     return process.returncode == -number
+
+
+def wait_for_orphans() -> None:
+    """Waits for what a killed process had started, which may yet make a file in a folder of that process."""
+    with suppress(ChildProcessError):
+        while True:
+            os.wait()
 
 
 def faults_of(place: Place, words: list[str], outputs: list[str], new: list[bytes], after: float, number: int) -> list[str]:
@@ -125,6 +136,7 @@ def main() -> int:
     asked = parser.parse_args()
     seed = seeds.chosen(asked.seed, *seeds.KIT)
     tally, rng = Tally(), random.Random(seed)
+    ctypes.CDLL(None).prctl(PR_SET_CHILD_SUBREAPER, 1, 0, 0, 0)  # so that orphans are this process's, which can wait for them
     folder = Path(tempfile.mkdtemp())
     try:
         place = Place(folder, os.environ.get("DUMMYNET", str(TOP / "dummynet")))
