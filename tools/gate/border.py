@@ -3,7 +3,8 @@
     python3 tools/gate/border.py
 
 A module of the kit that itself opens a file by a name, reads JSON or a socket, or names a standard stream is refused, by whatever name it
-imports that, unless ALLOWED has its reason. So is one that takes argparse's Namespace, but for commands and the modules that give it options.
+imports that, unless ALLOWED has its reason. So is one that leaves the place of a temporary file to `tempfile`, and one that takes argparse's
+Namespace, but for commands and the modules that give it options.
 PLANTED has a line of each kind, which must be refused, and HARMLESS lines that must not.
 """
 
@@ -23,8 +24,9 @@ NAMES = (
     *("print", "open", "eval", "exec", "compile", "__import__", "io.open", "io.open_code", "io.FileIO", "codecs.open", "gzip.open"),
     *("os.open", "os.fdopen", "os.popen", "json.load", "json.loads", "json.JSONDecoder", "fileinput.input", "linecache.getlines"),
     *("sys.stdin", "sys.stdout", "sys.stderr", "sys.__stdin__", "sys.__stdout__", "sys.__stderr__", "np.load", "np.fromfile"),
-    *("np.loadtxt", "np.genfromtxt"),
+    *("np.loadtxt", "np.genfromtxt", "tempfile.gettempdir", "tempfile.gettempdirb", "tempfile.mktemp"),
 )
+TEMPORARY = ("TemporaryFile", "NamedTemporaryFile", "SpooledTemporaryFile", "TemporaryDirectory", "mkstemp", "mkdtemp")
 ABOUT_STREAMS = ("flush", "isatty", "encoding", "fileno")  # which write nothing
 METHODS = (
     *("open", "read_text", "read_bytes", "write_text", "write_bytes", "recv", "recv_into", "recvmsg", "recvmsg_into", "recvfrom"),
@@ -57,9 +59,13 @@ PLANTED = {
     "import sys\nout = sys.stdout": "sys.stdout",
     "import sys\nsys.stderr.write('x')": "sys.stderr.write",
     "from sys import stdin\nstdin.read()": "sys.stdin.read",
+    "from tempfile import gettempdir": "tempfile.gettempdir",
+    "import tempfile\ntempfile.mkdtemp(prefix='x')": "tempfile.mkdtemp",
+    "from tempfile import TemporaryFile as other\nother()": "tempfile.TemporaryFile",
 }
 HARMLESS = (
-    "import json, os, sys\nsys.stdout.flush()\njson.dumps(1)\nos.path.exists('x')\nlines.opened('x')\ndef run(input): return input"
+    "import json, os, sys, tempfile\nsys.stdout.flush()\njson.dumps(1)\nos.path.exists('x')\nlines.opened('x')\n"
+    "def run(input): return input\ntempfile.mkdtemp(dir='x')"
 )
 OWN, OUTPUT, SYSTEM, HOST = "a file of its own", "within `written`", "the system's own", "the host's own line"
 ALLOWED = {
@@ -130,17 +136,28 @@ def is_refused(name: str) -> bool:
     return name in [f"{one.partition('.')[0]}.*" for one in NAMES]
 
 
+def origin(node: ast.AST, origins: dict[str, str]) -> str:
+    """The name that Python's own module gives to what a module of the kit names."""
+    first, dot, rest = dotted(node).partition(".")
+    return (origins.get(first, first) + dot + rest).removeprefix("builtins.")
+
+
+def is_crossing(call: ast.Call, name: str) -> bool:
+    """Whether a call crosses the border that no name tells of: a temporary file without its folder is one."""
+    is_temporary = name in [f"tempfile.{one}" for one in TEMPORARY]
+    return name in CALLED or is_temporary and "dir" not in [one.arg for one in call.keywords]
+
+
 def crossings(tree: ast.AST) -> Iterator[tuple[int, str]]:
     """Where a module crosses the border itself, and by what."""
-    origins = {name: origin for _, name, origin in imports(tree)}
-    yield from ((line, origin) for line, _, origin in imports(tree) if is_refused(origin))
+    origins = {name: whole for _, name, whole in imports(tree)}
+    yield from ((line, whole) for line, _, whole in imports(tree) if is_refused(whole))
     inner = {id(node.value) for node in ast.walk(tree) if isinstance(node, ast.Attribute)}
     for node in ast.walk(tree):
-        if isinstance(node, ast.Call) and dotted(node.func) in CALLED:
-            yield node.lineno, dotted(node.func)
+        if isinstance(node, ast.Call) and is_crossing(node, origin(node.func, origins)):
+            yield node.lineno, origin(node.func, origins)
         elif isinstance(node, (ast.Name, ast.Attribute)) and id(node) not in inner:
-            first, dot, rest = dotted(node).partition(".")
-            name = (origins.get(first, first) + dot + rest).removeprefix("builtins.")
+            name = origin(node, origins)
             if is_refused(name):
                 yield node.lineno, name
             elif isinstance(node, ast.Attribute) and node.attr in METHODS:

@@ -3,6 +3,7 @@ and SIGHUP too; where its process was killed, the next one that makes such a fol
 
 from __future__ import annotations
 
+import errno
 import fcntl
 import os
 import shutil
@@ -27,12 +28,33 @@ class Ended(BaseException):
     """A signal came that ends this process."""
 
 
+def takes_files(folder: str) -> bool:
+    """Whether a file without a name can be written there, or perhaps one with a name where the file system has no others."""
+    try:
+        with open(os.open(folder, os.O_TMPFILE | os.O_WRONLY | os.O_CLOEXEC, 0o600), "wb") as file:
+            file.write(b"x")
+    except OSError as fault:
+        return fault.errno in (errno.EOPNOTSUPP, errno.EISDIR) and os.access(folder, os.W_OK | os.X_OK)
+    return True
+
+
+def temporary_place() -> str:
+    """The folder for temporary files, which `tempfile` would try by a file with a name, and leave that file where it is killed."""
+    import tempfile  # which takes longer to load than a help may
+
+    if tempfile.tempdir is None:
+        names = [os.environ.get(name) for name in ("TMPDIR", "TEMP", "TMP")]
+        places = [os.path.abspath(place) for place in (*names, "/tmp", "/var/tmp", "/usr/tmp") if place]
+        tempfile.tempdir = next((place for place in places if takes_files(place)), None)
+    return tempfile.gettempdir()
+
+
 @contextmanager
 def unnamed() -> Iterator[tuple[IO[bytes], str]]:
     """A file without a name, and the path by which other programs reach it meanwhile."""
-    import tempfile  # which takes longer to load than a help may
+    import tempfile
 
-    with tempfile.TemporaryFile() as file:
+    with tempfile.TemporaryFile(dir=temporary_place()) as file:
         yield file, f"/proc/{os.getpid()}/fd/{file.fileno()}"
 
 
@@ -42,7 +64,7 @@ class Folder:
     def __init__(self, within: Union[str, Path, None] = None, prefix: str = PREFIX) -> None:
         import tempfile
 
-        place = str(within or tempfile.gettempdir())
+        place = str(within or temporary_place())
         remove_left(place, prefix)
         self.path = Path(tempfile.mkdtemp(prefix=prefix, dir=place))
         self.lock = held(self.path)

@@ -8,7 +8,7 @@ import tempfile
 from contextlib import ExitStack
 from typing import IO
 
-from hinge.border.scratch import unnamed
+from hinge.border.scratch import temporary_place, unnamed
 from hinge.captures.capture_file import write_header
 from hinge.command import MISSING, ROWS, USAGE, Fault, path_of_program, say
 
@@ -67,7 +67,7 @@ class Matches:
         self.passes = [self._start(text) for text in filters]
 
     def _start(self, text: str) -> tuple[subprocess.Popen[str], IO[str], IO[str]]:
-        result, errors = (self.files.enter_context(tempfile.TemporaryFile("w+")) for _ in range(2))
+        result, errors = (self.files.enter_context(tempfile.TemporaryFile("w+", dir=temporary_place())) for _ in range(2))
         words = tshark(self.capture, "-Y", text, "-T", "fields", "-e", "frame.number")
         return subprocess.Popen(words, stdout=result, stderr=errors, text=True), result, errors
 

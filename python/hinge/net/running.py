@@ -23,6 +23,7 @@ from typing import IO, Any, Mapping, NamedTuple, Optional, Sequence, Union
 from hinge.border.asking import ask, is_answered
 from hinge.border.files import read_log, read_object
 from hinge.border.messages import Reply
+from hinge.border.scratch import temporary_place
 from hinge.border.terminal import lines
 from hinge.net.described import Command, Described, NetError, Time, spelled_time
 from hinge.net.description import Description, read_description
@@ -78,7 +79,7 @@ class Net(Described):
         """The folder gets the history, the summary and what the hosts print; without one they are gone after the end.
         `link` and `back` are the links of which nothing else is said. `outside` is a host that leads to the rest of the
         system's network."""
-        self.temporary = tempfile.TemporaryDirectory(prefix="hinge-net-") if folder is None else None
+        self.temporary = tempfile.TemporaryDirectory(prefix="hinge-net-", dir=temporary_place()) if folder is None else None
         super().__init__(Path(self.temporary.name if self.temporary else str(folder)).absolute(), link, back)
         self.seed, self.mtu, self.late, self.outside = seed, mtu, late, outside
         self.obeyed: list[Obeyed] = []

@@ -5,8 +5,8 @@ from __future__ import annotations
 import os
 import re
 import stat
-from tempfile import gettempdir
 
+from hinge.border.scratch import temporary_place
 from hinge.run.words import Wrong
 
 NAME = re.compile(r"[A-Za-z0-9][A-Za-z0-9._-]{0,99}", re.ASCII)
@@ -16,7 +16,7 @@ def folder_of_names() -> str:
     """That of this user's names, which may not be there."""
     if os.environ.get("XDG_RUNTIME_DIR"):
         return os.path.join(os.environ["XDG_RUNTIME_DIR"], "hinge")
-    return "/run/hinge" if os.geteuid() == 0 else os.path.join(gettempdir(), f"hinge-{os.geteuid()}")
+    return "/run/hinge" if os.geteuid() == 0 else os.path.join(temporary_place(), f"hinge-{os.geteuid()}")
 
 
 def socket_of(text: str) -> str:

@@ -14,11 +14,10 @@ import shutil
 import signal
 import sys
 from contextlib import suppress
-from tempfile import gettempdir
 from typing import Callable, Optional, Sequence
 
 from hinge.border.files import read_front, read_system
-from hinge.border.scratch import held
+from hinge.border.scratch import held, temporary_place
 from hinge.border.terminal import silence
 from hinge.command import say
 from hinge.run.interfaces import add_route, add_tun, dropped, set_up
@@ -131,7 +130,7 @@ def furnish() -> int:
 def put_over(path: str, text: str) -> None:
     """Puts a text in the place of a file, in these namespaces alone. Its file system is in no folder, so that nothing
     outlives the run; and its file has a name there, so that a run inside this one can do the same."""
-    folder = gettempdir()
+    folder = temporary_place()
     product = os.path.join(folder, "made")
     mount("none", folder, "tmpfs", 0)
     try:

@@ -17,6 +17,7 @@ from typing import Any, Iterator, NamedTuple
 
 import pytest
 
+from hinge.border.scratch import temporary_place
 from hinge.border.terminal import lines
 from hinge.program import HINGE
 from hinge.pytest_plugin import INSIDE
@@ -108,7 +109,7 @@ def of_the_link(text: str, seed: int, history: Path) -> str:
 
 def reports(item: pytest.Item, mark: pytest.Mark, links: list[str], seed: int) -> list[pytest.TestReport]:
     """Runs a test in a machine; its reports. One that failed has what the link did, whose transcript stays."""
-    folder = Path(tempfile.mkdtemp(prefix="hinge-test-"))
+    folder = Path(tempfile.mkdtemp(prefix="hinge-test-", dir=temporary_place()))
     run = ran(item, [*links, *options_of_mark(mark)], seed, folder)
     result = [read(item.config, data) for data in run.reports]
     if all(report.when == "setup" and report.passed for report in result):

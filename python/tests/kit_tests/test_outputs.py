@@ -133,6 +133,18 @@ with scratch(sys.argv[1]) as folder:
     time.sleep(1000)
 """
 
+TEMPORARY = """
+import os, sys
+names = []
+def hook(event, values):
+    if event == "open" and values[1] is None and values[2] & os.O_CREAT:  # of os.open, which has no mode
+        names.append(values[0])
+sys.addaudithook(hook)
+from hinge.border.scratch import temporary_place, unnamed
+with unnamed():
+    print(temporary_place(), names)
+"""
+
 
 class OfScratch(unittest.TestCase):
     """Folders for a while."""
@@ -166,6 +178,13 @@ class OfScratch(unittest.TestCase):
         with scratch(self.place) as own:
             self.assertEqual({path.name for path in self.place.iterdir()}, {kept.name, own.name})
         self.ended(lives, signal.SIGTERM)
+
+    def test_a_temporary_file_has_no_name_that_a_kill_could_leave(self) -> None:
+        (file := self.place / "file").touch()
+        self.addCleanup(file.unlink)
+        variables = {"TMPDIR": str(file), "TEMP": str(self.place / "missing"), "TMP": str(self.place)}
+        done = subprocess.run([sys.executable, "-c", TEMPORARY], env={**os.environ, **variables}, capture_output=True, text=True)
+        self.assertEqual(done.stdout, f"{self.place} []\n", done.stderr)
 
     def test_others_stay(self) -> None:
         young, other, link = (self.place / name for name in (".hinge-young", "hinge-0", ".hinge-link"))
