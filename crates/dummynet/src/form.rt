@@ -7,7 +7,7 @@ use clap::{Arg, Command};
 use std::alloc::{AllocError, Global};
 
 // What `--version` tells: the version, and the kit with which it is proved and built.
-const VERSION: &str = "2.0.0 (rattle-kit-13b)";
+const VERSION: &str = "2.0.0 (rattle-kit-13f)";
 
 // What stands below the options in the help of the whole.
 const EXAMPLE: &str = "Example:
