@@ -11,7 +11,6 @@ HEADERS = 28  # bytes of IPv4 and UDP before the data, which a link carries too
 HEADERS_OF_6 = 48
 UDP, ICMP = 17, 1
 MOST_BYTES = 65535  # of a datagram with its headers
-MOST_DATA = MOST_BYTES - HEADERS
 MOST_REFUSAL, MOST_REFUSAL_OF_6 = 576, 1280  # bytes of an answer of a closed port: it quotes what fits
 NS = 10**9
 

@@ -34,12 +34,6 @@ def ns(text: str) -> int:
     return int(text.replace(",", "").replace(".", ""))
 
 
-def rows_in(text: str) -> list[int]:
-    """Row numbers of a list as `3-5, 7`."""
-    pairs = [part.split("-") for part in re.findall(r"\d+(?:-\d+)?", text)]
-    return [row for pair in pairs for row in range(int(pair[0]), int(pair[-1]) + 1)]
-
-
 @lru_cache(maxsize=None)
 def late() -> tuple[Path, Path, Path]:
     """A slow link: moments that go back, packets that are held beyond the last moment, on a link of their own and a
