@@ -14,6 +14,7 @@ from typing import Callable, NamedTuple, Optional, Sequence
 from hinge.border.messages import Lines, Order, Reply, Strange, line_of, read_message
 from hinge.border.asking import is_answered
 from hinge.border.peers import is_own, within
+from hinge.border.scratch import scratch
 from hinge.border.terminal import note_defect
 from hinge.run.words import Wrong
 
@@ -61,10 +62,13 @@ class Server:
         self.listening = socket.socket(socket.AF_UNIX, socket.SOCK_STREAM)
         if os.path.exists(path) and stat.S_ISSOCK(os.stat(path).st_mode) and not is_answered(path):
             os.unlink(path)  # of a run that was killed
-        with within(path) as near:
-            self.listening.bind(near)
-        os.chmod(path, 0o600)
-        self.listening.listen()
+        with scratch(os.path.dirname(path) or ".") as folder:  # where nobody takes it for that of a killed run before it listens
+            own = str(folder / "socket")
+            with within(own) as near:
+                self.listening.bind(near)
+            os.chmod(own, 0o600)
+            self.listening.listen()
+            os.link(own, path)
 
     def serve(self, obey: Obey) -> None:
         threading.Thread(target=self.accept_all, args=(obey,), daemon=True).start()

@@ -61,7 +61,7 @@ class Control:
         try:
             self.server = Server(path)
         except OSError as error:
-            is_taken = error.errno == errno.EADDRINUSE
+            is_taken = error.errno == errno.EEXIST
             raise Missing(f"--control {path}: {'a run or a file has this name' if is_taken else error.strerror or error}") from None
 
     def serve(self) -> None:

@@ -13,11 +13,13 @@ import sys
 import unittest
 from pathlib import Path
 from typing import Callable, Iterator, Optional
+from unittest import mock
 
 from linked import HINGE, Done, audited_as_lawful, found, hinge, needs, needs_host, needs_rooms, run, until
 from with_folder import WithFolder
 
 from hinge.border.asking import ask
+from hinge.border.serving import Server
 
 
 SLOW_END = """\
@@ -162,6 +164,14 @@ class OfRuns(InAFolder):
     def test_a_wrong_word_is_told_by_what_was_typed(self) -> None:
         with self.running("run", "--up", "5ms"):
             self.assertEqual(self.change("up", "9msec").stderr, "hinge change: 'up 9msec': '9msec': not a delay; write 9ms\n")
+
+    def test_a_place_is_there_once_it_listens(self) -> None:
+        there = list[bool]()
+        with mock.patch("socket.socket.listen", side_effect=lambda: there.append(self.socket.exists())):
+            server = Server(str(self.socket))
+        there.append(self.socket.exists())
+        server.end()
+        self.assertEqual((there, os.listdir(self.folder)), ([False, True], []))
 
     def test_a_place_that_is_taken_and_one_that_was_left(self) -> None:
         self.socket.write_text("")
