@@ -75,7 +75,7 @@ class Folder:
         os.close(self.lock)
 
 
-def remove_left(within: str, prefix: str) -> None:
+def remove_left(within: Union[str, Path], prefix: str) -> None:
     """Removes the folders of this user's processes that are no more."""
     with os.scandir(within) as entries:
         for one in entries:

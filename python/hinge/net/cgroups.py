@@ -12,7 +12,7 @@ from pathlib import Path
 from typing import Iterable, Optional
 
 from hinge.border.files import read_text
-from hinge.border.scratch import held
+from hinge.border.scratch import held, remove_left
 from hinge.run.system import write
 
 MOUNT = re.compile(r"^\d+ \d+ \S+ (\S+) (\S+) .* - cgroup2 ", re.MULTILINE)  # what is mounted, and where
@@ -66,18 +66,6 @@ class Cgroup:
         os.close(self.lock)
 
 
-def sweep(folder: Path) -> None:
-    """Removes what processes that were killed have left."""
-    for rest in folder.glob(f"{NAME}*"):
-        with contextlib.suppress(OSError):
-            lock = held(rest)
-            try:
-                fcntl.flock(lock, fcntl.LOCK_EX | fcntl.LOCK_NB)
-                rest.rmdir()
-            finally:
-                os.close(lock)
-
-
 def own_folder() -> Optional[Path]:
     """That of the cgroup of this process, if it is seen here."""
     mount = MOUNT.search(read_text("/proc/self/mountinfo"))
@@ -101,7 +89,7 @@ class Cgroups:
                 folder = own_folder()
                 if folder is None:
                     return None
-                sweep(folder)
+                remove_left(folder, NAME)
                 self.made[host] = Cgroup(folder / f"{NAME}{self.mark}-{host}")
             except OSError:
                 return None
