@@ -2,6 +2,7 @@
 
 from __future__ import annotations
 
+import re
 from ctypes import byref, c_char, c_char_p, c_size_t, c_uint64, c_void_p, cast
 from pathlib import Path
 from typing import Union
@@ -13,14 +14,15 @@ from hingetulip.library import BAD_ROW, CALLS, LIBRARY, failure
 
 HEADER = b"moment,target,number,src,dst,proto,sport,dport,len,word"
 MARK = b"\xef\xbb\xbf"  # a byte order mark, which the program skips too
+QUOTED = re.compile(rb'(?<![^,])"([^",\r\n]*)(?:"(?!")|\Z)')  # a field whose front is in quotes, which the end closes too
 
 
 def rows_of(text: bytes) -> bytes:
-    """What follows the header. RowError: the first line isn't the header."""
-    header, _, rows = text.removeprefix(MARK).partition(b"\n")
-    if text and header.rstrip(b"\r") != HEADER:
+    """What follows the header. RowError: the first record isn't the header."""
+    header, *rows = re.split(rb"([\r\n])", text.removeprefix(MARK).lstrip(b"\r\n"), maxsplit=1)
+    if header and QUOTED.sub(rb"\1", header + b"".join(rows[:1])).rstrip(b"\r\n") != HEADER:
         raise RowError(0, 0)
-    return rows
+    return b"".join(rows[1:])
 
 
 def address(text: bytes) -> int:

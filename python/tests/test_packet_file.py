@@ -34,6 +34,10 @@ class Rows(unittest.TestCase):
         forms = {
             "no byte": (b"", 0),
             "no row": (HEAD, 0),
+            "a mark alone": (b"\xef\xbb\xbf\r\n", 0),
+            "a header in quotes behind an empty line": (b'\n"moment"' + HEAD[6:-1] + b"\r" + ROW, 1),
+            "quotes round the front of a field": (b'"mom"ent' + HEAD[6:] + ROW, 1),
+            "a quote that the end closes": (HEADER[:-4] + b'"word', 0),
             "no line feed at the end": (HEAD + ROW[:-1], 1),
             "a byte order mark, and carriage returns": (b"\xef\xbb\xbf" + (HEAD + ROW).replace(b"\n", b"\r\n"), 1),
             "quotes between plain rows": (HEAD + ROW + QUOTED + ROW, 3),
@@ -47,6 +51,8 @@ class Rows(unittest.TestCase):
     def test_the_first_fault_is_named_by_row_and_field(self) -> None:
         faults = {
             "no header": (ROW, 0, 0),
+            "a quote that is none": (b'"mo""ment"' + HEAD[6:] + ROW, 0, 0),
+            "quotes round two fields": (b'"moment,target"' + HEAD[13:] + ROW, 0, 0),
             "a word": (HEAD + ROW + b"x\n" + ROW, 2, 0),
             "a length of 0": (HEAD + 2 * ROW + ROW.replace(b"1000", b"0"), 3, 9),
             "behind returns": (HEAD + 3 * ROW.replace(b"\n", b"\r") + b"y" + ROW, 4, 1),

@@ -3,18 +3,25 @@ use crate::shaper::answered;
 use crate::{raw, Error, Result};
 use std::net::Ipv4Addr;
 
-const HEADER: &[u8] = b"moment,target,number,src,dst,proto,sport,dport,len,word";
+const HEADER: [&[u8]; 10] = [b"moment", b"target", b"number", b"src", b"dst", b"proto", b"sport", b"dport", b"len", b"word"];
 const MARK: &[u8] = b"\xef\xbb\xbf"; // a byte order mark, which the program skips too
+
+/// Whether a field of the header has this name, of which all or the front may be in quotes. The end of a file closes them too.
+fn is_named(field: &[u8], name: &[u8], is_end: bool) -> bool {
+    let quotes = field.iter().filter(|byte| **byte == b'"').count();
+    let is_quoted = field.first() == Some(&b'"') && (quotes == 2 || is_end && quotes == 1);
+    field == name || is_quoted && field.iter().filter(|byte| **byte != b'"').eq(name)
+}
 
 /// What follows the header of a packet file.
 fn rows_of(text: &[u8]) -> Result<&[u8]> {
     let text = text.strip_prefix(MARK).unwrap_or(text);
-    let end = text.iter().position(|byte| *byte == b'\n').unwrap_or(text.len());
-    let header = &text[..end];
-    if !text.is_empty() && header.strip_suffix(b"\r").unwrap_or(header) != HEADER {
-        return Err(Error::Row(0, 0));
-    }
-    Ok(text.get(end + 1..).unwrap_or_default())
+    let text = &text[text.iter().take_while(|byte| b"\r\n".contains(byte)).count()..];
+    let (header, rows) = text.split_at(text.iter().position(|byte| b"\r\n".contains(byte)).unwrap_or(text.len()));
+    let fields: Vec<_> = header.split(|byte| *byte == b',').collect();
+    let is_end = |place| rows.is_empty() && place + 1 == HEADER.len();
+    let is_header = fields.len() == HEADER.len() && (0..HEADER.len()).all(|place| is_named(fields[place], HEADER[place], is_end(place)));
+    if is_header || header.is_empty() { Ok(rows) } else { Err(Error::Row(0, 0)) }
 }
 
 /// What a packet is sent to, by its number, from 1.

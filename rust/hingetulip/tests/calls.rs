@@ -103,3 +103,14 @@ fn lost_held_and_discarded() {
     assert_eq!((flow.target, flow.lost, flow.started, flow.discarded), (Target::Pipe(1), 1, 1, 1));
     assert_eq!(it.collect(LAST_MOMENT).unwrap().len(), 1);
 }
+
+#[test]
+fn headers_of_packet_files() {
+    let read = |front: &str, end: &str| Packet::read(format!("{front},target,number,src,dst,proto,sport,dport,len,{end}").as_bytes()).map(|it| it.len());
+    for front in ["moment", "\u{feff}\r\n\"moment\"", "\n\"mom\"ent"] {
+        assert_eq!((read(front, "\"word"), read(front, "\"word\"\r5,pipe,1,10.0.0.1,10.0.0.2,17,3,4,1000,9")), (Ok(0), Ok(1)));
+    }
+    for front in ["\"moment", "\"mo\"\"ment\"", "x,moment"] {
+        assert_eq!(read(front, "word"), Err(Error::Row(0, 0)));
+    }
+}
