@@ -13,10 +13,12 @@ import time
 from contextlib import contextmanager, suppress
 from pathlib import Path
 from types import FrameType
-from typing import IO, Iterator, NoReturn, Optional, Union
+from typing import IO, ContextManager, Iterator, Optional, Union
 
 PREFIX = ".hinge-"
-YOUNG = 60.0  # s: the process of a folder may not have locked it yet
+YOUNG, TOGETHER = 60.0, 1.0  # s: the process of a folder may not have locked it yet, and signals are one
+# The signals that end a process, with what Python has them do at first.
+USUAL = {signal.SIGINT: signal.default_int_handler, signal.SIGTERM: signal.SIG_DFL, signal.SIGHUP: signal.SIG_DFL}
 
 
 def held(path: Union[str, Path]) -> int:
@@ -71,8 +73,11 @@ class Folder:
         fcntl.flock(self.lock, fcntl.LOCK_EX)
 
     def remove(self) -> None:
+        """A second time it does what a signal kept from being done."""
         shutil.rmtree(self.path, ignore_errors=True)
-        os.close(self.lock)
+        lock, self.lock = self.lock, -1
+        if lock >= 0:
+            os.close(lock)
 
 
 def remove_left(within: Union[str, Path], prefix: str) -> None:
@@ -96,37 +101,56 @@ def remove_unlocked(path: str) -> None:
         os.close(place)
 
 
-def end(number: int, frame: Optional[FrameType]) -> NoReturn:
-    raise Ended(number)
-
-
 @contextmanager
-def clean_end() -> Iterator[None]:
-    """Within it SIGTERM and SIGHUP are exceptions, behind which they end this process as ever."""
-    is_main = threading.current_thread() is threading.main_thread()
-    taken = [one for one in (signal.SIGTERM, signal.SIGHUP) if is_main and signal.getsignal(one) == signal.SIG_DFL]
-    came = 0
-    for number in taken:
-        signal.signal(number, end)
+def noted(numbers: list[int], cuts: bool) -> Iterator[None]:
+    """Notes these signals, which come behind it as ever, and has them be exceptions meanwhile if they cut short what is within. Those
+    that come together are one, and one that comes later is another, since some of Python's own code drops an exception."""
+    came, before, until = list[int](), {number: signal.getsignal(number) for number in numbers}, 0.0
+
+    def note(number: int, frame: Optional[FrameType]) -> None:
+        nonlocal until
+        came.append(number)
+        if cuts and time.monotonic() > until:
+            until = time.monotonic() + TOGETHER
+            raise KeyboardInterrupt if number == signal.SIGINT else Ended
+
     try:
+        for number in before:
+            signal.signal(number, note)
         yield
-    except Ended as ended:
-        if not taken:
-            raise
-        came = ended.args[0]
     finally:
-        for number in taken:
-            signal.signal(number, signal.SIG_DFL)
-    if came:
-        os.kill(os.getpid(), came)
+        cuts = False
+        for number, handler in before.items():
+            signal.signal(number, handler)
+        for number in came:
+            signal.raise_signal(number)
+
+
+def clean_end() -> ContextManager[None]:
+    """Within it SIGTERM and SIGHUP are exceptions, as SIGINT is, behind which they end this process as ever."""
+    is_main = threading.current_thread() is threading.main_thread()
+    return noted([one for one, usual in USUAL.items() if is_main and signal.getsignal(one) == usual], cuts=True)
+
+
+def undisturbed() -> ContextManager[None]:
+    """Cleans up, which no signal cuts short."""
+    is_main = threading.current_thread() is threading.main_thread()
+    return noted([one for one in USUAL if is_main and signal.getsignal(one) not in (signal.SIG_IGN, None)], cuts=False)
 
 
 @contextmanager
 def scratch(within: Union[str, Path, None] = None, prefix: str = PREFIX) -> Iterator[Path]:
     """A folder for a while, of which a signal leaves nothing."""
+    folder: Optional[Folder] = None
     with clean_end():
-        folder = Folder(within, prefix)
         try:
+            with undisturbed():
+                folder = Folder(within, prefix)
             yield folder.path
         finally:
-            folder.remove()
+            if folder:
+                try:
+                    folder.remove()
+                finally:
+                    with undisturbed():
+                        folder.remove()

@@ -11,7 +11,7 @@ from pathlib import Path
 
 from hinge.border.asking import ask, is_answered
 from hinge.border.files import read_log
-from hinge.border.scratch import clean_end
+from hinge.border.scratch import clean_end, undisturbed
 from hinge.border.terminal import show
 from hinge.command import NAME, Fault, parser, say
 from hinge.program import in_background
@@ -69,15 +69,19 @@ def main() -> None:
         folder.mkdir(parents=True, exist_ok=True)
         logs = [] if "--logs" in arguments.more else ["--logs", str(folder / "logs")]
         words = ["net", arguments.file, "--transcripts", str(folder), *logs, "--stay", "--control", socket, *arguments.more]
-        process = in_background(words, log)
+        begun = list["subprocess.Popen[bytes]"]()
         with clean_end():
             try:
-                silent = wait_until_ready(process, socket, log)
+                with undisturbed():
+                    begun.append(in_background(words, log))
+                silent = wait_until_ready(begun[0], socket, log)
             except BaseException:
-                process.terminate()
-                process.wait()
-                if is_new and [*folder.iterdir()] == [log]:
-                    shutil.rmtree(folder)
+                with undisturbed():
+                    for process in begun:
+                        process.terminate()
+                        process.wait()
+                    if is_new and [*folder.iterdir()] == [log]:
+                        shutil.rmtree(folder)
                 raise
     show(
         "".join(f"{line}\n" for line in silent)

@@ -132,6 +132,23 @@ with scratch(sys.argv[1]) as folder:
     print(folder, flush=True)
     time.sleep(1000)
 """
+TWICE = """
+import os, signal, sys
+from hinge.border.scratch import scratch
+for number in (signal.SIGTERM, signal.SIGHUP):
+    signal.signal(number, signal.SIG_DFL)
+number, another = map(int, sys.argv[2:])
+remove = os.unlink
+def removed(path, *rest, **more):
+    os.kill(os.getpid(), another)
+    remove(path, *rest, **more)
+with scratch(sys.argv[1]) as folder:
+    for name in "abc":
+        (folder / name).touch()
+    os.unlink = removed
+    if number:
+        os.kill(os.getpid(), number)
+"""
 
 TEMPORARY = """
 import os, sys
@@ -171,6 +188,14 @@ class OfScratch(unittest.TestCase):
             process, made = self.holder()
             self.assertEqual(self.ended(process, number), -number)
             self.assertFalse(made.exists())
+
+    def test_signals_while_it_is_removed_leave_nothing_of_it(self) -> None:
+        ways = (signal.SIGTERM, signal.SIGINT, signal.SIGHUP)
+        for first, another in [(0, one) for one in ways] + [(one, other) for one in ways for other in ways]:
+            words = [sys.executable, "-c", TWICE, str(self.place), str(int(first)), str(int(another))]
+            done = subprocess.run(words, capture_output=True, text=True)
+            self.assertIn(done.returncode, (-first, -another), done.stderr)
+            self.assertEqual(list(self.place.iterdir()), [], (first, another))
 
     def test_the_next_one_takes_away_what_sigkill_left(self) -> None:
         (lives, kept), (dies, _) = self.holder(), self.holder()
