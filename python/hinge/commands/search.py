@@ -5,13 +5,12 @@ from __future__ import annotations
 import argparse
 import os
 import shlex
-import signal
 import sys
 from pathlib import Path
 from typing import Optional
 
 from hinge.arguments import bounded
-from hinge.border.scratch import scratch
+from hinge.border.scratch import Ended, scratch
 from hinge.border.terminal import several, show
 from hinge.command import FILES, Fault, parser, say
 from hinge.commands.sweep import seeds
@@ -23,7 +22,7 @@ from hinge.searches.shrinking import least
 from hinge.simulated.kernel import found
 from hinge.simulated.pauses import pauses_word
 
-FAILED, NOT_AGAIN, SIGNALLED = 1, 76, 128
+FAILED, NOT_AGAIN = 1, 76
 WHAT = """\
 Runs a net, or a command as `hinge run` does, in simulated time by many seeds,
 each of which draws losses, the faults of a nemesis, and pauses. A run fails
@@ -115,7 +114,7 @@ def search(line: argparse.Namespace, least_file: Optional[Path], folder: Path) -
     runs = Runs(folder, Runner(options))
     try:
         runs.make_all(line.seeds, line.P)
-    except (KeyboardInterrupt, SystemExit):
+    except (KeyboardInterrupt, Ended):
         show_runs(runs, line.seeds)
         raise
     failures = show_runs(runs, line.seeds)
@@ -140,9 +139,6 @@ def least_file(line: argparse.Namespace) -> Optional[Path]:
 def main() -> None:
     line = command_line()
     file = least_file(line)
-    for ending in (signal.SIGTERM, signal.SIGHUP):
-        if signal.getsignal(ending) == signal.SIG_DFL:
-            signal.signal(ending, lambda number, frame: sys.exit(SIGNALLED + number))
     with refusals(), scratch() as place:
         found()  # a kernel, before anything starts
         sys.exit(search(line, file, line.runs or place))

@@ -88,8 +88,11 @@ def keep_mounts_to_itself() -> None:
         os.fchdir(place)
 
 
-def die_with_parent() -> None:
-    libc.prctl(SET_PDEATHSIG, KILL)
+def die_with_parent(parent: int = 0, number: int = KILL) -> None:
+    """Has this process get a signal when its parent ends, or at once where that is told and has ended."""
+    libc.prctl(SET_PDEATHSIG, number)
+    if parent and os.getppid() != parent:
+        os.kill(os.getpid(), number)
 
 
 def keep_network_rights() -> None:

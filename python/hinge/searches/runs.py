@@ -10,7 +10,7 @@ from pathlib import Path
 from typing import Any, Iterator, NamedTuple, Optional, Sequence
 
 from hinge.border.files import read_object
-from hinge.border.scratch import scratch
+from hinge.border.scratch import scratch, undisturbed
 from hinge.command import ROWS, Bar, Fault
 from hinge.outputs import write_json
 from hinge.program import HINGE
@@ -156,8 +156,9 @@ class Runs:
                     task.result()
                     bar.step()
             except BaseException:
-                self.runner.end()
-                pool.shutdown(wait=False, cancel_futures=True)
+                with undisturbed():
+                    self.runner.end()
+                    pool.shutdown(cancel_futures=True)
                 raise
             finally:
                 bar.clear()

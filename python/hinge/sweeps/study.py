@@ -6,26 +6,32 @@ from __future__ import annotations
 import csv
 import itertools
 import json
+import os
 import re
 import shutil
+import signal
 import subprocess
-from concurrent.futures import ProcessPoolExecutor, as_completed
+from concurrent.futures import Future, ProcessPoolExecutor, as_completed
 from concurrent.futures.process import BrokenProcessPool
 from dataclasses import dataclass
+from functools import partial
+from multiprocessing import active_children, get_context
 from pathlib import Path
-from typing import BinaryIO, Iterator, Optional
+from typing import Any, BinaryIO, Iterator, Optional
 
 from hinge.border.files import read_object, read_text, untrusted
-from hinge.border.scratch import scratch
+from hinge.border.scratch import USUAL, clean_end, scratch, undisturbed
 from hinge.captures.addresses import addresses_file
 from hinge.captures.random_words import direction_of
 from hinge.command import CONFIGURATION, FILES, ROWS, Bar, Fault, say
+from hinge.lazy import few as np
 from hinge.loss import Bernoulli
 from hinge.outputs import writing, written
 from hinge.pictures.figures import Figures, table_of, write_csv
 from hinge.program import dummynet
 from hinge.replays.links import Parts, read_configuration
 from hinge.replays.replay import read_packets, read_report
+from hinge.run.system import die_with_parent
 
 PACKETS = "packets.csv"  # the copy in the folder
 PLACE = re.compile(r"\{(\w+)\}")
@@ -53,13 +59,21 @@ def copy_addresses(packets: Path, copy: Path) -> None:
 
 
 def tell_run(fault: Optional[BaseException], bar: Bar) -> None:
-    """Tells of a run that has ended, and why it failed, if it did. Fault: a process that made runs was killed."""
+    """Tells of a run that has ended, and why it failed, if it did. BrokenProcessPool: a process that made runs was killed."""
     if isinstance(fault, BrokenProcessPool):
-        raise Fault("a process that made runs was killed; `sweep run` makes what is missing", ROWS)
+        raise fault
     bar.step(failed=fault is not None)
     if fault is not None:
         bar.clear()
         say(str(fault))
+
+
+def begin_worker(sweep: int) -> None:
+    """The beginning of a process that makes runs, which ends as its sweep does, and has ^C from there."""
+    for number in USUAL:
+        signal.signal(number, signal.SIG_IGN if number == signal.SIGINT else signal.SIG_DFL)
+    die_with_parent(sweep, signal.SIGTERM)
+    signal.pthread_sigmask(signal.SIG_UNBLOCK, USUAL)
 
 
 @dataclass(frozen=True)
@@ -99,6 +113,10 @@ class Study:
             plan = read_object(folder / "study.json", NO_PLAN)
             return Study(folder, folder / plan["packets"], [dict(run) for run in plan["runs"]])
 
+    def __reduce__(self) -> tuple[Any, ...]:
+        """Goes to another process by its folder, since a pipe takes little where nobody reads it any more."""
+        return Study.load, (self.folder,)
+
     def table_of(self, run: int) -> Path:
         return self.folder / f"run-{run}.csv"
 
@@ -135,28 +153,46 @@ class Study:
     def call(self, words: list[str], number: int, out: Optional[BinaryIO] = None) -> None:
         """Runs a program of a run. Fault: it failed, told with the values of the run, or isn't there."""
         try:
-            process = subprocess.run(words, stdout=out, stderr=subprocess.PIPE, text=True)
+            with undisturbed():  # since Python drops an exception in what it does at a fork
+                begin = partial(die_with_parent, os.getpid())
+                process = subprocess.Popen(words, stdout=out, stderr=subprocess.PIPE, text=True, preexec_fn=begin)
+            told = process.communicate()[1]
         except OSError as error:
             raise Fault(f"{words[0]}: {error.strerror} (the variable DUMMYNET names the program)", FILES) from None
         if process.returncode != 0:
             values = ", ".join(f"{name} {value}" for name, value in self.runs[number - 1].items())
-            raise Fault(f"run {number} ({values}): {' '.join(process.stderr.split())[:300]}", process.returncode)
+            raise Fault(f"run {number} ({values}): {' '.join(told.split())[:300]}", process.returncode)
 
     def run_all(self, processes: int) -> None:
         """Makes the missing runs, so many at a time. A run that fails is told, and the others go on. Fault: some are missing."""
         todo = self.missing()
         bar = Bar("runs", len(todo))
-        with ProcessPoolExecutor(processes) as pool:
+        np.zeros(0)  # so that numpy is loaded for all processes
+        begin: dict[str, Any] = {"initializer": begin_worker, "initargs": (os.getpid(),), "mp_context": get_context("fork")}
+        with clean_end(), ProcessPoolExecutor(processes, **begin) as pool:
             try:
-                for task in as_completed([pool.submit(self.run, number) for number in todo]):
+                for task in as_completed([self.submitted(pool, number) for number in todo]):
                     tell_run(task.exception(), bar)
-            except BaseException:
-                pool.shutdown(cancel_futures=True)  # and waits, since the end of the block would take the cancelling back
+            except BaseException as fault:
+                with undisturbed():
+                    for process in active_children():
+                        process.terminate()
+                    pool.shutdown(cancel_futures=True)  # and waits, since the end of the block would take the cancelling back
+                if isinstance(fault, BrokenProcessPool):
+                    raise Fault("a process that made runs was killed; `sweep run` makes what is missing", ROWS) from None
                 raise
             finally:
                 bar.clear()
         if rest := self.missing():
             raise Fault(f"{len(rest)} of {len(self.runs)} runs are missing, run {rest[0]} first", ROWS)
+
+    def submitted(self, pool: ProcessPoolExecutor, number: int) -> Future[None]:
+        """Signals wait meanwhile, since a process that begins has the handlers of this one at first."""
+        mask = signal.pthread_sigmask(signal.SIG_BLOCK, USUAL)
+        try:
+            return pool.submit(self.run, number)
+        finally:
+            signal.pthread_sigmask(signal.SIG_SETMASK, mask)
 
     def rows(self) -> Iterator[dict[str, str]]:
         """The tables of all runs as one: a run's parameters before the figures of each flow. Fault: a run is missing."""

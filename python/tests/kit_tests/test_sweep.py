@@ -4,9 +4,12 @@ from __future__ import annotations
 
 import io
 import os
+import signal
 import subprocess
 import sys
+import time
 import unittest
+from pathlib import Path
 from unittest import mock
 
 from kit import folder, mixed, needs_tshark, replay, rows_of, run, write
@@ -93,6 +96,29 @@ class Sweep(unittest.TestCase):
         self.assertIn("run 1 (bw 1q, seed 1): config line 1, word 5: bad number", done.stderr)
         self.assertIn("2 of 4 runs are missing, run 1 first", done.stderr)
         self.assertEqual(run("sweep", "missing", "half").stdout, "1\n2\n")
+
+    def test_a_sweep_that_is_ended_leaves_no_process_and_no_folder(self) -> None:
+        rows = write("ended.csv", "moment,target,number,src,dst,proto,sport,dport,len,word\n")
+        run("sweep", "plan", "ended", rows, write("ended.config", "pipe 1 config\n"), "--seeds", "1-9")
+        (program := write("endless", "#!/bin/sh\necho $$ $PPID >> begun\nexec sleep 1000\n")).chmod(0o755)
+        (temporary := folder() / "temporary").mkdir()
+        begun, names = folder() / "begun", {**os.environ, "DUMMYNET": str(program), "TMPDIR": str(temporary)}
+        words = [sys.executable, "-m", "hinge", "sweep", "run", "ended", "-P", "2"]
+        for ends in ([signal.SIGTERM], [signal.SIGHUP, signal.SIGTERM], [signal.SIGINT, signal.SIGINT], [signal.SIGKILL]):
+            begun.write_text("")
+            process = subprocess.Popen(words, cwd=folder(), env=names, stderr=subprocess.PIPE, text=True)
+            while begun.read_text().count("\n") < 2:
+                self.assertIsNone(process.poll())
+                time.sleep(0.01)
+            for number in ends:
+                process.send_signal(number)
+            told = process.communicate(timeout=60)[1]
+            self.assertEqual((process.returncode, told), (130 if ends[0] == signal.SIGINT else -ends[0], ""))
+            end = time.monotonic() + 60
+            while any(Path(f"/proc/{one}").exists() for one in begun.read_text().split()) and time.monotonic() < end:
+                time.sleep(0.01)  # those of a sweep that was killed end behind it
+            self.assertEqual([one for one in begun.read_text().split() if Path(f"/proc/{one}").exists()], [])
+            self.assertEqual(os.listdir(temporary), [])
 
     def test_progress_after_two_seconds_on_a_terminal(self) -> None:
         times, told = iter([0, 1, 2.5, 2.6, 4]), Terminal()

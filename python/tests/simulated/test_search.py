@@ -146,7 +146,7 @@ class OfSearches(Simulated):
                 time.sleep(0.05)
             process.send_signal(signal.SIGHUP)
             process.communicate()
-        self.assertEqual((process.returncode, left(self.folder)), (128 + signal.SIGHUP, []))
+        self.assertEqual((process.returncode, left(self.folder)), (-signal.SIGHUP, []))
         end = time.monotonic() + 60
         while any(Path(f"/proc/{one}").exists() for one in below):
             self.assertLess(time.monotonic(), end)
