@@ -30,25 +30,26 @@ from hinge.outputs import writing, written
 from hinge.pictures.figures import Figures, table_of, write_csv
 from hinge.program import dummynet
 from hinge.replays.links import Parts, read_configuration
+from hinge.replays.record_lines import blocks_of
 from hinge.replays.replay import read_packets, read_report
 from hinge.run.system import die_with_parent
 
 PACKETS = "packets.csv"  # the copy in the folder
 PLACE = re.compile(r"\{(\w+)\}")
-SEED = "seed"
+TARGET, SEED = re.compile(r"[^,]*,((pipe|queue),([0-9]{1,5})),"), "seed"
 NO_PLAN = "it isn't the plan of a sweep"
 
 
 def reseeded(packets: Path, seed: int) -> Iterator[str]:
-    """The lines of a packet file with the random words of a seed."""
+    """The lines of a packet file with the random words of a seed. A row without a target stays, as the program tells what is wrong."""
     models: dict[str, Bernoulli] = {}
-    with open(packets, encoding="utf-8-sig") as file:
-        yield next(file, "")
-        for line in (line for line in file if line.strip()):
-            _, kind, number, _ = line.split(",", 3)
-            if (target := f"{kind},{number}") not in models:
-                models[target] = Bernoulli(seed, direction_of(kind, int(number)))
-            yield f"{line.rstrip().rpartition(',')[0]},{models[target].next()}\n"
+    lines = (line for text in blocks_of(str(packets), "replace") for line in text.decode("utf-8", "replace").split("\n") if line)
+    for line in lines:
+        if found := TARGET.match(line):
+            if (target := found[1]) not in models:
+                models[target] = Bernoulli(seed, direction_of(found[2], found[3]))
+            line = f"{line.rpartition(',')[0]},{models[target].next()}"
+        yield f"{line}\n"
 
 
 def copy_addresses(packets: Path, copy: Path) -> None:

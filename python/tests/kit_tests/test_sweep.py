@@ -132,6 +132,10 @@ class Sweep(unittest.TestCase):
     def test_the_words_of_a_seed_are_those_of_hinge_packets(self) -> None:
         _, packets, _ = mixed("dsl")
         self.assertEqual("".join(reseeded(packets, 1)), packets.read_text())
+        header, *rows = packets.read_text().splitlines()
+        quoted = [",".join(f'"{field}"' for field in row.split(",")) for row in rows]
+        forms = write("forms.csv", "\r\n".join(["\ufeff", header, "", *quoted]))
+        self.assertEqual("".join(reseeded(forms, 1)), packets.read_text())
 
     def test_faults_are_one_line(self) -> None:
         _, packets, _ = mixed("dsl")
@@ -142,6 +146,9 @@ class Sweep(unittest.TestCase):
         self.assertEqual(done.returncode, 3)
         self.assertIn("run 1 (bw 1q, seed 1): config line 1, word 5: bad number", done.stderr)
         self.assertEqual(run("sweep", "run", "wrong", 2).returncode, 4)
+        write("bad.csv", packets.read_text() + "x\n")
+        run("sweep", "plan", "bad", "bad.csv", write("right.config", "pipe 1 config\n"))
+        self.assertRegex(run("sweep", "run", "bad", 1).stderr, r"^hinge sweep: run 1 \(seed 1\): packet row \d+, field 0: bad\n$")
         self.assertEqual(run("sweep", "run", "nowhere").returncode, 6)
 
 
