@@ -1,8 +1,7 @@
 pub mod Answering
-pub mod AuditHandles
 pub mod Audits
-pub mod CallerHandles
 pub mod EntryLists
+pub mod HandleWalks
 pub mod Handles
 pub mod Listing
 pub mod Many
@@ -10,6 +9,5 @@ pub mod ManyTexts
 pub mod PacketRows
 pub mod RawBoxes
 pub mod Rooms
-pub mod ServiceHandles
 pub mod Serving
 pub mod Walks

@@ -21,9 +21,8 @@ pub use denote.Param.{layout, param, bounded}
 pub use denote.Param.Laws.{param_laws}
 pub use denote.RattleType.{owns, RattleType, Valss}
 pub use denote.RawPtr.{null_ptr, ptr_val, Ptr, block_ptr, in_a_block}
-pub use denote.Signature.{types_at, type_at, plain}
+pub use denote.Signature.{types_at, plain}
 pub use denote.Steps.{nothing, only, heard}
-pub use denote.Struct.Owning.{shape}
 pub use denote.Struct.Struct.{within}
 pub use denote.Triple.Entry.{alive}
 pub use denote.Triple.Spec.{triple_of}
