@@ -1,5 +1,6 @@
 //! Tests of which flows a delete finds. A test's function makes the table and no more, since what owns a table is dear to prove.
 use crate::given::{discard, key, pass};
+use crate::on_new::on_new;
 use dn_flows::Flows;
 use dn_types::{Number, Target};
 use std::alloc::AllocError;
@@ -24,8 +25,5 @@ fn check_active<R: Abort>(rt: &R, flows: &mut Flows) -> Result<(), AllocError> {
 // A flow is active from its packet to its discard.
 #[test]
 fn active_flows(rt: HostRuntime) -> Result<(), AllocError> {
-    let mut flows = Flows::new(rt.alloc());
-    let outcome = check_active(&rt, &mut flows);
-    drop(flows);
-    outcome
+    on_new(Flows::new(rt.alloc()), |flows| check_active(&rt, flows))
 }

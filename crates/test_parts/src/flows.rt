@@ -2,6 +2,7 @@
 use crate::given::{
     at_most, counts, discard, is_told, key, note_both, packet, pass, pop, push, verdict, waiting,
 };
+use crate::on_new::on_new;
 use dn_flows::{DropRule, Flows, HashKey, Verdict, Waiting};
 use dn_types::{Len, Limit, Loss};
 use std::alloc::AllocError;
@@ -36,21 +37,15 @@ fn check_parts<R: Abort>(rt: &R, flows: &mut Flows) -> Result<(), AllocError> {
     Ok(())
 }
 
-#[test]
-fn parts_by_themselves(rt: HostRuntime) -> Result<(), AllocError> {
-    let mut flows = Flows::new(rt.alloc());
-    let outcome = check_parts(&rt, &mut flows);
-    drop(flows);
-    outcome
-}
-
 // The numbers don't depend on the key of the hash.
 #[test]
-fn parts_under_a_key(rt: HostRuntime) -> Result<(), AllocError> {
-    let mut flows = Flows::with_key(rt.alloc(), HashKey(u128::MAX));
-    let outcome = check_parts(&rt, &mut flows);
-    drop(flows);
-    outcome
+fn parts_by_themselves(rt: HostRuntime) -> Result<(), AllocError> {
+    let key = HashKey(u128::MAX);
+    on_new(
+        Flows::with_key(rt.alloc(), key),
+        |flows| check_parts(&rt, flows),
+    )?;
+    on_new(Flows::new(rt.alloc()), |flows| check_parts(&rt, flows))
 }
 
 // The columns are a loss rate, of which 2^30 is a half and 2^31 is 1, a packet's word and the verdict.
@@ -87,10 +82,7 @@ fn check_losses<R: Abort>(rt: &R, flows: &mut Flows) -> Result<(), AllocError> {
 
 #[test]
 fn loss_by_word(rt: HostRuntime) -> Result<(), AllocError> {
-    let mut flows = Flows::new(rt.alloc());
-    let outcome = check_losses(&rt, &mut flows);
-    drop(flows);
-    outcome
+    on_new(Flows::new(rt.alloc()), |flows| check_losses(&rt, flows))
 }
 
 fn check_byte_limit<R: Abort>(rt: &R, flows: &mut Flows) -> Result<(), AllocError> {
@@ -113,10 +105,7 @@ fn check_byte_limit<R: Abort>(rt: &R, flows: &mut Flows) -> Result<(), AllocErro
 // 1,024 bytes are not above a limit of 1 Kbyte, and 1,025 are. One packet fills a queue of one slot.
 #[test]
 fn a_byte_limit(rt: HostRuntime) -> Result<(), AllocError> {
-    let mut flows = Flows::new(rt.alloc());
-    let outcome = check_byte_limit(&rt, &mut flows);
-    drop(flows);
-    outcome
+    on_new(Flows::new(rt.alloc()), |flows| check_byte_limit(&rt, flows))
 }
 
 /// What happens at a flow.
@@ -181,10 +170,7 @@ fn check_two_queues<R: Abort>(rt: &R, flows: &mut Flows) -> Result<(), AllocErro
 
 #[test]
 fn two_queues_in_one_store(rt: HostRuntime) -> Result<(), AllocError> {
-    let mut flows = Flows::new(rt.alloc());
-    let outcome = check_two_queues(&rt, &mut flows);
-    drop(flows);
-    outcome
+    on_new(Flows::new(rt.alloc()), |flows| check_two_queues(&rt, flows))
 }
 
 fn check_passing<R: Abort>(rt: &R, flows: &mut Flows) -> Result<(), AllocError> {
@@ -203,10 +189,7 @@ fn check_passing<R: Abort>(rt: &R, flows: &mut Flows) -> Result<(), AllocError> 
 // Packets that pass are counted as starts, and none of them waits.
 #[test]
 fn passing_packets(rt: HostRuntime) -> Result<(), AllocError> {
-    let mut flows = Flows::new(rt.alloc());
-    let outcome = check_passing(&rt, &mut flows);
-    drop(flows);
-    outcome
+    on_new(Flows::new(rt.alloc()), |flows| check_passing(&rt, flows))
 }
 
 /// Two packets of 1,000 bytes come, and the first starts, which is answered.
@@ -232,10 +215,7 @@ fn check_status<R: Abort>(rt: &R, flows: &mut Flows) -> Result<(), AllocError> {
 
 #[test]
 fn a_status(rt: HostRuntime) -> Result<(), AllocError> {
-    let mut flows = Flows::new(rt.alloc());
-    let outcome = check_status(&rt, &mut flows);
-    drop(flows);
-    outcome
+    on_new(Flows::new(rt.alloc()), |flows| check_status(&rt, flows))
 }
 
 /// Makes a flow, twice more at most if memory was refused, which left none.
@@ -272,7 +252,7 @@ fn reserved_again<R: Abort>(rt: &R, flows: &mut Flows, flow: usize) -> Result<()
     reserved_once(rt, flows, flow)
 }
 
-fn check_refused_growth<R: Abort>(rt: &R, flows: &mut Flows) -> Result<(), AllocError> {
+fn check_growth<R: Abort>(rt: &R, flows: &mut Flows) -> Result<(), AllocError> {
     assert!(rt; made_again(rt, flows)? == 0);
     reserved_again(rt, flows, 0)?;
     // A known key and a place that is reserved take no memory.
@@ -286,8 +266,5 @@ fn check_refused_growth<R: Abort>(rt: &R, flows: &mut Flows) -> Result<(), Alloc
 // With each growth refused in turn, or each two in a row, this test passes, since it asks again.
 #[test]
 fn a_refused_growth_changes_nothing(rt: HostRuntime) -> Result<(), AllocError> {
-    let mut flows = Flows::new(rt.alloc());
-    let outcome = check_refused_growth(&rt, &mut flows);
-    drop(flows);
-    outcome
+    on_new(Flows::new(rt.alloc()), |flows| check_growth(&rt, flows))
 }

@@ -1,5 +1,6 @@
 //! Room for flows that are made later.
 use crate::given::{is_told, key};
+use crate::on_new::on_new;
 use dn_flows::Flows;
 use std::alloc::AllocError;
 use std::process::Abort;
@@ -22,8 +23,5 @@ fn check_room<R: Abort>(rt: &R, flows: &mut Flows) -> Result<(), AllocError> {
 
 #[test]
 fn flows_in_reserved_room(rt: HostRuntime) -> Result<(), AllocError> {
-    let mut flows = Flows::new(rt.alloc());
-    let outcome = check_room(&rt, &mut flows);
-    drop(flows);
-    outcome
+    on_new(Flows::new(rt.alloc()), |flows| check_room(&rt, flows))
 }

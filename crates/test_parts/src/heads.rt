@@ -1,5 +1,6 @@
 ghost use Rattle.std.specs.Prelude.{◌≡◌, []};
 
+use crate::on_new::on_new;
 use dn_types::{Len, Weight};
 use dn_wf2q::HeadSched;
 use std::alloc::AllocError;
@@ -72,10 +73,7 @@ fn send_first(heads: &mut HeadSched, len: Len, weight: Weight) -> Result<(), All
 // The figures are those of `packets_that_pass`.
 #[test]
 fn the_first_head(rt: HostRuntime) -> Result<(), AllocError> {
-    let mut heads = HeadSched::new(rt.alloc());
-    let outcome = check_heads(&rt, &mut heads);
-    drop(heads);
-    outcome
+    on_new(HeadSched::new(rt.alloc()), |heads| check_heads(&rt, heads))
 }
 
 // A packet of 1,000 bytes raises virtual time by 1,000 * 65,536 over the weight, 2, of the one flow. Each packet is pushed once, when

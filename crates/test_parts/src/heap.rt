@@ -1,4 +1,5 @@
 use crate::keys::{check_last, check_pops, check_told, push_all, reserved_again};
+use crate::on_new::on_new;
 use dn_heap::{MinHeap, RunHeap};
 use std::alloc::{AllocError, Global};
 use std::process::Abort;
@@ -39,14 +40,7 @@ fn check_parts<R: Abort>(rt: &R, heap: &mut MinHeap<u32>) -> Result<(), AllocErr
     Ok(())
 }
 
-#[test]
-fn parts_by_themselves(rt: HostRuntime) -> Result<(), AllocError> {
-    let mut heap = MinHeap::new(rt.alloc());
-    let outcome = check_parts(&rt, &mut heap);
-    drop(heap);
-    outcome
-}
-
+/// One of equal keys is taken out.
 fn check_equal<R: Abort>(rt: &R, heap: &mut MinHeap<u32>) -> Result<(), AllocError> {
     reserved_again(rt, heap, 2)?;
     push_all(heap, [7, 3].as_slice());
@@ -61,14 +55,7 @@ fn check_equal<R: Abort>(rt: &R, heap: &mut MinHeap<u32>) -> Result<(), AllocErr
     Ok(())
 }
 
-#[test]
-fn takes_one_of_equal_keys(rt: HostRuntime) -> Result<(), AllocError> {
-    let mut heap = MinHeap::new(rt.alloc());
-    let outcome = check_equal(&rt, &mut heap);
-    drop(heap);
-    outcome
-}
-
+/// What passes is retained.
 fn check_passing<R: Abort>(rt: &R, heap: &mut MinHeap<u32>) -> Result<(), AllocError> {
     reserved_again(rt, heap, 5)?;
     push_all(heap, [8, 3, 4, 8, 5].as_slice());
@@ -78,14 +65,6 @@ fn check_passing<R: Abort>(rt: &R, heap: &mut MinHeap<u32>) -> Result<(), AllocE
     push_all(heap, [6].as_slice());
     check_last(rt, heap, [4, 5, 6].as_slice());
     Ok(())
-}
-
-#[test]
-fn retains_what_passes(rt: HostRuntime) -> Result<(), AllocError> {
-    let mut heap = MinHeap::new(rt.alloc());
-    let outcome = check_passing(&rt, &mut heap);
-    drop(heap);
-    outcome
 }
 
 fn check_all_or_none<R: Abort>(rt: &R, heap: &mut MinHeap<u32>) -> Result<(), AllocError> {
@@ -100,14 +79,7 @@ fn check_all_or_none<R: Abort>(rt: &R, heap: &mut MinHeap<u32>) -> Result<(), Al
     Ok(())
 }
 
-#[test]
-fn retains_all_or_none(rt: HostRuntime) -> Result<(), AllocError> {
-    let mut heap = MinHeap::new(rt.alloc());
-    let outcome = check_all_or_none(&rt, &mut heap);
-    drop(heap);
-    outcome
-}
-
+/// Keys that come in order and keys that come out of it leave in one order.
 fn check_keys<R: Abort>(rt: &R, heap: &mut RunHeap<u32>) -> Result<(), AllocError> {
     reserved_again(rt, heap, 4)?;
     push_all(heap, [10, 20, 15, 30].as_slice());
@@ -120,15 +92,6 @@ fn check_keys<R: Abort>(rt: &R, heap: &mut RunHeap<u32>) -> Result<(), AllocErro
     check_last(rt, heap, [20, 20, 25, 30].as_slice());
     check_told(rt, heap, (None, 0, 7, 7));
     Ok(())
-}
-
-/// Keys that come in order and keys that come out of it leave in one order.
-#[test]
-fn keys_in_and_out_of_order(rt: HostRuntime) -> Result<(), AllocError> {
-    let mut heap = RunHeap::new(rt.alloc());
-    let outcome = check_keys(&rt, &mut heap);
-    drop(heap);
-    outcome
 }
 
 fn check_retained<R: Abort>(rt: &R, heap: &mut RunHeap<u32>) -> Result<(), AllocError> {
@@ -145,9 +108,17 @@ fn check_retained<R: Abort>(rt: &R, heap: &mut RunHeap<u32>) -> Result<(), Alloc
 }
 
 #[test]
-fn retains_in_and_out_of_order(rt: HostRuntime) -> Result<(), AllocError> {
-    let mut heap = RunHeap::new(rt.alloc());
-    let outcome = check_retained(&rt, &mut heap);
-    drop(heap);
-    outcome
+fn a_heap(rt: HostRuntime) -> Result<(), AllocError> {
+    let alloc = rt.alloc();
+    on_new(MinHeap::new(alloc), |heap| check_parts(&rt, heap))?;
+    on_new(MinHeap::new(alloc), |heap| check_equal(&rt, heap))?;
+    on_new(MinHeap::new(alloc), |heap| check_passing(&rt, heap))?;
+    on_new(MinHeap::new(alloc), |heap| check_all_or_none(&rt, heap))
+}
+
+#[test]
+fn a_heap_with_a_run(rt: HostRuntime) -> Result<(), AllocError> {
+    let alloc = rt.alloc();
+    on_new(RunHeap::new(alloc), |heap| check_keys(&rt, heap))?;
+    on_new(RunHeap::new(alloc), |heap| check_retained(&rt, heap))
 }

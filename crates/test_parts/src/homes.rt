@@ -1,5 +1,6 @@
 //! A test of the homes of flows.
 use crate::given::{is_told, key};
+use crate::on_new::on_new;
 use dn_flows::{Flows, Home};
 use std::alloc::AllocError;
 use std::process::Abort;
@@ -38,8 +39,5 @@ fn check_homes<R: Abort>(rt: &R, flows: &mut Flows) -> Result<(), AllocError> {
 // A flow's home is the one that it was given, and no other flow's.
 #[test]
 fn the_home_of_a_flow(rt: HostRuntime) -> Result<(), AllocError> {
-    let mut flows = Flows::new(rt.alloc());
-    let outcome = check_homes(&rt, &mut flows);
-    drop(flows);
-    outcome
+    on_new(Flows::new(rt.alloc()), |flows| check_homes(&rt, flows))
 }

@@ -26,6 +26,8 @@ mod keys;
 #[cfg(test)]
 mod link;
 #[cfg(test)]
+mod on_new;
+#[cfg(test)]
 mod passing;
 #[cfg(test)]
 mod placed_heap;

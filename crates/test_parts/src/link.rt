@@ -1,3 +1,4 @@
+use crate::on_new::on_new;
 use dn_link::{DelayLine, Link, tx_time};
 use dn_types::{Bandwidth, Delay, Delivery, Len, Rule};
 use std::alloc::{AllocError, Global};
@@ -128,15 +129,7 @@ fn check_parts(rt: &impl Abort, line: &mut DelayLine) -> Result<(), AllocError> 
     Ok(())
 }
 
-#[test]
-fn parts_by_themselves(rt: HostRuntime) -> Result<(), AllocError> {
-    let mut line = DelayLine::new(rt.alloc());
-    let outcome = check_parts(&rt, &mut line);
-    drop(line);
-    outcome
-}
-
-fn check_first_moments(rt: &impl Abort, line: &mut DelayLine) -> Result<(), AllocError> {
+fn check_moments(rt: &impl Abort, line: &mut DelayLine) -> Result<(), AllocError> {
     line.reserve(3)?;
     check_first_due(rt, line, None);
     push(line, 7, 2);
@@ -156,11 +149,9 @@ fn check_first_moments(rt: &impl Abort, line: &mut DelayLine) -> Result<(), Allo
 }
 
 #[test]
-fn the_first_moment_of_a_line(rt: HostRuntime) -> Result<(), AllocError> {
-    let mut line = DelayLine::new(rt.alloc());
-    let outcome = check_first_moments(&rt, &mut line);
-    drop(line);
-    outcome
+fn a_delay_line(rt: HostRuntime) -> Result<(), AllocError> {
+    on_new(DelayLine::new(rt.alloc()), |line| check_parts(&rt, line))?;
+    on_new(DelayLine::new(rt.alloc()), |line| check_moments(&rt, line))
 }
 
 /// Reserves, twice more at most if memory was refused, which changed nothing.
@@ -175,7 +166,7 @@ fn reserved_again(rt: &impl Abort, line: &mut DelayLine, n: usize) -> Result<(),
     line.reserve(n)
 }
 
-fn check_refused_growth(rt: &impl Abort, line: &mut DelayLine) -> Result<(), AllocError> {
+fn check_growth(rt: &impl Abort, line: &mut DelayLine) -> Result<(), AllocError> {
     reserved_again(rt, line, 1)?;
     push(line, 5, 0);
     reserved_again(rt, line, 2)?;
@@ -190,8 +181,5 @@ fn check_refused_growth(rt: &impl Abort, line: &mut DelayLine) -> Result<(), All
 // With each growth refused in turn, or each two in a row, this test passes, since it asks again.
 #[test]
 fn a_refused_growth_changes_nothing(rt: HostRuntime) -> Result<(), AllocError> {
-    let mut line = DelayLine::new(rt.alloc());
-    let outcome = check_refused_growth(&rt, &mut line);
-    drop(line);
-    outcome
+    on_new(DelayLine::new(rt.alloc()), |line| check_growth(&rt, line))
 }

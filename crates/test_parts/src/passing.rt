@@ -1,3 +1,4 @@
+use crate::on_new::on_new;
 use dn_types::{Len, Weight};
 use dn_wf2q::Sched;
 use std::alloc::AllocError;
@@ -57,8 +58,5 @@ fn check_passing(rt: &impl Abort, sched: &mut Sched) -> Result<(), AllocError> {
 // half as much for each; the last one begins a busy period of its own.
 #[test]
 fn packets_that_pass(rt: HostRuntime) -> Result<(), AllocError> {
-    let mut sched = Sched::new(rt.alloc());
-    let outcome = check_passing(&rt, &mut sched);
-    drop(sched);
-    outcome
+    on_new(Sched::new(rt.alloc()), |sched| check_passing(&rt, sched))
 }

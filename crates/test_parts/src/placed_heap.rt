@@ -1,3 +1,4 @@
+use crate::on_new::on_new;
 use crate::placed_key::Key;
 use crate::pushes::{push, push_pop};
 use dn_heap::PlacedHeap;
@@ -92,8 +93,8 @@ fn check_in_one_step<R: Abort>(rt: &R, heap: &mut PlacedHeap<Key>) -> Result<(),
 
 #[test]
 fn pushes_and_pops_in_one_step(rt: HostRuntime) -> Result<(), AllocError> {
-    let mut heap = PlacedHeap::new(rt.alloc());
-    let outcome = check_in_one_step(&rt, &mut heap);
-    drop(heap);
-    outcome
+    on_new(
+        PlacedHeap::new(rt.alloc()),
+        |heap| check_in_one_step(&rt, heap),
+    )
 }

@@ -1,5 +1,6 @@
 //! A test of the packet behind the first one of a queue.
 use crate::given::{key, pop, push, waiting};
+use crate::on_new::on_new;
 use dn_flows::{Flows, Waiting};
 use dn_types::{Len, Weight};
 use std::alloc::AllocError;
@@ -43,8 +44,5 @@ fn check_second<R: Abort>(rt: &R, flows: &mut Flows) -> Result<(), AllocError> {
 // Behind a single packet, or where there is no such flow, there is none. A packet keeps its weight.
 #[test]
 fn the_packet_behind_the_first(rt: HostRuntime) -> Result<(), AllocError> {
-    let mut flows = Flows::new(rt.alloc());
-    let outcome = check_second(&rt, &mut flows);
-    drop(flows);
-    outcome
+    on_new(Flows::new(rt.alloc()), |flows| check_second(&rt, flows))
 }

@@ -2,135 +2,101 @@ use dn_types::{
     Bandwidth, Buckets, Delay, FiveTuple, KbyteCount, Len, Limit, Loss, Mask, Moment, Number,
     SlotCount, Weight,
 };
-use std::process::Abort;
+
+/// A type whose numbers lie in a range.
+enum Ranged {
+    Moment,
+    Len,
+    Number,
+    Bandwidth,
+    Delay,
+    Loss,
+    Weight,
+    Buckets,
+}
+
+/// What the type makes of a number, as a number again.
+fn taken(ranged: &Ranged, value: u64) -> Option<u64> {
+    match ranged {
+        Ranged::Moment => Moment::new(value).map(Moment::get),
+        Ranged::Len => Len::new(u16::try_from(value).ok()?).map(|len| u64::from(len.get())),
+        Ranged::Number => Number::new(u32::try_from(value).ok()?).map(|one| u64::from(one.get())),
+        Ranged::Bandwidth => Bandwidth::new(value).map(Bandwidth::get),
+        Ranged::Delay => Delay::new(u32::try_from(value).ok()?).map(|delay| u64::from(delay.get())),
+        Ranged::Loss => Loss::new(u32::try_from(value).ok()?).map(|loss| u64::from(loss.get())),
+        Ranged::Weight => Weight::new(u8::try_from(value).ok()?).map(|one| u64::from(one.get())),
+        Ranged::Buckets => Buckets::new(u32::try_from(value).ok()?).map(|all| u64::from(all.get())),
+    }
+}
 
 // The bounds are those that README.md gives.
-fn check_moments(rt: &impl Abort) {
-    static BOUNDS: [(u64, Option<u64>); 3] = [
-        (0, Some(0)),
-        (1 << 62, Some(1 << 62)),
-        ((1 << 62) + 1, None),
-    ];
-    for (value, want) in BOUNDS.iter() {
-        assert!(rt; Moment::new(*value).map(Moment::get) == *want);
-    }
-}
+static WITHIN: [(Ranged, u64); 16] = [
+    (Ranged::Moment, 1 << 62),
+    (Ranged::Loss, 1 << 31),
+    (Ranged::Moment, 0),
+    (Ranged::Len, 1),
+    (Ranged::Len, 65_535),
+    (Ranged::Number, 1),
+    (Ranged::Number, 65_535),
+    (Ranged::Bandwidth, 0),
+    (Ranged::Bandwidth, 1_000_000_000_000),
+    (Ranged::Delay, 0),
+    (Ranged::Delay, 3_600_000),
+    (Ranged::Loss, 0),
+    (Ranged::Weight, 1),
+    (Ranged::Weight, 100),
+    (Ranged::Buckets, 16),
+    (Ranged::Buckets, 65_536),
+];
 
-fn check_lengths(rt: &impl Abort) {
-    static BOUNDS: [(u16, Option<u16>); 3] = [(0, None), (1, Some(1)), (65_535, Some(65_535))];
-    for (value, want) in BOUNDS.iter() {
-        assert!(rt; Len::new(*value).map(Len::get) == *want);
-    }
-}
+static BEYOND: [(Ranged, u64); 11] = [
+    (Ranged::Moment, (1 << 62) + 1),
+    (Ranged::Loss, (1 << 31) + 1),
+    (Ranged::Len, 0),
+    (Ranged::Number, 0),
+    (Ranged::Number, 65_536),
+    (Ranged::Bandwidth, 1_000_000_000_001),
+    (Ranged::Delay, 3_600_001),
+    (Ranged::Weight, 0),
+    (Ranged::Weight, 101),
+    (Ranged::Buckets, 15),
+    (Ranged::Buckets, 65_537),
+];
 
-fn check_numbers(rt: &impl Abort) {
-    static BOUNDS: [(u32, Option<u32>); 4] = [
-        (0, None),
-        (1, Some(1)),
-        (65_535, Some(65_535)),
-        (65_536, None),
-    ];
-    for (value, want) in BOUNDS.iter() {
-        assert!(rt; Number::new(*value).map(Number::get) == *want);
-    }
-}
-
-fn check_bandwidths(rt: &impl Abort) {
-    static BOUNDS: [(u64, Option<u64>); 3] = [
-        (0, Some(0)),
-        (1_000_000_000_000, Some(1_000_000_000_000)),
-        (1_000_000_000_001, None),
-    ];
-    for (value, want) in BOUNDS.iter() {
-        assert!(rt; Bandwidth::new(*value).map(Bandwidth::get) == *want);
-    }
-}
-
-fn check_delays(rt: &impl Abort) {
-    static BOUNDS: [(u32, Option<u32>); 3] = [
-        (0, Some(0)),
-        (3_600_000, Some(3_600_000)),
-        (3_600_001, None),
-    ];
-    for (value, want) in BOUNDS.iter() {
-        assert!(rt; Delay::new(*value).map(Delay::get) == *want);
-    }
-}
-
-fn check_losses(rt: &impl Abort) {
-    static BOUNDS: [(u32, Option<u32>); 3] = [
-        (0, Some(0)),
-        (1 << 31, Some(1 << 31)),
-        ((1 << 31) + 1, None),
-    ];
-    for (value, want) in BOUNDS.iter() {
-        assert!(rt; Loss::new(*value).map(Loss::get) == *want);
-    }
-}
-
-fn check_weights(rt: &impl Abort) {
-    static BOUNDS: [(u8, Option<u8>); 4] = [(0, None), (1, Some(1)), (100, Some(100)), (101, None)];
-    for (value, want) in BOUNDS.iter() {
-        assert!(rt; Weight::new(*value).map(Weight::get) == *want);
-    }
-}
-
-fn check_buckets(rt: &impl Abort) {
-    static BOUNDS: [(u32, Option<u32>); 4] = [
-        (15, None),
-        (16, Some(16)),
-        (65_536, Some(65_536)),
-        (65_537, None),
-    ];
-    for (value, want) in BOUNDS.iter() {
-        assert!(rt; Buckets::new(*value).map(Buckets::get) == *want);
+#[test]
+fn range_types_within_their_bounds(rt: HostRuntime) {
+    for (ranged, value) in WITHIN.iter() {
+        assert!(rt; taken(ranged, *value) == Some(*value), "{value}");
     }
 }
 
 #[test]
-fn range_types_at_their_bounds(rt: HostRuntime) {
-    check_moments(&rt);
-    check_lengths(&rt);
-    check_numbers(&rt);
-    check_bandwidths(&rt);
-    check_delays(&rt);
-    check_losses(&rt);
-    check_weights(&rt);
-    check_buckets(&rt);
-}
-
-fn check_slots(rt: &impl Abort) {
-    static BOUNDS: [(u16, Option<u16>); 4] = [
-        (0, None),
-        (1, Some(1)),
-        (10_000, Some(10_000)),
-        (10_001, None),
-    ];
-    for (count, want) in BOUNDS.iter() {
-        assert!(rt; SlotCount::new(*count).map(SlotCount::get) == *want);
-        assert!(rt; Limit::slots(*count).and_then(Limit::as_slots) == *want);
-        assert!(rt; Limit::slots(*count).and_then(Limit::as_kbytes) == None);
+fn range_types_beyond_their_bounds(rt: HostRuntime) {
+    for (ranged, value) in BEYOND.iter() {
+        assert!(rt; taken(ranged, *value) == None, "{value}");
     }
 }
 
-fn check_kbytes(rt: &impl Abort) {
-    static BOUNDS: [(u16, Option<u16>); 4] = [
-        (0, None),
-        (1, Some(1)),
-        (1024, Some(1024)),
-        (1025, None),
-    ];
-    for (count, want) in BOUNDS.iter() {
-        assert!(rt; KbyteCount::new(*count).map(KbyteCount::get) == *want);
-        assert!(rt; Limit::kbytes(*count).and_then(Limit::as_kbytes) == *want);
-        assert!(rt; Limit::kbytes(*count).and_then(Limit::as_slots) == None);
-    }
-}
+// The columns are a count, and what it is of slots and of Kbytes.
+static COUNTS: [(u16, Option<u16>, Option<u16>); 6] = [
+    (0, None, None),
+    (1, Some(1), Some(1)),
+    (1_024, Some(1_024), Some(1_024)),
+    (1_025, Some(1_025), None),
+    (10_000, Some(10_000), None),
+    (10_001, None, None),
+];
 
 #[test]
 fn limits_at_their_bounds(rt: HostRuntime) {
-    check_slots(&rt);
-    check_kbytes(&rt);
+    for (count, slots, kbytes) in COUNTS.iter() {
+        assert!(rt; SlotCount::new(*count).map(SlotCount::get) == *slots);
+        assert!(rt; Limit::slots(*count).and_then(Limit::as_slots) == *slots);
+        assert!(rt; Limit::slots(*count).and_then(Limit::as_kbytes) == None);
+        assert!(rt; KbyteCount::new(*count).map(KbyteCount::get) == *kbytes);
+        assert!(rt; Limit::kbytes(*count).and_then(Limit::as_kbytes) == *kbytes);
+        assert!(rt; Limit::kbytes(*count).and_then(Limit::as_slots) == None);
+    }
 }
 
 // `mask src-ip 0xffff0000 dst-ip 0x000000ff proto 0x0f src-port 0xff00 dst-port 0` on a packet from 10.0.0.1 to
