@@ -1,11 +1,6 @@
 -- The words of a spaced text are the words that it was made of.
-use Rattle.std.proofs.Common.{◌≡◌, refl, ◌∙◌, ap, ℕ, Bool, true, false, List, [], ◌∷◌, ◌++◌, append-nil, one-add}
-use Rattle.std.specs.Prelude.{◌&&◌, nat_lt, not}
-use Rattle.std.specs.List.{slice_split, onto_first, before_first, list_all}
-use Rattle.std.proofs.lemmas.Bool.{and_parts}
-use Rattle.dn_config.specs.Tokens.Words.{is_separator, is_nonempty, words_of}
-use Rattle.dn_config.specs.Words.{is_hash, words}
-use Rattle.dn_config.specs.Text.{behind_spaces, spaced}
+use Rattle.dn_config.proofs.Vocabulary.{Bool, List, [], and_parts, ap, append-nil, before_first, behind_spaces, false, is_hash, is_nonempty, is_separator, list_all, nat_lt, not, one-add, onto_first}
+use Rattle.dn_config.proofs.Vocabulary.{refl, slice_split, spaced, true, words, words_of, ℕ, ◌&&◌, ◌++◌, ◌∙◌, ◌∷◌, ◌≡◌}
 
 -- a byte that a word may have: of ASCII, no separator, and not the one that begins a comment
 abbrev pub is_plain_byte : ℕ → Bool

@@ -1,16 +1,7 @@
 -- Numbers that are counted no further than one above the greatest that is asked for.
-use Rattle.std.proofs.Common.{◌≡◌, ◌≢◌, refl, sym, ap, ℕ, ◌+◌, ◌*◌, ◌^◌, ◌<◌, ◌≤◌, ◌⊎◌, inl, inr, Bool, true, false, List, [], ◌∷◌, length, get_or, take, arith, add-one, one-add}
-use Rattle.std.specs.Prelude.{min, nat_lt, nat_le, ◌&&◌, Option, Some, None, Ok, Err, cond}
-use Rattle.std.specs.List.{prefix_len}
-use Rattle.std.specs.Char.{digit_value, is_ascii_digit}
-use Rattle.std.specs.Str.Parse.{digits_value}
-use Rattle.std.proofs.lemmas.Bool.{cases_lt, lt-ltb, le-leb, lt-leb, leb-true}
-use Rattle.std.proofs.lemmas.Bool.Decides.{nat_tests}
-use Rattle.std.proofs.lemmas.Nat.{mul-le}
-use Rattle.std.proofs.lemmas.Int.Digits.{digits_value_more}
-use Rattle.std.proofs.lemmas.List.{take_all}
-use Rattle.dn_config.specs.Tokens.Numbers.{numeral_of, all_digits, within}
-use Rattle.dn_config.specs.declared.tokens.number_fault.NumberFault.TheVariants.{Range}
+use Rattle.dn_config.proofs.Vocabulary.{Bool, Err, List, None, Ok, Option, Range, Some, [], add-one, all_digits, ap, arith, cases_lt, cond, digit_value, digits_value, digits_value_more, false, get_or}
+use Rattle.dn_config.proofs.Vocabulary.{inl, inr, is_ascii_digit, le-leb, leb-true, length, lt-leb, lt-ltb, min, mul-le, nat_le, nat_lt, nat_tests, numeral_of, one-add, prefix_len, refl, sym, take}
+use Rattle.dn_config.proofs.Vocabulary.{take_all, true, within, ℕ, ◌&&◌, ◌*◌, ◌+◌, ◌<◌, ◌^◌, ◌∷◌, ◌≡◌, ◌≢◌, ◌≤◌, ◌⊎◌}
 
 -- a number is no greater than its multiple
 pub grows : (a r : ℕ) → 1 ≤ r → a ≤ a * r

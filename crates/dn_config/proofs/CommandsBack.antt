@@ -1,25 +1,10 @@
 -- The canonical text of a command is a line whose command it is.
-use Rattle.std.proofs.Common.{◌≡◌, refl, sym, ◌∙◌, ap, ℕ, ◌+◌, ◌<◌, ◌≤◌, true, false, List, [], ◌∷◌, ◌++◌, arith}
-use Rattle.std.specs.Prelude.{decimal, codes, bytes_eq, nat_eq, Option, Some, None, Result, Ok}
-use Rattle.std.specs.List.{list_all}
-use Rattle.std.specs.Char.{is_ascii_digit}
-use Rattle.std.proofs.lemmas.Bool.{and_parts}
-use Rattle.std.proofs.lemmas.Bool.Decides.{nat_tests}
-use Rattle.std.proofs.lemmas.Fmt.{decimal_is_IsNumeral}
-use Rattle.dn_types.specs.declared.limit.Limit.{Limit}
-use Rattle.dn_types.specs.declared.limit.Limit.TheVariants.{Slots}
-use Rattle.dn_types.specs.declared.mask.Mask.{Mask}
-use Rattle.dn_config.specs.Masks.{no_bits}
-use Rattle.dn_types.specs.declared.command.Command.{Command}
+use Rattle.dn_config.proofs.Vocabulary.{AreShared, Command, IsBetween, IsTyped, Kind, Limit, LineFault, List, Mask, None, Ok, Option, Options, Result, Slots, Some, [], and_parts, answer, ap, arith}
+use Rattle.dn_config.proofs.Vocabulary.{behind_kind, both_words, buckets_words, bytes_eq, codes, command_of, config_at, decimal, decimal_is_IsNumeral, deletes, false, is_ascii_digit, link_words}
+use Rattle.dn_config.proofs.Vocabulary.{list_all, loss_words, mask_words, nat_eq, nat_tests, no_bits, read_options, refl, share_words, sym, text, text_words, true, ℕ, ◌++◌, ◌+◌, ◌<◌, ◌∙◌, ◌∷◌, ◌≡◌}
+use Rattle.dn_config.proofs.Vocabulary.{◌≤◌}
 use Rattle.dn_types.specs.declared.command.Command.TheVariants as c
-use Rattle.dn_config.specs.Commands.{IsTyped, IsBetween, AreShared}
-use Rattle.dn_config.specs.Reading.{read_options}
-use Rattle.dn_config.specs.Line.{answer, command_of, config_at, behind_kind, deletes}
-use Rattle.dn_config.specs.Text.{text, text_words, loss_words, buckets_words, mask_words, both_words, link_words, share_words}
-use Rattle.dn_config.specs.declared.fault.LineFault.{LineFault}
-use Rattle.dn_config.specs.declared.kind.Kind.{Kind}
 use Rattle.dn_config.specs.declared.kind.Kind.TheVariants as kind
-use Rattle.dn_config.specs.declared.options.Options.{Options}
 use Rattle.dn_config.proofs.Back.{words_back}
 use Rattle.dn_config.proofs.Config.{config_ok}
 use Rattle.dn_config.proofs.MaskBack.{mask_back}

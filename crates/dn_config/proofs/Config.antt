@@ -1,15 +1,7 @@
 -- A `config` line from what its options say.
-use Rattle.std.proofs.Common.{◌≡◌, refl, sym, ◌∙◌, ℕ, ◌+◌, List}
-use Rattle.std.specs.Prelude.{Result, Ok, Err}
-use Rattle.dn_types.specs.declared.command.Command.{Command}
-use Rattle.dn_config.specs.Settings.{filled, defaults}
-use Rattle.dn_config.specs.Groups.{◌>>=◌, groups, group_settings}
-use Rattle.dn_config.specs.Reading.{read_options}
-use Rattle.dn_config.specs.Line.{config_at, command_with}
-use Rattle.dn_config.specs.declared.fault.LineFault.{LineFault}
-use Rattle.dn_config.specs.declared.kind.Kind.{Kind}
-use Rattle.dn_config.specs.declared.option_group.Setting.{Setting}
-use Rattle.dn_config.specs.declared.options.Options.{Options}
+use Rattle.dn_config.proofs.Vocabulary.{Command, Err, Kind, LineFault, List, Ok, Options, Result, Setting, command_with, config_at, defaults, filled, group_settings, groups, read_options, refl, sym, ℕ}
+use Rattle.dn_config.proofs.Vocabulary.{◌+◌, ◌∙◌, ◌≡◌}
+use Rattle.dn_config.specs.Groups.{◌>>=◌}
 
 module _ (k : Kind) (at n : ℕ) where
   then_command : (r : Result (List Setting) LineFault)

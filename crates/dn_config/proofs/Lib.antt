@@ -23,3 +23,4 @@ mod Marks
 pub mod Shorts
 pub mod UntilBack
 pub mod UntilParts
+pub mod Vocabulary

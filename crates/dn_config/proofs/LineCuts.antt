@@ -1,7 +1,5 @@
 -- The lines of a text, taken off one by one.
-use Rattle.std.proofs.Common.{◌≡◌, refl, sym, ◌∙◌, ap, ℕ, ◌+◌, ◌<◌, List, [], ◌∷◌, length, take, drop, arith}
-use Rattle.std.specs.List.{slice_split, position_or_len}
-use Rattle.dn_config.specs.Tokens.Lines.{is_line_feed, lines_of, without_empty_end}
+use Rattle.dn_config.proofs.Vocabulary.{List, [], ap, arith, drop, is_line_feed, length, lines_of, position_or_len, refl, slice_split, sym, take, without_empty_end, ℕ, ◌+◌, ◌<◌, ◌∙◌, ◌∷◌, ◌≡◌}
 use Rattle.dn_config.proofs.WordCuts.{behind, split_first}
 
 pub no_lines : (xs : List ℕ) → length xs ≡ 0 → lines_of xs ≡ []

@@ -1,21 +1,8 @@
 -- Lines and their answers, computed from the definition.
-use Rattle.std.proofs.Common.{◌≡◌, refl}
-use Rattle.std.specs.Prelude.{ℕ, Option, Some, None, Result, Ok, Err, codes}
-use Rattle.dn_config.specs.Tokens.Numbers.{within, number_of, numeral_of}
-use Rattle.dn_config.specs.Tokens.Words.{words_of}
-use Rattle.dn_types.specs.declared.limit.Limit.TheVariants.{Kbytes}
-use Rattle.dn_types.specs.declared.command.Command.{Command}
+use Rattle.dn_config.proofs.Vocabulary.{BadNumber, Command, Err, Kbytes, LeftOut, LineFault, MissingValue, NeedsPipe, None, Ok, Option, Options, OutOfRange, Result, Some, UnknownWord, all_bits, answer}
+use Rattle.dn_config.proofs.Vocabulary.{bandwidth_at, bits_at, bits_of, codes, defaults, delay_at, field_of, groups, is_left_out_word, limit_at, loss_at, mask_len, no_bits, number_of, numeral_of}
+use Rattle.dn_config.proofs.Vocabulary.{option_of, rate_of, refl, setting_of, within, words, words_of, ℕ, ◌≡◌}
 use Rattle.dn_types.specs.declared.command.Command.TheVariants as c
-use Rattle.dn_config.specs.Words.{words}
-use Rattle.dn_config.specs.Values.{delay_at, limit_at, rate_of, bandwidth_at, loss_at, bits_of, bits_at}
-use Rattle.dn_config.specs.Keywords.{option_of, field_of, is_left_out_word}
-use Rattle.dn_config.specs.Masks.{no_bits, all_bits}
-use Rattle.dn_config.specs.Settings.{defaults}
-use Rattle.dn_config.specs.Groups.{mask_len, groups, setting_of}
-use Rattle.dn_config.specs.Line.{answer}
-use Rattle.dn_config.specs.declared.options.Options.{Options}
-use Rattle.dn_config.specs.declared.fault.LineFault.{LineFault}
-use Rattle.dn_config.specs.declared.fault.LineFault.TheVariants.{UnknownWord, MissingValue, BadNumber, OutOfRange, LeftOut, NeedsPipe}
 
 abbrev pub pipe : ℕ → Options → Command
 pipe n o = c.Pipe n o.bw o.delay o.limit o.loss o.buckets o.mask

@@ -1,19 +1,8 @@
 -- More digits than a number of 64 bits has are no such number.
-use Rattle.std.proofs.Common.{◌≡◌, refl, ℕ, zero, suc, ◌+◌, ◌-◌, ◌^◌, ◌<◌, ◌≤◌, ◌==◌, Bool, true, false, cond, List, [], ◌∷◌, length, take, arith, add-one, length-take}
-use Rattle.std.specs.Prelude.{Some, None, Ok, Err, ◌&&◌, nat_lt, nat_le, Result}
-use Rattle.std.specs.List.{prefix_len}
-use Rattle.std.specs.Result.{result_ok}
-use Rattle.std.specs.Char.{digit_value, is_ascii_digit}
-use Rattle.std.specs.Str.Parse.{digits_value}
-use Rattle.std.proofs.Math.Nat.{pow-suc}
-use Rattle.std.proofs.lemmas.Bool.{and_parts, eqb-false, lt-leb, lt-ltb, ltb-true}
-use Rattle.std.proofs.lemmas.Bool.Decides.{nat_tests}
-use Rattle.std.proofs.lemmas.Int.Digits.{digits_value_more}
-use Rattle.std.proofs.lemmas.Str.Parse.{digit_from_value, digits_value-take-le}
-use Rattle.dn_config.specs.Tokens.Numbers.{all_digits, digits, number_of, number_within, numeral_of, within}
-use Rattle.dn_config.specs.declared.tokens.number_fault.NumberFault.TheVariants.{Range}
-use Rattle.dn_config.specs.declared.tokens.number_fault.NumberFault.{NumberFault}
-use Rattle.dn_config.specs.Tokens.Until.{number_until}
+use Rattle.dn_config.proofs.Vocabulary.{Bool, Err, List, None, NumberFault, Ok, Range, Result, Some, [], add-one, all_digits, and_parts, arith, cond, digit_from_value, digit_value, digits_value}
+use Rattle.dn_config.proofs.Vocabulary.{digits_value-take-le, digits_value_more, eqb-false, false, is_ascii_digit, length, length-take, lt-leb, lt-ltb, ltb-true, nat_le, nat_lt, nat_tests, number_of}
+use Rattle.dn_config.proofs.Vocabulary.{number_until, number_within, numeral_of, pow-suc, prefix_len, refl, result_ok, suc, take, true, within, zero, ℕ, ◌&&◌, ◌+◌, ◌-◌, ◌<◌, ◌==◌, ◌^◌, ◌∷◌, ◌≡◌, ◌≤◌}
+use Rattle.dn_config.specs.Tokens.Numbers.{digits}
 use Rattle.dn_config.proofs.Capping.{digits_are_digits}
 
 -- What passes a test at the front of a part passes it at the front of the whole.

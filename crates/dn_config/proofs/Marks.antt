@@ -1,9 +1,6 @@
 -- How a joined input is cut at its first line `--`.
-use Rattle.std.proofs.Common.{◌≡◌, ◌∙◌, ℕ, suc, ◌+◌, ◌<◌, ◌≤◌, ◌==◌, Bool, true, false, List, [], ◌∷◌}
-use Rattle.std.proofs.Common.{◌++◌, length, take, drop, get_or, refl, sym, ap, Option, Some, None, add-one, drop-cons, append_assoc}
-use Rattle.std.specs.Prelude.{◌&&◌, is_some}
-use Rattle.std.proofs.lemmas.List.{take_more, append-nil, drop_all}
-use Rattle.dn_config.specs.Tokens.Joined.{after_mark, parts_from}
+use Rattle.dn_config.proofs.Vocabulary.{Bool, List, None, Option, Some, [], add-one, after_mark, ap, append-nil, append_assoc, drop, drop-cons, drop_all, false, get_or, is_some, length, parts_from}
+use Rattle.dn_config.proofs.Vocabulary.{refl, suc, sym, take, take_more, true, ℕ, ◌&&◌, ◌++◌, ◌+◌, ◌<◌, ◌==◌, ◌∙◌, ◌∷◌, ◌≡◌, ◌≤◌}
 
 abbrev pub behind : List ℕ → List ℕ × List ℕ → List ℕ × List ℕ
 behind front p = (front ++ p.0, p.1)

@@ -1,19 +1,9 @@
 -- The mask of a canonical text, read back.
-use Rattle.std.proofs.Common.{◌≡◌, refl, sym, ◌∙◌, ap, ℕ, ◌+◌, ◌-◌, ◌<◌, ◌≤◌, ◌^◌, Bool, true, false, cond, List, [], ◌∷◌, ◌++◌, arith, append_assoc, append-nil, suc}
-use Rattle.std.specs.Prelude.{◌==◌, codes, Some, Ok, is_some, ◌||◌}
-use Rattle.std.proofs.lemmas.Bool.{eqb-true, and_parts, and_from}
-use Rattle.dn_types.specs.declared.mask.Mask.{Mask}
-use Rattle.dn_config.specs.Keywords.{field_of, is_left_out_word}
-use Rattle.dn_config.specs.Masks.{has_no_bits, has_all_bits, no_bits, all_bits, set_field, greatest_of}
-use Rattle.dn_config.specs.Settings.{set_option}
-use Rattle.dn_config.specs.Commands.{IsMask}
-use Rattle.dn_config.specs.Reading.{read_options, read_fields}
-use Rattle.dn_config.specs.Text.{zero_padded, field_words, fields_words, mask_words}
-use Rattle.dn_config.specs.declared.mask_field.MaskField.{MaskField}
+use Rattle.dn_config.proofs.Vocabulary.{Bool, IsMask, Kind, List, Mask, MaskField, Ok, Options, Some, [], all_bits, and_from, and_parts, ap, append-nil, append_assoc, arith, codes, cond, eqb-true}
+use Rattle.dn_config.proofs.Vocabulary.{false, field_of, field_words, fields_words, greatest_of, has_all_bits, has_no_bits, is_left_out_word, is_some, mask_words, no_bits, read_fields, read_options}
+use Rattle.dn_config.proofs.Vocabulary.{refl, set_field, set_option, suc, sym, true, zero_padded, ℕ, ◌++◌, ◌+◌, ◌-◌, ◌<◌, ◌==◌, ◌^◌, ◌||◌, ◌∙◌, ◌∷◌, ◌≡◌, ◌≤◌}
 use Rattle.dn_config.specs.declared.mask_field.MaskField.TheVariants as f
-use Rattle.dn_config.specs.declared.kind.Kind.{Kind}
 use Rattle.dn_config.specs.declared.mask_field.MaskWord.TheVariants as m
-use Rattle.dn_config.specs.declared.options.Options.{Options}
 use Rattle.dn_config.specs.declared.option_group.Setting.TheVariants as set
 use Rattle.dn_config.proofs.MaskSteps.{fields_step, fields_nil, mask_begins}
 use Rattle.dn_config.proofs.OptionSteps.{options_nil}

@@ -1,17 +1,9 @@
 -- How a mask is read from one field to the next.
-use Rattle.std.proofs.Common.{◌≡◌, refl, sym, ◌∙◌, ap, ℕ, zero, suc, ◌+◌, true, false, List, [], ◌∷◌, take, drop, arith, add-zero}
-use Rattle.std.specs.Prelude.{is_some, ◌||◌, Option, Some, None, Result, Ok, Err}
-use Rattle.dn_types.specs.declared.mask.Mask.{Mask}
-use Rattle.dn_config.specs.Values.{bits_at}
-use Rattle.dn_config.specs.Masks.{set_field, all_bits, no_bits, greatest_of, with_fields}
-use Rattle.dn_config.specs.Groups.{◌>>=◌, mask_len, mask_len_after, fields_at}
-use Rattle.dn_config.specs.Keywords.{field_of, is_left_out_word}
-use Rattle.dn_config.specs.Reading.{read_field, read_fields, read_mask}
-use Rattle.dn_config.specs.declared.fault.LineFault.{LineFault}
-use Rattle.dn_config.specs.declared.fault.LineFault.TheVariants.{MissingValue, LeftOut}
-use Rattle.dn_config.specs.declared.mask_field.MaskWord.{MaskWord}
+use Rattle.dn_config.proofs.Vocabulary.{Err, LeftOut, LineFault, List, Mask, MaskField, MaskWord, MissingValue, None, Ok, Option, Result, Some, [], add-zero, all_bits, ap, arith, bits_at, drop, false}
+use Rattle.dn_config.proofs.Vocabulary.{field_of, fields_at, greatest_of, is_left_out_word, is_some, mask_len, mask_len_after, no_bits, read_field, read_fields, read_mask, refl, set_field, suc, sym}
+use Rattle.dn_config.proofs.Vocabulary.{take, true, with_fields, zero, ℕ, ◌+◌, ◌||◌, ◌∙◌, ◌∷◌, ◌≡◌}
+use Rattle.dn_config.specs.Groups.{◌>>=◌}
 use Rattle.dn_config.specs.declared.mask_field.MaskWord.TheVariants as m
-use Rattle.dn_config.specs.declared.mask_field.MaskField.{MaskField}
 
 -- where no word is left
 pub fields_nil : (mask : Mask) (at : ℕ) → read_fields mask at [] ≡ Ok (mask, (at, []))

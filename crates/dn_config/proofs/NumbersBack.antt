@@ -1,14 +1,7 @@
 -- The decimal digits of a number, read back.
-use Rattle.std.proofs.Common.{◌≡◌, refl, ap, ℕ, zero, suc, ◌^◌, ◌<◌, ◌≤◌, Bool, true, false, cond, List, [], ◌∷◌, length, arith}
-use Rattle.std.specs.Prelude.{Some, None, Ok, ◌&&◌, nat_lt, slice_index, decimal, ◌==◌}
-use Rattle.std.specs.List.{list_all}
-use Rattle.std.specs.Char.{digit_value, is_ascii_digit}
-use Rattle.std.specs.Str.Parse.{digits_value, AllDigits}
-use Rattle.std.proofs.lemmas.Bool.{lt-ltb, and_from, ne_eqb}
-use Rattle.std.proofs.lemmas.Bool.Decides.{nat_tests}
-use Rattle.std.proofs.lemmas.Fmt.{decimal_is_IsNumeral, first_decimal, decimal_digit}
-use Rattle.std.proofs.lemmas.Str.Parse.{digit_from_value}
-use Rattle.dn_config.specs.Tokens.Numbers.{numeral_of, number_of, number_within, all_digits}
+use Rattle.dn_config.proofs.Vocabulary.{AllDigits, Bool, List, None, Ok, Some, [], all_digits, and_from, ap, arith, cond, decimal, decimal_digit, decimal_is_IsNumeral, digit_from_value, digit_value}
+use Rattle.dn_config.proofs.Vocabulary.{digits_value, false, first_decimal, is_ascii_digit, length, list_all, lt-ltb, nat_lt, nat_tests, ne_eqb, number_of, number_within, numeral_of, refl, slice_index}
+use Rattle.dn_config.proofs.Vocabulary.{suc, true, zero, ℕ, ◌&&◌, ◌<◌, ◌==◌, ◌^◌, ◌∷◌, ◌≡◌, ◌≤◌}
 use Rattle.dn_config.proofs.Capping.{ok_within}
 
 test_digits : (ds : List ℕ) → AllDigits 10 ds → all_digits 10 ds ≡ true

@@ -1,20 +1,10 @@
 -- How the options are read from one to the next.
-use Rattle.std.proofs.Common.{◌≡◌, refl, ◌∙◌, ap, ℕ, zero, suc, ◌+◌, Bool, true, false, List, [], ◌∷◌, take, drop, arith, add-zero}
-use Rattle.std.specs.Prelude.{Option, Some, None, Result, Ok, Err}
-use Rattle.dn_types.specs.declared.mask.Mask.{Mask}
-use Rattle.dn_config.specs.Settings.{filled, set_option}
-use Rattle.dn_config.specs.Groups.{◌>>=◌, mask_len, group_len, groups, groups_after, mask_at, setting_of, group_settings, belongs, value_of, option_at}
-use Rattle.dn_config.specs.Keywords.{option_of, is_left_out_word}
-use Rattle.dn_config.specs.Reading.{read_mask, read_named, read_options}
-use Rattle.dn_config.specs.declared.fault.LineFault.{LineFault}
-use Rattle.dn_config.specs.declared.fault.LineFault.TheVariants.{MissingValue, LeftOut, UnknownWord}
-use Rattle.dn_config.specs.declared.kind.Kind.{Kind}
-use Rattle.dn_config.specs.declared.option_group.Setting.{Setting}
+use Rattle.dn_config.proofs.Vocabulary.{Bool, Err, Kind, LeftOut, LineFault, List, Mask, MissingValue, None, Ok, Option, OptionWord, Options, Parameter, Result, Setting, Some, UnknownWord, []}
+use Rattle.dn_config.proofs.Vocabulary.{add-zero, ap, arith, belongs, drop, false, filled, group_len, group_settings, groups, groups_after, is_left_out_word, mask_at, mask_len, option_at, option_of}
+use Rattle.dn_config.proofs.Vocabulary.{read_mask, read_named, read_options, refl, set_option, setting_of, suc, take, true, value_of, zero, ℕ, ◌+◌, ◌∙◌, ◌∷◌, ◌≡◌}
+use Rattle.dn_config.specs.Groups.{◌>>=◌}
 use Rattle.dn_config.specs.declared.option_group.Setting.TheVariants as set
-use Rattle.dn_config.specs.declared.option_group.OptionWord.{OptionWord}
 use Rattle.dn_config.specs.declared.option_group.OptionWord.TheVariants as o
-use Rattle.dn_config.specs.declared.option_group.Parameter.{Parameter}
-use Rattle.dn_config.specs.declared.options.Options.{Options}
 
 -- groups behind a group
 groups_skip : (k at : ℕ) (ws : List (List ℕ)) → groups_after k at ws ≡ groups_after 0 (at + k) (drop k ws)

@@ -1,23 +1,10 @@
 -- The options of a canonical text, read back one after the other.
-use Rattle.std.proofs.Common.{◌≡◌, refl, sym, ◌∙◌, ap, ℕ, ◌+◌, ◌≤◌, Bool, true, false, cond, List, [], ◌∷◌, ◌++◌, append_assoc, append-nil}
-use Rattle.std.specs.Prelude.{◌==◌, decimal, codes, Option, Some, None, Ok}
-use Rattle.std.proofs.lemmas.Bool.{eqb-true}
-use Rattle.dn_types.specs.declared.limit.Limit.{Limit}
-use Rattle.dn_types.specs.declared.limit.Limit.TheVariants.{Slots, Kbytes}
-use Rattle.dn_types.specs.declared.mask.Mask.{Mask}
-use Rattle.dn_config.specs.Keywords.{option_of, is_left_out_word}
-use Rattle.dn_config.specs.Settings.{set_option, defaults}
-use Rattle.dn_config.specs.Groups.{belongs, value_of}
-use Rattle.dn_config.specs.Commands.{IsLimit, IsBuckets, IsBetween}
-use Rattle.dn_config.specs.Reading.{read_options, read_mask}
-use Rattle.dn_config.specs.Text.{number_words, limit_words, limit_text, loss_words, loss_text, buckets_words, link_words, share_words}
-use Rattle.dn_config.specs.declared.kind.Kind.{Kind}
+use Rattle.dn_config.proofs.Vocabulary.{Bool, IsBetween, IsBuckets, IsLimit, Kbytes, Kind, Limit, List, Mask, None, Ok, Option, Options, Parameter, Setting, Slots, Some, [], ap, append-nil}
+use Rattle.dn_config.proofs.Vocabulary.{append_assoc, belongs, buckets_words, codes, cond, decimal, defaults, eqb-true, false, is_left_out_word, limit_text, limit_words, link_words, loss_text}
+use Rattle.dn_config.proofs.Vocabulary.{loss_words, number_words, option_of, read_mask, read_options, refl, set_option, share_words, sym, true, value_of, ℕ, ◌++◌, ◌+◌, ◌==◌, ◌∙◌, ◌∷◌, ◌≡◌, ◌≤◌}
 use Rattle.dn_config.specs.declared.kind.Kind.TheVariants as kind
 use Rattle.dn_config.specs.declared.option_group.OptionWord.TheVariants as o
-use Rattle.dn_config.specs.declared.options.Options.{Options}
-use Rattle.dn_config.specs.declared.option_group.Parameter.{Parameter}
 use Rattle.dn_config.specs.declared.option_group.Parameter.TheVariants as p
-use Rattle.dn_config.specs.declared.option_group.Setting.{Setting}
 use Rattle.dn_config.specs.declared.option_group.Setting.TheVariants as set
 use Rattle.dn_config.proofs.OptionSteps.{options_step, options_nil, option_valued, option_mask_ok}
 use Rattle.dn_config.proofs.ValuesBack.{number_value_back, weight_back, buckets_back, delay_back, bandwidth_back, limit_back, loss_back}

@@ -1,22 +1,9 @@
 -- The words of a canonical text have no separator and no comment, so a line of them has these words.
-use Rattle.std.proofs.Common.{◌≡◌, refl, ℕ, zero, suc, ◌<◌, ◌≤◌, ◌^◌, ◌/◌, ◌%◌, Bool, true, false, cond, List, [], ◌∷◌, ◌++◌, length, arith, append-nil}
-use Rattle.std.specs.Prelude.{decimal, codes, Option, Some, None, ◌==◌}
-use Rattle.std.specs.List.{list_all}
-use Rattle.std.specs.Char.{is_ascii_digit, digit_char}
-use Rattle.std.proofs.lemmas.Bool.{and_parts, and_from}
-use Rattle.std.proofs.lemmas.Bool.Decides.{nat_tests}
-use Rattle.std.proofs.lemmas.Fmt.{decimal_is_IsNumeral}
-use Rattle.std.proofs.Math.Nat.{mod-lt}
-use Rattle.dn_types.specs.declared.limit.Limit.{Limit}
-use Rattle.dn_types.specs.declared.limit.Limit.TheVariants.{Slots, Kbytes}
-use Rattle.dn_types.specs.declared.mask.Mask.{Mask}
-use Rattle.dn_types.specs.declared.command.Command.{Command}
+use Rattle.dn_config.proofs.Vocabulary.{AreShared, Bool, Command, IsBuckets, IsLimit, IsTyped, Kbytes, Limit, List, Mask, None, Option, Slots, Some, [], and_from, and_parts, append-nil, arith}
+use Rattle.dn_config.proofs.Vocabulary.{both_words, buckets_words, codes, cond, decimal, decimal_is_IsNumeral, digit_char, false, field_words, fields_words, has_all_bits, has_no_bits, is_ascii_digit}
+use Rattle.dn_config.proofs.Vocabulary.{is_nonempty, length, limit_words, link_words, list_all, loss_text, loss_words, mask_words, mod-lt, nat_tests, number_words, rate_up, refl, share_words, suc}
+use Rattle.dn_config.proofs.Vocabulary.{text_words, true, zero, zero_padded, ℕ, ◌%◌, ◌++◌, ◌/◌, ◌<◌, ◌==◌, ◌^◌, ◌∷◌, ◌≡◌, ◌≤◌}
 use Rattle.dn_types.specs.declared.command.Command.TheVariants as c
-use Rattle.dn_config.specs.Masks.{has_no_bits, has_all_bits}
-use Rattle.dn_config.specs.Commands.{IsTyped, AreShared, IsLimit, IsBuckets}
-use Rattle.dn_config.specs.Text.{zero_padded, rate_up, loss_text, number_words, limit_words, loss_words, buckets_words}
-use Rattle.dn_config.specs.Text.{field_words, fields_words, mask_words, both_words, link_words, share_words, text_words}
-use Rattle.dn_config.specs.Tokens.Words.{is_nonempty}
 use Rattle.dn_config.proofs.Back.{is_plain_byte, is_plain, all_plain}
 use Rattle.dn_config.proofs.NumbersBack.{ascii_digits}
 

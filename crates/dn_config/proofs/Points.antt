@@ -1,10 +1,6 @@
 -- How a text is cut at its first point.
-use Rattle.std.proofs.Common.{◌≡◌, ◌≢◌, ◌∙◌, ℕ, suc, ◌+◌, ◌<◌, ◌==◌, false, List, [], ◌∷◌, ◌++◌, length}
-use Rattle.std.proofs.Common.{take, drop, get_or, refl, sym, ap, Option, Some, None, add-one, drop-cons, append_assoc, ◌≤◌, arith}
-use Rattle.std.specs.Prelude.{option_map}
-use Rattle.std.proofs.lemmas.List.{take_more, append-nil, drop_all}
-use Rattle.std.proofs.lemmas.Bool.Decides.{nat_tests}
-use Rattle.dn_config.specs.Tokens.Addresses.{at_point}
+use Rattle.dn_config.proofs.Vocabulary.{List, None, Option, Some, [], add-one, ap, append-nil, append_assoc, arith, at_point, drop, drop-cons, drop_all, false, get_or, length, nat_tests, option_map}
+use Rattle.dn_config.proofs.Vocabulary.{refl, suc, sym, take, take_more, ℕ, ◌++◌, ◌+◌, ◌<◌, ◌==◌, ◌∙◌, ◌∷◌, ◌≡◌, ◌≢◌, ◌≤◌}
 
 abbrev pub behind : List ℕ → Option (List ℕ × List ℕ) → Option (List ℕ × List ℕ)
 behind front o = option_map (λ p. (front ++ p.0, p.1)) o

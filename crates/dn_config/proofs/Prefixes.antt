@@ -1,7 +1,5 @@
 -- How far a test holds from the front of a list, where a loop over the list has come to its end.
-use Rattle.std.proofs.Common.{◌≡◌, sym, ℕ, ◌<◌, ◌≤◌, Bool, true, false, List, length, get_or, arith}
-use Rattle.std.specs.List.{prefix_len, position_or_len}
-use Rattle.std.proofs.lemmas.List.Sums.{prefix_len_is, position_or_len_is}
+use Rattle.dn_config.proofs.Vocabulary.{Bool, List, arith, false, get_or, length, position_or_len, position_or_len_is, prefix_len, prefix_len_is, sym, true, ℕ, ◌<◌, ◌≡◌, ◌≤◌}
 
 -- where every element passes, the prefix is the whole
 pub whole_prefix : (p : ℕ → Bool) (xs : List ℕ) (i : ℕ) → length xs ≤ i → i ≤ length xs → ((k : ℕ) → k < i → p (get_or xs k 0) ≡ true) → length xs ≡ prefix_len p xs

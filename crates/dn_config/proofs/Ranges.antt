@@ -1,17 +1,8 @@
 -- What is read of a number, and what is made of it.
-use Rattle.std.proofs.Common.{◌≡◌, refl, sym, ◌∙◌, ap, ℕ, ◌*◌, ◌/◌, ◌^◌, ◌<◌, ◌≤◌, ◌⊎◌, inl, inr, Bool, true, false, cond, arith, List, [], ◌∷◌}
-use Rattle.std.specs.Prelude.{min, nat_lt, ◌↔◌, Option, Some, None, Result, Ok, Err, IsSome, IfSome, ok_or, length}
-use Rattle.std.specs.Str.Parse.{AllDigits, digits_value}
-use Rattle.std.specs.Char.{digit_value}
-use Rattle.std.proofs.lemmas.Bool.{cases_lt, lt-ltb, ltb-true, and_parts}
-use Rattle.std.proofs.lemmas.Str.Parse.{digits_value_short, numerals_by_value, tells_digits}
-use Rattle.std.proofs.Math.Nat.{div-le_of_le-mul}
-use Rattle.dn_config.specs.Tokens.Numbers.{all_digits, numeral_of, within}
-use Rattle.dn_config.specs.declared.tokens.number_fault.NumberFault.{NumberFault}
+use Rattle.dn_config.proofs.Vocabulary.{AllDigits, BadNumber, Bool, Err, IfSome, IsSome, LineFault, List, None, NumberFault, Ok, Option, OutOfRange, Result, Some, [], all_digits, and_parts, ap, arith}
+use Rattle.dn_config.proofs.Vocabulary.{cases_lt, cond, digit_value, digits_value, digits_value_short, div-le_of_le-mul, false, inl, inr, kept, length, lt-ltb, ltb-true, min, nat_lt, numeral_of}
+use Rattle.dn_config.proofs.Vocabulary.{numerals_by_value, ok_or, placed, refl, sym, tells_digits, times, true, within, ℕ, ◌*◌, ◌/◌, ◌<◌, ◌^◌, ◌↔◌, ◌∙◌, ◌∷◌, ◌≡◌, ◌≤◌, ◌⊎◌}
 use Rattle.dn_config.proofs.Capping.{grows, within_ok, ok_within, above_within}
-use Rattle.dn_config.specs.Values.{placed, times, kept}
-use Rattle.dn_config.specs.declared.fault.LineFault.{LineFault}
-use Rattle.dn_config.specs.declared.fault.LineFault.TheVariants.{BadNumber, OutOfRange}
 
 placed_ok : (at n : ℕ) (r : Result ℕ NumberFault) → Ok n ≡ placed at r → Ok n ≡ r
 placed_ok at n (Ok m) e = cc

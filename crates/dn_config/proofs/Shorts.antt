@@ -1,13 +1,6 @@
 -- The value of digits, where they are few.
-use Rattle.std.proofs.Common.{◌≡◌, ◌∙◌, refl, sym, ap, ℕ, ◌+◌, ◌-◌, ◌*◌, ◌^◌, ◌<◌, ◌≤◌, true, false, List, length, get_or, take, arith, add-one}
-use Rattle.std.specs.List.{prefix_len}
-use Rattle.std.specs.Char.{digit_value, is_ascii_digit}
-use Rattle.std.specs.Str.Parse.{digits_value}
-use Rattle.std.proofs.Math.Nat.{pow-le-pow_right, pow-suc}
-use Rattle.std.proofs.lemmas.Bool.Decides.{nat_tests}
-use Rattle.std.proofs.lemmas.Int.Digits.{digits_value_more}
-use Rattle.std.proofs.lemmas.List.{take-take, get_or-take, length-take}
-use Rattle.std.proofs.lemmas.List.Sums.{prefix_len_is}
+use Rattle.dn_config.proofs.Vocabulary.{List, add-one, ap, arith, digit_value, digits_value, digits_value_more, false, get_or, get_or-take, is_ascii_digit, length, length-take, nat_tests}
+use Rattle.dn_config.proofs.Vocabulary.{pow-le-pow_right, pow-suc, prefix_len, prefix_len_is, refl, sym, take, take-take, true, ℕ, ◌*◌, ◌+◌, ◌-◌, ◌<◌, ◌^◌, ◌∙◌, ◌≡◌, ◌≤◌}
 use Rattle.dn_config.specs.Tokens.Numbers.{digits}
 
 -- a digit of ASCII has the value that it stands for

@@ -1,16 +1,6 @@
 -- A canonical text is ASCII, and so UTF-8.
-use Rattle.std.proofs.Common.{◌≡◌, ℕ, ◌<◌, true, List, [], ◌∷◌, ◌++◌, arith}
-use Rattle.std.specs.Prelude.{◌&&◌, nat_lt, not}
-use Rattle.std.specs.List.{list_all}
-use Rattle.std.specs.Str.{IsAscii, IsUtf8}
-use Rattle.std.proofs.lemmas.Bool.{and_parts, ltb-true}
-use Rattle.std.proofs.lemmas.Str.{IsAscii-append, IsUtf8-from_ascii}
-use Rattle.std.proofs.lemmas.Str.Ascii.{IsAscii-cons, IsAscii-nil}
-use Rattle.dn_types.specs.declared.command.Command.{Command}
-use Rattle.dn_config.specs.Tokens.Words.{is_nonempty, is_separator}
-use Rattle.dn_config.specs.Commands.{IsTyped}
-use Rattle.dn_config.specs.Text.{behind_spaces, spaced, text, text_words}
-use Rattle.dn_config.specs.Words.{is_hash}
+use Rattle.dn_config.proofs.Vocabulary.{Command, IsAscii, IsAscii-append, IsAscii-cons, IsAscii-nil, IsTyped, IsUtf8, IsUtf8-from_ascii, List, [], and_parts, arith, behind_spaces, is_hash, is_nonempty}
+use Rattle.dn_config.proofs.Vocabulary.{is_separator, list_all, ltb-true, nat_lt, not, spaced, text, text_words, true, ℕ, ◌&&◌, ◌++◌, ◌<◌, ◌∷◌, ◌≡◌}
 use Rattle.dn_config.proofs.Back.{all_plain, is_plain, is_plain_byte}
 use Rattle.dn_config.proofs.Plain.{text_plain}
 

@@ -1,12 +1,7 @@
 -- Commands and their canonical texts, computed from the definition.
-use Rattle.std.proofs.Common.{◌≡◌, refl}
-use Rattle.std.specs.Prelude.{Some, codes}
+use Rattle.dn_config.proofs.Vocabulary.{Kbytes, Slots, Some, all_bits, codes, defaults, link_words, refl, share_words, text, text_words, zero_padded, ◌≡◌}
 use Rattle.std.specs.Fmt.{digits}
-use Rattle.dn_types.specs.declared.limit.Limit.TheVariants.{Kbytes, Slots}
 use Rattle.dn_types.specs.declared.command.Command.TheVariants as c
-use Rattle.dn_config.specs.Masks.{all_bits}
-use Rattle.dn_config.specs.Settings.{defaults}
-use Rattle.dn_config.specs.Text.{text, text_words, link_words, share_words, zero_padded}
 use Rattle.dn_config.proofs.LineExamples.{pipe, queue, canonical}
 
 canonical_printed : text canonical ≡ codes "pipe 7 config bw 8000000bit/s queue 20Kbytes plr 0.099999999627470971 mask dst-ip 0x000000ff proto 0xff"

@@ -1,19 +1,9 @@
 -- A number or an address that stands before the byte that ends it is read from the front of the text.
-use Rattle.std.proofs.Common.{◌≡◌, ◌∙◌, refl, sym, ap, subst, ℕ, ◌+◌, ◌*◌, ◌≤◌, ◌==◌, Bool, true, false, cond, List, [], ◌∷◌, ◌++◌, length}
-use Rattle.std.proofs.Common.{Option, Some, None, Result, Ok, Err, arith, append_assoc, one-add}
-use Rattle.std.specs.Prelude.{◌&&◌, nat_lt, option_map}
-use Rattle.std.specs.List.{list_all, prefix_len}
-use Rattle.std.specs.Result.{result_ok}
-use Rattle.std.specs.Char.{digit_value, is_ascii_digit}
-use Rattle.std.specs.Str.Parse.{digits_value}
-use Rattle.std.proofs.lemmas.Bool.{and_parts, eq-eqb, eqb-true, ltb-true}
-use Rattle.std.proofs.lemmas.Bool.Decides.{nat_tests}
-use Rattle.std.proofs.lemmas.List.{drop_at, take_at}
-use Rattle.std.proofs.lemmas.Str.Parse.{digit_from_value}
-use Rattle.dn_config.specs.Tokens.Addresses.{address_of, at_point, octet_of}
-use Rattle.dn_config.specs.Tokens.Numbers.{all_digits, digits, number_of, number_within, numeral_of, unit}
-use Rattle.dn_config.specs.declared.tokens.number_fault.NumberFault.{NumberFault}
-use Rattle.dn_config.specs.Tokens.Until.{address_until, number_until}
+use Rattle.dn_config.proofs.Vocabulary.{Bool, Err, List, None, NumberFault, Ok, Option, Result, Some, [], address_of, address_until, all_digits, and_parts, ap, append_assoc, arith, at_point, cond}
+use Rattle.dn_config.proofs.Vocabulary.{digit_from_value, digit_value, digits_value, drop_at, eq-eqb, eqb-true, false, is_ascii_digit, length, list_all, ltb-true, nat_lt, nat_tests, number_of}
+use Rattle.dn_config.proofs.Vocabulary.{number_until, number_within, numeral_of, octet_of, one-add, option_map, prefix_len, refl, result_ok, subst, sym, take_at, true, unit, ℕ, ◌&&◌, ◌*◌, ◌++◌, ◌+◌}
+use Rattle.dn_config.proofs.Vocabulary.{◌==◌, ◌∙◌, ◌∷◌, ◌≡◌, ◌≤◌}
+use Rattle.dn_config.specs.Tokens.Numbers.{digits}
 use Rattle.dn_config.proofs.Capping.{within_ok}
 use Rattle.dn_config.proofs.UntilParts.{bound, digits_are, is_address_byte, pointed, some_is}
 

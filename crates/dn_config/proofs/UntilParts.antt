@@ -1,16 +1,9 @@
 -- The parts of a text that begins with a number or an address: its bytes, the byte behind them, and the rest.
-use Rattle.std.proofs.Common.{◌≡◌, ◌∙◌, refl, sym, ap, ℕ, ◌+◌, ◌*◌, ◌==◌, Bool, true, false, List, [], ◌∷◌, ◌++◌, Option, Some, None, Result, Ok, Err, arith, append_assoc, inl, inr}
-use Rattle.std.specs.Prelude.{◌&&◌, ◌||◌, nat_lt}
-use Rattle.std.specs.List.{list_all, prefix_len}
-use Rattle.std.specs.Result.{result_ok}
-use Rattle.std.specs.Char.{digit_value, is_ascii_digit}
-use Rattle.std.proofs.lemmas.Bool.{cases_Bool, eqb-true, ne_eqb, ltb-true}
-use Rattle.std.proofs.lemmas.List.{take-append-drop}
-use Rattle.std.proofs.lemmas.Str.Parse.{digit_from_value}
-use Rattle.dn_config.specs.Tokens.Addresses.{◌>>=◌, address_of, at_point}
-use Rattle.dn_config.specs.Tokens.Numbers.{all_digits, digits, number_within, unit}
-use Rattle.dn_config.specs.declared.tokens.number_fault.NumberFault.{NumberFault}
-use Rattle.dn_config.specs.Tokens.Until.{address_until, behind_byte, number_until}
+use Rattle.dn_config.proofs.Vocabulary.{Bool, Err, List, None, NumberFault, Ok, Option, Result, Some, [], address_of, address_until, all_digits, ap, append_assoc, arith, at_point, behind_byte}
+use Rattle.dn_config.proofs.Vocabulary.{cases_Bool, digit_from_value, digit_value, eqb-true, false, inl, inr, is_ascii_digit, list_all, ltb-true, nat_lt, ne_eqb, number_until, number_within}
+use Rattle.dn_config.proofs.Vocabulary.{prefix_len, refl, result_ok, sym, take-append-drop, true, unit, ℕ, ◌&&◌, ◌*◌, ◌++◌, ◌+◌, ◌==◌, ◌||◌, ◌∙◌, ◌∷◌, ◌≡◌}
+use Rattle.dn_config.specs.Tokens.Addresses.{◌>>=◌}
+use Rattle.dn_config.specs.Tokens.Numbers.{digits}
 use Rattle.dn_config.proofs.Capping.{digits_are_digits}
 
 pub some_is : {A : Type 0} (x y : A) → ◌≡◌ {A = Option A} (Some x) (Some y) → x ≡ y

@@ -1,26 +1,13 @@
 -- The values that a canonical text writes, read back.
-use Rattle.std.proofs.Common.{◌≡◌, refl, sym, ◌∙◌, ap, ℕ, zero, suc, ◌+◌, ◌*◌, ◌/◌, ◌%◌, ◌^◌, ◌<◌, ◌≤◌}
-use Rattle.std.proofs.Common.{Bool, true, false, cond, List, [], ◌∷◌, ◌++◌, length, take, drop, arith, add-one, one-add, length-append, append-nil}
-use Rattle.std.specs.Prelude.{Some, Ok, nat_lt, slice_index, decimal, codes, ◌==◌}
-use Rattle.std.specs.List.{prefix_len, list_all}
-use Rattle.std.specs.Char.{digit_char, digit_value, is_ascii_digit}
-use Rattle.std.specs.Str.Parse.{digits_value}
-use Rattle.std.proofs.lemmas.Int.Digits.{digits_value_push}
-use Rattle.std.proofs.lemmas.Str.{digit_value-digit_char}
-use Rattle.std.proofs.lemmas.Bool.{eqb-true, eqb-false, lt-ltb, and_parts}
-use Rattle.std.proofs.lemmas.Bool.Decides.{nat_tests}
-use Rattle.dn_config.specs.Tokens.Numbers.{numeral_of, number_within, within, all_digits, digits, unit}
-use Rattle.dn_config.specs.Values.{placed, pipe_or_queue_at, weight_at, buckets_at, delay_at, bandwidth_at, rate_of, limit_at, limited, loss_at, bits_of, bits_at, kept, behind_point, rate_parts_of}
-use Rattle.dn_types.specs.declared.limit.Limit.{Limit}
-use Rattle.dn_types.specs.declared.limit.Limit.TheVariants.{Slots, Kbytes}
-use Rattle.dn_config.specs.Commands.{IsLimit}
+use Rattle.dn_config.proofs.Vocabulary.{Bool, IsLimit, Kbytes, Limit, List, Ok, Slots, Some, [], add-one, all_digits, and_parts, ap, append-nil, arith, bandwidth_at, behind_point, bits_at, bits_of}
+use Rattle.dn_config.proofs.Vocabulary.{buckets_at, codes, cond, decimal, decimal_is_IsNumeral, delay_at, digit_char, digit_value, digit_value-digit_char, digits_value, digits_value_push, div-add-mod'}
+use Rattle.dn_config.proofs.Vocabulary.{div-lt_iff_lt-mul, drop, eqb-false, eqb-true, false, is_ascii_alphabetic, is_ascii_digit, kept, length, length-append, limit_at, limit_text, limited, list_all}
+use Rattle.dn_config.proofs.Vocabulary.{loss_at, loss_text, lt-ltb, mod-lt, nat_lt, nat_tests, number_within, numeral_of, one-add, pipe_or_queue_at, placed, pow-suc, pow-zero, prefix_len, rate_of}
+use Rattle.dn_config.proofs.Vocabulary.{rate_parts_of, rate_up, refl, slice_index, suc, sym, take, true, unit, weight_at, within, zero, zero_padded, ℕ, ◌%◌, ◌*◌, ◌++◌, ◌+◌, ◌/◌, ◌<◌, ◌==◌, ◌^◌, ◌∙◌}
+use Rattle.dn_config.proofs.Vocabulary.{◌∷◌, ◌≡◌, ◌≤◌}
+use Rattle.dn_config.specs.Tokens.Numbers.{digits}
 use Rattle.dn_config.proofs.Capping.{ok_within}
 use Rattle.dn_config.proofs.NumbersBack.{ascii_digits, number_back}
-use Rattle.std.specs.Char.{is_ascii_alphabetic}
-use Rattle.std.proofs.lemmas.Fmt.{decimal_is_IsNumeral}
-use Rattle.std.proofs.Math.Nat.{div-lt_iff_lt-mul, pow-suc, pow-zero, mod-lt}
-use Rattle.std.proofs.lemmas.Nat.{div-add-mod'}
-use Rattle.dn_config.specs.Text.{zero_padded, rate_up, limit_text, loss_text}
 
 -- a loss number below 2^31 is printed as a rate that is kept as that number
 pub rate_law : (t : ℕ) → t < 2147483648 → (rate_up t < 1000000000000000000) × (rate_up t * 2147483648 / 1000000000000000000 ≡ t)

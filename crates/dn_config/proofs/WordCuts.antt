@@ -1,8 +1,6 @@
 -- The words of a text, taken off one by one.
-use Rattle.std.proofs.Common.{◌≡◌, refl, sym, ◌∙◌, ap, ℕ, ◌+◌, ◌<◌, Bool, true, false, cond, not, List, [], ◌∷◌, length, take, drop, arith, one-add}
-use Rattle.std.specs.Prelude.{filter}
-use Rattle.std.specs.List.{slice_split, onto_first, prefix_len, position_or_len}
-use Rattle.dn_config.specs.Tokens.Words.{is_separator, is_nonempty, words_of}
+use Rattle.dn_config.proofs.Vocabulary.{Bool, List, [], ap, arith, cond, drop, false, filter, is_nonempty, is_separator, length, not, one-add, onto_first, position_or_len, prefix_len, refl}
+use Rattle.dn_config.proofs.Vocabulary.{slice_split, sym, take, true, words_of, ℕ, ◌+◌, ◌<◌, ◌∙◌, ◌∷◌, ◌≡◌}
 
 -- what a cut leaves behind its first part
 abbrev pub behind : (ℕ → Bool) → List ℕ → List (List ℕ)

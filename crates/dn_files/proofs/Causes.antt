@@ -1,9 +1,7 @@
 -- Why a text isn't written, as the two cases of a proof: no other fault comes.
-use Rattle.std.proofs.Common.{ℕ, Bool, List, Option}
-use Rattle.dn_files.specs.Writing.{IsUnwritten, NothingWritten}
-use Rattle.dn_files.specs.declared.replay_fault.ReplayFault.{ReplayFault}
-use Rattle.dn_files.specs.declared.replay_fault.ReplayFault.TheVariants.{BadRow, Read, Write, TooLong, OutOfMemory, Config, ConfigText, NoSuchPipe, BadRecord, BadCount, PipeHasQueues, NoSuchQueue}
-use Rattle.dn_files.specs.declared.source.Source.{Source}
+use Rattle.dn_files.proofs.Words.{BadCount, BadRecord, BadRow, Bool, ConfigText, IsUnwritten, List, NoSuchPipe, NoSuchQueue, NothingWritten, Option, OutOfMemory, PipeHasQueues, ReplayFault}
+use Rattle.dn_files.proofs.Words.{Source, TooLong, Write, ℕ}
+use Rattle.dn_files.specs.declared.replay_fault.ReplayFault.TheVariants.{Config, Read}
 
 pub unwritten-cases : (P : ReplayFault → Type 0) (source : Source) (text : List ℕ) (old new : Option (List ℕ)) (failed : Bool) (fault : ReplayFault)
     → ((what : Source) → IsUnwritten source text old new failed (Write what) → P (Write what)) → (NothingWritten old new failed → P OutOfMemory)

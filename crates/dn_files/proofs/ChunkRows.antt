@@ -1,16 +1,8 @@
 -- Chunks of a packet file: one row more.
-use Rattle.std.proofs.Common.{◌≡◌, ◌∙◌, refl, sym, ap, subst, ℕ, ◌+◌, ◌-◌, ◌<◌, List, [], ◌∷◌, ◌++◌, drop, take, length, arith, append_assoc, length-append, Result, Ok, Err}
-use Rattle.std.proofs.lemmas.List.{append-nil, drop_all, take-append-drop}
-use Rattle.std.proofs.Math.Seq.{drop-append_seam, take-append_seam}
-use Rattle.csv.specs.Reading.{records_from}
-use Rattle.csv.specs.Machine.{next_record}
+use Rattle.dn_files.proofs.Words.{BeginsWith, Err, HasRows, List, Ok, ReplayFault, Result, Row, [], ap, append-nil, append_assoc, arith, drop, drop-append_seam, drop_all, length, length-append}
+use Rattle.dn_files.proofs.Words.{next_record, records_after, records_from, refl, rows_from, rows_left, subst, sym, take, take-append-drop, take-append_seam, with_front, ℕ, ◌++◌, ◌+◌, ◌-◌, ◌<◌}
+use Rattle.dn_files.proofs.Words.{◌∙◌, ◌∷◌, ◌≡◌}
 use Rattle.csv.specs.declared.parser.State.TheVariants as st
-use Rattle.dn_records.specs.Reading.{records_after}
-use Rattle.dn_files.specs.InChunks.{BeginsWith, HasRows}
-use Rattle.dn_files.specs.PacketFile.{rows_from}
-use Rattle.dn_files.specs.PacketParts.{rows_left, with_front}
-use Rattle.dn_files.specs.declared.replay_fault.ReplayFault.{ReplayFault}
-use Rattle.dn_files.specs.declared.row.Row.{Row}
 use Rattle.dn_files.proofs.PacketParts.{later}
 use Rattle.dn_files.proofs.PlainRows.{ReadsRow}
 use Rattle.dn_files.proofs.Rows.{one_more, starts}

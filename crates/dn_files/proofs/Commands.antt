@@ -1,16 +1,7 @@
 -- Reading configuration lines one after the other.
-use Rattle.std.proofs.Common.{◌≡◌, ◌∙◌, ℕ, ◌+◌, List, [], ◌∷◌, ◌++◌, Option, Result, Ok, Err, refl, sym, ap, append_assoc, inl, inr}
-use Rattle.std.proofs.lemmas.Bool.{cases_Bool}
-use Rattle.std.proofs.lemmas.List.{append-nil}
-use Rattle.dn_types.specs.declared.command.Command.{Command}
-use Rattle.std.specs.Str.{IsUtf8, is_utf8}
-use Rattle.std.proofs.lemmas.Str.{IsUtf8-from_is_utf8, is_utf8-from_IsUtf8}
-use Rattle.dn_config.specs.Line.{answer}
-use Rattle.dn_config.specs.declared.fault.LineFault.{LineFault}
-use Rattle.dn_files.specs.ConfigFile.{command_at, commands_from, numbered, said_at}
-use Rattle.dn_files.specs.Reading.{◌>>=◌, IsFaultOf}
-use Rattle.dn_files.specs.declared.replay_fault.ReplayFault.{ReplayFault}
-use Rattle.dn_files.specs.declared.replay_fault.ReplayFault.TheVariants.{ConfigText}
+use Rattle.dn_files.proofs.Words.{Command, ConfigText, Err, IsFaultOf, IsUtf8, IsUtf8-from_is_utf8, LineFault, List, Ok, Option, ReplayFault, Result, [], answer, ap, append-nil, append_assoc}
+use Rattle.dn_files.proofs.Words.{cases_Bool, command_at, commands_from, inl, inr, is_utf8, is_utf8-from_IsUtf8, numbered, refl, said_at, sym, ℕ, ◌++◌, ◌+◌, ◌∙◌, ◌∷◌, ◌≡◌}
+use Rattle.dn_files.specs.Reading.{◌>>=◌}
 use Rattle.dn_files.proofs.Inputs.{carried}
 
 -- The commands that were read, and those that are still read.

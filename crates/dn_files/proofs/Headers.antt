@@ -1,18 +1,9 @@
 -- The first line of a file, where it is written plainly: a byte order mark may stand before it, and it ends in a line feed or in a
 -- carriage return and a line feed.
-use Rattle.std.proofs.Common.{◌≡◌, ◌∙◌, refl, sym, ap, ℕ, List, [], ◌∷◌, ◌++◌, ◌⊎◌, Option, Some, None, inl, inr, append_assoc}
-use Rattle.std.specs.Prelude.{codes, unwrap_or}
-use Rattle.std.specs.Option.{option_or}
-use Rattle.csv.specs.Reading.{default_config, records, strip_bom}
-use Rattle.csv.specs.Writing.{fields_text, is_blank}
+use Rattle.dn_files.proofs.Words.{BeginsFields, Fields, List, None, Option, Some, [], ap, append_assoc, behind_end, behind_first, behind_word, bound, codes, default_config, feed-line, fields_text}
+use Rattle.dn_files.proofs.Words.{header, header_until, inl, inr, is_blank, line-reads, line_of, option_or, past_mark, plain-writes, quoted-writes, records, records_after, records_of, refl}
+use Rattle.dn_files.proofs.Words.{return-line, strip_bom, sym, unwrap_or, ℕ, ◌++◌, ◌∙◌, ◌∷◌, ◌≡◌, ◌⊎◌}
 use Rattle.csv.specs.declared.parser.State.TheVariants as st
-use Rattle.dn_config.proofs.UntilParts.{bound}
-use Rattle.dn_records.specs.Reading.{records_after}
-use Rattle.dn_records.specs.Records.{Fields, line_of, records_of}
-use Rattle.dn_records.proofs.LineEnds.{BeginsFields, feed-line, line-reads, plain-writes, quoted-writes, return-line}
-use Rattle.dn_files.specs.LineEnd.{behind_end, behind_first, behind_word, past_mark}
-use Rattle.dn_files.specs.PacketParts.{header}
-use Rattle.dn_files.specs.QuotedRow.{header_until}
 use Rattle.dn_files.proofs.LastNumbers.{end_stands, word_stands}
 
 -- A text begins with a line that is its first record: these fields, whatever follows.

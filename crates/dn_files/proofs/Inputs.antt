@@ -1,13 +1,9 @@
 -- Inputs and their faults.
-use Rattle.std.proofs.Common.{◌≡◌, ℕ, Bool, true, false, List, [], ◌++◌, Option, Some, None, Result, Ok, Err, refl, sym, subst, append_assoc, arith, length, replicate, ◌<◌, ◌≤◌, ◌+◌, nat_le}
-use Rattle.std.specs.Io.KnownBytes.{Consumes}
-use Rattle.std.specs.Prelude.{IfSome}
-use Rattle.std.proofs.lemmas.Bool.Decides.{nat_tests}
-use Rattle.std.proofs.lemmas.List.{length-replicate}
-use Rattle.dn_files.specs.Reading.{◌>>=◌, within_limit, IsFaultOf, IsRefusedFor, IsTextOf, IsRefusal}
-use Rattle.dn_files.specs.declared.replay_fault.ReplayFault.{ReplayFault}
-use Rattle.dn_files.specs.declared.replay_fault.ReplayFault.TheVariants.{BadRow, Read, Write, TooLong, OutOfMemory, Config, ConfigText, NoSuchPipe, BadRecord, BadCount, PipeHasQueues, NoSuchQueue}
-use Rattle.dn_files.specs.declared.source.Source.{Source}
+use Rattle.dn_files.proofs.Words.{BadCount, BadRecord, BadRow, Bool, ConfigText, Consumes, Err, IfSome, IsFaultOf, IsRefusal, IsRefusedFor, IsTextOf, List, NoSuchPipe, NoSuchQueue, None, Ok}
+use Rattle.dn_files.proofs.Words.{Option, OutOfMemory, PipeHasQueues, ReplayFault, Result, Some, Source, TooLong, Write, [], append_assoc, arith, false, length, length-replicate, nat_le}
+use Rattle.dn_files.proofs.Words.{nat_tests, refl, replicate, subst, sym, true, within_limit, ℕ, ◌++◌, ◌+◌, ◌<◌, ◌≡◌, ◌≤◌}
+use Rattle.dn_files.specs.Reading.{◌>>=◌}
+use Rattle.dn_files.specs.declared.replay_fault.ReplayFault.TheVariants.{Config, Read}
 
 -- The fault of a text that was read whole is one of the input.
 pub refused : {A : Type 0} (source : Source) (limit : ℕ) (read : List ℕ → Result A ReplayFault) (known : Option (List ℕ)) (failed : Bool) (text : List ℕ) (fault : ReplayFault)

@@ -1,16 +1,8 @@
 -- The last number of a line, and the end of the line behind it.
-use Rattle.std.proofs.Common.{◌≡◌, ◌∙◌, refl, sym, ap, ℕ, ◌==◌, Bool, true, false, cond, List, [], ◌∷◌, ◌++◌, length, take, drop, Option, Some, None, Ok, inl, inr}
-use Rattle.std.specs.Prelude.{bytes_eq}
-use Rattle.std.specs.Option.{option_or}
-use Rattle.std.specs.Result.{result_ok}
-use Rattle.std.proofs.lemmas.Bool.{cases_Bool, eqb-true}
-use Rattle.std.proofs.lemmas.List.{take-append-drop}
-use Rattle.std.proofs.lemmas.Slice.Eq.{bytes_eq-Decides}
+use Rattle.dn_files.proofs.Words.{Bool, List, None, Ok, Option, Some, [], ap, behind_byte, behind_end, behind_word, bound, bytes_eq, bytes_eq-Decides, cases_Bool, cond, digits, drop, eqb-true}
+use Rattle.dn_files.proofs.Words.{false, inl, inr, length, number_at_end, number_before_return, number_parts, number_until, number_within, option_or, refl, result_ok, some_is, sym, take}
+use Rattle.dn_files.proofs.Words.{take-append-drop, true, unit, ℕ, ◌++◌, ◌==◌, ◌∙◌, ◌∷◌, ◌≡◌}
 use Rattle.dn_config.specs.Tokens.Addresses.{◌>>=◌}
-use Rattle.dn_config.specs.Tokens.Numbers.{digits, number_within, unit}
-use Rattle.dn_config.specs.Tokens.Until.{behind_byte, number_until}
-use Rattle.dn_config.proofs.UntilParts.{bound, number_parts, some_is}
-use Rattle.dn_files.specs.LineEnd.{behind_end, behind_word, number_at_end, number_before_return}
 use Rattle.dn_files.proofs.PlainFields.{EndsIn}
 
 -- A word and what stands behind it.

@@ -13,3 +13,4 @@ pub mod PlainRowsBack
 pub mod QuotedRows
 pub mod Rows
 pub mod WideRows
+pub mod Words

@@ -1,13 +1,6 @@
 -- The row that stands whole and plainly before a reader is the one that it gives.
-use Rattle.std.proofs.Common.{◌≡◌, ◌∙◌, refl, sym, ap, subst, ℕ, zero, suc, ◌+◌, ◌-◌, ◌<◌, ◌≤◌, ◌^◌, List, ◌∷◌, ◌++◌, length, length-append, drop, Option, Some, None, arith}
-use Rattle.std.specs.Prelude.{max}
-use Rattle.std.proofs.lemmas.List.{length-drop}
-use Rattle.dn_config.proofs.UntilParts.{some_is}
-use Rattle.dn_records.specs.Records.{line_of}
-use Rattle.dn_files.specs.PacketParts.{BeginsNext, BeginsRow, header}
-use Rattle.dn_files.specs.QuotedRow.{header_until, row_at_front}
-use Rattle.dn_files.specs.Unread.{Unread}
-use Rattle.dn_files.specs.declared.row.Row.{Row}
+use Rattle.dn_files.proofs.Words.{BeginsNext, BeginsRow, List, None, Option, Row, Some, Unread, ap, arith, drop, header, header_until, length, length-append, length-drop, line_of, max, refl}
+use Rattle.dn_files.proofs.Words.{row_at_front, some_is, subst, suc, sym, zero, ℕ, ◌++◌, ◌+◌, ◌-◌, ◌<◌, ◌^◌, ◌∙◌, ◌∷◌, ◌≡◌, ◌≤◌}
 use Rattle.dn_files.proofs.Headers.{header_back, header_read}
 use Rattle.dn_files.proofs.PacketParts.{begins_shorter, cut-line}
 use Rattle.dn_files.proofs.QuotedRows.{row_reads}

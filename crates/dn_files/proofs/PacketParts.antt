@@ -1,22 +1,8 @@
 -- A packet file that comes in parts: one step of its reader.
-use Rattle.std.proofs.Common.{◌≡◌, ◌∙◌, refl, sym, ap, subst, ℕ, zero, suc, ◌+◌, ◌-◌, ◌<◌, ◌≤◌, cond, true, List, [], ◌∷◌, ◌++◌, length, take, drop, Result}
-use Rattle.std.proofs.Common.{Ok, Err, arith, append_assoc, length-append}
-use Rattle.std.specs.Prelude.{OnOk}
-use Rattle.std.specs.Result.{is_ok}
-use Rattle.std.proofs.lemmas.List.{drop-append-le, drop-drop, drop-set, take-append-drop}
-use Rattle.std.proofs.Math.ListN.{set}
-use Rattle.std.proofs.Math.Seq.{drop-append_seam}
-use Rattle.csv.specs.Records.{field_at}
+use Rattle.dn_files.proofs.Words.{Err, HasRead, IsFaultOf, List, Ok, OnOk, ReplayFault, Result, Row, Unread, [], ap, append_assoc, arith, behind-feed, cond, drop, drop-append-le, drop-append_seam}
+use Rattle.dn_files.proofs.Words.{drop-drop, drop-set, field_at, header, is_header, is_ok, length, length-append, records_after, records_of, refl, rows_below, rows_from, rows_left, rows_of, set}
+use Rattle.dn_files.proofs.Words.{subst, suc, sym, take, take-append-drop, true, with_front, zero, ℕ, ◌++◌, ◌+◌, ◌-◌, ◌<◌, ◌∙◌, ◌∷◌, ◌≡◌, ◌≤◌}
 use Rattle.csv.specs.declared.parser.State.TheVariants as st
-use Rattle.dn_records.specs.Reading.{records_after}
-use Rattle.dn_records.specs.Records.{records_of}
-use Rattle.dn_records.proofs.FirstLine.{behind-feed}
-use Rattle.dn_files.specs.PacketFile.{is_header, rows_below, rows_from, rows_of}
-use Rattle.dn_files.specs.PacketParts.{HasRead, header, rows_left, with_front}
-use Rattle.dn_files.specs.Reading.{IsFaultOf}
-use Rattle.dn_files.specs.Unread.{Unread}
-use Rattle.dn_files.specs.declared.replay_fault.ReplayFault.{ReplayFault}
-use Rattle.dn_files.specs.declared.row.Row.{Row}
 use Rattle.dn_files.proofs.Headers.{BeginsFirst}
 use Rattle.dn_files.proofs.Inputs.{carried}
 use Rattle.dn_files.proofs.PlainRows.{ReadsRow}

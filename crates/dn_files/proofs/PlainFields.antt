@@ -1,13 +1,6 @@
 -- Fields that are written as they are, without quotes.
-use Rattle.std.proofs.Common.{◌≡◌, ℕ, List, [], ◌∷◌, ◌++◌, ◌⊎◌, Ok, Some}
-use Rattle.csv.specs.Writing.{default_writer, field_text}
-use Rattle.dn_types.specs.declared.five_tuple.FiveTuple.{FiveTuple}
-use Rattle.dn_types.specs.declared.target.Target.{Target}
-use Rattle.dn_config.specs.Tokens.Addresses.{address_of}
-use Rattle.dn_config.specs.Tokens.Numbers.{number_within}
-use Rattle.dn_records.specs.Records.{Fields}
-use Rattle.dn_records.proofs.LineEnds.{BeginsFields, Opens, Writes}
-use Rattle.dn_files.specs.Fields.{target_at, tuple_at}
+use Rattle.dn_files.proofs.Words.{BeginsFields, Fields, FiveTuple, List, Ok, Opens, Some, Target, Writes, [], address_of, default_writer, field_text, number_within, target_at, tuple_at, ℕ, ◌++◌}
+use Rattle.dn_files.proofs.Words.{◌∷◌, ◌≡◌, ◌⊎◌}
 
 -- A field that is written as it is.
 abbrev pub IsPlain : List ℕ → Type 0

@@ -1,12 +1,6 @@
 -- Lines whose fields are written as they are.
-use Rattle.std.proofs.Common.{◌≡◌, ◌∙◌, ℕ, false, true, List, [], ◌∷◌, ◌++◌, Bool, refl, inl, inr, ap, append_assoc, subst}
-use Rattle.std.specs.List.{list_any, list_all}
-use Rattle.std.proofs.lemmas.Bool.{cases_Bool}
-use Rattle.csv.specs.Writing.{default_writer, fields_text, is_blank, needs_byte}
-use Rattle.dn_records.specs.Reading.{BeginsLine}
-use Rattle.dn_records.specs.Records.{Fields, line_of}
-use Rattle.dn_records.proofs.LineEnds.{BeginsFields, Opens, Writes, feed-line, return-line}
-use Rattle.dn_files.specs.PacketParts.{returned_line}
+use Rattle.dn_files.proofs.Words.{BeginsFields, BeginsLine, Bool, Fields, List, Opens, Writes, [], ap, append_assoc, cases_Bool, default_writer, false, feed-line, fields_text, inl, inr, is_blank}
+use Rattle.dn_files.proofs.Words.{line_of, list_all, list_any, needs_byte, refl, return-line, returned_line, subst, true, ℕ, ◌++◌, ◌∙◌, ◌∷◌, ◌≡◌}
 use Rattle.dn_files.proofs.PlainFields.{AllPlain, EndsIn, IsPlain}
 
 -- A field whose bytes all pass a test is plain, where what passes calls for no quotes.

@@ -1,28 +1,9 @@
 -- Rows that are written plainly: their fields, and what these say.
-use Rattle.std.proofs.Common.{◌≡◌, ◌∙◌, refl, sym, ap, subst, ℕ, ◌^◌, ◌==◌, true, false, List, [], ◌∷◌, ◌++◌, Option, Some, None, arith, inl, inr, append_assoc, Ok}
-use Rattle.std.specs.Prelude.{codes, nat_lt}
-use Rattle.std.specs.Char.{digit_value}
-use Rattle.std.specs.List.{list_all}
-use Rattle.std.specs.Option.{option_or}
-use Rattle.std.proofs.lemmas.Bool.{cases_Bool, eqb-true, ltb-true, ne_eqb}
-use Rattle.std.proofs.lemmas.Str.Parse.{digit_from_value}
-use Rattle.csv.specs.Records.{field_at}
-use Rattle.csv.specs.Writing.{default_writer, needs_byte}
-use Rattle.dn_types.specs.declared.target.Target.{Target}
-use Rattle.dn_types.specs.declared.target.Target.TheVariants.{Pipe, Queue}
-use Rattle.dn_types.specs.declared.five_tuple.FiveTuple.{FiveTuple}
-use Rattle.dn_config.specs.Tokens.Numbers.{digits}
-use Rattle.dn_config.specs.Tokens.Until.{address_until, number_until}
-use Rattle.dn_config.proofs.Capping.{digits_are_digits}
-use Rattle.dn_config.proofs.UntilParts.{address_parts, bound, is_address_byte, number_parts, some_is}
-use Rattle.dn_records.specs.Reading.{BeginsLine}
-use Rattle.dn_records.specs.Records.{Fields}
-use Rattle.dn_records.proofs.LineEnds.{BeginsFields, Opens, Writes, field-begins, fields-then, plain-writes}
-use Rattle.dn_files.specs.Fields.{packet_at, target_at, tuple_at}
-use Rattle.dn_files.specs.PacketFile.{row_of}
-use Rattle.dn_files.specs.LineEnd.{behind_word, number_at_end}
-use Rattle.dn_files.specs.PlainRow.{kind_until, row_until, target_until, tuple_until}
-use Rattle.dn_files.specs.declared.row.Row.{Row}
+use Rattle.dn_files.proofs.Words.{BeginsFields, BeginsLine, Fields, FiveTuple, List, None, Ok, Opens, Option, Pipe, Queue, Row, Some, Target, Writes, [], address_parts, address_until, ap}
+use Rattle.dn_files.proofs.Words.{append_assoc, arith, behind_word, bound, cases_Bool, codes, default_writer, digit_from_value, digit_value, digits, digits_are_digits, eqb-true, false}
+use Rattle.dn_files.proofs.Words.{field-begins, field_at, fields-then, inl, inr, is_address_byte, kind_until, list_all, ltb-true, nat_lt, ne_eqb, needs_byte, number_at_end, number_parts}
+use Rattle.dn_files.proofs.Words.{number_until, option_or, packet_at, plain-writes, refl, row_of, row_until, some_is, subst, sym, target_at, target_until, true, tuple_at, tuple_until, ℕ, ◌++◌}
+use Rattle.dn_files.proofs.Words.{◌==◌, ◌^◌, ◌∙◌, ◌∷◌, ◌≡◌}
 use Rattle.dn_files.proofs.LastNumbers.{end_parts, word_stands}
 use Rattle.dn_files.proofs.PlainFields.{BeginsAddress, BeginsNumber, BeginsTarget, BeginsTuple, EndsNumber, IsPlain}
 use Rattle.dn_files.proofs.PlainLines.{line-begins, plain-field}

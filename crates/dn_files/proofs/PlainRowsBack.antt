@@ -1,29 +1,9 @@
 -- The line of a record that has a row is read as that row.
-use Rattle.std.proofs.Common.{◌≡◌, ◌∙◌, refl, sym, ap, subst, ℕ, ◌^◌, ◌==◌, Bool, true, false, cond, List, [], ◌∷◌, ◌++◌, length, Some, None, Option, Result, Ok, Err, arith, inl, inr}
-use Rattle.std.specs.Prelude.{bytes_eq, codes, nat_lt}
-use Rattle.std.specs.Char.{digit_value}
-use Rattle.std.specs.Result.{result_ok}
-use Rattle.std.proofs.lemmas.Bool.{ne_eqb}
-use Rattle.std.proofs.lemmas.Slice.Eq.{bytes_eq-Decides}
-use Rattle.csv.specs.Records.{field_at}
-use Rattle.dn_types.specs.declared.five_tuple.FiveTuple.{FiveTuple}
-use Rattle.dn_types.specs.declared.packet.Packet.{Packet}
-use Rattle.dn_types.specs.declared.target.Target.{Target}
-use Rattle.dn_types.specs.declared.target.Target.TheVariants.{Pipe, Queue}
-use Rattle.dn_config.specs.Tokens.Addresses.{address_of}
-use Rattle.dn_config.specs.Tokens.Numbers.{number_within}
-use Rattle.dn_config.specs.declared.tokens.number_fault.NumberFault.{NumberFault}
-use Rattle.dn_config.proofs.UntilBack.{address_back, number_back, number_digits}
-use Rattle.dn_config.proofs.UntilParts.{is_address_byte}
-use Rattle.dn_records.specs.Records.{Fields, line_of}
-use Rattle.dn_files.specs.Fields.{or_place, packet_at, target_at, tuple_at}
-use Rattle.dn_files.specs.PacketFile.{row_of}
-use Rattle.dn_files.specs.PacketParts.{BeginsRow, returned_line}
-use Rattle.dn_files.specs.LineEnd.{number_at_end, number_before_return}
-use Rattle.dn_files.specs.PlainRow.{kind_until, row_until, target_until, tuple_until}
-use Rattle.dn_files.specs.QuotedRow.{row_at_front}
+use Rattle.dn_files.proofs.Words.{BeginsRow, Bool, Err, Fields, FiveTuple, List, None, NumberFault, Ok, Option, Packet, Pipe, Queue, Result, Row, Some, Target, [], address_back, address_of, ap}
+use Rattle.dn_files.proofs.Words.{arith, bytes_eq, bytes_eq-Decides, codes, cond, digit_value, false, field_at, inl, inr, is_address_byte, kind_until, length, line_of, nat_lt, ne_eqb}
+use Rattle.dn_files.proofs.Words.{number_at_end, number_back, number_before_return, number_digits, number_within, or_place, packet_at, refl, result_ok, returned_line, row_at_front, row_of}
+use Rattle.dn_files.proofs.Words.{row_until, subst, sym, target_at, target_until, true, tuple_at, tuple_until, ℕ, ◌++◌, ◌==◌, ◌^◌, ◌∙◌, ◌∷◌, ◌≡◌}
 use Rattle.dn_files.specs.Reading.{◌>>=◌}
-use Rattle.dn_files.specs.declared.row.Row.{Row}
 use Rattle.dn_files.proofs.LastNumbers.{other_end}
 use Rattle.dn_files.proofs.PlainFields.{AllPlain, IsPlain}
 use Rattle.dn_files.proofs.PlainLines.{line-is, plain-field, plain_end, return-is}

@@ -1,23 +1,9 @@
 -- Rows with fields in quotes: their fields, and what these say.
-use Rattle.std.proofs.Common.{◌≡◌, ◌∙◌, refl, sym, ap, subst, ℕ, ◌^◌, false, List, [], ◌∷◌, ◌++◌, Option, Some, None, inl, inr, append_assoc}
-use Rattle.std.specs.Prelude.{codes, nat_lt}
-use Rattle.std.specs.Char.{digit_value}
-use Rattle.std.specs.List.{list_any}
-use Rattle.std.specs.Option.{option_or}
-use Rattle.csv.specs.Writing.{default_writer, needs_byte}
-use Rattle.dn_types.specs.declared.five_tuple.FiveTuple.{FiveTuple}
-use Rattle.dn_types.specs.declared.target.Target.{Target}
-use Rattle.dn_types.specs.declared.target.Target.TheVariants.{Pipe, Queue}
-use Rattle.dn_config.specs.Tokens.Numbers.{digits}
-use Rattle.dn_config.specs.Tokens.Until.{address_until, number_until}
-use Rattle.dn_config.proofs.Capping.{digits_are_digits}
-use Rattle.dn_config.proofs.UntilParts.{address_parts, bound, is_address_byte, number_parts, some_is}
-use Rattle.dn_records.proofs.LineEnds.{BeginsFields, Opens, Writes, field-begins, quoted-writes}
-use Rattle.dn_files.specs.LineEnd.{behind_end, behind_word, number_at_end}
-use Rattle.dn_files.specs.PlainRow.{row_until}
-use Rattle.dn_files.specs.QuotedRow.{address_field, behind_name, last_field, number_field, pipe_fields, quoted_address, quoted_at_end, quoted_number}
-use Rattle.dn_files.specs.QuotedRow.{quoted_row_until, queue_fields, row_at_front, target_fields, tuple_fields}
-use Rattle.dn_files.specs.declared.row.Row.{Row}
+use Rattle.dn_files.proofs.Words.{BeginsFields, FiveTuple, List, None, Opens, Option, Pipe, Queue, Row, Some, Target, Writes, [], address_field, address_parts, address_until, ap, append_assoc}
+use Rattle.dn_files.proofs.Words.{behind_end, behind_name, behind_word, bound, codes, default_writer, digit_value, digits, digits_are_digits, false, field-begins, inl, inr, is_address_byte}
+use Rattle.dn_files.proofs.Words.{last_field, list_any, nat_lt, needs_byte, number_at_end, number_field, number_parts, number_until, option_or, pipe_fields, queue_fields, quoted-writes}
+use Rattle.dn_files.proofs.Words.{quoted_address, quoted_at_end, quoted_number, quoted_row_until, refl, row_at_front, row_until, some_is, subst, sym, target_fields, tuple_fields, ℕ, ◌++◌, ◌^◌}
+use Rattle.dn_files.proofs.Words.{◌∙◌, ◌∷◌, ◌≡◌}
 use Rattle.dn_files.proofs.LastNumbers.{end_stands, word_stands}
 use Rattle.dn_files.proofs.PlainFields.{BeginsAddress, BeginsNumber, BeginsTarget, BeginsTuple, EndsIn, EndsNumber, IsPlain}
 use Rattle.dn_files.proofs.PlainLines.{unquoted}

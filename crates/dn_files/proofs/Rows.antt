@@ -1,13 +1,8 @@
 -- Reading rows one after the other.
-use Rattle.std.proofs.Common.{◌≡◌, ◌∙◌, ℕ, ◌+◌, true, false, List, [], ◌∷◌, ◌++◌, Some, None, Result, Ok, Err, refl, sym, ap, append_assoc, length, length-append, ◌<◌, arith}
-use Rattle.std.proofs.lemmas.List.{append-nil}
-use Rattle.dn_records.specs.Records.{Fields, Takes}
-use Rattle.dn_files.specs.PacketFile.{TakesRow, is_header, row_of, rows_below, rows_from}
+use Rattle.dn_files.proofs.Words.{BadRow, Err, Fields, IsFaultOf, List, None, Ok, ReplayFault, Result, Row, Some, Takes, TakesRow, [], ap, append-nil, append_assoc, arith, false, is_header}
+use Rattle.dn_files.proofs.Words.{length, length-append, refl, row_of, rows_below, rows_from, sym, true, ℕ, ◌++◌, ◌+◌, ◌<◌, ◌∙◌, ◌∷◌, ◌≡◌}
 pub use Rattle.dn_files.specs.PacketParts.{with_front}
-use Rattle.dn_files.specs.Reading.{◌>>=◌, IsFaultOf}
-use Rattle.dn_files.specs.declared.replay_fault.ReplayFault.{ReplayFault}
-use Rattle.dn_files.specs.declared.replay_fault.ReplayFault.TheVariants.{BadRow}
-use Rattle.dn_files.specs.declared.row.Row.{Row}
+use Rattle.dn_files.specs.Reading.{◌>>=◌}
 use Rattle.dn_files.proofs.Inputs.{carried}
 
 -- A bad record at the front makes the fault.

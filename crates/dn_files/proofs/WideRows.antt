@@ -1,21 +1,11 @@
 -- A text that begins with too many commas: its first record has as many fields, whatever follows them.
-use Rattle.std.proofs.Common.{◌≡◌, ◌≢◌, ◌∙◌, refl, ℕ, zero, suc, ◌+◌, ◌-◌, ◌<◌, ◌≤◌, ◌==◌, Bool, true, false, inl, inr, List, [], ◌∷◌, ◌++◌, Option, Some}
-use Rattle.std.proofs.Common.{None, Err, length, take, drop, get_or, arith, add-one, length-append}
-use Rattle.std.proofs.lemmas.Bool.{cases_Bool, eqb-true, ne_eqb, or_parts}
-use Rattle.std.proofs.lemmas.List.{take_rest}
-use Rattle.csv.specs.Machine.{Read, ends_at_end, field_after, fields_after, in_field, is_end, next_record, start_field, step}
-use Rattle.csv.specs.Reading.{default_config, records_from, records_next}
-use Rattle.csv.specs.declared.parser.Action.{Action}
+use Rattle.dn_files.proofs.Words.{Action, BadRow, BeginsWide, Bool, Err, Fields, List, None, Option, Some, State, [], add-one, arith, cases_Bool, default_config, drop, ends_at_end, eqb-true}
+use Rattle.dn_files.proofs.Words.{false, field_after, fields_after, get_or, has_commas, in_field, inl, inr, is_end, is_header, is_line_end, is_mark, length, length-append, missing_behind, ne_eqb}
+use Rattle.dn_files.proofs.Words.{next_record, or_parts, record-same, records_after, records_from, records_next, records_of, refl, row_of, rows_below, rows_from, start_field, step, suc, take}
+use Rattle.dn_files.proofs.Words.{take_rest, true, turns, zero, ℕ, ◌++◌, ◌+◌, ◌-◌, ◌<◌, ◌==◌, ◌∙◌, ◌∷◌, ◌≡◌, ◌≢◌, ◌≤◌}
+use Rattle.csv.specs.Machine.{Read}
 use Rattle.csv.specs.declared.parser.Action.TheVariants as act
-use Rattle.csv.specs.declared.parser.State.{State}
 use Rattle.csv.specs.declared.parser.State.TheVariants as st
-use Rattle.csv.proofs.RoundTrip.{record-same}
-use Rattle.dn_records.proofs.NextRecord.{turns}
-use Rattle.dn_records.specs.Reading.{records_after}
-use Rattle.dn_records.specs.Records.{Fields, records_of}
-use Rattle.dn_files.specs.PacketFile.{is_header, row_of, rows_below, rows_from}
-use Rattle.dn_files.specs.WideRows.{BeginsWide, has_commas, is_line_end, is_mark, missing_behind}
-use Rattle.dn_files.specs.declared.replay_fault.ReplayFault.TheVariants.{BadRow}
 
 some_eq : {A : Type 0} (x y : A) → ◌≡◌ {A = Option A} (Some x) (Some y) → x ≡ y
 some_eq x y e = cc

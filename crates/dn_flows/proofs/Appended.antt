@@ -1,12 +1,7 @@
 -- The queues in the store after a packet joined one of them.
-use Rattle.std.proofs.Common.{◌≡◌, ◌≢◌, ◌∙◌, ◌⊎◌, ℕ, zero, suc, ◌+◌, cond, nat_eq, List, [], ◌∷◌, ◌++◌, refl, ap, sym, subst, arith, inl, inr}
-use Rattle.std.specs.Prelude.{Some}
-use Rattle.std.specs.Option.{option_map}
-use Rattle.dn_flows.specs.Packets.{Packets, StoredPacket, get, with_next}
-use Rattle.dn_flows.specs.declared.flow_queue.FlowQueue.{FlowQueue}
-use Rattle.dn_flows.specs.declared.waiting.Waiting.{Waiting}
+use Rattle.dn_flows.proofs.Words.{Appends, FlowQueue, IsChain, IsQueue, List, Packets, Some, StoredPacket, Waiting, [], ap, arith, cond, get, inl, inr, key_after, nat_eq, option_map, refl}
+use Rattle.dn_flows.proofs.Words.{stored_or, subst, suc, sym, waiting_from, with_next, zero, ℕ, ◌++◌, ◌+◌, ◌∙◌, ◌∷◌, ◌≡◌, ◌≢◌, ◌⊎◌}
 use Rattle.dn_flows.proofs.Places.{eq-yes, eq-no}
-use Rattle.dn_flows.specs.Store.{IsChain, IsQueue, Appends, stored_or, waiting_from, key_after}
 use Rattle.dn_flows.proofs.Chains.{Stay, chain-end, not-free}
 
 module _ (owner behind : ℕ → ℕ) (old new : Packets) (w : Waiting) (q q' : FlowQueue) (flow : ℕ) (a : Appends w old q new q') (is : IsQueue owner behind old flow q) where
@@ -72,7 +67,6 @@ module _ (owner behind : ℕ → ℕ) (old new : Packets) (w : Waiting) (q q' : 
       not_last e =
           let end = chain-end owner behind old flow (c.0).next n c.4 in
           let none : behind key ≡ 0 = ap behind (e ∙ sym before) ∙ end.none_behind in
-          let some_behind : behind key ≡ suc n = c.3 in
           absurd (omega arith)
 
       now : get new key ≡ Some c.0

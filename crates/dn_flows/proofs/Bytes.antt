@@ -1,9 +1,5 @@
 -- How many bytes the packets of a queue have.
-use Rattle.std.proofs.Common.{◌≡◌, ◌+◌, ◌*◌, ◌≤◌, List, [], ◌∷◌, ◌++◌, sum, length, refl, arith}
-use Rattle.std.proofs.lemmas.List.Sums.{sum_by-cons}
-use Rattle.dn_flows.specs.declared.waiting.Waiting.{Waiting}
-use Rattle.dn_flows.specs.Store.{AreShort}
-use Rattle.dn_flows.specs.Table.{lengths}
+use Rattle.dn_flows.proofs.Words.{AreShort, List, Waiting, [], arith, length, lengths, refl, sum, sum_by-cons, ◌*◌, ◌++◌, ◌+◌, ◌∷◌, ◌≡◌, ◌≤◌}
 
 -- The bytes of a queue are the first packet's and the others'.
 pub lengths-cons : (w : Waiting) (ws : List Waiting) → sum (lengths (w ∷ ws)) ≡ w.len + sum (lengths ws)
@@ -28,7 +24,6 @@ short_bytes [] short = omega arith
 short_bytes (w ∷ ws) short =
     let all = lengths-cons w ws in
     let others = short_bytes ws short.2 in
-    let first : w.len ≤ 65535 = short.1 in
     omega arith
 
 -- A packet has at least one byte, so there are no more packets than bytes.
@@ -37,5 +32,4 @@ no_more_than_bytes [] short = omega arith
 no_more_than_bytes (w ∷ ws) short =
     let all = lengths-cons w ws in
     let others = no_more_than_bytes ws short.2 in
-    let first : 1 ≤ w.len = short.0 in
     omega arith

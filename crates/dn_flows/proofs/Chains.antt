@@ -1,17 +1,11 @@
 -- The queues in the store: what a change of the store leaves of a chain of packets.
-use Rattle.std.proofs.Common.{◌≡◌, ◌∙◌, ℕ, zero, suc, ◌+◌, ◌<◌, ◌≤◌, true, false, List, ◌∷◌, refl, ap, sym, subst, arith}
-use Rattle.std.specs.Prelude.{Some, None, is_some, slice_get, sum}
-use Rattle.dn_flows.specs.Packets.{Packets, StoredPacket, ContainsKey, get}
-use Rattle.dn_flows.specs.declared.flow_queue.FlowQueue.{FlowQueue}
-use Rattle.dn_flows.specs.declared.waiting.Waiting.{Waiting}
-use Rattle.dn_flows.specs.Table.{lengths}
+use Rattle.dn_flows.proofs.Words.{ContainsKey, FlowQueue, IsChain, IsCounted, IsQueue, Lies, List, None, Packets, Shortens, Some, StoredPacket, TakesFront, Waiting, ap, arith, get, is_some}
+use Rattle.dn_flows.proofs.Words.{key_after, lengths, refl, slice_get, stored_at, stored_or, subst, suc, sum, sym, waiting_from, zero, ℕ, ◌+◌, ◌<◌, ◌∙◌, ◌∷◌, ◌≡◌, ◌≤◌}
 use Rattle.dn_flows.proofs.Bytes.{lengths-cons}
-use Rattle.dn_flows.specs.Store.{IsChain, IsCounted, IsQueue, TakesFront, Lies, Shortens, stored_or, stored_at, waiting_from, key_after}
 
 -- A key with a packet isn't free.
 pub not-free : (store : Packets) (key other : ℕ) (stored : StoredPacket) → get store key ≡ None → get store other ≡ Some stored → other ≡ key → ⊥
 not-free store key other stored free held same =
-    let z : false ≡ true = ap is_some (sym free ∙ ap (get store) (sym same) ∙ held) in
     absurd cc
 
 module _ (owner behind owner' behind' : ℕ → ℕ) (old new : Packets) (flow : ℕ) where
@@ -30,7 +24,7 @@ module _ (owner behind owner' behind' : ℕ → ℕ) (old new : Packets) (flow :
   stays key (suc n) c stay = step (stays (c.0).next n c.4 (λ k s e o lt. stay k s e o (omega arith)))
     where
       now : (get new key ≡ Some c.0) × (owner' key ≡ flow) × (behind' key ≡ behind key)
-      now = stay key c.0 c.1 c.2 (let e = c.3 in omega arith)
+      now = stay key c.0 c.1 c.2 (omega arith)
 
       read_new : stored_at new key ≡ c.0
       read_new = ap stored_or now.0
@@ -74,7 +68,7 @@ module _ (owner behind : ℕ → ℕ) (old new : Packets) (first : Waiting) (q q
     pub last : (n : ℕ) → q'.len ≡ suc n → key_after new q'.front n ≡ q'.back
 
   many : q.len ≡ suc q'.len
-  many = let e = t.queue_is.0 in omega arith
+  many = omega arith
 
   parts : IsChain owner behind old flow q.front (suc q'.len)
   parts = subst (λ n. IsChain owner behind old flow q.front n) many is.chain
@@ -187,18 +181,6 @@ same-queue owner behind store flow q q' same is = record {
   chain = subst (λ (k : ℕ × ℕ). IsChain owner behind store flow k.0 k.1) (λ i. (sym same.0 i, sym same.2 i)) is.chain;
   last = λ n e. ap (λ k. key_after store k n) same.0 ∙ is.last n (sym same.2 ∙ e) ∙ sym same.1;
   counts = subst (λ (k : ℕ × (ℕ × ℕ)). IsCounted (waiting_from store k.0 k.1.0) k.1.0 k.1.1) (λ i. (sym same.0 i, (sym same.2 i, sym same.3 i))) is.counts;
-}
-
--- ---- Packets leave a queue, one by one
-
-pub shortens-none : (store : Packets) (q : FlowQueue) → Shortens store q store q
-shortens-none store q = record {
-  leaves = λ owner behind flow is. record { is = is; others = λ key stored held ne. held };
-  len = refl;
-  capacity = refl;
-  counts = (refl, refl);
-  home = refl;
-  flags = (refl, refl, refl);
 }
 
 pub shortens-more : (old mid new : Packets) (first : Waiting) (q q₁ q' : FlowQueue) → Shortens old q mid q₁ → TakesFront first mid q₁ new q'

@@ -1,10 +1,6 @@
 -- The states of all flows by the counts that lie beside their queues.
-use Rattle.std.proofs.Common.{◌≡◌, ◌∙◌, ℕ, zero, suc, ◌<◌, List, [], ◌∷◌, ◌++◌, set, get_or, length, refl, ap, sym, arith}
-use Rattle.std.specs.Prelude.{Some, slice_get}
-use Rattle.dn_flows.specs.declared.unsent.Unsent.{Unsent}
-use Rattle.dn_flows.specs.declared.waiting.Waiting.{Waiting}
-use Rattle.dn_flows.specs.Store.{with_unsent, all_with_unsent}
-use Rattle.dn_flows.specs.Table.{FlowState, flow_at, popped, popped_from}
+use Rattle.dn_flows.proofs.Words.{FlowState, List, Some, Unsent, Waiting, [], all_with_unsent, ap, arith, flow_at, get_or, length, popped, popped_from, refl, set, slice_get, suc, sym, with_unsent}
+use Rattle.dn_flows.proofs.Words.{zero, ℕ, ◌++◌, ◌<◌, ◌∙◌, ◌∷◌, ◌≡◌}
 use Rattle.dn_flows.proofs.Places.{get-read}
 
 pub length_unsent : (states : List FlowState) (unsent : List Unsent) → length (all_with_unsent states unsent) ≡ length states

@@ -1,20 +1,8 @@
 -- Each flow stays in the lists in which its queue says it is, whatever a call does to one queue and to the lists.
-use Rattle.std.proofs.Common.{◌≡◌, ◌≢◌, ◌∙◌, ◌⊎◌, ◌||◌, ◌<◌, ℕ, zero, suc, Bool, true, false, List, [], ◌∷◌, ◌++◌, length, set, take, refl, ap, sym, subst, arith, inl, inr}
-use Rattle.std.specs.Prelude.{Some, None, nat_eq, slice_get}
-use Rattle.std.specs.List.{list_any}
-use Rattle.std.proofs.lemmas.Bool.{cases_eq, eqb-true}
-use Rattle.std.proofs.lemmas.Option.{same_Some}
-use Rattle.dn_types.specs.Configuration.{target_eq}
-use Rattle.dn_types.specs.Flows.{key_eq}
-use Rattle.dn_types.specs.declared.flow_key.FlowKey.{FlowKey}
-use Rattle.dn_types.specs.declared.target.Target.{Target}
+use Rattle.dn_flows.proofs.Words.{AreListed, Bool, FlowKey, FlowQueue, HasDistinctKeys, IsListed, IsMember, KeepQueues, KeepsMembers, KeepsOthers, KeepsQueue, LetsGo, List, Members, None, Some}
+use Rattle.dn_flows.proofs.Words.{Target, [], ap, arith, cases_eq, eqb-true, false, inl, inr, is_at, is_known, is_listed, key_eq, key_eq-true, last_of, length, list_any, list_of, nat_eq}
+use Rattle.dn_flows.proofs.Words.{new_queue, refl, same_Some, set, slice_get, subst, suc, sym, take, target_eq, true, without_list, zero, ℕ, ◌++◌, ◌<◌, ◌||◌, ◌∙◌, ◌∷◌, ◌≡◌, ◌≢◌, ◌⊎◌}
 use Rattle.dn_types.specs.declared.target.Target.TheVariants.{Pipe as ToPipe, Queue as ToQueue}
-use Rattle.dn_types.proofs.Keys.{key_eq-true}
-use Rattle.dn_flows.specs.declared.flow_queue.FlowQueue.{FlowQueue}
-use Rattle.dn_flows.specs.declared.members.Members.{Members}
-use Rattle.dn_flows.specs.Members.{AreListed, HasDistinctKeys, IsListed, IsMember, KeepQueues, KeepsMembers, KeepsOthers, KeepsQueue, LetsGo, is_listed, last_of, list_of}
-use Rattle.dn_flows.specs.Store.{new_queue, without_list}
-use Rattle.dn_flows.specs.Table.{is_at, is_known}
 use Rattle.dn_flows.proofs.Lists.{none-in}
 use Rattle.dn_flows.proofs.Places.{eq-no, get-more, get-set, get-set-other}
 
@@ -208,7 +196,7 @@ module _ (keys : List FlowKey) (queues : List FlowQueue) (m m' : Members) (flow 
     where
       member : (target : Target) → is_at target key ≡ true → is_listed target q' ≡ true → IsMember target flow m'
       member (ToPipe p) at listed = keeps (ToPipe p) flow (a.members flow q key (ToPipe p) there its at (sym same ∙ listed))
-      member (ToQueue o) at listed = let wrong : false ≡ true = ap (λ (t : Target). target_eq t (ToQueue o)) (sym is) ∙ at in absurd cc
+      member (ToQueue o) at listed = absurd cc
 
 pub set-twice : {X : Type 0} (xs : List X) (k : ℕ) (y z : X) → set (set xs k y) k z ≡ set xs k z
 set-twice [] k y z = refl
@@ -266,14 +254,6 @@ lets-go target keys queues queues' m m' flow a keeps others go idle = listed-but
       }),
       λ other key its at listed. let n = none-listed target other q (ap (is_listed other) (sym e.1) ∙ listed) in stays q other key there its at n.1 n.0,
     )
-
--- ---- The queues that are let go keep their packets
-
-pub keep-none : (queues : List FlowQueue) → KeepQueues queues queues
-keep-none queues = record {
-  each = λ flow q e. (q, e, record { front = refl; back = refl; len = refl; bytes = refl; active = refl; started = refl; home = refl; reserved = λ on. refl });
-  many = refl;
-}
 
 pub keep-more : (old mid new : List FlowQueue) → KeepQueues old mid → KeepQueues mid new → KeepQueues old new
 keep-more old mid new a b = record {

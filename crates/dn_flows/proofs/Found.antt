@@ -1,13 +1,6 @@
 -- A flow is the one with a key, where it has that key; a key that no flow has gets the next number.
-use Rattle.std.proofs.Common.{◌≡◌, ◌∙◌, ℕ, zero, suc, ◌+◌, ◌<◌, ◌||◌, Bool, true, false, cond, List, [], ◌∷◌, length, refl, ap, sym, arith}
-use Rattle.std.specs.Prelude.{Option, Some, None, not, slice_get}
-use Rattle.std.specs.List.{list_any}
-use Rattle.std.specs.Option.{option_map_or}
-use Rattle.dn_types.specs.Flows.{flow_number, key_eq}
-use Rattle.dn_types.specs.declared.flow_key.FlowKey.{FlowKey}
-use Rattle.dn_types.proofs.Keys.{key_eq-true}
-use Rattle.dn_flows.specs.Members.{HasDistinctKeys}
-use Rattle.dn_flows.specs.Table.{is_known}
+use Rattle.dn_flows.proofs.Words.{Bool, FlowKey, HasDistinctKeys, List, None, Option, Some, [], ap, arith, cond, false, flow_number, is_known, key_eq, key_eq-true, length, list_any, not}
+use Rattle.dn_flows.proofs.Words.{option_map_or, refl, slice_get, suc, sym, true, zero, ℕ, ◌+◌, ◌<◌, ◌||◌, ◌∙◌, ◌∷◌, ◌≡◌}
 
 -- The flow has the number of the key, and the key is known.
 pub record HasNumber (key : FlowKey) (keys : List FlowKey) (flow : ℕ) : Type 0 where
@@ -35,7 +28,6 @@ has-number key stored same (k ∷ keys) (suc place) d s = by (key_eq key k) refl
         absurd (omega arith)
     by false other is =
         let number = is.number in
-        let inside = is.within in
         let more : suc place ≡ 1 + flow_number keys key = omega arith in
         record { number = more ∙ (λ i. cond (not (sym other i)) (1 + flow_number keys key) 0); within = omega arith; known = (λ i. other i || list_any (key_eq key) keys) ∙ is.known }
 
@@ -56,6 +48,5 @@ next-number key (k ∷ keys) e = by (key_eq key k) refl e (next-number key keys)
         → flow_number (k ∷ keys) key ≡ suc (length keys)
     by true t e rest = absurd cc
     by false t e rest =
-        let before = rest e in
         let more : 1 + flow_number keys key ≡ suc (length keys) = omega arith in
         (λ i. cond (not (t i)) (1 + flow_number keys key) 0) ∙ more

@@ -1,12 +1,8 @@
 -- The places of the store that are free: what is told of each key where one of them is taken, or one more is left.
-use Rattle.std.proofs.Common.{◌≡◌, ◌≢◌, ◌∙◌, ◌⊎◌, ℕ, zero, suc, ◌<◌, ◌≤◌, Bool, true, false, cond, nat_eq, List, [], ◌∷◌, ◌++◌, set, get_or, length, refl, ap, sym, subst, arith, inl, inr}
-use Rattle.std.specs.Prelude.{Option, Some, None, IsSome, IsPermutation, is_some, slice_get, ◌||◌}
-use Rattle.std.specs.List.{AllByRecursion, IsDistinct, list_any}
-use Rattle.std.proofs.lemmas.Bool.{cases_eq, or_parts}
-use Rattle.std.proofs.lemmas.List.Sorted.{IsPermutation-refl, IsPermutation-sym, IsPermutation-push_more, list_any-IsPermutation}
-use Rattle.std.proofs.lemmas.Map.Keys.{IsDistinct-IsPermutation, IsDistinct-head, IsDistinct-tail, IsDistinct-cons}
-use Rattle.std.proofs.lemmas.Map.Steps.{length-le_from_distinct_below}
-use Rattle.dn_flows.specs.Packets.{AreFree}
+use Rattle.dn_flows.proofs.Words.{AllByRecursion, AreFree, Bool, IsDistinct, IsDistinct-IsPermutation, IsDistinct-cons, IsDistinct-head, IsDistinct-tail, IsPermutation, IsPermutation-push_more}
+use Rattle.dn_flows.proofs.Words.{IsPermutation-refl, IsPermutation-sym, IsSome, List, None, Option, Some, [], ap, arith, cases_eq, cond, false, get_or, inl, inr, is_some, length}
+use Rattle.dn_flows.proofs.Words.{length-le_from_distinct_below, list_any, list_any-IsPermutation, nat_eq, or_parts, refl, set, slice_get, subst, suc, sym, true, zero, ℕ, ◌++◌, ◌<◌, ◌||◌, ◌∙◌}
+use Rattle.dn_flows.proofs.Words.{◌∷◌, ◌≡◌, ◌≢◌, ◌≤◌, ◌⊎◌}
 use Rattle.dn_flows.proofs.Places.{eq-yes, eq-no, get-set, get-set-other, get-below, get-some, get-read, length-more}
 
 flips : (x y : ℕ) → nat_eq x y ≡ nat_eq y x

@@ -1,12 +1,6 @@
 -- The lists of flows by number, where a flow is added or taken out, and which flows are in them.
-use Rattle.std.proofs.Common.{◌≡◌, ◌∙◌, ℕ, zero, suc, ◌+◌, ◌-◌, ◌<◌, ◌||◌, Bool, true, false, cond, List, [], ◌∷◌, ◌++◌, length, map, nat_eq, set, take, refl, ap, sym, arith, inl, inr}
-use Rattle.std.specs.Prelude.{None, Some, slice_get, vec_items}
-use Rattle.std.specs.List.{list_any}
-use Rattle.std.specs.declared.vec.Vec.{Vec}
-use Rattle.std.proofs.lemmas.Bool.{cases_eq}
-use Rattle.std.proofs.lemmas.List.{get_or-set_other, get_or-set_same, length-take-le}
-use Rattle.std.proofs.lemmas.List.Folds.{list_any-append}
-use Rattle.dn_flows.specs.Members.{last_of, list_at}
+use Rattle.dn_flows.proofs.Words.{Bool, List, None, Some, [], ap, arith, cases_eq, cond, false, get_or-set_other, get_or-set_same, inl, inr, last_of, length, length-take-le, list_any}
+use Rattle.dn_flows.proofs.Words.{list_any-append, list_at, nat_eq, refl, set, slice_get, suc, sym, take, true, zero, ℕ, ◌++◌, ◌+◌, ◌-◌, ◌<◌, ◌||◌, ◌∙◌, ◌∷◌, ◌≡◌}
 use Rattle.dn_flows.proofs.Places.{eq-no, eq-yes, get-some}
 
 -- A list less its last flow, where the test passes.
@@ -36,13 +30,6 @@ same_at lists place l lt is other = elim (cases_eq other place) [
   | inr n ↦ rw (get_or-set_other lists place other l [] n) refl
 ]
 
--- An empty list at the end changes none.
-pub at-more : {Z : Type 0} (lists : List (Vec ℕ Z)) (more : Vec ℕ Z) → more.items ≡ [] → (other : ℕ) → list_at (map vec_items (lists ++ more ∷ [])) other ≡ list_at (map vec_items lists) other
-at-more [] more e zero = e
-at-more [] more e (suc other) = refl
-at-more (l ∷ lists) more e zero = refl
-at-more (l ∷ lists) more e (suc other) = at-more lists more e other
-
 -- ---- Whether a flow is in a list
 
 pub in-more : (flow x : ℕ) (xs : List ℕ) → list_any (nat_eq flow) xs ≡ true → list_any (nat_eq flow) (xs ++ x ∷ []) ≡ true
@@ -62,7 +49,6 @@ in-take flow x [] n many there ne h = absurd (omega arith)
 in-take flow x (y ∷ []) zero many there ne h =
     let is : y ≡ x = cc in
     let no = ap (λ b. b || false) (eq-no flow y (λ e. ne (e ∙ is))) in
-    let wrong : false ≡ true = sym no ∙ h in
     absurd cc
 in-take flow x (y ∷ z ∷ xs) zero many there ne h = absurd (omega arith)
 in-take flow x (y ∷ xs) (suc n) many there ne h = by (nat_eq flow y) h (λ e. in-take flow x xs n (omega arith) there ne e)
@@ -88,4 +74,4 @@ one-fewer x (y ∷ xs) there =
 -- None is in a list without a last one.
 pub none-in : (flow : ℕ) (xs : List ℕ) → last_of xs ≡ None → list_any (nat_eq flow) xs ≡ false
 none-in flow [] e = refl
-none-in flow (x ∷ xs) e = absurd (let some = get-some (x ∷ xs) (length (x ∷ xs) - 1) (omega arith) in let wrong : None ≡ Some some.0 = sym e ∙ some.1 in cc)
+none-in flow (x ∷ xs) e = absurd (let some = get-some (x ∷ xs) (length (x ∷ xs) - 1) (omega arith) in cc)

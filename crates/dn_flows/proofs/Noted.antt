@@ -1,12 +1,6 @@
 -- What every call that notes a packet which is never sent shows: the flow's counts are there, and a change of one of them
 -- is a change of what callers see of the flow.
-use Rattle.std.proofs.Common.{◌≡◌, ◌∙◌, ℕ, ◌<◌, List, length, map, set, get_or, sym}
-use Rattle.std.proofs.lemmas.List.{length-map}
-use Rattle.dn_flows.specs.declared.flow_queue.FlowQueue.{FlowQueue}
-use Rattle.dn_flows.specs.declared.unsent.Unsent.{Unsent}
-use Rattle.dn_flows.specs.Packets.{Packets}
-use Rattle.dn_flows.specs.Store.{state_of, with_unsent, all_with_unsent}
-use Rattle.dn_flows.specs.Table.{FlowState, flow_at}
+use Rattle.dn_flows.proofs.Words.{FlowQueue, FlowState, List, Packets, Unsent, all_with_unsent, flow_at, get_or, length, length-map, map, set, state_of, sym, with_unsent, ℕ, ◌<◌, ◌∙◌, ◌≡◌}
 use Rattle.dn_flows.proofs.Counted.{within-unsent, read-counts, noted}
 
 module _ (packets : Packets) (queues : List FlowQueue) (unsent : List Unsent) (flow : ℕ) (same : length unsent ≡ length queues)

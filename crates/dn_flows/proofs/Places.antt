@@ -1,9 +1,6 @@
 -- Lists with one place set, sums over them, and the test whether two places are one.
-use Rattle.std.proofs.Common.{◌≡◌, ◌∙◌, ◌≤◌, ◌<◌, ◌⊎◌, ℕ, zero, suc, true, false, nat_eq, ◌+◌, List, [], ◌∷◌, ◌++◌, map, set, get_or, refl, ap, sym, length, arith, inl, inr}
-use Rattle.std.specs.Prelude.{Some, slice_get}
-use Rattle.std.specs.List.{sum_by}
-use Rattle.std.proofs.lemmas.Bool.Decides.{nat_tests}
-use Rattle.std.proofs.lemmas.List.Sums.{sum_by-cons}
+use Rattle.dn_flows.proofs.Words.{List, Some, [], ap, arith, false, get_or, inl, inr, length, map, nat_eq, nat_tests, refl, set, slice_get, suc, sum_by, sum_by-cons, sym, true, zero, ℕ, ◌++◌, ◌+◌}
+use Rattle.dn_flows.proofs.Words.{◌<◌, ◌∙◌, ◌∷◌, ◌≡◌, ◌≤◌, ◌⊎◌}
 
 pub eq-yes : (i j : ℕ) → i ≡ j → nat_eq i j ≡ true
 eq-yes i j e = grind (arith, nat_tests)
@@ -124,4 +121,4 @@ module _ {X Y : Type 0} (f h : X → Y) where
   pub map-set-but : (xs : List X) (k : ℕ) (y : X) → ((j : ℕ) (x : X) → slice_get xs j ≡ Some x → (j ≡ k → ⊥) → h x ≡ f x) → map h (set xs k y) ≡ set (map f xs) k (h y)
   map-set-but [] k y same = refl
   map-set-but (z ∷ xs) zero y same = λ i. h y ∷ map-same xs (λ j x e. same (suc j) x e (λ n. absurd (omega arith))) i
-  map-set-but (z ∷ xs) (suc k) y same = λ i. same 0 z refl (λ n. absurd (omega arith)) i ∷ map-set-but xs k y (λ j x e ne. same (suc j) x e (λ n. ne (let m = n in omega arith))) i
+  map-set-but (z ∷ xs) (suc k) y same = λ i. same 0 z refl (λ n. absurd (omega arith)) i ∷ map-set-but xs k y (λ j x e ne. same (suc j) x e (λ n. ne (omega arith))) i

@@ -1,11 +1,6 @@
 -- How many flows have a reserved place, after a change of one flow and with a flow more or less.
-use Rattle.std.proofs.Common.{◌≡◌, ◌∙◌, ◌+◌, ◌≤◌, ◌<◌, ℕ, zero, suc, true, false, cond, List, [], ◌∷◌, map, set, take, length, refl, ap, arith}
-use Rattle.std.proofs.lemmas.List.Sums.{sum_by-cons}
-use Rattle.dn_flows.specs.Packets.{Packets}
-use Rattle.dn_flows.specs.declared.flow_queue.FlowQueue.{FlowQueue}
-use Rattle.dn_flows.specs.declared.unsent.Unsent.{Unsent}
-use Rattle.dn_flows.specs.Store.{all_with_unsent, reservations, reserved_one, state_of, with_unsent}
-use Rattle.dn_flows.specs.Table.{FlowState, flow_at, place_of, places}
+use Rattle.dn_flows.proofs.Words.{FlowQueue, FlowState, List, Packets, Unsent, [], all_with_unsent, ap, arith, cond, false, flow_at, length, map, place_of, places, refl, reservations}
+use Rattle.dn_flows.proofs.Words.{reserved_one, set, state_of, suc, sum_by-cons, take, true, with_unsent, zero, ℕ, ◌+◌, ◌<◌, ◌∙◌, ◌∷◌, ◌≡◌, ◌≤◌}
 
 -- ---- The count that the table keeps
 

@@ -1,17 +1,8 @@
 -- The table of flows after one queue changed, or one was added or taken out.
-use Rattle.std.proofs.Common.{◌≡◌, ◌∙◌, ◌+◌, ◌-◌, ◌⊎◌, ℕ, zero, suc, ◌<◌, ◌≤◌, ◌^◌, List, [], ◌∷◌, ◌++◌, map, set, take, get_or, length, length-set, Bool}
-use Rattle.std.proofs.Common.{true, false, cond, refl, ap, sym, subst, arith, inl, inr}
-use Rattle.std.specs.Prelude.{Some, None, slice_get, sum}
-use Rattle.std.proofs.lemmas.Bool.{cases_eq}
-use Rattle.std.proofs.lemmas.List.{length-map}
-use Rattle.std.proofs.lemmas.List.Sums.{sum_by-cons}
-use Rattle.dn_flows.specs.Packets.{Packets, ContainsKey, get}
-use Rattle.dn_flows.specs.declared.flow_queue.FlowQueue.{FlowQueue}
-use Rattle.dn_flows.specs.declared.unsent.Unsent.{Unsent}
-use Rattle.dn_flows.specs.declared.waiting.Waiting.{Waiting}
-use Rattle.dn_flows.specs.Store.{IsCounted, IsQueue, AreStored, Appends, TakesFront, Lies, Shortens, OnlyOwnLeft, all_with_unsent, state_of, stored_at}
-use Rattle.dn_flows.specs.Store.{with_unsent, waiting_from, new_queue, reserved_one, reservations}
-use Rattle.dn_flows.specs.Table.{FlowState, flow_at, new_flow, lengths, pushed, popped, popped_from, emptied, with_place}
+use Rattle.dn_flows.proofs.Words.{Appends, AreStored, Bool, ContainsKey, FlowQueue, FlowState, IsCounted, IsQueue, Lies, List, None, OnlyOwnLeft, Packets, Shortens, Some, TakesFront, Unsent}
+use Rattle.dn_flows.proofs.Words.{Waiting, [], all_with_unsent, ap, arith, cases_eq, cond, emptied, false, flow_at, get, get_or, inl, inr, length, length-map, length-set, lengths, map, new_flow}
+use Rattle.dn_flows.proofs.Words.{new_queue, popped, popped_from, pushed, refl, reservations, reserved_one, set, slice_get, state_of, stored_at, subst, suc, sum, sum_by-cons, sym, take, true}
+use Rattle.dn_flows.proofs.Words.{waiting_from, with_place, with_unsent, zero, ℕ, ◌++◌, ◌+◌, ◌-◌, ◌<◌, ◌^◌, ◌∙◌, ◌∷◌, ◌≡◌, ◌≤◌, ◌⊎◌}
 use Rattle.dn_flows.proofs.Appended.{Appended, appended, owner-appended, behind-appended, others-stay-appended}
 use Rattle.dn_flows.proofs.Bytes.{lengths-push, AreShort-push, no_more_than_bytes}
 use Rattle.dn_flows.proofs.Chains.{Stay, Same, stays, same-queue, SamePackets, taken, taken-queue, others-stay-taken, held-first, held-last, short-first}

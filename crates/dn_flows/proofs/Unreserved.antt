@@ -1,12 +1,6 @@
 -- The table where flows only leave lists, and let go of the places that were reserved.
-use Rattle.std.proofs.Common.{◌≡◌, ◌∙◌, ℕ, zero, suc, List, [], ◌∷◌, map, refl, ap, sym, subst, arith}
-use Rattle.std.specs.Prelude.{Some, slice_get}
-use Rattle.dn_flows.specs.Packets.{Packets}
-use Rattle.dn_flows.specs.declared.flow_queue.FlowQueue.{FlowQueue}
-use Rattle.dn_flows.specs.declared.unsent.Unsent.{Unsent}
-use Rattle.dn_flows.specs.Members.{KeepQueues, KeepsQueue}
-use Rattle.dn_flows.specs.Store.{AreStored, all_with_unsent, state_of, waiting_from, with_unsent}
-use Rattle.dn_flows.specs.Table.{FlowState, OnlyUnreserves, flow_at}
+use Rattle.dn_flows.proofs.Words.{AreStored, FlowQueue, FlowState, KeepQueues, KeepsQueue, List, OnlyUnreserves, Packets, Some, Unsent, [], all_with_unsent, ap, arith, flow_at, map, refl}
+use Rattle.dn_flows.proofs.Words.{slice_get, state_of, subst, suc, sym, waiting_from, with_unsent, zero, ℕ, ◌∙◌, ◌∷◌, ◌≡◌}
 use Rattle.dn_flows.proofs.Chains.{same-queue}
 use Rattle.dn_flows.proofs.Counted.{kept}
 use Rattle.dn_flows.proofs.Tables.{flow-read}
@@ -36,12 +30,12 @@ first-kept q q' old new k =
     subst (λ (y : FlowQueue). KeepsQueue y q') (sym is) x.2
 
 rest-kept : (q q' : FlowQueue) (old new : List FlowQueue) → KeepQueues (q ∷ old) (q' ∷ new) → KeepQueues old new
-rest-kept q q' old new k = record { each = λ flow x e. k.each (suc flow) x e; many = let m = k.many in omega arith }
+rest-kept q q' old new k = record { each = λ flow x e. k.each (suc flow) x e; many = omega arith }
 
 states-kept : (store : Packets) (old new : List FlowQueue) → KeepQueues old new → (flow : ℕ) → OnlyUnreserves (flow_at (map (state_of store) old) flow) (flow_at (map (state_of store) new) flow)
 states-kept store [] [] k flow = same-state _
 states-kept store [] (q ∷ new) k flow = absurd (let m = k.many in omega arith)
-states-kept store (q ∷ old) [] k flow = absurd (let m = k.many in omega arith)
+states-kept store (q ∷ old) [] k flow = absurd (omega arith)
 states-kept store (q ∷ old) (q' ∷ new) k zero = state-kept store q q' (first-kept q q' old new k)
 states-kept store (q ∷ old) (q' ∷ new) k (suc flow) = states-kept store old new (rest-kept q q' old new k) flow
 
@@ -49,7 +43,7 @@ pub unreserves : (store : Packets) (old new : List FlowQueue) (unsent : List Uns
     → OnlyUnreserves (flow_at (all_with_unsent (map (state_of store) old) unsent) flow) (flow_at (all_with_unsent (map (state_of store) new) unsent) flow)
 unreserves store [] [] unsent k flow = same-state _
 unreserves store [] (q ∷ new) unsent k flow = absurd (let m = k.many in omega arith)
-unreserves store (q ∷ old) [] unsent k flow = absurd (let m = k.many in omega arith)
+unreserves store (q ∷ old) [] unsent k flow = absurd (omega arith)
 unreserves store (q ∷ old) (q' ∷ new) [] k flow = states-kept store (q ∷ old) (q' ∷ new) k flow
 unreserves store (q ∷ old) (q' ∷ new) (u ∷ unsent) k zero = with-counts u _ _ (state-kept store q q' (first-kept q q' old new k))
 unreserves store (q ∷ old) (q' ∷ new) (u ∷ unsent) k (suc flow) = unreserves store old new unsent (rest-kept q q' old new k) flow

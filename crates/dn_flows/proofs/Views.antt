@@ -1,9 +1,6 @@
 -- What a call on one flow leaves of each flow, as dn_shaper reads it off the clauses.
-use Rattle.std.proofs.Common.{◌≡◌, ℕ, ◌<◌, true, false, cond, nat_eq, List, [], ◌∷◌, length, drop, slice_set, refl, sym, ap, ◌∙◌, arith, get_or-set_same, get_or-set_other, inl, inr}
-use Rattle.std.proofs.lemmas.Bool.{cases_eq}
-use Rattle.std.proofs.lemmas.Bool.Decides.{nat_tests}
-use Rattle.dn_flows.specs.declared.waiting.Waiting.{Waiting}
-use Rattle.dn_flows.specs.Table.{FlowState, new_flow, flow_at, popped_from, popped}
+use Rattle.dn_flows.proofs.Words.{FlowState, List, Waiting, [], ap, arith, cases_eq, cond, drop, false, flow_at, get_or-set_other, get_or-set_same, inl, inr, length, nat_eq, nat_tests, new_flow}
+use Rattle.dn_flows.proofs.Words.{popped, popped_from, refl, slice_set, sym, true, ℕ, ◌<◌, ◌∙◌, ◌∷◌, ◌≡◌}
 
 -- Each flow after one of them was set.
 pub flow_after_set : (flows : List FlowState) (flow f : ℕ) (s : FlowState) → flow < length flows → flow_at (slice_set flows flow s) f ≡ cond (nat_eq flow f) s (flow_at flows f)

@@ -1,17 +1,8 @@
 -- What of a heap's order stays where a key falls to a leaf and rises from there, or leaves from a place of its own.
-use Rattle.std.proofs.Common.{◌≡◌, ℕ, ◌+◌, ◌*◌, ◌<◌, ◌≤◌, ◌≢◌, ◌++◌, false, List, length, get_or, get_or-set_other, set, Ordering, sym, ap, subst, ◌∙◌, inl, inr, arith}
-use Rattle.core.specs.Cmp.{IsTotalOrder, back_total}
-use Rattle.core.specs.Ordering.{is_lt}
-use Rattle.core.specs.Slice.Heapsort.{IsHeapWithin}
-use Rattle.std.proofs.lemmas.List.Elements.{All-from_recursion}
-use Rattle.std_alloc.proofs.HeapSift.{greatest, ranks}
+use Rattle.dn_heap.proofs.Words.{All-from_recursion, IsGreaterChild, IsHeap, IsHeapWithHole, IsHeapWithin, IsLeast, IsTotalOrder, List, Ordering, SiftsUp, ap, arith, back, back_total, false}
+use Rattle.dn_heap.proofs.Words.{get_or, get_or-set_other, greatest, inl, inr, is_lt, length, lt_by_cmp, ranks, set, subst, swap_places, sym, which, ℕ, ◌*◌, ◌++◌, ◌+◌, ◌<◌, ◌∙◌, ◌≡◌, ◌≢◌, ◌≤◌}
 use lib.ListN.{get_or-append}
-use Rattle.dn_heap.specs.Heap.{IsLeast}
-use Rattle.dn_heap.specs.Placed.{back}
 use Rattle.core.specs.List as holes
-use Rattle.std_alloc.specs.BinaryHeap.{IsHeap, lt_by_cmp}
-use Rattle.std_alloc.specs.BinaryHeap.Sift.{IsGreaterChild, IsHeapWithHole, SiftsUp}
-use Rattle.std_alloc.proofs.Permutation.{swap_places, which}
 
 module _ {K : Type 0} (R : K → K → Ordering) where
   by : (a b x y : K) → a ≡ x → b ≡ y → lt_by_cmp R x y ≡ false → lt_by_cmp R a b ≡ false

@@ -1,15 +1,6 @@
 -- What the library's heap says of its reversed keys, said of the keys.
-use Rattle.std.proofs.Common.{◌≡◌, Bool, true, false, cond, List, [], ◌∷◌, map, refl, ap, subst, All, IsPermutation}
-use Rattle.std.specs.Prelude.{filter}
-use Rattle.std.specs.declared.cmp.Ordering.{Ordering}
-use Rattle.std.specs.declared.cmp.Reverse.{Reverse}
-use Rattle.std.specs.BinaryHeap.{IsUpperBound}
-use Rattle.std.specs.Ordering.{is_lt}
-use Rattle.std.proofs.lemmas.List.Elements.{All-map, All-from_recursion, All-nil, All-cons}
-use Rattle.std.specs.List.{list_any}
-use Rattle.std.proofs.lemmas.Bool.{or_parts}
-use Rattle.std.proofs.lemmas.List.Sorted.{IsPermutation-map}
-use Rattle.dn_heap.specs.Heap.{IsLeast}
+use Rattle.dn_heap.proofs.Words.{All, All-cons, All-from_recursion, All-map, All-nil, Bool, IsLeast, IsPermutation, IsPermutation-map, IsUpperBound, List, Ordering, Reverse, [], ap, cond, false}
+use Rattle.dn_heap.proofs.Words.{filter, is_lt, list_any, map, or_parts, refl, subst, true, ◌∷◌, ◌≡◌}
 
 abbrev pub keys_of : {K : Type 0} → List (Reverse K) → List K
 keys_of xs = map (λ r. r.0) xs

@@ -1,10 +1,6 @@
 -- What a heap and its run hold together, where a key joins or leaves one of the two, and what a heap holds after both.
-use Rattle.std.proofs.Common.{◌≡◌, Bool, Option, Some, None, List, [], ◌∷◌, ◌++◌, sym, subst, IfSome, IsPermutation}
-use Rattle.std.specs.Prelude.{filter}
-use Rattle.std.specs.Option.{option_to_list}
-use Rattle.std.proofs.lemmas.List.{append_assoc}
-use Rattle.std.proofs.lemmas.List.Elements.{filter-append}
-use Rattle.std.proofs.lemmas.List.Sorted.{IsPermutation-refl, IsPermutation-sym, IsPermutation-trans, IsPermutation-append, IsPermutation-cons, IsPermutation-middle, IsPermutation-push_more}
+use Rattle.dn_heap.proofs.Words.{Bool, IfSome, IsPermutation, IsPermutation-append, IsPermutation-cons, IsPermutation-middle, IsPermutation-push_more, IsPermutation-refl, IsPermutation-sym}
+use Rattle.dn_heap.proofs.Words.{IsPermutation-trans, List, None, Option, Some, [], append_assoc, filter, filter-append, option_to_list, subst, sym, ◌++◌, ◌∷◌, ◌≡◌}
 
 module _ {K : Type 0} where
   pub joins_heap : (key : K) (hs hs' rs : List K) → IsPermutation (key ∷ hs) hs' → IsPermutation (key ∷ (hs ++ rs)) (hs' ++ rs)

@@ -1,12 +1,8 @@
 -- How the places follow the keys, where two change places.
-use Rattle.std.proofs.Common.{◌≡◌, ℕ, zero, suc, ◌<◌, Bool, List, [], ◌∷◌, ◌++◌, take, drop, take_all, append-nil, drop_of_length-le, length, get_or, set}
-use Rattle.std.proofs.Common.{swap, refl, sym, ap, subst, ◌∙◌, arith, inl, inr, length-set, get_or-set_same, get_or-set_other}
-use Rattle.std.proofs.lemmas.List.{set-get_or}
-use Rattle.std.proofs.lemmas.List.Sorted.{IsPermutation-refl, IsPermutation-swap, IsPermutation-trans}
-use Rattle.std_alloc.proofs.Permutation.{as_core, swap_places, which}
+use Rattle.dn_heap.proofs.Words.{ArePlaced, ArePlacedBut, ArePlacedFor, Bool, IsMoved, IsOrdered, IsPermutation-refl, IsPermutation-swap, IsPermutation-trans, List, [], any-default, ap}
+use Rattle.dn_heap.proofs.Words.{append-nil, arith, as_core, drop, drop_of_length-le, get_or, get_or-set_other, get_or-set_same, inl, inr, length, length-set, refl, set, set-get_or, subst, suc}
+use Rattle.dn_heap.proofs.Words.{swap, swap_is, swap_places, sym, take, take_all, which, zero, ℕ, ◌++◌, ◌<◌, ◌∙◌, ◌∷◌, ◌≡◌}
 use Rattle.core.specs.List as holes
-use Rattle.core.proofs.slice.Lists.{any-default, swap_is}
-use Rattle.dn_heap.specs.Placed.{ArePlaced, ArePlacedBut, ArePlacedFor, IsMoved, IsOrdered}
 
 differ : (l : List ℕ) (m n a b : ℕ) → get_or l m 0 ≡ a → get_or l n 0 ≡ b → (a ≡ b → ⊥) → m ≡ n → ⊥
 differ l m n a b p q apart e = apart (sym p ∙ ap (λ i. get_or l i 0) e ∙ q)

@@ -1,14 +1,7 @@
 -- What keeps a run in ascending order, and which key of a heap and its run is a least one.
-use Rattle.std.proofs.Common.{◌≡◌, ℕ, zero, suc, ◌+◌, ◌<◌, Bool, true, false, List, [], ◌∷◌, ◌++◌, length, get_or, refl, sym, subst, All, Contains, arith}
-use Rattle.std.specs.Cmp.{IsTotalOrder, IsStrictWeakOrder}
-use Rattle.std.specs.List.{items_where_true}
-use Rattle.std.specs.declared.cmp.Ordering.{Ordering}
-use Rattle.std.specs.declared.cmp.Ordering.TheVariants.{Less, Equal, Greater}
-use Rattle.std.specs.Ordering.{is_ge, is_lt}
-use Rattle.std.proofs.lemmas.List.Elements.{All-nil, All-cons, All-head, All-tail, All-push, All-append, All-contains, All-get_or, All-weaker}
-use Rattle.std.proofs.lemmas.List.Sorted.{ranks_by}
-use Rattle.dn_heap.specs.Heap.{IsLeast}
-use Rattle.dn_heap.specs.Run.{IsAscending, Leads}
+use Rattle.dn_heap.proofs.Words.{All, All-append, All-cons, All-contains, All-get_or, All-head, All-nil, All-push, All-tail, All-weaker, Bool, Contains, Equal, Greater, IsAscending, IsLeast}
+use Rattle.dn_heap.proofs.Words.{IsStrictWeakOrder, IsTotalOrder, Leads, Less, List, Ordering, [], arith, false, get_or, is_ge, is_lt, items_where_true, length, ranks_by, refl, subst, suc, sym}
+use Rattle.dn_heap.proofs.Words.{true, zero, ℕ, ◌++◌, ◌+◌, ◌<◌, ◌∷◌, ◌≡◌}
 
 pub at_least : (o : Ordering) → is_ge o ≡ true → is_lt o ≡ false
 at_least Less e = absurd (let z : false ≡ true = e in cc)

@@ -1,9 +1,6 @@
 -- What a `retain` leaves whose closure says `false` once, at the first element that passes a test.
-use Rattle.std.proofs.Common.{◌≡◌, Bool, true, false, List, [], ◌∷◌, length, IsPermutation, refl, ap, inl, inr, arith}
-use Rattle.std.specs.List.{items_where_true, list_any}
-use Rattle.std.specs.List.Retain.{IsFiltered, ReturnsInTurn}
-use Rattle.std.proofs.lemmas.Bool.{cases_Bool}
-use Rattle.std.proofs.lemmas.List.Sorted.{IsPermutation-refl, IsPermutation-cons, IsPermutation-trans, IsPermutation-middle}
+use Rattle.dn_heap.proofs.Words.{Bool, IsFiltered, IsPermutation, IsPermutation-cons, IsPermutation-middle, IsPermutation-refl, IsPermutation-trans, List, ReturnsInTurn, [], ap, arith, cases_Bool}
+use Rattle.dn_heap.proofs.Words.{false, inl, inr, items_where_true, length, list_any, refl, true, ◌∷◌, ◌≡◌}
 
 -- one call: `true` until the test passes for the first time, `false` there, and `true` from then on
 pub record StepsOnce {P X : Type 0} (done : P → Bool) (test : X → Bool) (p : P) (x : X) (b : Bool) (q : P) : Type 0 where

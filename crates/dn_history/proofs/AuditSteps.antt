@@ -1,24 +1,9 @@
 -- An audit, one entry at a time.
-use Rattle.std.proofs.Common.{◌≡◌, ◌≢◌, ◌∙◌, true, ℕ, ◌+◌, ◌<◌, ◌≤◌, Result, Ok, Err, List, [], ◌∷◌, ◌++◌, take, drop, length, length-append, get_or, refl, sym, ap, subst, arith, append_assoc}
-use Rattle.std.specs.Prelude.{OnOk}
-use Rattle.std.specs.Result.{is_ok}
-use Rattle.std.proofs.Math.ListN.{get_or-append}
-use Rattle.std.proofs.Math.Seq.{get_or-append_seam, take-append_seam}
-use Rattle.std.proofs.lemmas.List.{length-take-le, take-append-drop, take-append-le, take_all, take_more}
-use Rattle.std.proofs.lemmas.Option.{get_or_from_slice_get, slice_get_read, slice_get_within}
-use Rattle.dn_types.specs.Clock.{counted}
-use Rattle.dn_types.specs.History.{IsLawful, calls_of}
-use Rattle.dn_types.specs.Replies.{reply}
-use Rattle.dn_types.specs.declared.call.Call.{Call}
-use Rattle.dn_types.specs.declared.entry.Entry.{Entry}
-use Rattle.dn_types.specs.declared.rule.Rule.{Rule}
-use Rattle.dn_types.proofs.Histories.{calls_of-more, lawful-more}
-use Rattle.dn_shaper.specs.Shaper.{CanNeedMemory, StandsAfter}
+use Rattle.dn_history.proofs.Words.{Call, CanNeedMemory, CanWantMemory, Differs, Entry, Err, HasAudited, IsLawful, IsLawfulUpTo, IsVerdict, Lawful, List, Ok, OnOk, Result, Rule, RunningAudit}
+use Rattle.dn_history.proofs.Words.{StandsAfter, Verdict, [], ap, append_assoc, arith, calls_of, calls_of-more, counted, drop, get_or, get_or-append, get_or-append_seam, get_or_from_slice_get}
+use Rattle.dn_history.proofs.Words.{is_ok, lawful-more, length, length-append, length-take-le, refl, reply, slice_get_read, slice_get_within, subst, sym, take, take-append-drop, take-append-le}
+use Rattle.dn_history.proofs.Words.{take-append_seam, take_all, take_more, true, ℕ, ◌++◌, ◌+◌, ◌<◌, ◌∙◌, ◌∷◌, ◌≡◌, ◌≢◌, ◌≤◌}
 use Rattle.dn_shaper.specs.declared.state.State.{State}
-use Rattle.dn_history.specs.Audit.{CanWantMemory, HasAudited, IsLawfulUpTo, IsVerdict}
-use Rattle.dn_history.specs.declared.verdict.Verdict.{Verdict}
-use Rattle.dn_history.specs.declared.verdict.Verdict.TheVariants.{Differs, Lawful}
-use Rattle.dn_history.specs.declared.running_audit.RunningAudit.{RunningAudit}
 
 -- One entry more.
 module _ (rule : Rule) (history : List Entry) (e : Entry) where

@@ -1,24 +1,8 @@
 -- The record of a call, read back.
-use Rattle.std.proofs.Common.{◌≡◌, refl, ℕ, ◌^◌, ◌<◌, ◌≤◌, true, arith}
-use Rattle.std.specs.Prelude.{Some, Ok}
-use Rattle.csv.specs.Records.{field_at}
-use Rattle.dn_types.specs.declared.call.Call.{Call}
+use Rattle.dn_history.proofs.Words.{Call, Command, DeletePipe, DeleteQueue, HistoryVersion, IsCall, IsPacket, IsTarget, IsTyped, Ok, Packet, Some, Target, arith, call_of, call_record, caller_of}
+use Rattle.dn_history.proofs.Words.{command_at, command_by, field_at, has_deletes, plain_call, refl, said, submit_of, text, text_back, text_utf8, true, ℕ, ◌<◌, ◌^◌, ◌≡◌, ◌≤◌}
 use Rattle.dn_types.specs.declared.call.Call.TheVariants as c
-use Rattle.dn_types.specs.declared.command.Command.{Command}
-use Rattle.dn_types.specs.declared.command.Command.TheVariants.{DeletePipe, DeleteQueue, Pipe, Queue}
-use Rattle.dn_types.specs.declared.packet.Packet.{Packet}
-use Rattle.dn_types.specs.declared.target.Target.{Target}
-use Rattle.dn_config.specs.Commands.{IsTyped}
-use Rattle.dn_config.specs.Text.{text}
-use Rattle.dn_config.proofs.CommandsBack.{text_back}
-use Rattle.dn_config.proofs.TextBytes.{text_utf8}
-use Rattle.dn_files.specs.ConfigFile.{command_at}
-use Rattle.dn_history.specs.EntryRecords.{call_record}
-use Rattle.dn_history.specs.HistoryFile.{call_of, command_by}
-use Rattle.dn_history.specs.HistoryRecords.{caller_of, has_deletes, plain_call, submit_of}
-use Rattle.dn_history.specs.Ranges.{IsCall, IsPacket, IsTarget}
-use Rattle.dn_history.specs.declared.history_version.HistoryVersion.{HistoryVersion}
-use Rattle.dn_files.proofs.Commands.{said}
+use Rattle.dn_types.specs.declared.command.Command.TheVariants.{Pipe, Queue}
 use Rattle.dn_history.proofs.FieldsBack.{HasTuple, number_back, packet_back, target_back}
 
 pub caller_back : (caller : ℕ) (call : Call) → caller < 16 → caller_of (call_record caller call) ≡ Ok caller

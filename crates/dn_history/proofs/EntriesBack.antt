@@ -1,22 +1,8 @@
 -- A written history, and a transcript of a live session, are read as the entries that were written.
-use Rattle.std.proofs.Common.{◌≡◌, ◌∙◌, refl, ap, ℕ, zero, suc, ◌+◌, ◌<◌, ◌≤◌, true, false, List, [], ◌∷◌, ◌++◌, length, length-append, append_assoc, arith}
-use Rattle.std.specs.Prelude.{Some, None, Result, Ok, Err, flat_map, map}
-use Rattle.std.specs.List.{All}
-use Rattle.std.proofs.lemmas.List.Elements.{All-cons, All-head, All-nil, All-tail}
-use Rattle.csv.specs.Records.{field_at}
-use Rattle.dn_types.specs.declared.call.Call.{Call}
-use Rattle.dn_types.specs.declared.entry.Entry.{Entry}
-use Rattle.dn_types.specs.declared.rule.Rule.TheVariants.{Ordered}
-use Rattle.dn_records.specs.Records.{Fields, records_of}
-use Rattle.dn_history.specs.EntryRecords.{call_record, item_records, reply_record}
-use Rattle.dn_history.specs.HistoryFile.{entries_from, entry_by, entry_from, end_by, history_from, history_in, reply_from}
-use Rattle.dn_history.specs.RecordsLeft.{next_record}
-use Rattle.dn_history.specs.HistoryRecords.{has_deletes, has_remarks, rule_of}
-use Rattle.dn_history.specs.HistoryText.{end_record, entry_records, history_text}
-use Rattle.dn_history.specs.Remarks.{is_remark}
-use Rattle.dn_history.specs.Ranges.{AreEntries, IsEntry, IsLong}
-use Rattle.dn_history.specs.declared.history_version.HistoryVersion.{HistoryVersion}
-use Rattle.dn_history.specs.declared.history_version.HistoryVersion.TheVariants.{Third}
+use Rattle.dn_history.proofs.Words.{All, All-cons, All-head, All-nil, All-tail, AreEntries, Call, Entry, Err, Fields, HistoryVersion, IsEntry, IsLong, List, None, Ok, Ordered, Result, Some, Third}
+use Rattle.dn_history.proofs.Words.{[], ap, append_assoc, arith, call_record, end_by, end_record, entries_from, entry_by, entry_from, entry_records, false, field_at, flat_map, has_deletes}
+use Rattle.dn_history.proofs.Words.{has_remarks, history_from, history_in, history_text, is_remark, item_records, length, length-append, map, next_record, records_of, refl, reply_from}
+use Rattle.dn_history.proofs.Words.{reply_record, rule_of, suc, true, zero, ℕ, ◌++◌, ◌+◌, ◌<◌, ◌∙◌, ◌∷◌, ◌≡◌, ◌≤◌}
 use Rattle.dn_history.proofs.CallsBack.{call_back, caller_back}
 use Rattle.dn_history.proofs.FieldsBack.{number_back}
 use Rattle.dn_history.proofs.HistoryBack.{records-back}

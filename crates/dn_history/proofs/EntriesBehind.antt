@@ -1,17 +1,8 @@
 -- What is read off the front of some records is read off them also where more records stand behind.
-use Rattle.std.proofs.Common.{◌≡◌, ℕ, zero, suc, Bool, true, false, List, [], ◌∷◌, ◌++◌, Option, Some, None, Result, Ok, Err, refl}
-use Rattle.std.specs.Prelude.{codes, cond, ⊤}
-use Rattle.dn_types.specs.declared.call.Call.{Call}
-use Rattle.dn_types.specs.declared.entry.Entry.{Entry}
-use Rattle.dn_types.specs.declared.reply.Reply.{Reply}
-use Rattle.dn_records.specs.Records.{Fields}
-use Rattle.dn_files.specs.Reading.{◌>>=◌}
-use Rattle.dn_files.specs.declared.replay_fault.ReplayFault.{ReplayFault}
-use Rattle.dn_history.specs.HistoryFile.{between, call_of, delivered_from, end_by, entry_by, entry_from, nothing_in, reply_by, reply_from, status_from}
-use Rattle.dn_history.specs.HistoryRecords.{caller_of, has_remarks, is_end, is_reply, plain_reply, told_count}
-use Rattle.dn_history.specs.RecordsLeft.{Read, Rest, first_record, in_record, item_from, items_from, next_record}
-use Rattle.dn_history.specs.Remarks.{ahead, is_remark, past_remarks}
-use Rattle.dn_history.specs.declared.history_version.HistoryVersion.{HistoryVersion}
+use Rattle.dn_history.proofs.Words.{Bool, Call, Entry, Err, Fields, HistoryVersion, List, None, Ok, Option, ReplayFault, Reply, Rest, Result, Some, [], ahead, between, call_of, caller_of, codes}
+use Rattle.dn_history.proofs.Words.{cond, delivered_from, end_by, entry_by, entry_from, false, first_record, has_remarks, in_record, is_end, is_remark, is_reply, item_from, items_from}
+use Rattle.dn_history.proofs.Words.{next_record, nothing_in, past_remarks, plain_reply, refl, reply_by, reply_from, status_from, suc, told_count, true, zero, ℕ, ⊤, ◌++◌, ◌>>=◌, ◌∷◌, ◌≡◌}
+use Rattle.dn_history.specs.RecordsLeft.{Read}
 
 -- More records behind those that are left.
 abbrev pub behind : Rest → List Fields → Rest

@@ -1,17 +1,9 @@
 -- An entry takes a record at least, so more turns than there are records are enough for all entries.
-use Rattle.std.proofs.Common.{◌≡◌, ℕ, zero, suc, ◌+◌, ◌<◌, ◌≤◌, Bool, true, false, List, [], ◌∷◌, length, Option, Some, None, Result, Ok, Err, refl, ap, arith}
-use Rattle.std.specs.Prelude.{cond, ⊤}
-use Rattle.dn_types.specs.declared.call.Call.{Call}
-use Rattle.dn_types.specs.declared.entry.Entry.{Entry}
-use Rattle.dn_records.specs.Records.{Fields}
-use Rattle.dn_files.specs.Reading.{◌>>=◌, IsFaultOf}
-use Rattle.dn_files.specs.declared.replay_fault.ReplayFault.{ReplayFault}
+use Rattle.dn_history.proofs.Words.{Bool, Call, Entry, Err, Fields, HistoryVersion, IsFaultOf, List, None, Ok, Option, ReplayFault, Rest, Result, Some, [], ap, arith, before, between, call_of}
+use Rattle.dn_history.proofs.Words.{caller_of, carried, cond, delivered_from, end_by, entries_from, entry_by, entry_from, false, first_record, has_remarks, in_record, item_from, items_from}
+use Rattle.dn_history.proofs.Words.{length, next_record, nothing_in, refl, reply_by, reply_from, status_from, suc, true, zero, ℕ, ⊤, ◌+◌, ◌<◌, ◌>>=◌, ◌∷◌, ◌≡◌, ◌≤◌}
 use Rattle.dn_files.specs.declared.replay_fault.ReplayFault.TheVariants.{Read as ReadFailed, Write, OutOfMemory}
-use Rattle.dn_files.proofs.Inputs.{carried}
-use Rattle.dn_history.specs.HistoryFile.{before, between, call_of, delivered_from, end_by, entries_from, entry_by, entry_from, nothing_in, reply_by, reply_from, status_from}
-use Rattle.dn_history.specs.HistoryRecords.{caller_of, has_remarks}
-use Rattle.dn_history.specs.RecordsLeft.{Read, Rest, first_record, in_record, item_from, items_from, next_record}
-use Rattle.dn_history.specs.declared.history_version.HistoryVersion.{HistoryVersion}
+use Rattle.dn_history.specs.RecordsLeft.{Read}
 use Rattle.dn_history.proofs.Remarks.{ahead_le}
 
 abbrev AreBelow : {A : Type 0} → ℕ → Read A → Type 0

@@ -1,22 +1,8 @@
 -- What is written in fields, read back: numbers, addresses, and what stands in several fields.
-use Rattle.std.proofs.Common.{◌≡◌, refl, ap, ℕ, ◌+◌, ◌/◌, ◌%◌, ◌^◌, ◌<◌, ◌≤◌, ◌==◌, true, false, List, [], ◌∷◌, ◌++◌, arith}
-use Rattle.std.specs.Prelude.{Some, Ok, decimal}
-use Rattle.std.specs.List.{list_all}
-use Rattle.std.specs.Char.{is_ascii_digit}
-use Rattle.std.proofs.lemmas.Bool.{and_parts}
-use Rattle.std.proofs.lemmas.Bool.Decides.{nat_tests}
-use Rattle.std.proofs.lemmas.Fmt.{decimal_is_IsNumeral}
-use Rattle.dn_types.specs.declared.five_tuple.FiveTuple.{FiveTuple}
-use Rattle.dn_types.specs.declared.packet.Packet.{Packet}
-use Rattle.dn_types.specs.declared.target.Target.{Target}
+use Rattle.dn_history.proofs.Words.{Fields, FiveTuple, IsPacket, IsTarget, IsTuple, List, Ok, Packet, Some, Target, [], address_of, address_text, and_parts, ap, arith, ascii_digits, at_point}
+use Rattle.dn_history.proofs.Words.{column, decimal, decimal_is_IsNumeral, false, is_ascii_digit, list_all, nat_tests, number_at, octet_of, packet_at, ranged_back, refl, target_at, target_name}
+use Rattle.dn_history.proofs.Words.{target_number, true, tuple_at, ℕ, ◌%◌, ◌++◌, ◌+◌, ◌/◌, ◌<◌, ◌==◌, ◌^◌, ◌∷◌, ◌≡◌, ◌≤◌}
 use Rattle.dn_types.specs.declared.target.Target.TheVariants.{Pipe, Queue}
-use Rattle.dn_config.specs.Tokens.Addresses.{address_of, at_point, octet_of}
-use Rattle.dn_config.proofs.NumbersBack.{ascii_digits, ranged_back}
-use Rattle.dn_records.specs.Records.{Fields}
-use Rattle.dn_records.specs.Writing.{address_text}
-use Rattle.dn_history.specs.EntryRecords.{target_name, target_number}
-use Rattle.dn_files.specs.Fields.{column, number_at, packet_at, target_at, tuple_at}
-use Rattle.dn_history.specs.Ranges.{IsPacket, IsTarget, IsTuple}
 
 -- A number of a range in the field at the place.
 pub number_back : (place least greatest n : ℕ) (fields : Fields) → column place fields ≡ decimal n → n < 2 ^ 64 → least ≤ n → n ≤ greatest → number_at place least greatest fields ≡ Ok n

@@ -1,25 +1,10 @@
 -- Why a history file isn't audited, step by step.
-use Rattle.std.proofs.Common.{◌≡◌, ◌∙◌, refl, sym, ap, subst, ℕ, Bool, false, length, List, [], ◌∷◌, ◌++◌, ◌+◌, append-nil, append_assoc, length-append, ◌≤◌, ◌<◌, ◌-◌, arith, Option, Result, Ok}
-use Rattle.std.proofs.KnownBytes.{Keeps-refl}
-use Rattle.dn_types.specs.declared.entry.Entry.{Entry}
-use Rattle.dn_types.specs.declared.rule.Rule.{Rule}
-use Rattle.dn_history.specs.Audit.{HasAudited}
-use Rattle.dn_history.specs.FileAudit.{AreAudited, HasCome, HasVerdict, history_within, IsAuditFault, IsTold, IsUnauditedWithin, verdict_line}
-use Rattle.dn_history.specs.HistoryFaults.{IsHistoryFault}
-use Rattle.dn_history.specs.EntriesLeft.{EntriesLeft}
-use Rattle.dn_history.specs.HistoryFile.{history_in}
-use Rattle.dn_history.specs.HistoryParts.{history_behind}
+use Rattle.dn_history.proofs.Words.{AreAudited, BadRecord, Bool, EntriesLeft, Entry, FileAudit, HasAudited, HasCome, HasVerdict, History, IsAuditFault, IsFaultOf, IsHistoryFault, IsRefusal}
+use Rattle.dn_history.proofs.Words.{IsTextOf, IsTold, IsUnauditedWithin, IsUnwritten, Keeps-refl, List, Ok, Option, OutOfMemory, ReplayFault, Report, Result, Rule, RunningAudit, TooLong, Verdict}
+use Rattle.dn_history.proofs.Words.{Write, [], ap, append-nil, append_assoc, arith, carried, false, history_behind, history_in, history_within, length, length-append, refl, subst, sym}
+use Rattle.dn_history.proofs.Words.{unwritten-cases, verdict_line, within_limit, ℕ, ◌++◌, ◌+◌, ◌-◌, ◌<◌, ◌∙◌, ◌∷◌, ◌≡◌, ◌≤◌}
 use Rattle.dn_history.proofs.HistoryReading.{after_front, end_read}
-use Rattle.dn_files.specs.Reading.{IsFaultOf, IsRefusal, IsTextOf, within_limit}
-use Rattle.dn_files.specs.Writing.{IsUnwritten}
-use Rattle.dn_files.proofs.Causes.{unwritten-cases}
-use Rattle.dn_files.proofs.Inputs.{carried}
-use Rattle.dn_files.specs.declared.replay_fault.ReplayFault.{ReplayFault}
-use Rattle.dn_files.specs.declared.replay_fault.ReplayFault.TheVariants.{BadRecord, OutOfMemory, Read, TooLong, Write}
-use Rattle.dn_files.specs.declared.source.Source.TheVariants.{History, Report}
-use Rattle.dn_history.specs.declared.file_audit.file_audit.FileAudit.{FileAudit}
-use Rattle.dn_history.specs.declared.running_audit.RunningAudit.{RunningAudit}
-use Rattle.dn_history.specs.declared.verdict.Verdict.{Verdict}
+use Rattle.dn_files.specs.declared.replay_fault.ReplayFault.TheVariants.{Read}
 
 -- A file isn't read.
 pub unread : (limit : ℕ) (known old : Option (List ℕ)) (read_failed failed : Bool) (fault : ReplayFault)

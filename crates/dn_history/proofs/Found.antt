@@ -1,16 +1,6 @@
 -- Of a lawful history nothing but Lawful is found.
-use Rattle.std.proofs.Common.{◌≡◌, ◌∙◌, ℕ, zero, suc, List, [], ◌∷◌, ◌++◌, map, take, refl, sym, ap, subst, append_assoc, append-nil}
-use Rattle.std.specs.Prelude.{Some, slice_get}
-use Rattle.std.proofs.lemmas.List.{reverse-append}
-use Rattle.std.proofs.lemmas.Option.{get_or_from_slice_get}
-use Rattle.dn_types.specs.History.{IsLawful, IsLawfulAfter, calls_of}
-use Rattle.dn_types.specs.Replies.{reply}
-use Rattle.dn_types.specs.declared.call.Call.{Call}
-use Rattle.dn_types.specs.declared.entry.Entry.{Entry}
-use Rattle.dn_types.specs.declared.rule.Rule.{Rule}
-use Rattle.dn_history.specs.Audit.{IsVerdict}
-use Rattle.dn_history.specs.declared.verdict.Verdict.{Verdict}
-use Rattle.dn_history.specs.declared.verdict.Verdict.TheVariants.{Differs, Lawful}
+use Rattle.dn_history.proofs.Words.{Call, Differs, Entry, IsLawful, IsLawfulAfter, IsVerdict, Lawful, List, Rule, Some, Verdict, [], ap, append-nil, append_assoc, calls_of, get_or_from_slice_get}
+use Rattle.dn_history.proofs.Words.{map, refl, reply, reverse-append, slice_get, subst, suc, sym, take, zero, ℕ, ◌++◌, ◌∙◌, ◌∷◌, ◌≡◌}
 
 -- After the calls, the reply of each entry is the one to its call after those of the entries before it.
 lawful-at : (rule : Rule) (calls : List Call) (history : List Entry) (i : ℕ) (e : Entry) → IsLawfulAfter rule calls history → slice_get history i ≡ Some e

@@ -1,19 +1,8 @@
 -- The records of a written history file are those that were written.
-use Rattle.std.proofs.Common.{◌≡◌, refl, ap, List, [], ◌∷◌, ◌++◌, length}
-use Rattle.std.specs.Prelude.{flat_map, map}
-use Rattle.csv.specs.Records.{field_at}
-use Rattle.csv.specs.Reading.{strip_bom}
-use Rattle.csv.specs.Writing.{escaped, fields_text, is_blank}
-use Rattle.dn_types.specs.declared.delivery.Delivery.{Delivery}
-use Rattle.dn_types.specs.declared.entry.Entry.{Entry}
-use Rattle.dn_types.specs.declared.flow_status.FlowStatus.{FlowStatus}
-use Rattle.dn_types.specs.declared.reply.Reply.{Reply}
+use Rattle.dn_history.proofs.Words.{AllFilled, Delivery, Entry, Fields, FlowStatus, HasNoMark, List, Reply, [], ap, call_record, delivery_record, end_record, entry_records, escaped, field_at}
+use Rattle.dn_history.proofs.Words.{fields_text, flat_map, history_records, history_text, is_blank, item_records, length, map, read-back, records_of, refl, reply_record, status_record, strip_bom}
+use Rattle.dn_history.proofs.Words.{text_of, without_remarks, ◌++◌, ◌∷◌, ◌≡◌}
 use Rattle.dn_types.specs.declared.reply.Reply.TheVariants as r
-use Rattle.dn_records.specs.Records.{AllFilled, Fields, HasNoMark, records_of, text_of}
-use Rattle.dn_records.proofs.ReadBack.{read-back}
-use Rattle.dn_history.specs.EntryRecords.{call_record, delivery_record, item_records, reply_record, status_record}
-use Rattle.dn_history.specs.HistoryText.{end_record, entry_records, history_records, history_text}
-use Rattle.dn_history.specs.Remarks.{without_remarks}
 
 pub filled-append : (front back : List Fields) → AllFilled front → AllFilled back → AllFilled (front ++ back)
 filled-append [] back f b = b

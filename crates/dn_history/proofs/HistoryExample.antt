@@ -1,22 +1,11 @@
 -- The file of a history of one caller, and that of an empty one, computed from the definition.
-use Rattle.std.proofs.Common.{◌≡◌, ℕ, List, [], ◌∷◌, refl, codes, None}
+use Rattle.dn_history.proofs.Words.{Delivery, Entry, FiveTuple, FlowKey, FlowStatus, List, None, Packet, Slots, [], codes, escaped, fields_text, history_text, is_blank, link_words, no_bits, refl}
+use Rattle.dn_history.proofs.Words.{text, text_of, text_words, ℕ, ◌∷◌, ◌≡◌}
 use Rattle.std.specs.Fmt.{digits}
-use Rattle.csv.specs.Writing.{escaped, fields_text, is_blank}
 use Rattle.dn_types.specs.declared.call.Call.TheVariants as c
 use Rattle.dn_types.specs.declared.command.Command.TheVariants as command
-use Rattle.dn_types.specs.declared.delivery.Delivery.{Delivery}
-use Rattle.dn_types.specs.declared.entry.Entry.{Entry}
-use Rattle.dn_types.specs.declared.five_tuple.FiveTuple.{FiveTuple}
-use Rattle.dn_types.specs.declared.flow_key.FlowKey.{FlowKey}
-use Rattle.dn_types.specs.declared.flow_status.FlowStatus.{FlowStatus}
-use Rattle.dn_types.specs.declared.limit.Limit.TheVariants.{Slots}
-use Rattle.dn_types.specs.declared.packet.Packet.{Packet}
 use Rattle.dn_types.specs.declared.reply.Reply.TheVariants as r
 use Rattle.dn_types.specs.declared.target.Target.TheVariants.{Pipe}
-use Rattle.dn_config.specs.Masks.{no_bits}
-use Rattle.dn_config.specs.Text.{text, text_words, link_words}
-use Rattle.dn_records.specs.Records.{text_of}
-use Rattle.dn_history.specs.HistoryText.{history_text}
 
 -- from 10.0.0.1 to 10.0.0.2, by UDP
 abbrev pub tuple : FiveTuple

@@ -1,19 +1,9 @@
 -- The faults that a history file can have of its own: it is too long, or a record is bad.
-use Rattle.std.proofs.Common.{◌≡◌, ℕ, zero, suc, ◌+◌, Bool, true, false, List, [], ◌∷◌, length, Option, Some, None, Result, Ok, Err, refl, nat_le}
-use Rattle.std.specs.Prelude.{cond, ⊤}
-use Rattle.dn_types.specs.declared.command.Command.{Command}
-use Rattle.dn_types.specs.declared.entry.Entry.{Entry}
-use Rattle.dn_types.specs.declared.rule.Rule.{Rule}
-use Rattle.dn_records.specs.Records.{Fields}
-use Rattle.dn_history.specs.HistoryFile.{before, between, call_of, command_by, delivered_from, end_by, entries_from, entry_by}
-use Rattle.dn_history.specs.HistoryFile.{entry_from, history_file, history_from, history_in, history_limit, nothing_in, reply_by, reply_from, status_from}
-use Rattle.dn_history.specs.HistoryFaults.{IsHistoryFault}
-use Rattle.dn_files.specs.Reading.{◌>>=◌, IsRefusal, within_limit}
-use Rattle.dn_history.specs.RecordsLeft.{Rest, first_record, in_record, item_from, items_from, next_record}
-use Rattle.dn_history.specs.declared.history_version.HistoryVersion.{HistoryVersion}
-use Rattle.dn_files.specs.declared.replay_fault.ReplayFault.{ReplayFault}
-use Rattle.dn_files.specs.declared.replay_fault.ReplayFault.TheVariants.{Read, Write, TooLong, OutOfMemory, BadRecord}
-use Rattle.dn_files.specs.declared.source.Source.TheVariants.{History}
+use Rattle.dn_history.proofs.Words.{BadRecord, Bool, Command, Entry, Err, Fields, History, HistoryVersion, IsHistoryFault, IsRefusal, List, None, Ok, Option, OutOfMemory, ReplayFault, Rest}
+use Rattle.dn_history.proofs.Words.{Result, Rule, Some, TooLong, Write, [], before, between, call_of, command_by, cond, delivered_from, end_by, entries_from, entry_by, entry_from, false}
+use Rattle.dn_history.proofs.Words.{first_record, history_file, history_from, history_in, history_limit, in_record, item_from, items_from, length, nat_le, next_record, nothing_in, refl, reply_by}
+use Rattle.dn_history.proofs.Words.{reply_from, status_from, suc, true, within_limit, zero, ℕ, ⊤, ◌+◌, ◌>>=◌, ◌∷◌, ◌≡◌}
+use Rattle.dn_files.specs.declared.replay_fault.ReplayFault.TheVariants.{Read}
 
 abbrev HasFileFault : {A : Type 0} → Result A ReplayFault → Type 0
 HasFileFault (Ok value) = ⊤

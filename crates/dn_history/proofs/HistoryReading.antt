@@ -1,22 +1,9 @@
 -- Reading the records of a history one after the other.
-use Rattle.std.proofs.Common.{◌≡◌, ◌∙◌, ℕ, zero, suc, ◌+◌, ◌-◌, ◌<◌, ◌≤◌, true, false, List, [], ◌∷◌}
-use Rattle.std.proofs.Common.{◌++◌, length, Option, Some, None, Result, Ok, Err, refl, sym, ap, arith, append_assoc, nat_lt}
-use Rattle.std.proofs.lemmas.Bool.Decides.{nat_tests}
-use Rattle.std.proofs.lemmas.List.{append-nil, length-take, take_all}
+use Rattle.dn_history.proofs.Words.{BadRecord, Config, Entry, Err, Fields, IsFaultOf, List, None, Ok, Option, ReplayFault, Rest, Result, Some, StartRecord, TakesFront, [], ap, append-nil}
+use Rattle.dn_history.proofs.Words.{append_assoc, arith, before, carried, default_config, false, item_from, items_from, length, length-take, narrow_record, nat_lt, nat_tests, next_record}
+use Rattle.dn_history.proofs.Words.{records_from, records_next, records_of, refl, strip_bom, suc, sym, take_all, too_many, true, zero, ℕ, ◌++◌, ◌+◌, ◌-◌, ◌<◌, ◌>>=◌, ◌∙◌, ◌∷◌, ◌≡◌, ◌≤◌}
 use Rattle.csv.specs.Machine.{Read as ReadOff, next_record as next_read}
-use Rattle.csv.specs.Reading.{default_config, records_from, records_next, strip_bom}
-use Rattle.csv.specs.declared.parser.Config.{Config}
 use Rattle.csv.specs.declared.parser.State.{State}
-use Rattle.csv.specs.declared.parser.State.TheVariants.{StartRecord}
-use Rattle.dn_types.specs.declared.entry.Entry.{Entry}
-use Rattle.dn_records.specs.Records.{Fields, records_of}
-use Rattle.dn_records.specs.Steps.{TakesFront}
-use Rattle.dn_history.specs.HistoryFile.{before}
-use Rattle.dn_history.specs.RecordsLeft.{Rest, item_from, items_from, narrow_record, next_record, too_many}
-use Rattle.dn_files.specs.Reading.{◌>>=◌, IsFaultOf}
-use Rattle.dn_files.specs.declared.replay_fault.ReplayFault.{ReplayFault}
-use Rattle.dn_files.specs.declared.replay_fault.ReplayFault.TheVariants.{BadRecord}
-use Rattle.dn_files.proofs.Inputs.{carried}
 
 -- The records of a text are no more than its turns, and so few that they can be numbered.
 records_le : (config : Config) (turns : ℕ) (s : State) (text : List ℕ) → length (records_from config turns s text) ≤ turns

@@ -1,11 +1,6 @@
 -- The records of an entry, and of a history file, one after the other.
-use Rattle.std.proofs.Common.{◌≡◌, ◌∙◌, sym, ap, ℕ, length, List, ◌++◌, append_assoc}
-use Rattle.std.specs.Prelude.{flat_map}
-use Rattle.dn_types.specs.declared.entry.Entry.{Entry}
-use Rattle.dn_records.specs.Records.{line_of, text_of}
-use Rattle.dn_history.specs.EntryRecords.{call_record, item_records, reply_record}
-use Rattle.dn_history.specs.HistoryText.{end_record, entry_records, history_header, history_text}
-use Rattle.dn_records.proofs.TextSteps.{text-push}
+use Rattle.dn_history.proofs.Words.{Entry, List, ap, append_assoc, call_record, end_record, entry_records, flat_map, history_header, history_text, item_records, length, line_of, reply_record, sym}
+use Rattle.dn_history.proofs.Words.{text-push, text_of, ℕ, ◌++◌, ◌∙◌, ◌≡◌}
 
 -- A call, its reply and what the reply lists are an entry.
 pub entry_is : (start : List ℕ) (e : Entry)

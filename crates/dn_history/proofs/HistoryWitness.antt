@@ -1,15 +1,7 @@
 -- The law that a written history reads back, at the history of one caller: its numbers are in range, and its file is read
 -- as its four entries.
-use Rattle.std.proofs.Common.{◌≡◌, ◌∙◌, ◌<◌, [], ◌∷◌, Ok, None, ap, sym, arith}
-use Rattle.std.specs.List.{All}
-use Rattle.std.proofs.lemmas.List.Elements.{All-cons, All-nil}
-use Rattle.dn_types.specs.declared.entry.Entry.{Entry}
-use Rattle.dn_types.specs.declared.limit.Limit.TheVariants.{Slots}
-use Rattle.dn_types.specs.declared.rule.Rule.TheVariants.{Ordered}
-use Rattle.dn_config.specs.Commands.{AreShared, IsMask}
-use Rattle.dn_config.specs.Masks.{no_bits}
-use Rattle.dn_history.specs.HistoryFile.{history_in}
-use Rattle.dn_history.specs.Ranges.{AreEntries, IsDelivery, IsEntry, IsKey, IsPacket, IsStatus, IsTuple}
+use Rattle.dn_history.proofs.Words.{All, All-cons, All-nil, AreEntries, AreShared, Entry, IsDelivery, IsEntry, IsKey, IsMask, IsPacket, IsStatus, IsTuple, None, Ok, Ordered, Slots, [], ap, arith}
+use Rattle.dn_history.proofs.Words.{history_in, no_bits, sym, ◌<◌, ◌∙◌, ◌∷◌, ◌≡◌}
 use Rattle.dn_history.proofs.EntriesBack.{reads_back}
 use Rattle.dn_history.proofs.HistoryExample.{configured, delivered, delivery, file_of_four, four, key, no_tuple, one_caller, packet, queued, shown, status, tuple}
 

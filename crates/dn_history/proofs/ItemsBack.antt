@@ -1,22 +1,8 @@
 -- The records of what a reply lists, read back.
-use Rattle.std.proofs.Common.{◌≡◌, refl, ℕ, ◌+◌, true, List, [], ◌∷◌, ◌++◌, length, arith}
-use Rattle.std.specs.Prelude.{Result, Ok, decimal, map}
-use Rattle.std.specs.List.{All}
-use Rattle.std.proofs.lemmas.List.Elements.{All-head, All-tail}
-use Rattle.csv.specs.Records.{field_at}
-use Rattle.dn_types.specs.declared.delivery.Delivery.{Delivery}
-use Rattle.dn_types.specs.declared.five_tuple.FiveTuple.{FiveTuple}
-use Rattle.dn_types.specs.declared.flow_status.FlowStatus.{FlowStatus}
-use Rattle.dn_types.specs.declared.mask.Mask.{Mask}
-use Rattle.dn_config.specs.Commands.{IsMask}
-use Rattle.dn_records.specs.Records.{Fields}
-use Rattle.dn_history.specs.EntryRecords.{delivery_record, status_record}
-use Rattle.dn_files.specs.Fields.{column}
-use Rattle.dn_history.specs.RecordsLeft.{Read, item_from, items_from, next_record}
-use Rattle.dn_history.specs.HistoryItems.{delivery_item, key_item, mask_item, status_item}
-use Rattle.dn_history.specs.HistoryRecords.{has_deletes, long_at}
-use Rattle.dn_history.specs.Ranges.{IsDelivery, IsLong, IsStatus, IsTuple}
-use Rattle.dn_history.specs.declared.history_version.HistoryVersion.{HistoryVersion}
+use Rattle.dn_history.proofs.Words.{All, All-head, All-tail, Delivery, Fields, FiveTuple, FlowStatus, HistoryVersion, IsDelivery, IsLong, IsMask, IsStatus, IsTuple, List, Mask, Ok, Result, []}
+use Rattle.dn_history.proofs.Words.{arith, column, decimal, delivery_item, delivery_record, field_at, has_deletes, item_from, items_from, key_item, length, long_at, map, mask_item, next_record}
+use Rattle.dn_history.proofs.Words.{refl, status_item, status_record, true, ℕ, ◌++◌, ◌+◌, ◌∷◌, ◌≡◌}
+use Rattle.dn_history.specs.RecordsLeft.{Read}
 use Rattle.dn_history.proofs.FieldsBack.{HasTuple, number_back, target_back, tuple_back}
 
 -- A value is read, and these records are left.

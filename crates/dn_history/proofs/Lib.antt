@@ -21,3 +21,4 @@ pub mod Remarks
 pub mod RepliesBack
 pub mod SameReplies
 pub mod VersionLines
+pub mod Words

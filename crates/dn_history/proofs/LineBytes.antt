@@ -1,19 +1,7 @@
 -- The bytes of the lines that are made from their end: each field stands as it is, with a comma before it.
-use Rattle.std.proofs.Common.{◌≡◌, ◌∙◌, sym, refl, ℕ, arith, List, [], ◌∷◌, ◌++◌}
-use Rattle.std.specs.Prelude.{codes, decimal}
-use Rattle.std.proofs.lemmas.List.{append-nil}
-use Rattle.dn_types.specs.declared.call.Call.TheVariants.{Submit}
-use Rattle.dn_types.specs.declared.delivery.Delivery.{Delivery}
-use Rattle.dn_types.specs.declared.packet.Packet.{Packet}
-use Rattle.dn_types.specs.declared.target.Target.{Target}
+use Rattle.dn_history.proofs.Words.{AllPlain, Delivery, Fields, IsCall, IsDelivery, IsLong, IsPlain, IsTarget, List, Packet, Submit, Target, [], address_is_plain, address_text, append-nil, arith}
+use Rattle.dn_history.proofs.Words.{call_record, codes, decimal, decimal_is_plain, delivery_record, line-is, line_of, plain_end, refl, sym, target_name, target_number, ℕ, ◌++◌, ◌∙◌, ◌∷◌, ◌≡◌}
 use Rattle.dn_types.specs.declared.target.Target.TheVariants.{Pipe, Queue}
-use Rattle.dn_records.proofs.Lines.{address_is_plain, decimal_is_plain}
-use Rattle.dn_records.specs.Records.{Fields, line_of}
-use Rattle.dn_records.specs.Writing.{address_text}
-use Rattle.dn_files.proofs.PlainFields.{AllPlain, IsPlain}
-use Rattle.dn_files.proofs.PlainLines.{line-is, plain_end}
-use Rattle.dn_history.specs.EntryRecords.{call_record, delivery_record, target_name, target_number}
-use Rattle.dn_history.specs.Ranges.{IsCall, IsDelivery, IsLong, IsTarget}
 
 -- A number of 64 bits, and an address, are written as they are.
 number : (n : ℕ) → IsLong n → IsPlain (decimal n)

@@ -1,21 +1,9 @@
 -- A record with too many fields is a bad one, whatever they hold and wherever it stands.
-use Rattle.std.proofs.Common.{◌≡◌, ◌∙◌, refl, ap, ℕ, ◌<◌, ◌≤◌, Bool, false, inl, inr, List, length, nat_lt, Result, Ok, Err, arith}
-use Rattle.std.specs.Prelude.{◌&&◌, codes}
-use Rattle.std.proofs.Math.Bool.{and-false}
-use Rattle.std.proofs.lemmas.Bool.{cases_Bool, ne_eqb}
-use Rattle.std.proofs.lemmas.Bool.Decides.{nat_tests}
-use Rattle.dn_records.specs.Records.{Fields}
-use Rattle.dn_files.proofs.Inputs.{carried}
-use Rattle.dn_files.specs.Fields.{is_form, is_name}
-use Rattle.dn_files.specs.Reading.{◌>>=◌, IsFaultOf}
-use Rattle.dn_files.specs.declared.replay_fault.ReplayFault.{ReplayFault}
-use Rattle.dn_files.specs.declared.replay_fault.ReplayFault.TheVariants.{BadRecord}
-use Rattle.dn_history.specs.HistoryFile.{between, call_of, entry_by, entry_from, history_from, reply_by, reply_from}
-use Rattle.dn_history.specs.HistoryItems.{delivery_item, status_item, status_width}
-use Rattle.dn_history.specs.HistoryRecords.{caller_of, has_deletes, is_call, is_delete_reply, is_reply, live_of, plain_call, plain_reply, timed_reply, version_of}
-use Rattle.dn_history.specs.RecordsLeft.{Read, Rest, in_record, item_from, narrow, narrow_record, next_record, too_many}
-use Rattle.dn_history.specs.declared.history_version.HistoryVersion.{HistoryVersion}
-use Rattle.dn_history.specs.declared.history_version.HistoryVersion.TheVariants.{First, Second, Third, Live}
+use Rattle.dn_history.proofs.Words.{BadRecord, Bool, Err, Fields, First, HistoryVersion, IsFaultOf, List, Live, Ok, ReplayFault, Rest, Result, Second, Third, and-false, ap, arith, between}
+use Rattle.dn_history.proofs.Words.{call_of, caller_of, carried, cases_Bool, codes, delivery_item, entry_by, entry_from, false, has_deletes, history_from, in_record, inl, inr, is_call}
+use Rattle.dn_history.proofs.Words.{is_delete_reply, is_form, is_name, is_reply, item_from, length, live_of, narrow, narrow_record, nat_lt, nat_tests, ne_eqb, next_record, plain_call, plain_reply}
+use Rattle.dn_history.proofs.Words.{refl, reply_by, reply_from, status_item, status_width, timed_reply, too_many, version_of, ℕ, ◌&&◌, ◌<◌, ◌>>=◌, ◌∙◌, ◌≡◌, ◌≤◌}
+use Rattle.dn_history.specs.RecordsLeft.{Read}
 
 err_eq : {A : Type 0} (f g : ReplayFault) → ◌≡◌ {A = Result A ReplayFault} (Err f) (Err g) → f ≡ g
 err_eq f g e = cc

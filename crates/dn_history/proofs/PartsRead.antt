@@ -1,28 +1,9 @@
 -- A history whose text comes in parts: the whole records at the front of what has come, and the entries that are read off them.
-use Rattle.std.proofs.Common.{◌≡◌, ◌∙◌, true, false, refl, sym, ap, ℕ, ◌+◌, ◌-◌, ◌<◌, ◌==◌, take, drop, List, [], ◌∷◌, ◌++◌, length, length-append, arith, append_assoc, Result, Ok, Err, Some}
-use Rattle.std.proofs.lemmas.Bool.{false≢true}
-use Rattle.std.proofs.lemmas.Bool.Decides.{nat_tests}
-use Rattle.std.proofs.lemmas.List.{append-nil}
-use Rattle.std.proofs.Math.Seq.{drop-append_seam, take-append_seam}
-use Rattle.csv.specs.Records.{field_at}
+use Rattle.dn_history.proofs.Words.{AreRead, BeginsHistory, BeginsRecords, Entry, Err, Fields, First, HasRead, HistoryVersion, IsWhole, List, Live, Ok, Reading, ReplayFault, Rest, Result, Rule}
+use Rattle.dn_history.proofs.Words.{Second, Some, Third, Unread, [], after_entries, ap, append-nil, append_assoc, arith, before, behind-feed, drop, drop-append_seam, entries_left, entries_with}
+use Rattle.dn_history.proofs.Words.{entry_from, false, false≢true, field_at, history_from, history_in, length, length-append, live_of, nat_tests, next_record, records-then, records_after}
+use Rattle.dn_history.proofs.Words.{records_of, refl, rule_of, sym, take, take-append_seam, true, version_of, with_rule, ℕ, ◌++◌, ◌+◌, ◌-◌, ◌<◌, ◌==◌, ◌>>=◌, ◌∙◌, ◌∷◌, ◌≡◌}
 use Rattle.csv.specs.declared.parser.State.TheVariants as st
-use Rattle.dn_types.specs.declared.entry.Entry.{Entry}
-use Rattle.dn_types.specs.declared.rule.Rule.{Rule}
-use Rattle.dn_records.specs.Reading.{records_after}
-use Rattle.dn_records.specs.Records.{Fields, records_of}
-use Rattle.dn_records.specs.WholeRecords.{BeginsRecords, IsWhole}
-use Rattle.dn_records.proofs.FirstLine.{behind-feed}
-use Rattle.dn_records.proofs.WholeRecords.{records-then}
-use Rattle.dn_files.specs.Reading.{◌>>=◌}
-use Rattle.dn_files.specs.declared.replay_fault.ReplayFault.{ReplayFault}
-use Rattle.dn_history.specs.EntriesLeft.{entries_left}
-use Rattle.dn_history.specs.HistoryFile.{before, entry_from, history_from, history_in}
-use Rattle.dn_history.specs.HistoryParts.{AreRead, BeginsHistory, HasRead, Unread, after_entries, entries_with, with_rule}
-use Rattle.dn_history.specs.HistoryRecords.{live_of, rule_of, version_of}
-use Rattle.dn_history.specs.RecordsLeft.{Rest, next_record}
-use Rattle.dn_history.specs.declared.history_version.HistoryVersion.{HistoryVersion}
-use Rattle.dn_history.specs.declared.history_version.HistoryVersion.TheVariants.{First, Second, Third, Live}
-use Rattle.dn_history.specs.declared.read.progress.Progress.TheVariants.{Reading}
 use Rattle.dn_history.proofs.EntriesBehind.{behind, entry_reads}
 use Rattle.dn_history.proofs.EntryTurns.{entries_step}
 use Rattle.dn_history.proofs.VersionLines.{version-first, version_record}

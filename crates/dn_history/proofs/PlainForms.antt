@@ -1,39 +1,12 @@
 -- The records of a Submit, of an accepted packet and of a delivery, where their lines are written plainly.
-use Rattle.std.proofs.Common.{false, ◌≡◌, ◌∙◌, refl, sym, ap, subst, ℕ, ◌+◌, ◌^◌, ◌<◌, List, [], ◌∷◌, ◌++◌, length, Option, Some, None, Result, Ok, arith, inl, inr}
-use Rattle.std.specs.Prelude.{bytes_eq, codes}
-use Rattle.std.specs.Result.{result_ok}
-use Rattle.std.proofs.lemmas.Bool.{cases_Bool}
-use Rattle.csv.specs.Records.{field_at}
+use Rattle.dn_history.proofs.Words.{BeginsCall, BeginsDelivery, BeginsFields, BeginsLine, BeginsReply, BeginsTarget, BeginsTuple, Call, Delivery, Fields, First, FiveTuple, HistoryVersion, IsPlain}
+use Rattle.dn_history.proofs.Words.{List, Live, None, Ok, Opens, Option, Queued, Reply, Rest, Result, Second, Some, Submit, Target, Third, [], address_of, answered, ap, arith, bytes_eq, call_of}
+use Rattle.dn_history.proofs.Words.{cases_Bool, codes, delivery_item, digits-write, end_parts, entry_by, entry_from, false, field-begins, field_at, fields-then, has_remarks, inl, inr, is_remark}
+use Rattle.dn_history.proofs.Words.{item_from, length, line-begins, line-reads, next_record, number-field, number_at_end, number_parts, number_until, number_within, or_place, packet_at}
+use Rattle.dn_history.proofs.Words.{plain-writes, plain_call, plain_reply, queued_of, records_after, refl, reply_by, reply_from, result_ok, submit_of, subst, sym, target_at, timed_reply, tuple_at}
+use Rattle.dn_history.proofs.Words.{ℕ, ◌++◌, ◌+◌, ◌<◌, ◌>>=◌, ◌^◌, ◌∙◌, ◌∷◌, ◌≡◌}
 use Rattle.csv.specs.declared.parser.State.TheVariants as st
-use Rattle.dn_types.specs.declared.call.Call.{Call}
-use Rattle.dn_types.specs.declared.call.Call.TheVariants.{Submit}
-use Rattle.dn_types.specs.declared.delivery.Delivery.{Delivery}
-use Rattle.dn_types.specs.declared.five_tuple.FiveTuple.{FiveTuple}
-use Rattle.dn_types.specs.declared.reply.Reply.{Reply}
-use Rattle.dn_types.specs.declared.reply.Reply.TheVariants.{Queued}
-use Rattle.dn_types.specs.declared.target.Target.{Target}
-use Rattle.dn_config.specs.Tokens.Addresses.{address_of}
-use Rattle.dn_config.specs.Tokens.Numbers.{digits, number_within}
-use Rattle.dn_config.specs.Tokens.Until.{number_until}
-use Rattle.dn_config.proofs.UntilParts.{number_parts}
-use Rattle.dn_records.specs.Reading.{BeginsLine, records_after}
-use Rattle.dn_records.specs.Records.{Fields}
-use Rattle.dn_records.proofs.LineEnds.{BeginsFields, Opens, field-begins, fields-then, line-reads, plain-writes}
-use Rattle.dn_files.specs.LineEnd.{number_at_end}
-use Rattle.dn_files.proofs.LastNumbers.{end_parts}
-use Rattle.dn_files.specs.Fields.{or_place, packet_at, target_at, tuple_at}
-use Rattle.dn_files.proofs.PlainFields.{BeginsTarget, BeginsTuple, IsPlain}
-use Rattle.dn_files.specs.Reading.{◌>>=◌}
-use Rattle.dn_files.proofs.PlainLines.{line-begins}
-use Rattle.dn_files.proofs.PlainRows.{digits-write, number-field}
-use Rattle.dn_history.specs.HistoryFile.{call_of, entry_by, entry_from, reply_by, reply_from}
-use Rattle.dn_history.specs.HistoryItems.{delivery_item}
-use Rattle.dn_history.specs.HistoryRecords.{has_remarks, plain_call, plain_reply, queued_of, submit_of, timed_reply}
-use Rattle.dn_history.specs.PlainRecords.{BeginsCall, BeginsDelivery, BeginsReply, answered}
-use Rattle.dn_history.specs.RecordsLeft.{Rest, item_from, next_record}
-use Rattle.dn_history.specs.Remarks.{is_remark}
-use Rattle.dn_history.specs.declared.history_version.HistoryVersion.{HistoryVersion}
-use Rattle.dn_history.specs.declared.history_version.HistoryVersion.TheVariants.{First, Second, Third, Live}
+use Rattle.dn_config.specs.Tokens.Numbers.{digits}
 use Rattle.dn_history.proofs.Remarks.{ahead_plain}
 
 -- What is read of a field is the same at another place, where there is no fault.

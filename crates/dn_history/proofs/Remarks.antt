@@ -1,12 +1,6 @@
 -- Records are taken one by one, and remarks are passed over where they may be.
-use Rattle.std.proofs.Common.{◌≡◌, ◌∙◌, refl, sym, ◌≤◌, take, Bool, true, false, inl, inr, List, [], ◌∷◌, length, arith}
-use Rattle.std.specs.Prelude.{◌&&◌}
-use Rattle.std.proofs.lemmas.Bool.{cases_Bool}
-use Rattle.csv.specs.Records.{field_at}
-use Rattle.dn_records.specs.Records.{Fields}
-use Rattle.dn_records.specs.Steps.{TakesFront}
-use Rattle.dn_history.specs.RecordsLeft.{too_many}
-use Rattle.dn_history.specs.Remarks.{ahead, is_remark, past_remarks}
+use Rattle.dn_history.proofs.Words.{Bool, Fields, List, TakesFront, [], ahead, arith, cases_Bool, false, field_at, inl, inr, is_remark, length, past_remarks, refl, sym, take, too_many, true, ◌&&◌}
+use Rattle.dn_history.proofs.Words.{◌∙◌, ◌∷◌, ◌≡◌, ◌≤◌}
 
 -- A remark is known by its first field.
 front-remark : (fields : Fields) → is_remark (take too_many fields) ≡ is_remark fields

@@ -1,16 +1,7 @@
 -- The records of a reply, read back.
-use Rattle.std.proofs.Common.{◌≡◌, refl, ℕ, true, List, ◌++◌, length}
-use Rattle.std.specs.Prelude.{Ok, decimal}
-use Rattle.csv.specs.Records.{field_at}
-use Rattle.dn_types.specs.declared.reply.Reply.{Reply}
+use Rattle.dn_history.proofs.Words.{Fields, HistoryVersion, IsLong, IsReply, List, Ok, Reply, column, decimal, delivered_from, field_at, has_deletes, item_records, length, plain_reply, queued_of}
+use Rattle.dn_history.proofs.Words.{refl, reply_by, reply_record, status_from, timed_reply, true, two_of, ℕ, ◌++◌, ◌≡◌}
 use Rattle.dn_types.specs.declared.reply.Reply.TheVariants as r
-use Rattle.dn_records.specs.Records.{Fields}
-use Rattle.dn_history.specs.EntryRecords.{item_records, reply_record}
-use Rattle.dn_files.specs.Fields.{column}
-use Rattle.dn_history.specs.HistoryFile.{delivered_from, reply_by, status_from}
-use Rattle.dn_history.specs.HistoryRecords.{has_deletes, plain_reply, queued_of, timed_reply, two_of}
-use Rattle.dn_history.specs.Ranges.{IsLong, IsReply}
-use Rattle.dn_history.specs.declared.history_version.HistoryVersion.{HistoryVersion}
 use Rattle.dn_history.proofs.ItemsBack.{Reads, deliveries_back, long_back, statuses_back}
 
 two_back : (first second : ℕ) (fields : Fields) → column 3 fields ≡ decimal first → column 4 fields ≡ decimal second → IsLong first → IsLong second → two_of fields ≡ Ok (first, second)

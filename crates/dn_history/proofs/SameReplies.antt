@@ -1,18 +1,7 @@
 -- Replies that pass as equal are the same, and those that don't pass differ.
-use Rattle.std.proofs.Common.{◌≡◌, ◌≢◌, ◌∙◌, ◌&&◌, ℕ, Bool, true, false, not, List, [], ◌∷◌, refl, sym, ap, true≢false, arith}
-use Rattle.std.specs.Prelude.{nat_eq}
-use Rattle.std.specs.Cmp.Lexicographic.{pointwise}
-use Rattle.std.proofs.lemmas.Bool.Decides.{nat_tests}
-use Rattle.std.specs.Cmp.{first_so, second_so}
-use Rattle.std.proofs.lemmas.Bool.{eqb-true, not-false}
-use Rattle.dn_types.specs.declared.delivery.Delivery.{Delivery}
-use Rattle.dn_types.specs.declared.five_tuple.FiveTuple.{FiveTuple}
-use Rattle.dn_types.specs.declared.flow_key.FlowKey.{FlowKey}
-use Rattle.dn_types.specs.declared.flow_status.FlowStatus.{FlowStatus}
-use Rattle.dn_types.specs.declared.mask.Mask.{Mask}
-use Rattle.dn_types.specs.declared.reply.Reply.{Reply}
-use Rattle.dn_types.specs.declared.reply.Reply.TheVariants.{Configured, NoSuchPipe, Deleted, PipeHasQueues, NoSuchQueue, Queued, Lost, Full, NoTarget, Advanced, Delivered, Status, Exhausted}
-use Rattle.dn_types.specs.declared.target.Target.{Target}
+use Rattle.dn_history.proofs.Words.{Advanced, Bool, Configured, Deleted, Delivered, Delivery, Exhausted, FiveTuple, FlowKey, FlowStatus, Full, List, Lost, Mask, NoSuchPipe, NoSuchQueue, NoTarget}
+use Rattle.dn_history.proofs.Words.{PipeHasQueues, Queued, Reply, Status, Target, [], ap, arith, eqb-true, false, first_so, laws-law, nat_eq, nat_tests, not, not-false, pointwise, refl, second_so}
+use Rattle.dn_history.proofs.Words.{sym, true, true≢false, ℕ, ◌&&◌, ◌∙◌, ◌∷◌, ◌≡◌, ◌≢◌}
 use Rattle.dn_types.specs.declared.target.Target.TheVariants.{Pipe, Queue}
 use Rattle.dn_types.specs.contracts.delivery.DeliveryPartialEq.TheImpl as delivery
 use Rattle.dn_types.specs.contracts.five_tuple.FiveTuplePartialEq.TheImpl as tuple
@@ -20,7 +9,6 @@ use Rattle.dn_types.specs.contracts.flow_key.FlowKeyPartialEq.TheImpl as key
 use Rattle.dn_types.specs.contracts.flow_status.FlowStatusPartialEq.TheImpl as status
 use Rattle.dn_types.specs.contracts.mask.MaskPartialEq.TheImpl as mask
 use Rattle.dn_types.specs.contracts.reply.ReplyPartialEq.TheImpl as reply
-use Rattle.dn_types.specs.contracts.reply.ReplyEq.TheImpl.Laws.{laws-law}
 use Rattle.dn_types.specs.contracts.target.TargetPartialEq.TheImpl as target
 
 same-delivery : (a b : Delivery) → delivery.eq-value.it a b ≡ true → a ≡ b

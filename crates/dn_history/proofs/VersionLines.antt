@@ -1,17 +1,8 @@
 -- The line that tells a version is the first record.
-use Rattle.std.proofs.Common.{◌≡◌, ◌∙◌, ℕ, List, [], ◌∷◌, ◌++◌, None, Some, Option, refl}
-use Rattle.std.specs.Prelude.{codes}
-use Rattle.csv.specs.Reading.{strip_bom}
+use Rattle.dn_history.proofs.Words.{BeginsFirst, BeginsHistory, BeginsNoHistory, Fields, First, HistoryVersion, List, Live, None, Opens, Option, Second, Some, Third, Writes, [], behind_first}
+use Rattle.dn_history.proofs.Words.{codes, feed-line, field-begins, first-read, history_header, line-reads, live_header, plain-writes, records_after, refl, return-line, strip_bom, version_words}
+use Rattle.dn_history.proofs.Words.{ℕ, ◌++◌, ◌∙◌, ◌∷◌, ◌≡◌}
 use Rattle.csv.specs.declared.parser.State.TheVariants as st
-use Rattle.dn_records.specs.Reading.{records_after}
-use Rattle.dn_records.specs.Records.{Fields}
-use Rattle.dn_records.proofs.LineEnds.{Opens, Writes, feed-line, field-begins, line-reads, plain-writes, return-line}
-use Rattle.dn_files.specs.LineEnd.{behind_first}
-use Rattle.dn_files.proofs.Headers.{BeginsFirst, first-read}
-use Rattle.dn_history.specs.HistoryParts.{BeginsHistory, BeginsNoHistory, version_words}
-use Rattle.dn_history.specs.HistoryText.{history_header, live_header}
-use Rattle.dn_history.specs.declared.history_version.HistoryVersion.{HistoryVersion}
-use Rattle.dn_history.specs.declared.history_version.HistoryVersion.TheVariants.{First, Second, Third, Live}
 
 -- The first record of a history of this version.
 abbrev pub version_record : HistoryVersion → Fields

@@ -1,14 +1,11 @@
 -- An accepted packet is the one that was submitted and told to be queued: its flow, its number, its length and its link.
-use Rattle.std.proofs.Common.{◌≡◌, ◌∙◌, ◌<◌, ℕ, max, Bool, true, false, cond, List, [], ◌∷◌, ◌++◌, map, refl, ap, sym, subst, length, arith}
-use Rattle.std.specs.Prelude.{Option, Some, None}
+use Rattle.dn_laws.proofs.Words.{ArrivalsAreTold, Bool, IsKept, IsOfTarget, List, None, Option, QueuedPacketsArrive, Some, [], ap, arith, cond, count-event, false, length, map, max, refl}
+use Rattle.dn_laws.proofs.Words.{settings-kept, subst, sym, true, ℕ, ◌++◌, ◌<◌, ◌∙◌, ◌∷◌, ◌≡◌}
 use Rattle.dn_laws.proofs.LawWords.{link_of, Verdict, no_target, loses, refuses, takes, verdict_by, verdict, trace_of, effective_moment, settings, is_lost, is_full, Treatment, treatment, keys, key_of}
 use Rattle.dn_laws.proofs.LawWords.{flow_number, IsAccepted, reply, counted_reply, reply_to_verdict, is_queued, IsCarriedBy, Link, own, shared, Accepted, Event, opened, arrived, started, lost}
 use Rattle.dn_laws.proofs.LawWords.{refused, discarded, collected, backlog, is_arrival, accepted_count, Call, Submit, Advance, Command, Pipe, Queue, FlowKey, Packet, Reply, Queued, Exhausted, Target}
 use Rattle.dn_laws.proofs.LawWords.{ToPipe, ToQueue}
-use Rattle.dn_laws.specs.PacketLaws.{ArrivalsAreTold, QueuedPacketsArrive}
 use Rattle.dn_laws.proofs.{Begun.adds-among, Comes.Comes, Comes.Arrives, Comes.IsTakenBy, Comes.call-comes, DropLaws.not-exhausted, ToldCounts.arrival-told, ToldCounts.told-few}
-use Rattle.dn_types.proofs.Giving.{count-event}
-use Rattle.dn_types.proofs.InForce.{IsOfTarget, IsKept, settings-kept}
 
 pub record IsTakenAs (calls : List Call) (target : Target) (packet : Packet) (moment : ℕ) (p : Accepted) : Type 0 where
   pub how : Treatment

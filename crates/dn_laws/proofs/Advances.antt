@@ -1,11 +1,9 @@
 -- A settling up to one moment and then to a later one is one up to the later.
-use Rattle.std.proofs.Common.{◌≡◌, ◌∙◌, ◌≤◌, ◌<◌, ⊎_elim, ℕ, zero, suc, max, Bool, true, false, cond, List, [], ◌∷◌, refl, ap, sym, subst, arith}
-use Rattle.std.specs.Prelude.{Option, Some, None, nat_le, nat_lt, option_map}
-use Rattle.std.proofs.lemmas.Bool.Decides.{nat_tests}
+use Rattle.dn_laws.proofs.Words.{Bool, List, None, Option, Some, [], ap, arith, cond, false, max, nat_le, nat_lt, nat_tests, option_map, refl, settle-ends, subst, suc, sym, true, zero, ℕ, ⊎_elim}
+use Rattle.dn_laws.proofs.Words.{◌<◌, ◌∙◌, ◌∷◌, ◌≡◌, ◌≤◌}
 use Rattle.dn_laws.proofs.LawWords.{verdict_by, after_verdict, trace_of, effective_moment, moment_of, Settings, settings, treatment, keys, free, IsTimed, next_packet, start_at, next_start, sooner}
 use Rattle.dn_laws.proofs.LawWords.{first_start, settle, settled, waiting_all, Link, Accepted, Start, Event, started, collected, links, Call, Configure, Submit, Advance, Collect, Show}
 use Rattle.dn_laws.proofs.PartStarts.{HasEnded, settle-is, settle-one, sooner-one}
-use Rattle.dn_types.proofs.Settled.{settle-ends}
 
 -- A start up to the moment stays the start up to a later one, and where there is none it comes after the moment.
 abbrev IsStill : ℕ → Option Start → Option Start → Type 0

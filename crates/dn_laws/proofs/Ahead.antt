@@ -1,15 +1,9 @@
 -- What a link sends while a packet waits for it: those that were ahead of the packet, one after the other.
-use Rattle.std.proofs.Common.{◌≡◌, ◌∙◌, ◌<◌, ◌≢◌, ◌⊎◌, ⊎_elim, inl, inr, ℕ, ◌+◌, Bool, true, false, cond, ◌&&◌, List, [], ◌∷◌, ◌++◌, refl, ap, sym, subst, drop, arith}
-use Rattle.std.specs.Prelude.{Some, nat_eq, slice_get, ⊤}
-use Rattle.std.specs.List.{All}
-use Rattle.std.proofs.lemmas.Bool.{eq-eqb, and_from}
-use Rattle.std.proofs.lemmas.List.Elements.{All-nil, All-push, All-head, All-tail}
-use Rattle.std.proofs.lemmas.List.{append_assoc}
-use Rattle.dn_types.specs.Links.{free}
-use Rattle.dn_types.specs.Trace.{Link, own, link_eq, Accepted, Start, Event, opened, arrived, started, lost, refused, discarded, collected, is_of, backlog, is_arrival, accepted_count}
-use Rattle.dn_laws.specs.WaitLaws.{starting, sending}
-use Rattle.dn_types.proofs.{Fifo.IsProper, Fifo.own-first, Fifo.append-none, Giving.count-event, Ordered.IsHome, Ordered.suffix-proper, PacketCounts.waiting-below, Bounded.first-all}
-use Rattle.dn_types.proofs.{Settled.link_eq-true, Settled.link_eq-refl}
+use Rattle.dn_laws.proofs.Words.{Accepted, All, All-head, All-nil, All-push, All-tail, Bool, Event, Link, List, Some, Start, [], accepted_count, and_from, ap, append_assoc, arith, arrived}
+use Rattle.dn_laws.proofs.Words.{backlog, collected, cond, discarded, drop, eq-eqb, false, free, inl, inr, is_arrival, is_of, link_eq, lost, nat_eq, opened, own, refl, refused, sending, slice_get}
+use Rattle.dn_laws.proofs.Words.{started, starting, subst, sym, true, ℕ, ⊎_elim, ⊤, ◌&&◌, ◌++◌, ◌+◌, ◌<◌, ◌∙◌, ◌∷◌, ◌≡◌, ◌≢◌, ◌⊎◌}
+use Rattle.dn_types.proofs.{Bounded.first-all, Fifo.IsProper, Fifo.append-none, Fifo.own-first, Giving.count-event, Ordered.IsHome, Ordered.suffix-proper, PacketCounts.waiting-below}
+use Rattle.dn_types.proofs.{Settled.link_eq-refl, Settled.link_eq-true}
 use Rattle.dn_laws.proofs.EachWaiting.{each-pushed, each-left, each-cleared}
 use Rattle.dn_laws.proofs.Timely.{count-later}
 

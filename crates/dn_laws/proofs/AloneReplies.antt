@@ -1,17 +1,14 @@
 -- Each part is answered as if the others weren't there.
-use Rattle.std.proofs.Common.{◌≡◌, ◌∙◌, ◌≤◌, ◌<◌, ℕ, suc, max, Bool, true, false, cond, List, [], ◌∷◌, map, refl, ap, sym, length, arith}
-use Rattle.std.specs.Prelude.{is_some}
+use Rattle.dn_laws.proofs.Words.{Bool, List, PartsAreAlone, [], ap, arith, cond, false, is_some, length, map, max, own_reply_by, refl, suc, sym, trace-proper, true, ℕ, ◌<◌, ◌∙◌, ◌∷◌, ◌≡◌, ◌≤◌}
 use Rattle.dn_laws.proofs.LawWords.{Verdict, no_target, loses, refuses, takes, verdict_by, trace_of, effective_moment, call_limit, Settings, settings, queue_numbers, has_queues, command_reply}
 use Rattle.dn_laws.proofs.LawWords.{AreDivided, links_of, own_of, treatment, keys, Choice, is_flow_on, is_packet_on, is_carried, reply_to_verdict, counted_reply, reply, replies, reply_by, settled}
 use Rattle.dn_laws.proofs.LawWords.{Event, Call, Configure, Submit, Advance, Collect, Show, Command, Pipe, Queue, DeletePipe, DeleteQueue, Packet, Reply, NoTarget, Advanced, Configured, NoSuchPipe}
 use Rattle.dn_laws.proofs.LawWords.{Deleted, PipeHasQueues, NoSuchQueue, Rule, Target, ToPipe, ToQueue}
-use Rattle.dn_laws.specs.Divided.{own_reply_by, PartsAreAlone}
 use Rattle.dn_laws.proofs.Divided.{within, none-uncarried}
 use Rattle.dn_laws.proofs.PartCalls.{IsKeyed, AreTaken, moment-on, length-on, keyed-before, taken-before, keyed-all, all-taken}
 use Rattle.dn_laws.proofs.PartReplays.{counts}
 use Rattle.dn_laws.proofs.PartReplies.{HasTarget, has-target, counted-reply}
 use Rattle.dn_laws.proofs.PartsAlone.{less, less-on, in-turn, none-alone, less-within, behind, submit-told, collect-told, show-told, command-told}
-use Rattle.dn_types.proofs.Ordered.{trace-proper}
 
 module _ (flows packets : ℕ → Bool) where
   abbrev told : Reply → Reply

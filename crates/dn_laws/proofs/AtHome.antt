@@ -1,17 +1,12 @@
 -- Each packet is on the link of its flow's key. So the packets of a flow add up, and a Show tells them.
-use Rattle.std.proofs.Common.{◌≡◌, ◌∙◌, ◌≤◌, ◌<◌, ℕ, zero, suc, ◌+◌, Bool, true, false, cond, ◌&&◌, List, [], ◌∷◌, ◌++◌, map, refl, ap, sym, subst, length, drop, arith}
-use Rattle.std.specs.Prelude.{Option, Some, nat_eq, slice_get, ⊤}
-use Rattle.std.specs.List.{count_by}
-use Rattle.std.proofs.lemmas.Bool.{eqb-true, and_from, and_right}
-use Rattle.std.proofs.lemmas.List.{length-map}
+use Rattle.dn_laws.proofs.Words.{Bool, List, Option, PacketsAddUp, ShowsAreTold, Some, [], and_from, and_right, ap, arith, cond, count_by, drop, eqb-true, false, length, length-map, map, nat_eq}
+use Rattle.dn_laws.proofs.Words.{refl, slice_get, subst, suc, sym, true, zero, ℕ, ⊤, ◌&&◌, ◌++◌, ◌+◌, ◌<◌, ◌∙◌, ◌∷◌, ◌≡◌, ◌≤◌}
 use Rattle.dn_laws.proofs.LawWords.{link_of, trace_of, call_limit, Treatment, keys, keys_with, key_of, flow_number, status_of, statuses_from, IsStateOf, is_arrival_of, Link, link_eq, Accepted, Start}
 use Rattle.dn_laws.proofs.LawWords.{Event, arrived, started, discarded, is_of, backlog, is_start_of, discarded_count, Call, Submit, Show, FlowKey}
-use Rattle.dn_laws.specs.ReplyLaws.{ShowsAreTold}
-use Rattle.dn_laws.specs.PacketLaws.{PacketsAddUp}
 use Rattle.dn_laws.proofs.{Acceptance.IsTakenAs, Acceptance.taken-as, Begun.AllEvents, Comes.Comes, Comes.Arrives, Comes.call-comes, DropLaws.not-exhausted, Masks.stands-get}
 use Rattle.dn_laws.proofs.{ToldCounts.queued-of-count, ToldCounts.lost-of-count, ToldCounts.full-of-count}
-use Rattle.dn_types.proofs.{Fifo.IsProper, Fifo.own-first, Giving.count-event, Keys.keys-stay, Known.known-flow, Known.fewer-started, Ordered.trace-proper, Settled.and-left, Settled.link_eq-true}
-use Rattle.dn_types.proofs.{Settled.link_eq-refl, Settling.and-right, StepFacts.clear-some, StepFacts.push-length, StepFacts.clear-length}
+use Rattle.dn_types.proofs.{Fifo.IsProper, Fifo.own-first, Giving.count-event, Keys.keys-stay, Known.fewer-started, Known.known-flow, Ordered.trace-proper, Settled.and-left, Settled.link_eq-true}
+use Rattle.dn_types.proofs.{Settled.link_eq-refl, Settling.and-right, StepFacts.clear-length, StepFacts.clear-some, StepFacts.push-length}
 
 pub record IsHomeOf (known : List FlowKey) (link : Link) (flow : ℕ) : Type 0 where
   pub key : FlowKey

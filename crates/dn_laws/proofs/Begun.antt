@@ -1,18 +1,16 @@
 -- What a call adds to the trace, and how each start of it comes about.
-use Rattle.std.proofs.Common.{◌≡◌, ◌∙◌, ◌≤◌, ◌<◌, ◌⊎◌, ◌≢◌, ⊎_elim, ℕ, zero, suc, ◌+◌, max, Bool, true, false, cond, ◌&&◌, List, [], ◌∷◌, ◌++◌, map, refl, ap, sym, subst, length, inl, inr, arith}
-use Rattle.std.specs.Prelude.{Option, Some, None, nat_le, nat_eq, slice_get, option_and_then, option_map, is_some, ⊤}
-use Rattle.std.proofs.lemmas.Bool.{eqb-true}
-use Rattle.std.proofs.lemmas.Bool.Decides.{nat_tests, eqb_tells}
-use Rattle.std.proofs.lemmas.List.{append_cancel_right}
+use Rattle.dn_laws.proofs.Words.{Bool, List, None, Option, Some, [], ap, append_cancel_right, arith, cond, eqb-true, eqb_tells, false, inl, inr, is_some, length, map, max, nat_eq, nat_le}
+use Rattle.dn_laws.proofs.Words.{nat_tests, option_and_then, option_map, refl, slice_get, subst, suc, sym, true, zero, ℕ, ⊎_elim, ⊤, ◌&&◌, ◌++◌, ◌+◌, ◌<◌, ◌∙◌, ◌∷◌, ◌≡◌, ◌≢◌, ◌≤◌, ◌⊎◌}
 use Rattle.dn_laws.proofs.LawWords.{link_of, Verdict, no_target, loses, refuses, takes, accept, join, after_verdict, verdict_by, verdict, reaches, discard_reached, after_command, trace_of}
 use Rattle.dn_laws.proofs.LawWords.{effective_moment, Settings, settings, reply_to_command, is_lost, is_full, Treatment, treatment, keys, key_of, flow_number, free, waiting, opening, next_packet}
 use Rattle.dn_laws.proofs.LawWords.{virtual_time, link_heads, next_start, first_start, settle, settled, start_at, waiting_all, Link, own, shared, pipe_of, link_eq, Accepted, Start, Event, opened}
 use Rattle.dn_laws.proofs.LawWords.{arrived, started, lost, refused, discarded, collected, is_of, backlog, flow_bound, links, is_arrival, accepted_count, Stamped, pick, Call, Configure, Submit}
 use Rattle.dn_laws.proofs.LawWords.{Advance, Collect, Show, Command, FlowKey, Packet, Target, ToPipe, Reply, Deleted}
-use Rattle.dn_types.proofs.{Firsts.heads-same, Firsts.stamped_of, InForce.pipe-there, Giving.count-event, Known.AreKnown, Known.all-known, Known.known-started, Known.fewer-started, Known.pipe_of-link}
-use Rattle.dn_types.proofs.{Ordered.IsHome, Ordered.GoesHome, Ordered.verdict-home, Ordered.empty-home, Ordered.one-first, Ordered.of-own, Ordered.opened-free, Ordered.opened-backlog}
-use Rattle.dn_types.proofs.{Picks.heads-alone, Picks.pick-alone, Settled.settled-ends, Settled.first_start-of, Settled.next_start-link, Settled.and-left, Settling.next_start-packet}
-use Rattle.dn_types.proofs.{Settling.next_packet-first, Settling.and-no}
+use Rattle.dn_types.proofs.{Firsts.heads-same, Firsts.stamped_of, Giving.count-event, InForce.pipe-there, Known.AreKnown, Known.all-known, Known.fewer-started, Known.known-started}
+use Rattle.dn_types.proofs.{Known.pipe_of-link}
+use Rattle.dn_types.proofs.{Ordered.GoesHome, Ordered.IsHome, Ordered.empty-home, Ordered.of-own, Ordered.one-first, Ordered.opened-backlog, Ordered.opened-free, Ordered.verdict-home}
+use Rattle.dn_types.proofs.{Picks.heads-alone, Picks.pick-alone, Settled.and-left, Settled.first_start-of, Settled.next_start-link, Settled.settled-ends, Settling.next_start-packet}
+use Rattle.dn_types.proofs.{Settling.and-no, Settling.next_packet-first}
 
 -- A packet waited for the link before, and none has arrived since.
 abbrev pub HasWaited : List Event → Link → List Event → Type 0

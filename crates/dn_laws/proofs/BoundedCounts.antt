@@ -1,15 +1,10 @@
 -- The counts of a reply are at most the count of calls before it, which is below 2^62.
-use Rattle.std.proofs.Common.{◌≡◌, ◌≤◌, ◌<◌, ◌^◌, ℕ, ◌+◌, max, Bool, true, false, cond, List, [], ◌∷◌, refl, length, arith}
-use Rattle.std.specs.Prelude.{nat_le}
-use Rattle.std.specs.List.{All}
-use Rattle.std.proofs.lemmas.Bool.Decides.{nat_tests}
-use Rattle.std.proofs.lemmas.List.{length-map}
-use Rattle.std.proofs.lemmas.List.Elements.{All-nil, All-cons, All-filter}
+use Rattle.dn_laws.proofs.Words.{All, All-cons, All-filter, All-nil, Bool, List, [], arith, cond, false, length, length-map, max, nat_le, nat_tests, refl, true, ℕ, ◌+◌, ◌<◌, ◌^◌, ◌∷◌, ◌≡◌, ◌≤◌}
 use Rattle.dn_laws.proofs.LawWords.{HasBoundedCounts, Verdict, no_target, loses, refuses, takes, link_of, verdict, trace_of, effective_moment, call_limit, queue_numbers, settings, undelivered, keys}
 use Rattle.dn_laws.proofs.LawWords.{statuses_from, status_of, reply_to_verdict, counted_reply, reply, settled, Event, is_arrival, is_loss_of, is_refusal_of, accepted_count, backlog, Call, Configure}
 use Rattle.dn_laws.proofs.LawWords.{Submit, Advance, Collect, Show, FlowKey, FlowStatus, Exhausted, Rule}
 use Rattle.dn_types.proofs.{Bounded.len_of, BoundedReplies.command-has, CallCounts.settled-count, CallCounts.trace-count, Once.starts-once, Ordered.trace-proper, PacketCounts.joins}
-use Rattle.dn_types.proofs.{PacketCounts.queue-count, PacketCounts.undelivered-below, PacketCounts.starts-few, PacketCounts.IsNumbered}
+use Rattle.dn_types.proofs.{PacketCounts.IsNumbered, PacketCounts.queue-count, PacketCounts.starts-few, PacketCounts.undelivered-below}
 
 -- Each call brings one accepted packet at most.
 accepted : (calls : List Call) → accepted_count (trace_of calls) ≤ length calls

@@ -1,10 +1,7 @@
 -- What two waiting flows get in bytes, by their weights.
-use Rattle.std.proofs.Common.{◌≡◌, ◌≤◌, ◌<◌, ℕ, ◌+◌, ◌-◌, ◌*◌, Bool, true, false, cond, List, [], ◌∷◌, ◌++◌, refl, ap, sym, subst, arith, get_or}
-use Rattle.std.specs.Prelude.{◌/◌, Some, slice_get}
-use Rattle.std.specs.List.{All}
-use Rattle.std.proofs.Math.Nat.{mul-le-mul_right, lt-div-mul-add, div-mul-le_self, div-lt_iff_lt-mul}
-use Rattle.dn_laws.specs.FairShare.{bytes_sent, CostsAtMost, EachThatWaits, IsWeighted, packets_sent, share, SharesByWeight}
-use Rattle.dn_types.specs.Trace.{shared, Accepted, Start, Event, arrived, started, is_of, backlog}
+use Rattle.dn_laws.proofs.Words.{Accepted, All, Bool, CostsAtMost, EachThatWaits, Event, IsWeighted, List, SharesByWeight, Some, Start, [], ap, arith, arrived, backlog, bytes_sent, cond}
+use Rattle.dn_laws.proofs.Words.{div-lt_iff_lt-mul, div-mul-le_self, false, get_or, is_of, lt-div-mul-add, mul-le-mul_right, packets_sent, refl, share, shared, slice_get, started, subst, sym}
+use Rattle.dn_laws.proofs.Words.{true, ℕ, ◌*◌, ◌++◌, ◌+◌, ◌-◌, ◌/◌, ◌<◌, ◌∷◌, ◌≡◌, ◌≤◌}
 use Rattle.dn_laws.proofs.Fair.{start-first, shares-fairly}
 use Rattle.dn_laws.proofs.Rates.{shape}
 use Rattle.dn_laws.proofs.Steady.{IsSteady, Arrive, all-waiting, waits-after, steady, suffix-steady}

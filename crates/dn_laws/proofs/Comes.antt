@@ -1,19 +1,12 @@
 -- What a call adds to the trace: an arrival is of the packet that it submits, and a discard of a flow that it deletes.
-use Rattle.std.proofs.Common.{◌≡◌, ◌∙◌, ◌≤◌, ℕ, suc, ◌+◌, max, Bool, true, false, cond, ◌&&◌, List, [], ◌∷◌, ◌++◌, refl, ap, sym, subst, arith}
-use Rattle.std.specs.Prelude.{Some, nat_eq, nat_le, slice_get, ⊤}
-use Rattle.std.proofs.lemmas.Bool.{eqb-true}
-use Rattle.std.proofs.lemmas.Bool.Decides.{nat_tests}
+use Rattle.dn_laws.proofs.Words.{Bool, DiscardsAreDeletes, IsReached, List, Some, [], and-left, and-right, ap, arith, cond, eqb-true, false, max, nat_eq, nat_le, nat_tests, refl, slice_get, subst}
+use Rattle.dn_laws.proofs.Words.{suc, sym, target_eq-true, true, ℕ, ⊤, ◌&&◌, ◌++◌, ◌+◌, ◌∙◌, ◌∷◌, ◌≡◌, ◌≤◌}
 use Rattle.dn_laws.proofs.LawWords.{Verdict, no_target, loses, refuses, takes, verdict, accept, join, after_verdict, reaches, discard_reached, after_command, trace_of, effective_moment, Settings}
 use Rattle.dn_laws.proofs.LawWords.{settings, reply_to_command, keys, free, IsDelete, waiting, opening, settled, start_at, waiting_all, Link, Accepted, Event, opened, arrived, started, lost, refused}
 use Rattle.dn_laws.proofs.LawWords.{discarded, collected, links, accepted_count, Call, Configure, Submit, Advance, Collect, Show, Command, Pipe, Queue, DeletePipe, DeleteQueue, FlowKey, Packet, Reply}
 use Rattle.dn_laws.proofs.LawWords.{Deleted, Target, ToQueue}
-use Rattle.dn_laws.specs.PacketLaws.{DiscardsAreDeletes}
-use Rattle.dn_laws.specs.Told.{IsReached}
 use Rattle.dn_laws.proofs.Begun.{Adds, adds-settle, adds-among}
 use Rattle.dn_laws.proofs.DropLaws.{not-exhausted}
-use Rattle.dn_types.proofs.InForce.{target_eq-true}
-use Rattle.dn_types.proofs.Settled.{and-left}
-use Rattle.dn_types.proofs.Settling.{and-right}
 use Rattle.dn_types.proofs.StepFacts.{opened-count}
 
 -- A packet that is taken arrives as it is accepted, when nothing but the beginning of a busy period has come since.

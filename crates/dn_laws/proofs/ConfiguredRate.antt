@@ -1,12 +1,9 @@
 -- A link keeps the configured rate while the command stays in force.
-use Rattle.std.proofs.Common.{◌≡◌, ◌∙◌, ◌≤◌, ◌<◌, ℕ, ◌+◌, ◌*◌, true, List, [], ◌∷◌, ◌++◌, refl, ap, sym, subst}
-use Rattle.std.specs.Prelude.{◌^◌, Option, Some}
-use Rattle.std.proofs.lemmas.List.{append_cancel_right, append_assoc}
+use Rattle.dn_laws.proofs.Words.{List, Option, Some, [], ap, append_assoc, append_cancel_right, link_eq-true, refl, subst, sym, true, ℕ, ◌*◌, ◌++◌, ◌+◌, ◌<◌, ◌^◌, ◌∙◌, ◌∷◌, ◌≡◌, ◌≤◌}
 use Rattle.dn_laws.proofs.LawWords.{trace_of, effective_moment, Settings, settings, sent, IsAtBandwidth, transmission_time, StaysInForce, bandwidth_of, Link, link_eq, pipe_of, Start, Event, started}
 use Rattle.dn_laws.proofs.LawWords.{Call, Command, Pipe, Limit, Mask, ToPipe}
 use Rattle.dn_laws.proofs.Begun.{IsBegun, IsCaused, AllEvents, call-causes}
 use Rattle.dn_laws.proofs.Rates.{keeps-the-rate}
-use Rattle.dn_types.proofs.Settled.{link_eq-true}
 
 module _ (bw : ℕ) (link : Link) where
   pub both-at : (f g : List Event) → IsAtBandwidth bw link f → IsAtBandwidth bw link g → IsAtBandwidth bw link (f ++ g)

@@ -1,19 +1,16 @@
 -- How long a packet takes at most on a pipe whose command stays in force.
-use Rattle.std.proofs.Common.{◌≡◌, ◌∙◌, ◌≤◌, ◌<◌, ℕ, zero, suc, ◌+◌, ◌*◌, max, Bool, true, false, cond, List, [], ◌∷◌, ◌++◌, refl, ap, sym, subst, length, drop, arith, add-mul, suc-mul}
-use Rattle.std.specs.Prelude.{◌^◌, ◌-◌, Option, Some, nat_eq, get_or, ⊤}
-use Rattle.std.specs.List.{All}
-use Rattle.std.proofs.lemmas.Bool.{eq-eqb, and_from}
-use Rattle.std.proofs.lemmas.List.{append_cancel_right, append_assoc}
-use Rattle.std.proofs.lemmas.List.Elements.{All-nil, All-head, All-tail, All-cons}
+use Rattle.dn_laws.proofs.Words.{All, All-cons, All-head, All-nil, All-tail, Bool, KbytesBoundTheDelay, List, Option, SlotsBoundTheDelay, Some, [], add-mul, and_from, ap, append_assoc}
+use Rattle.dn_laws.proofs.Words.{append_cancel_right, arith, cond, drop, eq-eqb, false, get_or, length, max, nat_eq, refl, subst, suc, suc-mul, sym, true, zero, ℕ, ⊤, ◌*◌, ◌++◌, ◌+◌, ◌-◌, ◌<◌}
+use Rattle.dn_laws.proofs.Words.{◌^◌, ◌∙◌, ◌∷◌, ◌≡◌, ◌≤◌}
 use Rattle.dn_laws.proofs.LawWords.{AreInOrder, trace_of, call_limit, effective_moment, settings, IsDueBy, IsDeliveryOf, free, last_due, due_by, arrival_time, transmission_time, StaysInForce, reply}
 use Rattle.dn_laws.proofs.LawWords.{bandwidth_of, delay_of, Link, own, shared, link_eq, pipe_of, Accepted, Start, Event, arrived, started, discarded, is_of, backlog, ahead, free_from, IsAtMost, Call}
 use Rattle.dn_laws.proofs.LawWords.{Submit, Advance, Collect, Command, Pipe, Delivery, Limit, Slots, Kbytes, Mask, Packet, Queued, Delivered, Exhausted, Rule, Free, Ordered, ToPipe, ToQueue}
-use Rattle.dn_laws.specs.WaitLaws.{SlotsBoundTheDelay, KbytesBoundTheDelay}
 use Rattle.dn_laws.proofs.{Ahead.IsPrompt, Begun.IsCaused, Begun.IsTaken, Begun.AllEvents, Begun.call-causes, ConfiguredRate.now, EachWaiting.each-pushed, EachWaiting.each-left}
 use Rattle.dn_laws.proofs.{EachWaiting.each-cleared, Rates.shape, Timely.queued, Timely.clock-later, ToldCounts.told-few, ToldDeliveries.collects-are-told, WaitBounds.longer-takes-longer}
 use Rattle.dn_laws.proofs.{WaitBounds.time_ahead, WaitBounds.slots-ahead, WaitBounds.kbytes-ahead, Waits.IsJoined, Waits.joined, Waits.IsAwaited, Waits.awaited, Waits.own-pipe, Waits.trace-prompt}
 use Rattle.dn_laws.proofs.{Waits.wait-is-known}
-use Rattle.dn_types.proofs.{Bounded.first-all, Fifo.IsProper, Fifo.own-first, Ordered.IsHome, Ordered.trace-proper, Ordered.suffix-proper, Settled.and-left, Settled.link_eq-true, Settled.link_eq-refl}
+use Rattle.dn_types.proofs.{Bounded.first-all, Fifo.IsProper, Fifo.own-first, Ordered.IsHome, Ordered.suffix-proper, Ordered.trace-proper, Settled.and-left, Settled.link_eq-refl}
+use Rattle.dn_types.proofs.{Settled.link_eq-true}
 
 module _ (pipe most : ℕ) where
   -- What arrived for a pipe's own flows is short.

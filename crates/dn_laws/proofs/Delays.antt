@@ -1,11 +1,7 @@
 -- Each delivery is of a packet that started.
-use Rattle.std.proofs.Common.{ℕ, List, [], ◌∷◌, refl, ap, arith, get_or}
-use Rattle.std.specs.Prelude.{nat_le, nat_lt}
-use Rattle.std.specs.List.{All}
-use Rattle.std.proofs.lemmas.List.Elements.{All-filter}
+use Rattle.dn_laws.proofs.Words.{All, All-filter, List, [], ap, arith, get_or, in_order-all, nat_le, nat_lt, refl, ℕ, ◌∷◌}
 use Rattle.dn_laws.proofs.LawWords.{delivery_of, given, undelivered, IsDueBy, IsDeliveryOf, last_due, Start, Event, opened, arrived, started, lost, refused, discarded, collected, Delivery, Rule, Free}
 use Rattle.dn_laws.proofs.LawWords.{Ordered}
-use Rattle.dn_types.proofs.BoundedReplies.{in_order-all}
 
 due-by : (rule : Rule) (s : Start) (last : ℕ) → IsDueBy rule s last (delivery_of rule s last).due
 due-by Free s last = refl

@@ -1,11 +1,10 @@
 -- The laws of deletes, of commands and of isolation at an example: two packets to a queue of weight 4, one of which waits.
-use Rattle.std.proofs.Common.{◌≡◌, true, List, [], ◌∷◌, refl, arith}
-use Rattle.std.specs.Prelude.{Some, None, is_some, slice_get}
+use Rattle.dn_laws.proofs.Words.{List, None, Some, [], arith, is_some, key, no_mask, pipe, queue, refl, slice_get, to_pipe, to_queue, true, worded, ◌∷◌, ◌≡◌}
 use Rattle.dn_laws.proofs.LawWords.{trace_of, settings, kept_by, keys, free, reply, last_finish_tag, own, shared, backlog, Call, Configure, Advance, Queue, DeletePipe, DeleteQueue, Slots, NoTarget}
 use Rattle.dn_laws.proofs.LawWords.{Configured, Deleted, PipeHasQueues, Ordered, ToPipe, ToQueue}
 use Rattle.dn_laws.proofs.DropLaws.{none-unconfigured}
 use Rattle.dn_laws.proofs.Elsewhere.{other-pipes-change-nothing}
-use Rattle.dn_types.proofs.ExampleWords.{tuple, no_mask, worded, pipe, queue, to_pipe, to_queue, key}
+use Rattle.dn_types.proofs.ExampleWords.{tuple}
 use Rattle.dn_laws.proofs.Isolation.{pipe-delete-empties, queue-delete-spares, pipe-delete-spares, commands-move-nothing, commands-count, only-commands-count, queues-have-pipes}
 use Rattle.dn_laws.proofs.Masks.{flows-have-their-keys}
 use Rattle.dn_laws.proofs.Resets.{pipe-delete-resets}

@@ -1,7 +1,6 @@
 -- A packet that was queued waits, was discarded, or is delivered once it is due.
-use Rattle.std.proofs.Common.{◌≡◌, ◌<◌, ◌⊎◌, inl, inr, ⊎_elim, ℕ, List, ◌∷◌, ◌++◌, refl, subst, length}
+use Rattle.dn_laws.proofs.Words.{List, QueuedPacketsAreDelivered, inl, inr, length, refl, subst, ℕ, ⊎_elim, ◌++◌, ◌<◌, ◌∷◌, ◌≡◌, ◌⊎◌}
 use Rattle.dn_laws.proofs.LawWords.{trace_of, call_limit, IsDueBy, arrival_time, due_by, last_due, replies, HasStarted, IsDelivered, times_told, Start, Call, Submit, Collect, Rule, Free, Ordered}
-use Rattle.dn_laws.specs.ReplyLaws.{QueuedPacketsAreDelivered}
 use Rattle.dn_laws.proofs.Fates.{queued-packets-stay}
 use Rattle.dn_laws.proofs.ToldDeliveries.{told-when-due}
 

@@ -1,5 +1,5 @@
 -- The laws that determine the emulator at an Advance to 5 ns, and at a history that tells it as a command.
-use Rattle.std.proofs.Common.{◌≡◌, ◌≢◌, refl, [], ◌∷◌}
+use Rattle.dn_laws.proofs.Words.{[], refl, ◌∷◌, ◌≡◌, ◌≢◌}
 use Rattle.dn_laws.proofs.LawWords.{Advance, Entry, Reply, Advanced, Configured, Ordered, Emulator, ObeysTheLaws, emulated}
 use Rattle.dn_laws.proofs.Determines.{laws-determine}
 use Rattle.dn_laws.proofs.LawsHold.{laws-hold, laws-give-the-replies, histories-by-the-laws, false-by-the-laws}

@@ -1,7 +1,5 @@
 -- The laws determine the emulator.
-use Rattle.std.proofs.Common.{◌≡◌, ◌∙◌, ◌<◌, ⊎_elim, ℕ, List, [], ◌∷◌, refl, sym, subst, length, arith}
-use Rattle.std.specs.Prelude.{◌^◌, Option}
-use Rattle.std.proofs.lemmas.Bool.Decides.{leb_tells}
+use Rattle.dn_laws.proofs.Words.{List, Option, [], arith, leb_tells, length, refl, subst, sym, ℕ, ⊎_elim, ◌<◌, ◌^◌, ◌∙◌, ◌∷◌, ◌≡◌}
 use Rattle.dn_laws.proofs.LawWords.{Emulator, Readings, AnswersOneMore, ObeysTheLaws, pipe_under, IsBy, AreStarts, Settles, Link, Accepted, Start, Event, Call, Advance, Command, Rule, ToPipe}
 use Rattle.dn_laws.proofs.SameCalls.{agree, told-one}
 use Rattle.dn_laws.proofs.SameReadings.{same-readings}

@@ -1,13 +1,10 @@
 -- Calls that are divided among parts: what is in force for a part, and its keys, are the part's.
-use Rattle.std.proofs.Common.{◌≡◌, ◌∙◌, ℕ, ◌+◌, Bool, true, false, cond, ◌||◌, List, [], ◌∷◌, ◌++◌, refl, ap, sym}
-use Rattle.std.specs.Prelude.{Option, Some, None, nat_eq, is_some, ⊤}
-use Rattle.std.specs.List.{filter, list_any}
-use Rattle.std.proofs.lemmas.Bool.{eqb-true}
+use Rattle.dn_laws.proofs.Words.{Bool, List, None, Option, Some, [], ap, cond, eqb-true, false, filter, is_some, list_any, nat_eq, refl, sym, target_eq-true, true, ℕ, ⊤, ◌++◌, ◌+◌, ◌||◌, ◌∙◌, ◌∷◌}
+use Rattle.dn_laws.proofs.Words.{◌≡◌}
 use Rattle.dn_laws.proofs.LawWords.{reaches, discard_reached, after_command, Settings, settings, subject, target_eq, is_queue_of, queue_numbers, has_queues, command_reply, setting_after, Treatment}
 use Rattle.dn_laws.proofs.LawWords.{treatment, key_of, key_eq, keys, with_key, keys_with, links_of, IsOfOnePart, AreDivided, is_flow_of, is_carried, Event, discarded, Call, Configure, Submit, Advance}
 use Rattle.dn_laws.proofs.LawWords.{Collect, Show, Command, Pipe, Queue, DeletePipe, DeleteQueue, FiveTuple, FlowKey, Reply, Configured, NoSuchPipe, Deleted, PipeHasQueues, NoSuchQueue, Target}
 use Rattle.dn_laws.proofs.LawWords.{ToPipe, ToQueue}
-use Rattle.dn_types.proofs.InForce.{target_eq-true}
 use Rattle.dn_laws.proofs.Isolation.{false-if}
 use Rattle.dn_laws.proofs.PartCalls.{keys-of}
 

@@ -1,13 +1,11 @@
 -- The law of divided calls at examples: what it speaks of is there, and its condition is needed.
-use Rattle.std.specs.Prelude.{◌≡◌, ◌≤◌, ℕ, Bool, true, false, cond, List, [], ◌∷◌, map, nat_eq, nat_le, length}
+use Rattle.dn_laws.proofs.Words.{Bool, List, [], arith, cond, delivery, false, key, length, map, nat_eq, nat_le, nat_tests, no_mask, own_reply_on, pipe, queue, refl, status, to_pipe, to_queue}
+use Rattle.dn_laws.proofs.Words.{true, ℕ, ◌∷◌, ◌≡◌, ◌≤◌}
 use Rattle.dn_laws.proofs.LawWords.{call_limit, links_of, own_of, AreDivided, part_of, trace_of, replies, Call, Configure, Advance, Collect, Show, DeletePipe, Reply, Configured, Deleted, Queued}
 use Rattle.dn_laws.proofs.LawWords.{NoTarget, Delivered, Status, Ordered, Target, ToPipe, ToQueue}
-use Rattle.dn_laws.specs.Divided.{own_reply_on}
 use Rattle.dn_laws.proofs.AloneReplies.{parts-are-alone}
 use Rattle.dn_laws.proofs.PartsAlone.{parts-happen-alone}
-use Rattle.dn_types.proofs.ExampleWords.{tuple, no_mask, delivery, key, status, pipe, queue, to_pipe, to_queue}
-use Rattle.std.proofs.Common.{refl, arith}
-use Rattle.std.proofs.lemmas.Bool.Decides.{nat_tests}
+use Rattle.dn_types.proofs.ExampleWords.{tuple}
 
 abbrev in_the_first : Target → Bool
 in_the_first (ToPipe number) = nat_eq number 1

@@ -1,11 +1,9 @@
 -- Loss and limit explain each drop.
-use Rattle.std.proofs.Common.{◌≡◌, ◌∙◌, ◌≤◌, ◌<◌, ℕ, max, Bool, true, false, cond, List, map, refl, ap, sym, subst, length, arith}
-use Rattle.std.specs.Prelude.{◌%◌, ◌^◌, Option, Some, nat_le, nat_lt}
-use Rattle.std.proofs.lemmas.Bool.Decides.{nat_tests}
+use Rattle.dn_laws.proofs.Words.{Bool, DropsAreExplained, List, NoneUnconfigured, Option, Some, ap, arith, cond, false, length, map, max, nat_le, nat_lt, nat_tests, refl, subst, sym, true, ℕ, ◌%◌}
+use Rattle.dn_laws.proofs.Words.{◌<◌, ◌^◌, ◌∙◌, ◌≡◌, ◌≤◌}
 use Rattle.dn_laws.proofs.LawWords.{trace_of, link_of, loses, refuses, takes, verdict_by, call_limit, effective_moment, settings, is_lost, is_full, IsJudgedBy, IsAtLimit, IsExplained, Treatment}
 use Rattle.dn_laws.proofs.LawWords.{treatment, keys, key_of, flow_number, reply, reply_to_verdict, counted_reply, settled, Link, Event, backlog, Call, Submit, Command, Pipe, Queue, DeletePipe}
 use Rattle.dn_laws.proofs.LawWords.{DeleteQueue, FlowKey, Limit, Slots, Kbytes, Packet, Reply, Exhausted, Rule, Target}
-use Rattle.dn_laws.specs.ConfiguredLaws.{DropsAreExplained, NoneUnconfigured}
 
 at-limit : (most : Limit) (lengths : List ℕ) → is_full most lengths ≡ true → IsAtLimit most lengths
 at-limit (Slots count) lengths e = grind (arith, nat_tests)

@@ -1,11 +1,6 @@
 -- What holds of each head of a link, and of each first packet.
-use Rattle.std.proofs.Common.{◌≡◌, ◌∙◌, ◌<◌, ℕ, zero, suc, Bool, true, false, List, [], ◌∷◌, ◌++◌, refl, ap, sym, subst, take, arith}
-use Rattle.std.specs.Prelude.{Some, nat_eq, slice_get}
-use Rattle.std.specs.List.{All}
-use Rattle.std.proofs.lemmas.Bool.{eqb-true}
-use Rattle.std.proofs.lemmas.Bool.Decides.{nat_tests}
-use Rattle.std.proofs.lemmas.List.Elements.{All-append, All-cons, All-take}
-use Rattle.dn_types.specs.Wf2q.{heads}
+use Rattle.dn_laws.proofs.Words.{All, All-append, All-cons, All-take, Bool, List, Some, [], ap, arith, eqb-true, false, heads, nat_eq, nat_tests, refl, slice_get, subst, suc, sym, take, true}
+use Rattle.dn_laws.proofs.Words.{zero, ℕ, ◌++◌, ◌<◌, ◌∙◌, ◌∷◌, ◌≡◌}
 
 module _ {X : Type 0} (P : X → Type 0) where
   left : (xs ys : List X) → All P (xs ++ ys) → All P xs

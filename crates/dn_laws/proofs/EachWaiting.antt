@@ -1,8 +1,5 @@
 -- What is so of each packet of a queue stays so of each as one comes, one leaves, or all go.
-use Rattle.std.proofs.Common.{◌≡◌, Bool, true, false, cond, List, [], ◌∷◌, ◌++◌, refl, drop}
-use Rattle.std.specs.List.{All}
-use Rattle.std.proofs.lemmas.List.Elements.{All-nil, All-push, All-drop}
-use Rattle.dn_types.specs.Trace.{Accepted}
+use Rattle.dn_laws.proofs.Words.{Accepted, All, All-drop, All-nil, All-push, Bool, List, [], cond, drop, false, refl, true, ◌++◌, ◌∷◌, ◌≡◌}
 
 module _ (Is : Accepted → Type 0) where
   pub each-pushed : (b : Bool) (qs : List Accepted) (q : Accepted) → (b ≡ true → Is q) → All Is qs → All Is (cond b (qs ++ q ∷ []) qs)

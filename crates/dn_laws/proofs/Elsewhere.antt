@@ -1,13 +1,9 @@
 -- While calls are about other pipes, the links of a pipe go by the clock alone.
-use Rattle.std.proofs.Common.{◌≡◌, ◌∙◌, ◌≤◌, ◌<◌, ⊎_elim, ℕ, max, Bool, true, false, cond, List, [], ◌∷◌, ◌++◌, refl, ap, sym, subst, length, arith}
-use Rattle.std.specs.Prelude.{Option, Some, None, nat_le, nat_eq, option_map}
-use Rattle.std.proofs.lemmas.Bool.{eqb-true}
-use Rattle.std.proofs.lemmas.Bool.Decides.{nat_tests, leb_tells}
-use Rattle.std.proofs.lemmas.Option.{slice_get_within}
+use Rattle.dn_laws.proofs.Words.{Bool, List, None, Option, OtherPipesChangeNothing, Some, [], ap, arith, cond, eqb-true, false, leb_tells, length, max, nat_eq, nat_le, nat_tests, option_map, refl}
+use Rattle.dn_laws.proofs.Words.{slice_get_within, subst, sym, true, ℕ, ⊎_elim, ◌++◌, ◌<◌, ◌∙◌, ◌∷◌, ◌≡◌, ◌≤◌}
 use Rattle.dn_laws.proofs.LawWords.{verdict_by, after_verdict, reaches, after_command, trace_of, effective_moment, settings, subject, target_eq, setting_after, reply_to_command, treatment, keys, free}
 use Rattle.dn_laws.proofs.LawWords.{AreElsewhere, IsCommandElsewhere, IsElsewhere, next_packet, start_at, next_start, settled, Link, pipe_of, Accepted, Event, backlog, Call, Configure, Submit}
 use Rattle.dn_laws.proofs.LawWords.{Advance, Collect, Show, Command, Pipe, Queue, DeletePipe, DeleteQueue, Packet, Reply, Deleted, Rule, Target, ToPipe, ToQueue}
-use Rattle.dn_laws.specs.OtherPipes.{OtherPipesChangeNothing}
 use Rattle.dn_types.proofs.{Conserving.busy-link, InForce.IsKept, InForce.settings-kept, InForce.target_eq-true, Known.IsKnown, Known.all-known, Known.fewer-discarded, Known.pipe_of-link}
 use Rattle.dn_types.proofs.{Settling.next_packet-first}
 use Rattle.dn_laws.proofs.{Isolation.false-if, Isolation.none-left, Isolation.spared-by, Isolation.commands-move-nothing, Isolation.packets-keep-apart, OneLink.IsAlike, OneLink.alike-refl}

@@ -1,10 +1,9 @@
 -- An accepted packet starts at the later of two moments: its acceptance, and the end of the transmission before it on its link.
-use Rattle.std.proofs.Common.{◌≡◌, ◌∙◌, ◌≤◌, ◌<◌, ◌⊎◌, ⊎_elim, inl, inr, ℕ, List, [], ◌∷◌, ◌++◌, ap, sym, subst, arith}
+use Rattle.dn_laws.proofs.Words.{List, StartsBehind, WaitsForItsLink, [], ap, arith, inl, inr, subst, sym, ℕ, ⊎_elim, ◌++◌, ◌<◌, ◌∙◌, ◌∷◌, ◌≡◌, ◌≤◌, ◌⊎◌}
 use Rattle.dn_laws.proofs.LawWords.{trace_of, effective_moment, free, reply, Start, Event, started, arrived, is_arrival, accepted_count, Call, Submit, Packet, Queued, Rule, Target}
-use Rattle.dn_laws.specs.TimeLaws.{WaitsForItsLink, StartsBehind}
 use Rattle.dn_laws.proofs.{Acceptance.queued-packets-arrive, Kept.links-are-kept, Rates.shape, StartLaws.starts-at-once, Timely.placed, Timely.queued, Timely.events-stay, Timely.none-starts-early}
 use Rattle.dn_laws.proofs.{Timely.count-later, Timely.started-below}
-use Rattle.dn_types.proofs.{Fifo.IsProper, Giving.count-event, Ordered.trace-proper, Ordered.suffix-proper, Ordered.sends-one-at-a-time}
+use Rattle.dn_types.proofs.{Fifo.IsProper, Giving.count-event, Ordered.sends-one-at-a-time, Ordered.suffix-proper, Ordered.trace-proper}
 
 -- Later calls accept no fewer packets.
 count-calls : (after calls : List Call) → accepted_count (trace_of calls) ≤ accepted_count (trace_of (after ++ calls))

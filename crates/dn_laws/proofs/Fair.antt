@@ -1,17 +1,9 @@
 -- Of two flows that wait throughout a stretch, one gets about what the other gets.
-use Rattle.std.proofs.Common.{◌≡◌, ◌∙◌, ◌≤◌, ◌<◌, ◌⊎◌, inl, inr, ℕ, ◌+◌, ◌-◌, Bool, true, false, cond, List, [], ◌∷◌, ◌++◌, refl, ap, sym, subst, length, drop, arith}
-use Rattle.std.specs.Prelude.{Option, Some, None, nat_eq, slice_get, option_and_then}
-use Rattle.std.specs.List.{All}
-use Rattle.std.proofs.lemmas.Bool.{eqb-true}
-use Rattle.std.proofs.lemmas.List.Elements.{All-map}
-use Rattle.dn_laws.specs.FairShare.{CostsAtMost, EachThatWaits, share, SharesFairly, WaitsThroughout}
-use Rattle.dn_types.specs.SharedLinks.{next_packet, virtual_time, link_heads, last_finish_tag}
-use Rattle.dn_types.specs.Trace.{Link, shared, link_eq, Accepted, Start, Event, arrived, started, discarded, is_of, backlog, flow_bound}
-use Rattle.dn_types.specs.Wf2q.{Stamped, heads, pick}
+use Rattle.dn_laws.proofs.Words.{Accepted, All, All-map, Bool, CostsAtMost, EachThatWaits, Event, Link, List, None, Option, SharesFairly, Some, Stamped, Start, WaitsThroughout, [], and-left}
+use Rattle.dn_laws.proofs.Words.{and-right, ap, arith, arrived, backlog, backlog-own, cond, discarded, drop, eqb-true, false, first-own, flow_bound, heads, heads-same, inl, inr, is_below, is_of}
+use Rattle.dn_laws.proofs.Words.{last_finish_tag, length, link_eq, link_eq-true, link_heads, nat_eq, next-picked, next_packet, option_and_then, pick, refl, share, shared, slice_get, stamped-first}
+use Rattle.dn_laws.proofs.Words.{stamped_of, started, subst, sym, true, virtual_time, ℕ, ◌++◌, ◌+◌, ◌-◌, ◌<◌, ◌∙◌, ◌∷◌, ◌≡◌, ◌≤◌, ◌⊎◌}
 use Rattle.dn_laws.proofs.EachHead.{at-head, all-heads}
-use Rattle.dn_types.proofs.Firsts.{heads-same, stamped_of, stamped-first, next-picked}
-use Rattle.dn_types.proofs.Settled.{and-left, link_eq-true}
-use Rattle.dn_types.proofs.Settling.{and-right, first-own, backlog-own, is_below}
 use Rattle.dn_laws.proofs.Rates.{shape}
 use Rattle.dn_laws.proofs.Shares.{pick-is-fair}
 use Rattle.dn_laws.proofs.Steady.{IsSteady, IsChain, steady, suffix-steady, chain, all-put, waits-before, waits-after, waits-sooner}

@@ -1,13 +1,9 @@
 -- The premises of the law of fair shares are met: two queues of one weight, each with four packets of 1,000 bytes.
-use Rattle.std.proofs.Common.{◌≡◌, ◌≤◌, ◌+◌, ◌*◌, max, ℕ, List, [], ◌∷◌, refl}
-use Rattle.std.specs.Prelude.{None, ⊤, nat_eq}
-use Rattle.std.specs.List.{All, filter}
-use Rattle.std.proofs.lemmas.List.Elements.{All-nil, All-cons}
-use Rattle.dn_laws.specs.FairShare.{IsWeighted, CostsAtMost, share}
-use Rattle.std.proofs.lemmas.Bool.{leb-true, ltb-true}
+use Rattle.dn_laws.proofs.Words.{All, All-cons, All-nil, CostsAtMost, IsWeighted, List, None, [], filter, leb-true, ltb-true, max, nat_eq, no_mask, packet, refl, share, ℕ, ⊤, ◌*◌, ◌+◌, ◌∷◌, ◌≡◌}
+use Rattle.dn_laws.proofs.Words.{◌≤◌}
 use Rattle.dn_laws.proofs.LawWords.{trace_of, link_heads, virtual_time, shared, Accepted, Start, started, backlog, Call, Configure, Submit, Advance, Pipe, Queue, Slots, ToQueue}
 use Rattle.dn_laws.proofs.{ByWeight.shares-by-weight, Fair.shares-fairly, Heads.heads-are-first, Shares.pick-is-fair, Shares.pick-is-least, Shares.raises-to-the-least}
-use Rattle.dn_types.proofs.ExampleWords.{tuple, no_mask, packet}
+use Rattle.dn_types.proofs.ExampleWords.{tuple}
 
 abbrev weighted : ℕ → Call
 weighted weight = Configure (Queue 1 1 weight (Slots 50) 0 None no_mask)

@@ -1,19 +1,8 @@
 -- A packet that was queued waits, was discarded or has started.
-use Rattle.std.proofs.Common.{◌≡◌, ◌∙◌, ◌≤◌, ◌⊎◌, inl, inr, ⊎_elim, ℕ, ◌+◌, Bool, true, false, cond, List, [], ◌∷◌, ◌++◌, refl, ap, sym, subst, drop, arith}
-use Rattle.std.specs.Prelude.{Some, nat_eq, slice_get}
-use Rattle.std.specs.List.{count_by}
-use Rattle.std.proofs.lemmas.Bool.{eqb-true, eq-eqb}
-use Rattle.std.proofs.lemmas.List.Sums.{sum_by-cons}
-use Rattle.std.proofs.lemmas.List.{append_assoc}
-use Rattle.dn_types.specs.Calls.{trace_of}
-use Rattle.dn_laws.specs.ReplyLaws.{HasStarted, QueuedPacketsStay, Waits, WasDiscarded}
-use Rattle.dn_types.specs.Trace.{Accepted, Event, arrived, started, discarded, is_of, backlog}
-use Rattle.dn_types.specs.declared.call.Call.{Call}
-use Rattle.dn_types.specs.declared.call.Call.TheVariants.{Submit}
+use Rattle.dn_laws.proofs.Words.{Accepted, Bool, Call, Event, HasStarted, IsProper, List, QueuedPacketsStay, Some, Submit, Waits, WasDiscarded, [], and-right, ap, append_assoc, arith, arrived}
+use Rattle.dn_laws.proofs.Words.{backlog, cond, count_by, discarded, drop, eq-eqb, eqb-true, false, inl, inr, is_of, nat_eq, of-own, own-first, refl, slice_get, started, subst, sum_by-cons, sym}
+use Rattle.dn_laws.proofs.Words.{trace-proper, trace_of, true, ℕ, ⊎_elim, ◌++◌, ◌+◌, ◌∙◌, ◌∷◌, ◌≡◌, ◌≤◌, ◌⊎◌}
 use Rattle.dn_laws.proofs.Acceptance.{queued-packets-arrive}
-use Rattle.dn_types.proofs.Fifo.{IsProper, own-first}
-use Rattle.dn_types.proofs.Ordered.{trace-proper, of-own}
-use Rattle.dn_types.proofs.Settling.{and-right}
 use Rattle.dn_laws.proofs.Timely.{events-stay}
 
 module _ (number : ℕ) where

@@ -1,14 +1,9 @@
 -- A Collect of the definitions tells what the law of deliveries asks for.
-use Rattle.std.proofs.Common.{◌≡◌, ◌∙◌, ◌≢◌, ◌≤◌, ◌<◌, ⊎_elim, inl, inr, ℕ, ◌+◌, Bool, true, false, cond, List, [], ◌∷◌, ◌++◌, refl, ap, sym, subst, length, arith}
-use Rattle.std.specs.Prelude.{nat_eq}
-use Rattle.std.specs.List.{All, count_by}
-use Rattle.std.proofs.lemmas.Bool.{eqb-true, eq-eqb}
-use Rattle.std.proofs.lemmas.Bool.Decides.{leb_tells}
-use Rattle.std.proofs.lemmas.List.Elements.{All-cons, All-head, All-tail}
+use Rattle.dn_laws.proofs.Words.{All, All-cons, All-head, All-tail, Bool, IsGiven, List, [], ap, arith, cond, count_by, eq-eqb, eqb-true, false, inl, inr, leb_tells, length, nat_eq, refl, subst}
+use Rattle.dn_laws.proofs.Words.{sym, true, ℕ, ⊎_elim, ◌++◌, ◌+◌, ◌<◌, ◌∙◌, ◌∷◌, ◌≡◌, ◌≢◌, ◌≤◌}
 use Rattle.dn_laws.proofs.LawWords.{trace_of, call_limit, effective_moment, AreInOrder, answers, Has, IsGivenBy, GivesNot, ComesBefore, ComeInOrder, is_on, on_link, emulated, IsDueBy, IsDeliveryOf}
 use Rattle.dn_laws.proofs.LawWords.{is_packet, start_count, last_due, reply, replies, times_in, times_told, Link, Start, Event, started, Call, Collect, Delivery, Reply, Delivered, Rule}
-use Rattle.dn_laws.specs.Determined.Reports.{IsGiven}
-use Rattle.dn_types.proofs.{Giving.count-delivery, Once.starts-once, Settled.link_eq-true, Settled.link_eq-refl}
+use Rattle.dn_types.proofs.{Giving.count-delivery, Once.starts-once, Settled.link_eq-refl, Settled.link_eq-true}
 use Rattle.dn_laws.proofs.{PlainLawsHold.answers-are, ReadingsObey.read, ReadingsObey.due-on, ReadingsObey.kept-on, Isolation.false-if, ToldDeliveries.collects-are-told, ToldDeliveries.told-once}
 use Rattle.dn_laws.proofs.{ToldDeliveries.told-when-due, ToldDeliveries.one-start, ToldDeliveries.one-due}
 

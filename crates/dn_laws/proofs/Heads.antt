@@ -1,14 +1,6 @@
 -- The heads of a link are the first packets that wait for it, one of each flow.
-use Rattle.std.proofs.Common.{◌≡◌, ◌∙◌, ◌≤◌, ◌<◌, ⊎_elim, ℕ, zero, suc, Bool, true, false, cond, List, [], ◌∷◌, ◌++◌, map, refl, ap, sym, append-nil, take, arith}
-use Rattle.std.specs.Prelude.{nat_eq}
-use Rattle.std.specs.List.{All, filter}
-use Rattle.std.proofs.lemmas.Bool.{eqb-true}
-use Rattle.std.proofs.lemmas.Bool.Decides.{nat_tests, leb_tells}
-use Rattle.dn_types.specs.SharedLinks.{link_heads}
-use Rattle.dn_types.specs.Trace.{Link, link_eq, Accepted, Event, backlog, flow_bound}
-use Rattle.dn_types.specs.Wf2q.{Stamped, heads}
-use Rattle.dn_types.proofs.Firsts.{stamped_of}
-use Rattle.dn_types.proofs.Settling.{and-right, backlog-above, backlog-own}
+use Rattle.dn_laws.proofs.Words.{Accepted, All, Bool, Event, Link, List, Stamped, [], and-right, ap, append-nil, arith, backlog, backlog-above, backlog-own, cond, eqb-true, false, filter}
+use Rattle.dn_laws.proofs.Words.{flow_bound, heads, leb_tells, link_eq, link_heads, map, nat_eq, nat_tests, refl, stamped_of, suc, sym, take, true, zero, ℕ, ⊎_elim, ◌++◌, ◌<◌, ◌∙◌, ◌∷◌, ◌≡◌, ◌≤◌}
 
 module _ (flow : ℕ) where
   abbrev mine : Stamped → Bool

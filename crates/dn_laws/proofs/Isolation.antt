@@ -1,18 +1,12 @@
 -- What a delete and what a packet reaches, and what they leave.
-use Rattle.std.proofs.Common.{◌≡◌, ◌∙◌, ◌≢◌, ◌<◌, ⊎_elim, ℕ, ◌+◌, max, Bool, true, false, cond, ◌&&◌, List, [], ◌∷◌, ◌++◌, map, refl, ap, sym, length, arith}
-use Rattle.std.specs.Prelude.{Option, Some, None, nat_le, nat_eq, ⊤}
-use Rattle.std.proofs.lemmas.Bool.{eq-eqb, eqb-true}
-use Rattle.std.proofs.lemmas.Bool.Decides.{nat_tests}
+use Rattle.dn_laws.proofs.Words.{Bool, CommandsCount, CommandsMoveNothing, List, None, Option, PacketsKeepApart, PipeDeleteEmpties, PipeDeleteSpares, QueueDeleteEmpties, QueueDeleteSpares}
+use Rattle.dn_laws.proofs.Words.{QueuesHavePipes, Some, [], all-known, ap, arith, backlog-elsewhere, cond, eq-eqb, eqb-true, false, fewer-discarded, free-elsewhere, last_due-elsewhere, length}
+use Rattle.dn_laws.proofs.Words.{link_eq-true, map, max, nat_eq, nat_le, nat_tests, pipe-there, pipe_of-link, reached-emptied, refl, sym, target_eq-refl, target_eq-true, true, true_or_false}
+use Rattle.dn_laws.proofs.Words.{virtual_time-elsewhere, ℕ, ⊎_elim, ⊤, ◌&&◌, ◌++◌, ◌+◌, ◌<◌, ◌∙◌, ◌∷◌, ◌≡◌, ◌≢◌}
 use Rattle.dn_laws.proofs.LawWords.{link_of, Verdict, no_target, loses, refuses, takes, accept, join, after_verdict, verdict_by, verdict, reaches, discard_reached, after_command, trace_of}
 use Rattle.dn_laws.proofs.LawWords.{effective_moment, Settings, settings, target_eq, subject, setting_after, reply_to_command, undelivered, is_lost, is_full, IsJudgedBy, Treatment, treatment, keys}
 use Rattle.dn_laws.proofs.LawWords.{key_of, flow_number, free, last_due, waiting, opening, virtual_time, settled, start_at, Link, link_eq, pipe_of, Accepted, Event, opened, arrived, started}
 use Rattle.dn_laws.proofs.LawWords.{discarded, backlog, Call, Configure, Command, Pipe, Queue, DeletePipe, DeleteQueue, FlowKey, Limit, Packet, Reply, Configured, Deleted, Rule, Target, ToQueue}
-use Rattle.dn_laws.specs.SharingLaws.{CommandsMoveNothing, PacketsKeepApart, PipeDeleteEmpties, PipeDeleteSpares, QueueDeleteEmpties, QueueDeleteSpares}
-use Rattle.dn_laws.specs.ConfiguredLaws.{CommandsCount, QueuesHavePipes}
-use Rattle.dn_types.proofs.InForce.{target_eq-true, pipe-there}
-use Rattle.dn_types.proofs.Keys.{target_eq-refl}
-use Rattle.dn_types.proofs.Known.{all-known, reached-emptied, fewer-discarded, pipe_of-link}
-use Rattle.dn_types.proofs.Settled.{link_eq-true, true_or_false, backlog-elsewhere, free-elsewhere, virtual_time-elsewhere, last_due-elsewhere}
 
 pub after-deleted : (calls : List Call) (command : Command) → reply_to_command calls command ≡ Deleted →
     trace_of (Configure command ∷ calls) ≡ discard_reached command 0 (keys calls) (trace_of calls)

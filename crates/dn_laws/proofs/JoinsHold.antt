@@ -1,15 +1,13 @@
 -- What the definitions make of a packet on the links is what the laws of a packet ask for.
-use Rattle.std.proofs.Common.{◌≡◌, ◌∙◌, ◌≢◌, ◌≤◌, ◌<◌, ℕ, zero, suc, max, Bool, true, false, cond, ◌&&◌, List, [], ◌∷◌, refl, ap, sym, subst, length, arith}
-use Rattle.std.specs.Prelude.{Option, Some, None, is_some, nat_eq, nat_le}
-use Rattle.std.proofs.lemmas.Bool.{and_from}
-use Rattle.std.proofs.lemmas.Bool.Decides.{nat_tests}
+use Rattle.dn_laws.proofs.Words.{Bool, List, None, Option, Some, [], and_from, ap, arith, cond, false, is_some, length, max, nat_eq, nat_le, nat_tests, refl, subst, suc, sym, true, zero, ℕ, ◌&&◌}
+use Rattle.dn_laws.proofs.Words.{◌<◌, ◌∙◌, ◌∷◌, ◌≡◌, ◌≢◌, ◌≤◌}
 use Rattle.dn_laws.proofs.LawWords.{trace_of, link_of, Verdict, no_target, loses, refuses, takes, verdict, accept, join, after_verdict, call_limit, effective_moment, settings, IsWeight, IsBy}
 use Rattle.dn_laws.proofs.LawWords.{IsTaggedBy, Joins, is_on, on_link, Treatment, treatment, keys, free, reply, reply_to_verdict, waiting, opening, start_at, is_queued, IsCarriedBy, Link, pipe_of}
 use Rattle.dn_laws.proofs.LawWords.{link_eq, Accepted, Start, Event, opened, arrived, started, backlog, flow_bound, accepted_count, total, Call, Submit, Advance, Command, Pipe, Queue, DeletePipe}
 use Rattle.dn_laws.proofs.LawWords.{DeleteQueue, Packet, Queued, Rule, Target, ToPipe}
 use Rattle.dn_laws.proofs.{Acceptance.verdict-takes, Acceptance.carried-by, DropLaws.not-exhausted, ReadingsObey.read, ReadingsObey.apart, ReadingsObey.kept-on, ReadingsObey.queue-on}
 use Rattle.dn_laws.proofs.{ReadingsObey.free-on, ReadingsObey.tag-on, ReadingsObey.virtual-on, SettlingHolds.is-by, SettlingHolds.busy-beyond, Shares.tagged}
-use Rattle.dn_types.proofs.{InForce.IsKept, InForce.settings-kept, InForce.pipe-there, Known.pipe_of-link, Ordered.opened-free, Settled.link_eq-refl, StepFacts.opened-count}
+use Rattle.dn_types.proofs.{InForce.IsKept, InForce.pipe-there, InForce.settings-kept, Known.pipe_of-link, Ordered.opened-free, Settled.link_eq-refl, StepFacts.opened-count}
 
 carried-one : (command : Command) (flow : ℕ) (a b : Link) → IsCarriedBy command flow a → IsCarriedBy command flow b → a ≡ b
 carried-one (Pipe number bw delay limit loss buckets mask) flow a b h k = h ∙ sym k

@@ -1,12 +1,9 @@
 -- Nothing but a start moves the moment at which a link is free, its last due moment and, in a busy period, its virtual time.
-use Rattle.std.proofs.Common.{◌≡◌, ◌∙◌, ℕ, ◌+◌, true, false, cond, List, [], ◌∷◌, ◌++◌, refl, ap, sym, subst}
-use Rattle.std.specs.List.{All}
-use Rattle.std.proofs.lemmas.List.Elements.{All-head, All-tail}
+use Rattle.dn_laws.proofs.Words.{All, All-head, All-tail, LinksAreKept, List, VirtualTimeIsKept, [], ap, cond, false, link_eq-refl, link_eq-true, refl, subst, sym, true, ℕ, ◌++◌, ◌+◌, ◌∙◌, ◌∷◌}
+use Rattle.dn_laws.proofs.Words.{◌≡◌}
 use Rattle.dn_laws.proofs.LawWords.{IsDueBy, IsNoOpening, IsNoStart, free, last_due, arrival_time, due_by, virtual_time, link_heads, Link, link_eq, Start, Event, opened, started, grown, Rule, Free}
 use Rattle.dn_laws.proofs.LawWords.{Ordered}
-use Rattle.dn_laws.specs.KeptLaws.{LinksAreKept, VirtualTimeIsKept}
 use Rattle.dn_laws.proofs.Isolation.{false-if}
-use Rattle.dn_types.proofs.Settled.{link_eq-true, link_eq-refl}
 
 module _ (rule : Rule) (link : Link) where
   other : (s : Start) → IsNoStart link (started s) → link_eq s.packet.link link ≡ false

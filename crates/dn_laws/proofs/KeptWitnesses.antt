@@ -1,10 +1,7 @@
 -- The laws of what a link and a flow keep at an example: two packets at 0 to a pipe, of which the second waits.
-use Rattle.std.proofs.Common.{◌≡◌, refl, ℕ, ◌+◌, ◌*◌, List, [], ◌∷◌, arith}
-use Rattle.std.specs.Prelude.{drop}
-use Rattle.std.proofs.lemmas.List.Elements.{All-nil, All-cons}
+use Rattle.dn_laws.proofs.Words.{All-cons, All-nil, List, [], arith, drop, pipe, refl, sized, to_pipe, ℕ, ◌*◌, ◌+◌, ◌∷◌, ◌≡◌}
 use Rattle.dn_laws.proofs.LawWords.{trace_of, free, reply, virtual_time, last_finish_tag, own, Accepted, Start, arrived, opened, started, Call, Advance, Collect, Delivered, Ordered, ToPipe, IsNoStart}
 use Rattle.dn_laws.proofs.LawWords.{IsNoOpening, IsApart}
-use Rattle.dn_types.proofs.ExampleWords.{sized, pipe, to_pipe}
 use Rattle.dn_laws.proofs.{Acceptance.queued-packets-arrive, Kept.links-are-kept, Kept.virtual-time-is-kept, Spares.clock-spares-tags, Tags.tags-are-kept, ToldDeliveries.collects-are-told}
 
 abbrev two : List Call

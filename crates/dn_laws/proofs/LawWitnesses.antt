@@ -1,9 +1,6 @@
 -- Each law of what a user configures at an example: its premises hold, and what it speaks of is there.
-use Rattle.std.proofs.Common.{◌≡◌, ◌≤◌, ◌<◌, ◌⊎◌, ◌+◌, ◌*◌, ℕ, List, [], ◌∷◌, ◌++◌, refl, arith, drop, take}
-use Rattle.std.specs.Prelude.{◌%◌, ◌^◌, ◌-◌, max, Some, None, slice_get}
-use Rattle.std.specs.List.{All}
-use Rattle.std.proofs.lemmas.List.Elements.{All-nil, All-cons}
-use Rattle.std.proofs.lemmas.Bool.{leb-true, ltb-true}
+use Rattle.dn_laws.proofs.Words.{All, All-cons, All-nil, List, None, Some, [], arith, delivery, drop, key, leb-true, ltb-true, mask, max, no_mask, packet, pipe, queue, refl, slice_get, take}
+use Rattle.dn_laws.proofs.Words.{to_pipe, to_queue, worded, ℕ, ◌%◌, ◌*◌, ◌++◌, ◌+◌, ◌-◌, ◌<◌, ◌^◌, ◌∷◌, ◌≡◌, ◌≤◌, ◌⊎◌}
 use Rattle.dn_laws.proofs.LawWords.{trace_of, effective_moment, settings, undelivered, given, AreInOrder, IsStartBy, IsTagged, IsDeliveryOf, AgreeUnder, keys, IsNoStart, free, transmission_time}
 use Rattle.dn_laws.proofs.LawWords.{reply, next_packet, last_finish_tag, virtual_time, IsDelayed, own, shared, Accepted, Start, Event, arrived, started, backlog, Call, Configure, Submit, Advance}
 use Rattle.dn_laws.proofs.LawWords.{Collect, Command, Pipe, DeletePipe, DeleteQueue, Slots, Queued, Lost, Full, Ordered, ToPipe, ToQueue}
@@ -12,7 +9,7 @@ use Rattle.dn_laws.proofs.{ConfiguredRate.keeps-the-configured-rate, Delays.dela
 use Rattle.dn_laws.proofs.{Isolation.queue-delete-empties, Isolation.packets-keep-apart, Masks.flows-are-by-mask, Rates.starts-apart, Rates.keeps-the-rate, Resets.tags-begin-afresh}
 use Rattle.dn_laws.proofs.{Resets.queue-delete-resets, Resets.dropped-changes-nothing, Shares.tags-by-weight, StartLaws.starts-at-once, StartLaws.starts-the-next, StartLaws.starts-as-configured}
 use Rattle.dn_laws.proofs.{Sums.delays-add-up, Sums.delivered-delays-add-up, Timely.events-stay, Timely.starts-in-time, Timely.none-starts-early}
-use Rattle.dn_types.proofs.ExampleWords.{tuple, mask, no_mask, packet, worded, pipe, queue, to_pipe, to_queue, key, delivery}
+use Rattle.dn_types.proofs.ExampleWords.{tuple}
 
 abbrev lossy : Command
 lossy = Pipe 1 8000000 0 (Slots 1) 1073741824 None no_mask

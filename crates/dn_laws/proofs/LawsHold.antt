@@ -1,8 +1,6 @@
 -- The definitions obey the laws, and whatever obeys them answers as the definitions do.
-use Rattle.std.proofs.Common.{◌≡◌, ◌∙◌, ◌<◌, List, [], ◌∷◌, refl, sym, length}
+use Rattle.dn_laws.proofs.Words.{FalseByTheLaws, IsLawfulAfter, IsToldAfter, List, [], length, refl, sym, ◌<◌, ◌∙◌, ◌∷◌, ◌≡◌}
 use Rattle.dn_laws.proofs.LawWords.{call_limit, Emulator, AnswersOneMore, ObeysTheLaws, emulated, IsLawful, calls_of, reply, Call, Submit, Advance, Entry, Rule}
-use Rattle.dn_laws.specs.Emulated.{IsToldAfter, FalseByTheLaws}
-use Rattle.dn_types.specs.History.{IsLawfulAfter}
 use Rattle.dn_laws.proofs.{Determines.laws-determine, DropLaws.none-unconfigured, GivesHold.gives-hold, Isolation.only-commands-count, JoinsHold.joins-hold, JoinsHold.keeps-apart, JoinsHold.drops}
 use Rattle.dn_laws.proofs.{Masks.flows-have-their-keys, PlainLawsHold.clock-configured, PlainLawsHold.clock-shown, PlainLawsHold.flows-stay, PlainLawsHold.flow-known, PlainLawsHold.flow-new}
 use Rattle.dn_laws.proofs.{PlainLawsHold.flow-none, PlainLawsHold.deletes, PlainLawsHold.spares, PlainLawsHold.configures, PlainLawsHold.unconfigures, PlainLawsHold.refuses}

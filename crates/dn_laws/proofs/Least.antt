@@ -1,10 +1,6 @@
 -- The pick goes before every other packet that is eligible.
-use Rattle.std.proofs.Common.{◌≡◌, ◌∙◌, ℕ, suc, Bool, true, false, cond, ◌&&◌, ◌||◌, List, [], ◌∷◌, get_or, refl, sym, arith, subst}
-use Rattle.std.specs.Prelude.{Option, Some, None, nat_le, nat_lt, nat_eq}
-use Rattle.std.specs.List.{All, filter}
-use Rattle.std.proofs.lemmas.Bool.Decides.{nat_tests}
-use Rattle.std.proofs.lemmas.List.Elements.{All-cons}
-use Rattle.dn_types.specs.Wf2q.{Stamped, first_to_go, earlier, goes_before, pick, raised}
+use Rattle.dn_laws.proofs.Words.{All, All-cons, Bool, List, None, Option, Some, Stamped, [], arith, cond, earlier, false, filter, first_to_go, get_or, goes_before, nat_eq, nat_le, nat_lt}
+use Rattle.dn_laws.proofs.Words.{nat_tests, pick, raised, refl, subst, suc, sym, true, ℕ, ◌&&◌, ◌||◌, ◌∙◌, ◌∷◌, ◌≡◌}
 
 before-self : (f n : ℕ) → (nat_lt f f || nat_eq f f && nat_lt n n) ≡ false
 before-self f n = grind (arith, nat_tests)

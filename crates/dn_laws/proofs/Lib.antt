@@ -34,10 +34,15 @@ pub mod LawsHold
 mod LawWitnesses
 pub mod LawWords
 pub mod Least
+pub mod LineDeletesHold
 pub mod LineLawsHold
+pub mod LineOptionsHold
+pub mod LinePrefixHolds
 pub mod LineSteps
 pub mod LineValues
+mod LineRefusalWitnesses
 mod LineWitnesses
+pub mod LineWordsHold
 pub mod Masks
 pub mod Obeyed
 pub mod Obeying
@@ -93,3 +98,4 @@ pub mod WaitBounds
 pub mod Waits
 mod WaitWitnesses
 mod Witnesses
+pub mod Words

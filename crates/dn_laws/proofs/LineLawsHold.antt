@@ -1,53 +1,27 @@
 -- The laws of configuration lines hold.
-use Rattle.std.proofs.Common.{◌≡◌, refl, sym, ◌∙◌, ap, subst, ⊎_elim, inl, inr, ℕ, ◌+◌, ◌^◌, ◌<◌, ◌≤◌, Bool, true, false, cond, List, [], ◌∷◌, ◌++◌, length, drop, arith, append-nil}
-use Rattle.std.specs.Prelude.{decimal, codes, bytes_eq, nat_eq, slice_index, ◌==◌, ◌&&◌, ◌⊎◌, Option, Some, None, Result, Ok, Err}
-use Rattle.std.specs.List.{list_all}
-use Rattle.std.specs.Char.{is_ascii_digit}
-use Rattle.std.proofs.lemmas.Bool.{and_parts}
-use Rattle.std.proofs.lemmas.Bool.Decides.{nat_tests}
-use Rattle.std.proofs.lemmas.Fmt.{decimal_is_IsNumeral}
-use Rattle.dn_types.specs.declared.command.Command.{Command}
+use Rattle.dn_laws.proofs.Words.{Bool, Command, DefaultsAreKnown, Err, Has, IsMask, Kind, Limit, LineFault, List, Mask, MaskField, None, Ok, Option, OptionWord, Options, OthersAreRefused}
+use Rattle.dn_laws.proofs.Words.{OutOfRange, Parameter, PipesAreSet, QueuesAreSet, Result, Says, Setting, Slots, Some, [], all_bits, and_parts, ap, append-nil, arith, ascii_digits, behind_kind}
+use Rattle.dn_laws.proofs.Words.{belongs, bits_at, bits_of, bytes_eq, codes, command_of, command_with, cond, config_at, config_err, config_ok, decimal, decimal_is_IsNumeral, defaults, drop, false}
+use Rattle.dn_laws.proofs.Words.{field_of, fields_nil, fields_step, greatest_of, inl, inr, is_ascii_digit, is_left_out_word, length, list_all, mask_begins, nat_eq, nat_tests, number_back}
+use Rattle.dn_laws.proofs.Words.{numeral_of, ok_within, option_bad, option_mask_ok, option_of, options_nil, options_step, placed, ranged_back, ranges, read_mask, read_options, refl, set_field}
+use Rattle.dn_laws.proofs.Words.{set_option, slice_index, subst, sym, true, value_of, with_bits, within, ℕ, ⊎_elim, ◌&&◌, ◌++◌, ◌+◌, ◌<◌, ◌==◌, ◌^◌, ◌∙◌, ◌∷◌, ◌≡◌, ◌≤◌, ◌⊎◌}
 use Rattle.dn_types.specs.declared.command.Command.TheVariants.{Pipe, Queue}
-use Rattle.dn_types.specs.declared.limit.Limit.{Limit}
-use Rattle.dn_types.specs.declared.mask.Mask.{Mask}
-use Rattle.dn_types.specs.declared.limit.Limit.TheVariants.{Slots}
-use Rattle.dn_config.specs.Tokens.Numbers.{within, numeral_of}
-use Rattle.dn_config.proofs.Capping.{ok_within}
-use Rattle.dn_config.proofs.NumbersBack.{ascii_digits, number_back, ranged_back}
-use Rattle.dn_config.specs.Groups.{◌>>=◌, belongs, value_of}
-use Rattle.dn_config.specs.Keywords.{option_of, field_of, is_left_out_word}
-use Rattle.dn_config.specs.Line.{command_of, config_at, behind_kind, command_with}
-use Rattle.dn_config.specs.Masks.{set_field, all_bits, greatest_of}
-use Rattle.dn_config.specs.Reading.{read_options, read_mask}
-use Rattle.dn_config.specs.Settings.{defaults, set_option}
-use Rattle.dn_config.specs.Values.{placed, bits_of, bits_at}
-use Rattle.dn_config.specs.declared.fault.LineFault.{LineFault}
-use Rattle.dn_config.specs.declared.fault.LineFault.TheVariants.{OutOfRange}
-use Rattle.dn_config.specs.declared.kind.Kind.{Kind}
+use Rattle.dn_config.specs.Groups.{◌>>=◌}
 use Rattle.dn_config.specs.declared.kind.Kind.TheVariants as kind
-use Rattle.dn_config.specs.declared.option_group.Parameter.{Parameter}
 use Rattle.dn_config.specs.declared.option_group.Parameter.TheVariants as p
-use Rattle.dn_config.specs.declared.mask_field.MaskField.{MaskField}
 use Rattle.dn_config.specs.declared.mask_field.MaskField.TheVariants as f
 use Rattle.dn_config.specs.declared.mask_field.MaskWord.TheVariants as m
-use Rattle.dn_config.specs.declared.option_group.OptionWord.{OptionWord}
 use Rattle.dn_config.specs.declared.option_group.OptionWord.TheVariants as o
-use Rattle.dn_config.specs.declared.option_group.Setting.{Setting}
 use Rattle.dn_config.specs.declared.option_group.Setting.TheVariants as set
-use Rattle.dn_config.specs.declared.options.Options.{Options}
-use Rattle.dn_config.proofs.Config.{config_ok, config_err}
-use Rattle.dn_config.proofs.MaskSteps.{fields_nil, fields_step, mask_begins}
-use Rattle.dn_config.proofs.OptionSteps.{options_step, options_nil, option_bad, option_mask_ok}
 use Rattle.dn_laws.proofs.LineSteps.{EndsMasks, options-add, valued-last}
 use Rattle.dn_laws.proofs.LineValues.{rate-is, delay-is, limit-is, loss-is, number-out, rate-out, delay-out, slots-out, kbytes-out, loss-out}
-use Rattle.dn_laws.specs.Determined.Emulators.{Has}
-use Rattle.dn_laws.specs.LineLaws.{Says, IsMask, no_bits, with_bits, ranges, DefaultsAreKnown, PipesAreSet, QueuesAreSet, OthersAreRefused}
+use Rattle.dn_laws.specs.LineLaws.{no_bits}
 
-abbrev name-of : Kind → List ℕ
+abbrev pub name-of : Kind → List ℕ
 name-of kind.Pipe = codes "pipe"
 name-of kind.Queue = codes "queue"
 
-no-word : (w : List ℕ) (c : ℕ) (cs : List ℕ) → 57 < c → list_all is_ascii_digit w ≡ true → bytes_eq w (c ∷ cs) ≡ false
+pub no-word : (w : List ℕ) (c : ℕ) (cs : List ℕ) → 57 < c → list_all is_ascii_digit w ≡ true → bytes_eq w (c ∷ cs) ≡ false
 no-word [] c cs l h = refl
 no-word (d ∷ ds) c cs l h = let other = other-byte d c l (and_parts (is_ascii_digit d) (list_all is_ascii_digit ds) h).0 in rw other refl
   where
@@ -62,7 +36,7 @@ module _ (k : Kind) (n : ℕ) (low : 1 ≤ n) (high : n ≤ 65535) where
       rw (no-word (decimal n) 100 _ (omega arith) digits, no-word (decimal n) 115 _ (omega arith) digits, no-word (decimal n) 108 _ (omega arith) digits, number) refl
 
 module _ (n : ℕ) (low : 1 ≤ n) (high : n ≤ 65535) (ws : List (List ℕ)) where
-  head : (k : Kind) → command_of (name-of k ∷ decimal n ∷ codes "config" ∷ ws) ≡ ◌>>=◌ {B = Option Command} (config_at k 1 n ws) (λ c. Ok (Some c))
+  pub head : (k : Kind) → command_of (name-of k ∷ decimal n ∷ codes "config" ∷ ws) ≡ ◌>>=◌ {B = Option Command} (config_at k 1 n ws) (λ c. Ok (Some c))
   head kind.Pipe = ap (λ (r : Result Command LineFault). ◌>>=◌ {B = Option Command} r (λ c. Ok (Some c))) (behind-number kind.Pipe n low high ws)
   head kind.Queue = ap (λ (r : Result Command LineFault). ◌>>=◌ {B = Option Command} r (λ c. Ok (Some c))) (behind-number kind.Queue n low high ws)
 
@@ -77,7 +51,7 @@ module _ (n : ℕ) (low : 1 ≤ n) (high : n ≤ 65535) (ws : List (List ℕ)) w
       let same : c ≡ command = cc in
       ap Ok same
 
-  by-options : (k : Kind) (command : Command) (r : Result Options LineFault) → read_options k defaults 4 ws ≡ r → Says (name-of k) n ws command → FromOptions k command
+  pub by-options : (k : Kind) (command : Command) (r : Result Options LineFault) → read_options k defaults 4 ws ≡ r → Says (name-of k) n ws command → FromOptions k command
   by-options k command (Err fault) e h =
       let config = by-config k command (config_at k 1 n ws) refl h in
       let bad = config_err k 1 n 4 ws fault refl (sym e) in absurd (cc)
@@ -86,7 +60,7 @@ module _ (n : ℕ) (low : 1 ≤ n) (high : n ≤ 65535) (ws : List (List ℕ)) w
   says-so : (k : Kind) (command : Command) (o : Options) → read_options k defaults 4 ws ≡ Ok o → command_with k 1 n o ≡ Ok command → Says (name-of k) n ws command
   says-so k command o e h = head k ∙ rw (sym (config_ok k 1 n 4 ws o refl (sym e)) ∙ h) refl
 
-abbrev word-of : Parameter → List ℕ
+abbrev pub word-of : Parameter → List ℕ
 word-of p.Bandwidth = codes "bw"
 word-of p.Delay = codes "delay"
 word-of p.Queue = codes "queue"
@@ -108,7 +82,7 @@ word-is p.Buckets = (refl, refl, refl)
 word-is p.Weight = (refl, refl, refl)
 word-is p.Pipe = (refl, refl, refl)
 
-mask-word : IsOption (codes "mask") o.Mask
+pub mask-word : IsOption (codes "mask") o.Mask
 unfolding option_of field_of is_left_out_word
 mask-word = (refl, refl, refl)
 

@@ -1,26 +1,12 @@
 -- What an option at the end of a line does: the options before it are read as without it.
-use Rattle.std.proofs.Common.{◌≡◌, refl, sym, ◌∙◌, ℕ, zero, suc, ◌+◌, ◌≤◌, Bool, true, false, List, [], ◌∷◌, ◌++◌, length, arith}
-use Rattle.std.specs.Prelude.{is_some, ◌||◌, Option, Some, None, Result, Ok, Err}
-use Rattle.dn_types.specs.declared.mask.Mask.{Mask}
-use Rattle.dn_config.specs.Values.{bits_at}
-use Rattle.dn_config.specs.Masks.{set_field, all_bits, no_bits, greatest_of}
-use Rattle.dn_config.specs.Settings.{set_option}
-use Rattle.dn_config.specs.Groups.{belongs, value_of}
-use Rattle.dn_config.specs.Keywords.{option_of, field_of, is_left_out_word}
-use Rattle.dn_config.specs.Reading.{read_fields, read_mask, read_named, read_options}
-use Rattle.dn_config.specs.declared.fault.LineFault.{LineFault}
-use Rattle.dn_config.specs.declared.kind.Kind.{Kind}
-use Rattle.dn_config.specs.declared.mask_field.MaskWord.{MaskWord}
+use Rattle.dn_laws.proofs.Words.{Bool, Err, Kind, LineFault, List, Mask, MaskField, MaskWord, None, Ok, Option, OptionWord, Options, Parameter, Result, Setting, Some, [], all_bits, arith, belongs}
+use Rattle.dn_laws.proofs.Words.{bits_at, false, field_of, fields_end, fields_nil, fields_out, fields_step, greatest_of, is_left_out_word, is_some, length, mask_begins, mask_nil, mask_stops}
+use Rattle.dn_laws.proofs.Words.{option_bad, option_foreign, option_left, option_mask_err, option_mask_ok, option_missing, option_of, option_unknown, option_valued, options_nil, options_step}
+use Rattle.dn_laws.proofs.Words.{read_fields, read_mask, read_named, read_options, refl, set_field, set_option, suc, sym, true, value_of, zero, ℕ, ◌++◌, ◌+◌, ◌||◌, ◌∙◌, ◌∷◌, ◌≡◌, ◌≤◌}
+use Rattle.dn_config.specs.Masks.{no_bits}
 use Rattle.dn_config.specs.declared.mask_field.MaskWord.TheVariants as m
-use Rattle.dn_config.specs.declared.mask_field.MaskField.{MaskField}
-use Rattle.dn_config.specs.declared.option_group.OptionWord.{OptionWord}
 use Rattle.dn_config.specs.declared.option_group.OptionWord.TheVariants as o
-use Rattle.dn_config.specs.declared.option_group.Parameter.{Parameter}
-use Rattle.dn_config.specs.declared.option_group.Setting.{Setting}
 use Rattle.dn_config.specs.declared.option_group.Setting.TheVariants as set
-use Rattle.dn_config.specs.declared.options.Options.{Options}
-use Rattle.dn_config.proofs.MaskSteps.{fields_nil, fields_end, fields_out, fields_step, mask_nil, mask_stops, mask_begins}
-use Rattle.dn_config.proofs.OptionSteps.{options_step, options_nil, option_unknown, option_left, option_foreign, option_missing, option_valued, option_bad, option_mask_ok, option_mask_err}
 
 -- what begins with a word that is no mask field ends a mask
 pub record EndsMasks (more : List (List ℕ)) : Type 0 where
@@ -126,7 +112,7 @@ module _ (k : Kind) (more : List (List ℕ)) (ends : EndsMasks more) where
   value-named at b p [] true own x h = let missing = option_missing k at (Some (o.Valued p)) b [] p refl own refl in absurd (cc)
   value-named at b p (v ∷ ws) true own x h = one-valued at b p v ws (value_of (at + 1) p v) refl own x h
 
-  named-stays : (at : ℕ) (name : Option OptionWord) (b : Bool) (ws : List (List ℕ)) → NamedStays at name b ws
+  pub named-stays : (at : ℕ) (name : Option OptionWord) (b : Bool) (ws : List (List ℕ)) → NamedStays at name b ws
   named-stays at None b ws = no-name at b ws
   named-stays at (Some o.Mask) b ws = mask-named at b ws (read_mask at ws) refl
   named-stays at (Some (o.Valued p)) b ws = value-named at b p ws (belongs k p) refl

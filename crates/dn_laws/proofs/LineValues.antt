@@ -1,30 +1,11 @@
 -- What the values of options write, by the laws' words for them.
-use Rattle.std.proofs.Common.{◌≡◌, refl, sym, ◌∙◌, ap, subst, ⊎_elim, ℕ, zero, suc, ◌+◌, ◌*◌, ◌-◌, ◌/◌, ◌^◌, ◌<◌, ◌≤◌}
-use Rattle.std.proofs.Common.{Bool, true, false, cond, inl, inr, List, [], ◌∷◌, ◌++◌, length, map, drop, arith, append-nil, length-append}
-use Rattle.std.specs.Prelude.{◌⊎◌, ◌&&◌, Option, Some, Result, Ok, Err, nat_lt, nat_le, slice_index, decimal, codes}
-use Rattle.std.specs.List.{prefix_len, list_all}
-use Rattle.std.specs.Char.{is_ascii_digit, is_ascii_alphabetic, to_ascii_lowercase, digit_value}
-use Rattle.std.specs.Str.Parse.{digits_value, digits_value_after}
-use Rattle.std.proofs.Math.Nat.{mul_assoc, mul_right_comm, add-mul, mul-le-mul_left, mul-le-mul_right, mul-lt-mul_of_pos_right, pow-suc, pow-zero}
-use Rattle.std.proofs.Math.Seq.{take-append_seam, drop-append_seam, take-length}
-use Rattle.std.proofs.lemmas.Bool.{and_parts, le-leb, lt-leb, lt-ltb}
-use Rattle.std.proofs.lemmas.Bool.Decides.{nat_tests}
-use Rattle.std.proofs.lemmas.Fmt.{decimal_is_IsNumeral}
-use Rattle.std.proofs.lemmas.List.Folds.{list_all-append}
-use Rattle.std.proofs.lemmas.Nat.{pow-add}
-use Rattle.dn_types.specs.declared.limit.Limit.{Limit}
-use Rattle.dn_types.specs.declared.limit.Limit.TheVariants.{Slots, Kbytes}
-use Rattle.dn_config.specs.Tokens.Numbers.{number_within, within}
-use Rattle.dn_config.specs.declared.tokens.number_fault.NumberFault.{NumberFault}
-use Rattle.dn_config.specs.declared.tokens.number_fault.NumberFault.TheVariants.{Range}
-use Rattle.dn_config.proofs.Capping.{ok_within}
-use Rattle.dn_config.proofs.NumbersBack.{ascii_digits, number_back, ranged_back}
-use Rattle.dn_config.specs.Keywords.{is_among}
-use Rattle.dn_config.specs.declared.fault.LineFault.TheVariants.{OutOfRange}
-use Rattle.dn_config.specs.Values.{placed, delay_at, limit_at, limited, rate_of, bandwidth_at, rate_parts_of, kept, loss_at}
-use Rattle.dn_config.proofs.ValuesBack.{digits_front, digits_of}
-use Rattle.dn_laws.specs.Determined.Emulators.{Has}
-use Rattle.dn_laws.specs.LineLaws.{multiples, endings, IsRate, IsLimit, IsLoss}
+use Rattle.dn_laws.proofs.Words.{Bool, Err, Has, IsLimit, IsLoss, IsRate, Kbytes, Limit, List, NumberFault, Ok, Option, OutOfRange, Range, Result, Slots, Some, [], add-mul, and_parts, ap}
+use Rattle.dn_laws.proofs.Words.{append-nil, arith, ascii_digits, bandwidth_at, codes, cond, decimal, decimal_is_IsNumeral, delay_at, digit_value, digits_front, digits_of, digits_value}
+use Rattle.dn_laws.proofs.Words.{digits_value_after, drop, drop-append_seam, endings, false, inl, inr, is_among, is_ascii_alphabetic, is_ascii_digit, kept, le-leb, length, length-append, limit_at}
+use Rattle.dn_laws.proofs.Words.{limited, list_all, list_all-append, loss_at, lt-leb, lt-ltb, map, mul-le-mul_left, mul-le-mul_right, mul-lt-mul_of_pos_right, mul_assoc, mul_right_comm, multiples}
+use Rattle.dn_laws.proofs.Words.{nat_le, nat_lt, nat_tests, number_back, number_within, ok_within, placed, pow-add, pow-suc, pow-zero, prefix_len, ranged_back, rate_of, rate_parts_of, refl}
+use Rattle.dn_laws.proofs.Words.{slice_index, subst, suc, sym, take-append_seam, take-length, to_ascii_lowercase, true, within, zero, ℕ, ⊎_elim, ◌&&◌, ◌*◌, ◌++◌, ◌+◌, ◌-◌, ◌/◌, ◌<◌, ◌^◌, ◌∙◌, ◌∷◌}
+use Rattle.dn_laws.proofs.Words.{◌≡◌, ◌≤◌, ◌⊎◌}
 
 placed-in : (at least most n : ℕ) → least ≤ n → n ≤ most → placed at (within least most (Some n)) ≡ Ok n
 placed-in at least most n a b = rw (ok_within least most n a b) refl

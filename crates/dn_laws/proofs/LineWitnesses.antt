@@ -1,12 +1,8 @@
 -- The laws of configuration lines at examples.
-use Rattle.std.proofs.Common.{◌≡◌, refl, inl, inr, [], ◌∷◌, ◌++◌, arith}
-use Rattle.std.specs.Prelude.{codes, decimal, None, Err}
-use Rattle.dn_config.specs.Line.{command_of}
-use Rattle.dn_config.specs.declared.fault.LineFault.TheVariants.{OutOfRange}
+use Rattle.dn_laws.proofs.Words.{Err, Kbytes, None, OutOfRange, Says, Slots, [], arith, codes, command_of, decimal, inl, inr, refl, ◌++◌, ◌∷◌, ◌≡◌}
 use Rattle.dn_types.specs.declared.command.Command.TheVariants.{Pipe, Queue}
-use Rattle.dn_types.specs.declared.limit.Limit.TheVariants.{Slots, Kbytes}
 use Rattle.dn_laws.proofs.LineLawsHold.{defaults-are-known, others-are-refused, pipes-are-set, queues-are-set}
-use Rattle.dn_laws.specs.LineLaws.{Says, no_bits}
+use Rattle.dn_laws.specs.LineLaws.{no_bits}
 
 -- `pipe 1 config bw 3Mbit/s`
 defaults-and-bandwidth : Says (codes "pipe") 1 ([] ++ codes "bw" ∷ (decimal 3 ++ codes "Mbit/s") ∷ []) (Pipe 1 3000000 0 (Slots 50) 0 None no_bits)

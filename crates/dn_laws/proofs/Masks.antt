@@ -1,12 +1,9 @@
 -- Which packets are of one flow.
-use Rattle.std.proofs.Common.{◌≡◌, ◌∙◌, ℕ, max, Bool, true, false, cond, List, [], ◌∷◌, ◌++◌, map, refl, ap, sym, length}
-use Rattle.std.specs.Prelude.{Option, Some, nat_le, slice_get}
+use Rattle.dn_laws.proofs.Words.{Bool, FlowsAreByMask, FlowsHaveTheirKeys, List, Option, Some, StandsAt, [], ap, cond, false, keys-apart, keys-stay, known-flow, length, map, max, nat_le}
+use Rattle.dn_laws.proofs.Words.{one-place, refl, slice_get, sym, true, ℕ, ◌++◌, ◌∙◌, ◌∷◌, ◌≡◌}
 use Rattle.dn_laws.proofs.LawWords.{link_of, loses, refuses, takes, verdict_by, trace_of, call_limit, effective_moment, settings, is_lost, is_full, AgreeUnder, flow_told, IsMaskedBy, kept_by}
 use Rattle.dn_laws.proofs.LawWords.{Treatment, treatment, keys, keys_with, key_of, flow_number, reply, counted_reply, reply_to_verdict, settled, Link, Event, backlog, Call, Submit, Command, Pipe}
 use Rattle.dn_laws.proofs.LawWords.{Queue, DeletePipe, DeleteQueue, FiveTuple, FlowKey, Mask, Packet, Exhausted, Rule, Target}
-use Rattle.dn_laws.specs.FlowLaws.{FlowsAreByMask, FlowsHaveTheirKeys}
-use Rattle.dn_types.proofs.Keys.{keys-apart, one-place, keys-stay}
-use Rattle.dn_types.proofs.Known.{StandsAt, known-flow}
 
 get-at : (before behind : List FlowKey) (key : FlowKey) → slice_get (before ++ key ∷ behind) (length before) ≡ Some key
 get-at [] behind key = refl

@@ -1,10 +1,8 @@
 -- What is told of a command is what is in force, and the clock goes by the moments that calls name.
-use Rattle.std.proofs.Common.{◌≡◌, ◌∙◌, ◌<◌, List, [], ◌∷◌, refl, sym, length, arith}
+use Rattle.dn_laws.proofs.Words.{ClockFollows, List, ObeysAsTold, StartsAreCounted, [], arith, count-event, length, refl, sym, ◌<◌, ◌∙◌, ◌∷◌, ◌≡◌}
 use Rattle.dn_laws.proofs.LawWords.{call_limit, reply_to_command, reply, opened, arrived, started, lost, refused, discarded, collected, is_start_of, Call, Configure, Command, Pipe, Queue, DeletePipe}
 use Rattle.dn_laws.proofs.LawWords.{DeleteQueue, Rule}
-use Rattle.dn_laws.specs.WordLaws.{ObeysAsTold, ClockFollows, StartsAreCounted}
 use Rattle.dn_laws.proofs.DropLaws.{not-exhausted}
-use Rattle.dn_types.proofs.Giving.{count-event}
 use Rattle.dn_laws.proofs.Isolation.{commands-count}
 
 answered : (rule : Rule) (calls : List Call) (command : Command) → length calls < call_limit → reply_to_command calls command ≡ reply rule calls (Configure command)

@@ -1,13 +1,9 @@
 -- What obeys the laws has the clock, the commands and the flows of the definitions.
-use Rattle.std.proofs.Common.{◌≡◌, ◌∙◌, ◌≤◌, ◌<◌, inl, inr, ⊎_elim, ℕ, max, Bool, true, false, cond, ◌&&◌, ◌||◌, List, [], ◌∷◌, ◌++◌, refl, ap, sym, subst, length, arith}
-use Rattle.std.specs.Prelude.{Option, Some, None, is_some, nat_eq}
-use Rattle.std.specs.List.{list_any}
-use Rattle.std.proofs.lemmas.Bool.{eq-eqb, and_from}
+use Rattle.dn_laws.proofs.Words.{Bool, IsKept, List, None, Option, Some, [], and_from, ap, arith, cond, eq-eqb, false, inl, inr, is_some, key_eq-true, length, list_any, max, nat_eq, refl}
+use Rattle.dn_laws.proofs.Words.{settings-kept, subst, sym, target_eq-refl, target_eq-true, true, ℕ, ⊎_elim, ◌&&◌, ◌++◌, ◌<◌, ◌||◌, ◌∙◌, ◌∷◌, ◌≡◌, ◌≤◌}
 use Rattle.dn_laws.proofs.LawWords.{call_limit, effective_moment, Settings, settings, target_eq, subject, has_queues, queue_numbers, command_reply, setting_after, reply_to_command, Emulator, Has}
 use Rattle.dn_laws.proofs.LawWords.{ObeysTheLaws, about, key_by, IsMaskedBy, treatment, key_eq, keys_with, keys, IsToldBy, HasQueue, IsThere, Call, Configure, Submit, Advance, Collect, Show, Command}
 use Rattle.dn_laws.proofs.LawWords.{Pipe, Queue, DeletePipe, DeleteQueue, FlowKey, Mask, Packet, Reply, Configured, NoSuchPipe, Deleted, PipeHasQueues, NoSuchQueue, Rule, Target, ToPipe, ToQueue}
-use Rattle.dn_types.proofs.InForce.{target_eq-true, IsKept, settings-kept}
-use Rattle.dn_types.proofs.Keys.{key_eq-true, target_eq-refl}
 use Rattle.dn_laws.proofs.ToldCommands.{some-queue, has}
 
 pub told-one : (calls : List Call) (command : Command) (r : Reply) → IsToldBy (settings calls) command r → r ≡ command_reply (settings calls) (queue_numbers calls) command

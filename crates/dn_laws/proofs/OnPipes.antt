@@ -1,13 +1,10 @@
 -- Links of some pipes: a settling and a packet go by what is in force for these pipes alone.
-use Rattle.std.proofs.Common.{◌≡◌, ◌∙◌, ℕ, zero, suc, ◌+◌, Bool, true, false, cond, ◌&&◌, List, [], ◌∷◌, ◌++◌, map, refl, ap, sym, subst}
-use Rattle.std.specs.Prelude.{Option, Some, None, nat_eq, nat_le, option_map, ⊤}
-use Rattle.std.specs.List.{list_any}
+use Rattle.dn_laws.proofs.Words.{Bool, List, None, Option, Some, [], ap, cond, false, list_any, map, nat_eq, nat_le, option_map, pipe_of-link, refl, subst, suc, sym, true, with_link, zero, ℕ, ⊤}
+use Rattle.dn_laws.proofs.Words.{◌&&◌, ◌++◌, ◌+◌, ◌∙◌, ◌∷◌, ◌≡◌}
 use Rattle.dn_laws.proofs.LawWords.{link_of, Verdict, no_target, loses, refuses, takes, verdict_by, accept, join, after_verdict, reaches, discard_reached, after_command, Settings, is_lost, is_full}
 use Rattle.dn_laws.proofs.LawWords.{Treatment, key_of, flow_number, free, transmission_time, waiting, opening, next_packet, bandwidth_of, delay_of, start_at, sooner, first_start, settle, settled}
 use Rattle.dn_laws.proofs.LawWords.{waiting_all, Link, pipe_of, link_eq, Accepted, Start, Event, opened, arrived, started, discarded, backlog, links, Command, FlowKey, Packet, Reply, Deleted, Target}
 use Rattle.dn_laws.proofs.LawWords.{ToPipe}
-use Rattle.dn_types.specs.Trace.{with_link}
-use Rattle.dn_types.proofs.Known.{pipe_of-link}
 
 module _ (On : ℕ → Type 0) where
   -- All links are of such pipes.

@@ -1,13 +1,10 @@
 -- A settling as one link sees it: its own starts, one after the other, whatever starts on other links.
-use Rattle.std.proofs.Common.{◌≡◌, ◌∙◌, ◌≤◌, ⊎_elim, ℕ, zero, suc, ◌+◌, Bool, true, false, cond, List, [], ◌∷◌, ◌++◌, map, refl, ap, sym, subst, drop, take, arith}
-use Rattle.std.specs.Prelude.{Option, Some, None, nat_le, slice_get, option_map, option_and_then}
-use Rattle.std.proofs.lemmas.Bool.Decides.{nat_tests, leb_tells}
+use Rattle.dn_laws.proofs.Words.{Bool, List, None, Option, Some, [], ap, append-none, arith, backlog-above, backlog-elsewhere, cond, drop, false, first_start-of, free-elsewhere}
+use Rattle.dn_laws.proofs.Words.{last_due-elsewhere, leb_tells, link_eq-true, map, nat_le, nat_tests, next_start-link, option_and_then, option_map, refl, settled-ends, slice_get, subst, suc, sym}
+use Rattle.dn_laws.proofs.Words.{take, true, true_or_false, virtual_time-elsewhere, zero, ℕ, ⊎_elim, ◌++◌, ◌+◌, ◌∙◌, ◌∷◌, ◌≡◌, ◌≤◌}
 use Rattle.dn_laws.proofs.LawWords.{Settings, transmission_time, free, due_by, arrival_time, last_due, link_heads, virtual_time, next_packet, bandwidth_of, delay_of, start_at, next_start, first_start}
 use Rattle.dn_laws.proofs.LawWords.{settle, settled, waiting_all, Link, own, shared, pipe_of, link_eq, Accepted, Start, Event, started, is_of, backlog, flow_bound, links, Stamped, heads, pick, grown}
 use Rattle.dn_laws.proofs.LawWords.{Rule, ToPipe}
-use Rattle.dn_types.proofs.Fifo.{append-none}
-use Rattle.dn_types.proofs.Settled.{backlog-elsewhere, free-elsewhere, last_due-elsewhere, virtual_time-elsewhere, first_start-of, next_start-link, settled-ends, link_eq-true, true_or_false}
-use Rattle.dn_types.proofs.Settling.{backlog-above}
 
 pub heads-above : (m n : ℕ) (q : ℕ → List Accepted) → n ≤ m → ((f : ℕ) → n ≤ f → q f ≡ []) → heads m q ≡ heads n q
 heads-above zero n q le none = let e : zero ≡ n = omega arith in ap (λ k. heads k q) e

@@ -1,18 +1,14 @@
 -- Where other links carry no packet, what happens is the part of what happens where they do.
-use Rattle.std.proofs.Common.{◌≡◌, ◌∙◌, ◌≤◌, ◌<◌, ℕ, zero, suc, ◌+◌, max, Bool, true, false, cond, ◌&&◌, ◌||◌, List, [], ◌∷◌, ◌++◌, map, refl, ap, sym, subst, length, arith}
-use Rattle.std.specs.Prelude.{Option, Some, None, nat_eq, nat_le, slice_get, ⊤}
-use Rattle.std.specs.List.{filter, list_any}
-use Rattle.std.proofs.lemmas.Bool.{eq-eqb}
-use Rattle.std.proofs.lemmas.Bool.Decides.{nat_tests}
+use Rattle.dn_laws.proofs.Words.{Bool, List, None, Option, Some, [], ap, arith, cond, eq-eqb, false, filter, length, list_any, map, max, nat_eq, nat_le, nat_tests, refl, scaled, slice_get, subst}
+use Rattle.dn_laws.proofs.Words.{suc, sym, true, zero, ℕ, ⊤, ◌&&◌, ◌++◌, ◌+◌, ◌<◌, ◌||◌, ◌∙◌, ◌∷◌, ◌≡◌, ◌≤◌}
 use Rattle.dn_laws.proofs.LawWords.{link_of, Verdict, no_target, loses, refuses, takes, verdict_by, accept, join, after_verdict, reaches, discard_reached, after_command, trace_of, effective_moment}
 use Rattle.dn_laws.proofs.LawWords.{Settings, settings, subject, target_eq, queue_numbers, command_reply, setting_after, reply_to_command, is_lost, is_full, Treatment, treatment, key_of, key_eq, keys}
 use Rattle.dn_laws.proofs.LawWords.{flow_number, with_key, keys_with, free, Choice, is_flow_of, is_key_on, is_carried, calls_on, place, is_some_key_on, is_flow_on, is_link_on, is_packet_on, part}
 use Rattle.dn_laws.proofs.LawWords.{part_of, waiting, opening, start_at, first_start, settle, settled, waiting_all, Link, Accepted, Start, Event, opened, arrived, started, lost, refused, discarded}
 use Rattle.dn_laws.proofs.LawWords.{collected, backlog, links, is_arrival, accepted_count, start_tag_on_arrival, Call, Configure, Submit, Advance, Collect, Show, Command, Queue, FlowKey, Packet}
 use Rattle.dn_laws.proofs.LawWords.{Reply, Deleted, Target, ToPipe, ToQueue}
-use Rattle.dn_types.specs.Wf2q.{scaled}
 use Rattle.dn_types.proofs.{Fifo.IsProper, Giving.count-event, Keys.key_eq-true, Keys.keys-stay, Known.StandsAt, Known.place as key-place, Known.place-is, Known.known-flow, Ordered.trace-proper}
-use Rattle.dn_types.proofs.{Ordered.settled-proper, Ordered.opened-proper}
+use Rattle.dn_types.proofs.{Ordered.opened-proper, Ordered.settled-proper}
 use Rattle.dn_laws.proofs.{Isolation.false-if, Parts.skip, Parts.IsFit, Parts.AreFit, Parts.link', Parts.accepted', Parts.start', Parts.backlog-part, Parts.waiting-part, Parts.free-part}
 use Rattle.dn_laws.proofs.{Parts.virtual_time-part, Parts.last_finish_tag-part, PartStarts.start_at-part, PartStarts.settled-fit, PartStarts.settled-part, Places.place-more, Places.place-same}
 use Rattle.dn_laws.proofs.{Timely.events-stay}

@@ -1,22 +1,10 @@
 -- What is still to be given of a pipe's part is the pipe's part of what is still to be given.
-use Rattle.std.proofs.Common.{◌≡◌, ◌∙◌, ◌<◌, ℕ, suc, Bool, true, false, cond, List, [], ◌∷◌, ◌++◌, map, refl, ap, sym, subst, drop, arith}
-use Rattle.std.specs.Prelude.{Some, nat_eq, nat_le, nat_lt, slice_get, ⊤}
-use Rattle.std.specs.List.{All, filter}
-use Rattle.std.specs.declared.cmp.Ordering.{Ordering}
-use Rattle.std.specs.declared.cmp.Ordering.TheVariants.{Less, Equal, Greater}
-use Rattle.std.specs.Cmp.{IsTotalOrder, nat_cmp_is, ranks}
-use Rattle.std.specs.Ordering.{is_lt, nat_cmp, ordering_then, ordering_reverse, MatchOrdering}
-use Rattle.std.proofs.lemmas.Cmp.{then_total, on_total, nat_cmp_total}
-use Rattle.std.proofs.lemmas.List.Elements.{All-filter, All-nil, All-cons}
-use Rattle.dn_types.specs.Deliveries.{delivery_cmp, is_given_before, in_order, delivery_of, undelivered, given}
-use Rattle.dn_types.specs.Links.{last_due, due_by, arrival_time}
-use Rattle.dn_laws.specs.Parts.{Choice, place, is_link_on, part}
-use Rattle.dn_laws.specs.ReplyParts.{delivery_by}
-use Rattle.dn_types.specs.Trace.{Link, Accepted, Start, Event, opened, arrived, started, lost, refused, discarded, collected, is_of, backlog}
-use Rattle.dn_types.specs.declared.delivery.Delivery.{Delivery}
-use Rattle.dn_types.specs.declared.rule.Rule.{Rule}
-use Rattle.dn_types.proofs.BoundedReplies.{in_order-all}
-use Rattle.dn_types.proofs.Fifo.{IsProper}
+use Rattle.dn_laws.proofs.Words.{Accepted, All, All-cons, All-filter, All-nil, Bool, Choice, Delivery, Equal, Event, Greater, IsProper, IsTotalOrder, Less, Link, List, MatchOrdering, Ordering}
+use Rattle.dn_laws.proofs.Words.{Rule, Some, Start, [], ap, arith, arrival_time, arrived, backlog, collected, cond, delivery_by, delivery_cmp, delivery_of, discarded, drop, due_by, false, filter}
+use Rattle.dn_laws.proofs.Words.{given, in_order, in_order-all, is_given_before, is_link_on, is_lt, is_of, last_due, lost, map, nat_cmp, nat_cmp_is, nat_cmp_total, nat_eq, nat_le, nat_lt}
+use Rattle.dn_laws.proofs.Words.{on_total, opened, ordering_reverse, ordering_then, part, ranks, refl, refused, slice_get, started, subst, suc, sym, then_total, true, undelivered, ℕ, ⊤, ◌++◌, ◌<◌}
+use Rattle.dn_laws.proofs.Words.{◌∙◌, ◌∷◌, ◌≡◌}
+use Rattle.dn_laws.specs.Parts.{place}
 use Rattle.dn_laws.proofs.EachWaiting.{each-pushed, each-left, each-cleared}
 use Rattle.dn_laws.proofs.PartCalls.{AreTaken}
 use Rattle.dn_laws.proofs.Parts.{skip, IsFit, AreFit, link', accepted', start', last_due-part}

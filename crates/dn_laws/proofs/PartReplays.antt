@@ -1,14 +1,10 @@
 -- A replay falls apart by links.
-use Rattle.std.proofs.Common.{◌≡◌, ◌∙◌, ◌≤◌, ◌<◌, ℕ, max, Bool, true, false, cond, List, [], ◌∷◌, refl, ap, sym, length, arith}
-use Rattle.std.specs.Prelude.{is_some, nat_le}
-use Rattle.std.specs.List.{filter}
-use Rattle.std.proofs.lemmas.Bool.Decides.{nat_tests}
+use Rattle.dn_laws.proofs.Words.{AgreeingCallsAgree, ArePackets, Bool, IsReplay, List, ReplaysFallApart, [], ap, arith, cond, false, filter, is_some, length, max, nat_le, nat_tests, refl, sym}
+use Rattle.dn_laws.proofs.Words.{true, ℕ, ◌<◌, ◌∙◌, ◌∷◌, ◌≡◌, ◌≤◌}
 use Rattle.dn_laws.proofs.LawWords.{Verdict, no_target, loses, refuses, takes, verdict_by, after_verdict, trace_of, effective_moment, call_limit, Settings, settings, queue_numbers, has_queues}
 use Rattle.dn_laws.proofs.LawWords.{command_reply, given, treatment, keys, keys_with, Choice, is_carried, calls_on, AreCommands, own_calls, reply_to_verdict, counted_reply, reply, replies, is_told}
 use Rattle.dn_laws.proofs.LawWords.{settled, Event, Call, Configure, Submit, Advance, Collect, Show, Command, Pipe, Queue, DeletePipe, DeleteQueue, Packet, Reply, Configured, NoSuchPipe, Deleted}
 use Rattle.dn_laws.proofs.LawWords.{PipeHasQueues, NoSuchQueue, Delivered, Exhausted, Rule, Target, ToPipe, ToQueue}
-use Rattle.dn_laws.specs.Replays.{ArePackets, IsReplay}
-use Rattle.dn_laws.specs.PartLaws.{AgreeingCallsAgree, ReplaysFallApart}
 use Rattle.dn_laws.proofs.Advances.{settled-again}
 use Rattle.dn_laws.proofs.PartCalls.{moment-on, length-on, other-links-change-nothing}
 use Rattle.dn_laws.proofs.PartReplies.{other-links-change-no-reply}

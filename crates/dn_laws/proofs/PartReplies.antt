@@ -1,20 +1,14 @@
 -- Where other links carry no packet, each call gets the part of its reply.
-use Rattle.std.proofs.Common.{◌≡◌, ◌∙◌, ℕ, suc, ◌+◌, max, Bool, true, false, cond, List, [], ◌∷◌, map, refl, ap, sym, sum, length, arith}
-use Rattle.std.specs.Prelude.{Option, Some, None, is_some, nat_eq, nat_le, ⊤}
-use Rattle.std.specs.List.{count_by, filter}
+use Rattle.dn_laws.proofs.Words.{Bool, IsProper, List, None, Option, Some, [], ap, arith, call_on, cond, count-event, count_by, event_by, false, filter, is_event_on, is_some, length, map, max}
+use Rattle.dn_laws.proofs.Words.{nat_eq, nat_le, refl, settled-proper, status_by, suc, sum, sym, trace-proper, true, ℕ, ⊤, ◌+◌, ◌∙◌, ◌∷◌, ◌≡◌}
 use Rattle.dn_laws.proofs.LawWords.{link_of, Verdict, no_target, loses, refuses, takes, verdict_by, trace_of, effective_moment, call_limit, Settings, settings, queue_numbers, has_queues}
 use Rattle.dn_laws.proofs.LawWords.{command_reply, given, is_lost, is_full, Treatment, treatment, key_of, keys, flow_number, Choice, is_carried, calls_on, place, is_flow_on, is_link_on, is_packet_on}
 use Rattle.dn_laws.proofs.LawWords.{part, status_of, statuses_from, reply_to_verdict, counted_reply, reply, replies, reply_by, reply_on, settled, Link, Accepted, Start, Event, opened, arrived}
 use Rattle.dn_laws.proofs.LawWords.{started, lost, refused, discarded, collected, backlog, is_loss_of, is_refusal_of, is_start_of, discarded_count, accepted_count, Call, Configure, Submit, Advance}
 use Rattle.dn_laws.proofs.LawWords.{Collect, Show, Command, Pipe, Queue, DeletePipe, DeleteQueue, FlowKey, FlowStatus, Packet, Reply, Configured, NoSuchPipe, Deleted, PipeHasQueues, NoSuchQueue}
 use Rattle.dn_laws.proofs.LawWords.{Advanced, Delivered, Status, Exhausted, Rule, Target, ToPipe, ToQueue}
-use Rattle.dn_laws.specs.Parts.{call_on, event_by, is_event_on}
-use Rattle.dn_laws.specs.ReplyParts.{status_by}
 use Rattle.dn_types.specs.declared.reply.Reply.TheVariants.{Queued as ReplyQueued}
 use Rattle.dn_types.specs.declared.reply.Reply.TheVariants.{Lost as ReplyLost, Full as ReplyFull}
-use Rattle.dn_types.proofs.Fifo.{IsProper}
-use Rattle.dn_types.proofs.Giving.{count-event}
-use Rattle.dn_types.proofs.Ordered.{trace-proper, settled-proper}
 use Rattle.dn_laws.proofs.PartCalls.{is-on, keys-of, IsKeyed, AreTaken, IsVerdictFit, IsAt, IsKeyedFrom, queues-on, settings-on, moment-on, length-on, keys-on, keyed-before, keyed-from, keyed-all}
 use Rattle.dn_laws.proofs.PartCalls.{flow-of, taken-before, taken-settled, all-taken, count-on, verdict-on, verdict-fit, verdict-at, verdict-part, link-fit, link-is, trace-fit, settled-on, calls-part}
 use Rattle.dn_laws.proofs.PartGiven.{given-part}

@@ -1,10 +1,9 @@
 -- A pipe's part of a replay rests on what is in force for the pipe and for the packets' targets.
-use Rattle.std.proofs.Common.{◌≡◌, ◌∙◌, ◌≤◌, ◌<◌, ℕ, ◌+◌, max, Bool, true, false, cond, List, [], ◌∷◌, ◌++◌, refl, ap, sym, subst, length, take, arith}
-use Rattle.std.specs.Prelude.{Some}
+use Rattle.dn_laws.proofs.Words.{AreAlike, AreMatched, Bool, CommandsActByForce, IsUntimed, List, PartsRestOnTheirPipe, Some, [], ap, arith, cond, emptied, false, length, max, refl, subst, sym}
+use Rattle.dn_laws.proofs.Words.{take, true, ℕ, ◌++◌, ◌+◌, ◌<◌, ◌∙◌, ◌∷◌, ◌≡◌, ◌≤◌}
 use Rattle.dn_laws.proofs.LawWords.{verdict_by, after_verdict, reaches, discard_reached, after_command, trace_of, effective_moment, call_limit, Settings, settings, reply_to_command, given, Treatment}
 use Rattle.dn_laws.proofs.LawWords.{treatment, keys, keys_with, of_pipe, calls_on, AreCommands, reply_to_verdict, counted_reply, reply, replies, settled, Event, discarded, collected, links, Call}
 use Rattle.dn_laws.proofs.LawWords.{Configure, Submit, Advance, Collect, Show, FlowKey, Command, Packet, Reply, Deleted, Delivered, Rule, Ordered, Target, ToPipe}
-use Rattle.dn_laws.specs.PartLaws.{AreAlike, AreMatched, CommandsActByForce, emptied, IsUntimed, PartsRestOnTheirPipe}
 use Rattle.dn_laws.proofs.OnPipes.{AreOn, settled-on, verdict-on, after-on, after-links, settled-same, after-same}
 use Rattle.dn_laws.proofs.PartCalls.{other-links-change-nothing}
 use Rattle.dn_laws.proofs.PartReplays.{counts}

@@ -1,24 +1,14 @@
 -- A settling's part is the settling of the part.
-use Rattle.std.proofs.Common.{◌≡◌, ◌∙◌, ◌≤◌, ◌⊎◌, inl, inr, ⊎_elim, ℕ, zero, suc, Bool, true, false, cond, ◌&&◌, ◌||◌, List, [], ◌∷◌, ◌++◌, map, refl, ap, sym, subst, drop, arith}
-use Rattle.std.specs.Prelude.{Option, Some, None, nat_eq, nat_le, nat_lt, slice_get, option_map, option_and_then}
-use Rattle.std.specs.List.{All, filter, list_any}
-use Rattle.std.proofs.lemmas.Bool.Decides.{nat_tests}
-use Rattle.std.proofs.lemmas.List.Elements.{All-push, All-drop, All-filter, All-nil}
-use Rattle.std.proofs.lemmas.Option.{slice_get-map}
-use Rattle.dn_types.specs.Configuration.{Settings}
-use Rattle.dn_types.specs.Links.{free}
-use Rattle.dn_laws.specs.Parts.{Choice, place, is_link_on, part}
-use Rattle.dn_types.specs.SharedLinks.{link_heads, virtual_time, next_packet}
-use Rattle.dn_types.specs.Starts.{start_at, next_start, sooner, first_start, settle, settled, waiting_all}
-use Rattle.dn_types.specs.Trace.{Link, own, shared, link_eq, Accepted, Start, Event, opened, arrived, started, lost, refused, discarded, collected, is_of, backlog, with_link, links}
-use Rattle.dn_types.specs.Wf2q.{Stamped, goes_before, earlier, first_to_go, is_eligible, raised, pick}
-use Rattle.dn_types.proofs.Firsts.{all-rest, first_to_go-one-of}
+use Rattle.dn_laws.proofs.Words.{Accepted, All, All-drop, All-filter, All-nil, All-push, Bool, Choice, Event, Link, List, None, Option, Settings, Some, Stamped, Start, [], all-rest, ap, arith}
+use Rattle.dn_laws.proofs.Words.{arrived, backlog, collected, cond, discarded, drop, earlier, false, filter, first_start, first_start-of, first_to_go, first_to_go-one-of, free, goes_before, inl}
+use Rattle.dn_laws.proofs.Words.{inr, is_eligible, is_link_on, is_of, link_eq, link_eq-true, link_heads, links, list_any, lost, map, nat_eq, nat_le, nat_lt, nat_tests, next_packet}
+use Rattle.dn_laws.proofs.Words.{next_packet-first, next_start, next_start-link, next_start-packet, opened, option_and_then, option_map, own, part, pick, raised, refl, refused, settle}
+use Rattle.dn_laws.proofs.Words.{settle-ends, settled, shared, slice_get, slice_get-map, sooner, sooner-left, sooner-right, start_at, started, subst, suc, sym, true, virtual_time, waiting_all}
+use Rattle.dn_laws.proofs.Words.{with_link, zero, ℕ, ⊎_elim, ◌&&◌, ◌++◌, ◌||◌, ◌∙◌, ◌∷◌, ◌≡◌, ◌≤◌, ◌⊎◌}
+use Rattle.dn_laws.specs.Parts.{place}
 use Rattle.dn_laws.proofs.Isolation.{false-if}
 use Rattle.dn_laws.proofs.Parts.{skip, IsFit, AreFit, link', stamped', accepted', start', same-link, raised-part, backlog-part, link_heads-part, link_heads-mine, free-part, virtual_time-part}
 use Rattle.dn_laws.proofs.Places.{place-less}
-use Rattle.dn_types.proofs.Settled.{link_eq-true, next_start-link, settle-ends, first_start-of}
-use Rattle.dn_types.proofs.Settling.{next_packet-first, next_start-packet}
-use Rattle.dn_types.proofs.StepFacts.{sooner-left, sooner-right}
 
 pub sooner-one : (o p : Option Start) (z : Start) → sooner o p ≡ Some z → (o ≡ Some z) ⊎ (p ≡ Some z)
 sooner-one None p z e = inr e

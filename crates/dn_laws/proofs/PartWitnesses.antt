@@ -1,14 +1,12 @@
 -- The laws of parts at examples: what they speak of is there, and the numbers differ.
-use Rattle.std.specs.Prelude.{◌≡◌, ◌≤◌, ℕ, true, false, List, [], ◌∷◌, ◌++◌, map, take, nat_eq, nat_le, length, Option, Some, None, slice_get}
-use Rattle.std.specs.List.{All, filter}
+use Rattle.dn_laws.proofs.Words.{All, List, None, Option, Some, [], ap, arith, delivery, false, filter, key, length, map, mask, nat_eq, nat_le, nat_tests, no_mask, packet, pipe, queue, refl}
+use Rattle.dn_laws.proofs.Words.{slice_get, status, sym, take, ten, to_pipe, to_queue, true, ℕ, ◌++◌, ◌∷◌, ◌≡◌, ◌≤◌}
 use Rattle.dn_laws.proofs.LawWords.{trace_of, call_limit, settings, given, Treatment, treatment, keys, FlowKey, Choice, of_pipe, calls_on, is_flow_on, part_of, own_calls, replies, reply_on, is_told}
 use Rattle.dn_laws.proofs.LawWords.{Call, Configure, Submit, Advance, Collect, Show, Pipe, DeleteQueue, Slots, Reply, Configured, Deleted, Queued, Full, Advanced, Delivered, Status, Ordered, ToPipe}
 use Rattle.dn_laws.proofs.LawWords.{ToQueue}
 use Rattle.dn_laws.proofs.{Advances.advances-are-no-more, PartCalls.other-links-change-nothing, PartReplays.agreeing-calls-agree, PartReplays.replays-fall-apart, PartSettings.commands-act-by-force}
 use Rattle.dn_laws.proofs.{PartSettings.parts-rest-on-their-pipe, PartsWhole.parts-are-whole, PartReplies.other-links-change-no-reply}
-use Rattle.dn_types.proofs.ExampleWords.{tuple, mask, no_mask, ten, packet, delivery, key, status, pipe, queue, to_pipe, to_queue}
-use Rattle.std.proofs.Common.{refl, ap, sym, arith}
-use Rattle.std.proofs.lemmas.Bool.Decides.{nat_tests}
+use Rattle.dn_types.proofs.ExampleWords.{tuple}
 
 abbrev mixed : List Call
 mixed =

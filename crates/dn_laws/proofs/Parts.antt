@@ -1,17 +1,10 @@
 -- What is read off a pipe's part of a trace is what is read of the pipe's links off the trace.
-use Rattle.std.proofs.Common.{◌≡◌, ◌∙◌, ◌≤◌, ⊎_elim, ℕ, zero, suc, ◌+◌, max, min, Bool, true, false, cond, ◌&&◌, List, [], ◌∷◌, ◌++◌, map, refl, ap, sym, subst, length, drop, take, get_or, arith}
-use Rattle.std.specs.Prelude.{nat_eq, ⊤}
-use Rattle.std.specs.List.{All}
-use Rattle.std.proofs.lemmas.Bool.{eqb-true}
-use Rattle.std.proofs.lemmas.List.{take-map, drop-map, length-map, map-append}
-use Rattle.std.proofs.lemmas.List.Elements.{All-append, All-take, All-map, All-nil}
-use Rattle.std.proofs.lemmas.Bool.Decides.{leb_tells}
-use Rattle.dn_types.specs.Links.{free, last_due, due_by, arrival_time}
-use Rattle.dn_laws.specs.Parts.{Choice, place, is_link_on, link_by, stamped_by, accepted_by, start_by, part}
-use Rattle.dn_types.specs.SharedLinks.{link_heads, waiting, virtual_time, last_finish_tag}
-use Rattle.dn_types.specs.Trace.{Link, own, shared, link_eq, Accepted, Start, Event, opened, arrived, started, lost, refused, discarded, collected, is_of, backlog, flow_bound}
-use Rattle.dn_types.specs.Wf2q.{Stamped, scaled, heads, total, least_start_tag, raised, weight_sum, grown}
-use Rattle.dn_types.specs.declared.rule.Rule.{Rule}
+use Rattle.dn_laws.proofs.Words.{Accepted, All, All-append, All-map, All-nil, All-take, Bool, Choice, Event, Link, List, Rule, Stamped, Start, [], accepted_by, ap, arith, arrival_time, arrived}
+use Rattle.dn_laws.proofs.Words.{backlog, collected, cond, discarded, drop, drop-map, due_by, eqb-true, false, flow_bound, free, get_or, grown, heads, is_link_on, is_of, last_due, last_finish_tag}
+use Rattle.dn_laws.proofs.Words.{least_start_tag, leb_tells, length, length-map, link_by, link_eq, link_heads, lost, map, map-append, max, min, nat_eq, opened, own, part, raised, refl, refused}
+use Rattle.dn_laws.proofs.Words.{scaled, shared, stamped_by, start_by, started, subst, suc, sym, take, take-map, total, true, virtual_time, waiting, weight_sum, zero, ℕ, ⊎_elim, ⊤, ◌&&◌, ◌++◌}
+use Rattle.dn_laws.proofs.Words.{◌+◌, ◌∙◌, ◌∷◌, ◌≡◌, ◌≤◌}
+use Rattle.dn_laws.specs.Parts.{place}
 use Rattle.dn_types.proofs.{Fifo.append-none, Settled.and-left, Settled.link_eq-true, Settling.and-right, Settling.backlog-above, Settling.backlog-own, StepFacts.clear-none}
 use Rattle.dn_laws.proofs.{Isolation.false-if, OneLink.heads-above, Places.place-more, Places.place-mono, Places.place-eq}
 

@@ -1,17 +1,15 @@
 -- With the calls of other parts left out, the part of all happens: the own calls lag by no more than the clock.
-use Rattle.std.proofs.Common.{◌≡◌, ◌∙◌, ◌≤◌, ℕ, zero, suc, max, Bool, true, false, cond, List, [], ◌∷◌, refl, ap, sym, subst, length, arith}
-use Rattle.std.specs.Prelude.{Option, Some, None}
+use Rattle.dn_laws.proofs.Words.{Bool, List, None, Option, PartsHappenAlone, Some, [], ap, arith, cond, false, first_start-of, length, max, refl, subst, suc, sym, true, zero, ℕ, ◌∙◌, ◌∷◌, ◌≡◌}
+use Rattle.dn_laws.proofs.Words.{◌≤◌}
 use Rattle.dn_laws.proofs.LawWords.{verdict_by, after_verdict, after_command, trace_of, effective_moment, Settings, settings, subject, target_eq, queue_numbers, command_reply, setting_after}
 use Rattle.dn_laws.proofs.LawWords.{reply_to_command, given, AreDivided, IsOfOnePart, links_of, own_of, Treatment, treatment, keys, keys_with, calls_on, is_carried, reply_to_verdict, counted_reply}
 use Rattle.dn_laws.proofs.LawWords.{statuses_from, first_start, settle, settled, waiting_all, Start, Event, started, collected, links, Call, Configure, Submit, Advance, Collect, Show, Command, Pipe}
 use Rattle.dn_laws.proofs.LawWords.{Queue, DeletePipe, DeleteQueue, Packet, Delivered, Status, Rule, Ordered, Target, ToPipe}
-use Rattle.dn_laws.specs.Divided.{PartsHappenAlone}
 use Rattle.dn_laws.proofs.Advances.{settled-again}
 use Rattle.dn_laws.proofs.Divided.{IsWithin, AreMine, queues-of, within, carried-on, carried-elsewhere, none-uncarried, keys-mine, after-elsewhere, setting-elsewhere, command-same}
 use Rattle.dn_laws.proofs.Elsewhere.{quiet}
 use Rattle.dn_laws.proofs.OnPipes.{AreOn, settled-on, verdict-on, after-on, after-links, settled-same, after-same}
 use Rattle.dn_laws.proofs.PartCalls.{settings-on, keys-on, moment-on, other-links-change-nothing}
-use Rattle.dn_types.proofs.Settled.{first_start-of}
 
 -- By the clock nothing is left to settle.
 still : (calls : List Call) → settled (settings calls) (effective_moment calls) (trace_of calls) ≡ trace_of calls

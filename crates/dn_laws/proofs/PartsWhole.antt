@@ -1,21 +1,13 @@
 -- What is given is of a known flow, so that it is in the part of one pipe.
-use Rattle.std.proofs.Common.{◌≡◌, ◌∙◌, ℕ, zero, suc, max, Bool, true, false, cond, ◌&&◌, List, [], ◌∷◌, map, refl, ap, sym, subst}
-use Rattle.std.specs.Prelude.{Option, Some, None, nat_eq, nat_le, nat_lt, slice_get, ⊤}
-use Rattle.std.specs.List.{All}
-use Rattle.std.proofs.lemmas.List.Elements.{All-filter, All-nil}
-use Rattle.std.proofs.lemmas.Option.{slice_get_within}
+use Rattle.dn_laws.proofs.Words.{All, All-filter, All-nil, AreKnown, Bool, List, None, Option, PartsAreWhole, Some, [], all-known, ap, cond, false, first_start-of, flow-start, in_order-all}
+use Rattle.dn_laws.proofs.Words.{keys-stay, known-flow, known-started, map, max, nat_eq, nat_le, nat_lt, next_packet-first, next_start-packet, refl, slice_get, slice_get_within, subst, suc, sym}
+use Rattle.dn_laws.proofs.Words.{true, zero, ℕ, ⊤, ◌&&◌, ◌∙◌, ◌∷◌, ◌≡◌}
 use Rattle.dn_laws.proofs.LawWords.{link_of, Verdict, no_target, loses, refuses, takes, verdict_by, accept, join, after_verdict, trace_of, effective_moment, Settings, settings, delivery_of}
 use Rattle.dn_laws.proofs.LawWords.{undelivered, given, is_lost, is_full, Treatment, treatment, key_of, keys, keys_with, flow_number, with_key, free, last_due, of_pipe, is_flow_of, is_key_on}
 use Rattle.dn_laws.proofs.LawWords.{is_some_key_on, waiting, opening, start_at, first_start, settle, settled, waiting_all, Link, shared, Accepted, Start, Event, opened, arrived, started, backlog}
 use Rattle.dn_laws.proofs.LawWords.{links, Call, Configure, Submit, Advance, Collect, Show, Delivery, FlowKey, Packet, Rule, Target, ToPipe, ToQueue}
-use Rattle.dn_laws.specs.PartLaws.{PartsAreWhole}
-use Rattle.dn_types.proofs.BoundedReplies.{in_order-all}
 use Rattle.dn_laws.proofs.Isolation.{commands-move-nothing}
-use Rattle.dn_types.proofs.Keys.{keys-stay}
-use Rattle.dn_types.proofs.Known.{AreKnown, all-known, known-flow, known-started}
 use Rattle.dn_laws.proofs.PartCalls.{stands-there}
-use Rattle.dn_types.proofs.Settled.{first_start-of}
-use Rattle.dn_types.proofs.Settling.{next_packet-first, next_start-packet, flow-start}
 
 module _ (rule : Rule) where
   abbrev HasKey : List FlowKey → Delivery → Type 0

@@ -1,21 +1,15 @@
 -- A link makes no pause while a packet waits for it.
-use Rattle.std.proofs.Common.{◌≡◌, ◌∙◌, ◌≤◌, ◌<◌, ◌≢◌, ◌⊎◌, ⊎_elim, inl, inr, ℕ, ◌+◌, max, Bool, true, false, cond, List, [], ◌∷◌, ◌++◌, refl, ap, sym, subst, length, drop, arith}
-use Rattle.std.specs.Prelude.{Some, nat_eq, nat_le, slice_get, ◌&&◌, ⊤}
-use Rattle.std.specs.List.{All}
-use Rattle.std.proofs.lemmas.Bool.Decides.{nat_tests}
-use Rattle.std.proofs.lemmas.Bool.{eq-eqb}
-use Rattle.std.proofs.lemmas.List.{append_cancel_right, length-append, append_assoc}
-use Rattle.std.proofs.lemmas.List.Elements.{All-nil, All-push}
+use Rattle.dn_laws.proofs.Words.{All, All-nil, All-push, Bool, LinksMakeNoPause, List, Some, [], ap, append_assoc, append_cancel_right, arith, cond, drop, eq-eqb, false, inl, inr, length}
+use Rattle.dn_laws.proofs.Words.{length-append, max, nat_eq, nat_le, nat_tests, refl, slice_get, subst, sym, true, ℕ, ⊎_elim, ⊤, ◌&&◌, ◌++◌, ◌+◌, ◌<◌, ◌∙◌, ◌∷◌, ◌≡◌, ◌≢◌, ◌≤◌, ◌⊎◌}
 use Rattle.dn_laws.proofs.LawWords.{link_of, Verdict, no_target, loses, refuses, takes, verdict, accept, join, after_verdict, trace_of, effective_moment, settings, keys, key_of, flow_number}
 use Rattle.dn_laws.proofs.LawWords.{start_count, is_start_with, free, reply, reply_to_verdict, waiting, start_at, Link, link_eq, Accepted, Start, Event, opened, arrived, started, lost, refused}
 use Rattle.dn_laws.proofs.LawWords.{discarded, collected, is_of, backlog, is_arrival, accepted_count, starting, sending, Call, Submit, Advance, Packet, Queued, Lost, Full, NoTarget, Exhausted, Rule}
 use Rattle.dn_laws.proofs.LawWords.{Target}
-use Rattle.dn_laws.specs.WaitLaws.{LinksMakeNoPause}
 use Rattle.dn_laws.proofs.{Ahead.IsIt, Ahead.one-of-number, Begun.IsCaused, Begun.IsTaken, Begun.AllEvents, Begun.call-causes, DropLaws.not-exhausted, EachWaiting.each-pushed, EachWaiting.each-left}
 use Rattle.dn_laws.proofs.{EachWaiting.each-cleared, Exactly.waits-for-its-link, Fates.all-stay, Rates.shape, Timely.split, Timely.queued, Timely.count-later, ToldCounts.told-few}
 use Rattle.dn_laws.proofs.{Waits.behind-arrival, Waits.none-before, Waits.opening-of}
-use Rattle.dn_types.proofs.{Bounded.first-all, Conserving.busy-link, Fifo.IsProper, Fifo.own-first, Giving.count-event, Once.starts-once, Ordered.trace-proper, Ordered.suffix-proper}
-use Rattle.dn_types.proofs.{Ordered.opened-free, Ordered.opened-backlog, Ordered.of-own, Settled.link_eq-true, StepFacts.opened-count}
+use Rattle.dn_types.proofs.{Bounded.first-all, Conserving.busy-link, Fifo.IsProper, Fifo.own-first, Giving.count-event, Once.starts-once, Ordered.suffix-proper, Ordered.trace-proper}
+use Rattle.dn_types.proofs.{Ordered.of-own, Ordered.opened-backlog, Ordered.opened-free, Settled.link_eq-true, StepFacts.opened-count}
 
 -- Each start is when its link is free, or of the packet that has just arrived where none waited.
 abbrev pub IsUnpaused : List Event → Type 0

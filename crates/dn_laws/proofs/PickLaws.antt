@@ -1,12 +1,6 @@
 -- What is picked is one of the heads, it is eligible, and none that is goes before it.
-use Rattle.std.proofs.Common.{◌≡◌, ℕ, true, List, get_or}
-use Rattle.std.specs.Prelude.{Some}
-use Rattle.std.specs.List.{Contains, filter}
-use Rattle.std.proofs.lemmas.Bool.{le-leb, leb-true}
-use Rattle.std.proofs.lemmas.List.Elements.{All-contains_itself, All-filter, filter_passes}
-use Rattle.dn_laws.specs.Laws.{IsFirstEligible}
-use Rattle.dn_types.specs.Wf2q.{Stamped, pick, raised, is_eligible}
-use Rattle.dn_types.proofs.Firsts.{first_to_go-one-of}
+use Rattle.dn_laws.proofs.Words.{All-contains_itself, All-filter, Contains, IsFirstEligible, List, Some, Stamped, filter, filter_passes, first_to_go-one-of, get_or, is_eligible, le-leb, leb-true}
+use Rattle.dn_laws.proofs.Words.{pick, raised, true, ℕ, ◌≡◌}
 use Rattle.dn_laws.proofs.Least.{pick-least}
 
 pub pick-is-first : (v : ℕ) (hs : List Stamped) (h : Stamped) → pick v hs ≡ Some h → IsFirstEligible v hs h

@@ -1,8 +1,5 @@
 -- Places among the numbers that pass a test.
-use Rattle.std.proofs.Common.{◌≡◌, ◌∙◌, ◌≤◌, ◌<◌, ◌≢◌, ⊎_elim, ℕ, zero, suc, Bool, true, false, cond, ap, sym, arith}
-use Rattle.std.specs.Prelude.{nat_le, nat_lt, nat_eq}
-use Rattle.std.proofs.lemmas.Bool.{eq-eqb}
-use Rattle.std.proofs.lemmas.Bool.Decides.{nat_tests, leb_tells, eqb_tells}
+use Rattle.dn_laws.proofs.Words.{Bool, ap, arith, cond, eq-eqb, eqb_tells, false, leb_tells, nat_eq, nat_le, nat_lt, nat_tests, suc, sym, true, zero, ℕ, ⊎_elim, ◌<◌, ◌∙◌, ◌≡◌, ◌≢◌, ◌≤◌}
 use Rattle.dn_laws.specs.Parts.{place}
 
 module _ (test : ℕ → Bool) where

@@ -1,12 +1,10 @@
 -- The definitions obey the laws of the clock, of commands, of flows and of what a packet is told.
-use Rattle.std.proofs.Common.{◌≡◌, ◌∙◌, ◌≢◌, ◌<◌, ℕ, ◌+◌, Bool, true, false, cond, List, [], ◌∷◌, ◌++◌, refl, ap, sym, subst, length, arith}
-use Rattle.std.specs.Prelude.{◌%◌, ◌^◌, Option, Some, None, map, nat_eq}
-use Rattle.std.specs.List.{count_by, list_any}
+use Rattle.dn_laws.proofs.Words.{Bool, List, None, Option, Some, [], ap, arith, cond, count_by, false, is_reached, length, list_any, map, nat_eq, refl, subst, sym, true, ℕ, ◌%◌, ◌++◌, ◌+◌, ◌<◌}
+use Rattle.dn_laws.proofs.Words.{◌^◌, ◌∙◌, ◌∷◌, ◌≡◌, ◌≢◌}
 use Rattle.dn_laws.proofs.LawWords.{trace_of, link_of, reaches, discard_reached, after_command, call_limit, effective_moment, settings, target_eq, answers, Has, about, key_by, discards, link_to}
 use Rattle.dn_laws.proofs.LawWords.{on_link, emulated, IsJudgedBy, IsExplained, IsMaskedBy, treatment, key_eq, with_key, keys_with, keys, reply, replies, is_queued, Link, Event, discarded, backlog}
 use Rattle.dn_laws.proofs.LawWords.{Call, Configure, Submit, Advance, Collect, Show, Command, Pipe, Queue, DeletePipe, DeleteQueue, FlowKey, Limit, Mask, Packet, Reply, Configured, Deleted, Queued}
 use Rattle.dn_laws.proofs.LawWords.{Rule, Target, ToPipe, ToQueue}
-use Rattle.dn_laws.specs.Determined.Links.{is_reached}
 use Rattle.dn_laws.proofs.{DropLaws.drops-are-explained, Isolation.commands-count, Isolation.false-if, Obeying.about-is, Obeying.has-key, Obeying.key-had, Readings.commands-are-answered}
 use Rattle.dn_laws.proofs.{ReadingsObey.queue-on, Spares.commands-spare, ToldCounts.packets-are-numbered}
 

@@ -1,15 +1,10 @@
 -- All queues of a pipe together keep its rate, since they are on one link.
-use Rattle.std.proofs.Common.{◌≡◌, ◌∙◌, ◌≤◌, ◌<◌, ℕ, ◌+◌, ◌*◌, Bool, true, false, cond, List, [], ◌∷◌, ◌++◌, refl, ap, sym, subst, arith}
-use Rattle.std.specs.Prelude.{◌^◌, Option, nat_eq, slice_get}
-use Rattle.std.proofs.lemmas.List.{append_assoc}
+use Rattle.dn_laws.proofs.Words.{Bool, IsProper, List, Option, [], ap, append_assoc, arith, cond, false, is_of_queues, link_eq-true, nat_eq, refl, sent_by_queues, slice_get, subst, suffix-proper}
+use Rattle.dn_laws.proofs.Words.{sym, trace-proper, true, ℕ, ◌*◌, ◌++◌, ◌+◌, ◌<◌, ◌^◌, ◌∙◌, ◌∷◌, ◌≡◌, ◌≤◌}
 use Rattle.dn_laws.proofs.LawWords.{link_of, trace_of, sent, keys, StaysInForce, Link, shared, link_eq, pipe_of, Start, Event, arrived, started, Call, Pipe, FlowKey, Limit, Mask, Target, ToPipe}
 use Rattle.dn_laws.proofs.LawWords.{ToQueue}
-use Rattle.dn_laws.specs.PacketLaws.{is_of_queues, sent_by_queues}
 use Rattle.dn_laws.proofs.AtHome.{IsHomeOf, HaveHomes, have-homes, start-home}
 use Rattle.dn_laws.proofs.ConfiguredRate.{keeps-the-configured-rate}
-use Rattle.dn_types.proofs.Fifo.{IsProper}
-use Rattle.dn_types.proofs.Ordered.{suffix-proper, trace-proper}
-use Rattle.dn_types.proofs.Settled.{link_eq-true}
 
 pub suffix-homes : (known : List FlowKey) (later earlier : List Event) → HaveHomes known (later ++ earlier) → HaveHomes known earlier
 suffix-homes known [] earlier h = h

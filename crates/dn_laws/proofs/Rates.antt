@@ -1,12 +1,7 @@
 -- What a link sends in a stretch of time.
-use Rattle.std.proofs.Common.{◌≡◌, ◌∙◌, ◌≤◌, ◌<◌, ℕ, ◌+◌, ◌*◌, Bool, true, false, cond, List, [], ◌∷◌, ◌++◌, refl, ap, sym, subst, arith}
-use Rattle.std.specs.Prelude.{◌^◌}
-use Rattle.std.proofs.Math.Nat.{add-mul, mul-le-mul_right}
-use Rattle.dn_laws.specs.Explained.{sent, IsAtBandwidth}
-use Rattle.dn_laws.specs.ConfiguredLaws.{KeepsTheRate, StartsApart}
-use Rattle.dn_types.specs.Links.{free, transmission_time}
-use Rattle.dn_types.specs.Trace.{Link, link_eq, Start, Event, arrived, started}
-use Rattle.dn_types.proofs.{Fifo.IsProper, Ordered.trace-proper, Ordered.suffix-proper, Settled.link_eq-true, Settled.link_eq-refl, TransmissionTime.transmission-is-least}
+use Rattle.dn_laws.proofs.Words.{Bool, Event, IsAtBandwidth, KeepsTheRate, Link, List, Start, StartsApart, [], add-mul, ap, arith, arrived, cond, false, free, link_eq, mul-le-mul_right, refl}
+use Rattle.dn_laws.proofs.Words.{sent, started, subst, sym, transmission_time, true, ℕ, ◌*◌, ◌++◌, ◌+◌, ◌<◌, ◌^◌, ◌∙◌, ◌∷◌, ◌≡◌, ◌≤◌}
+use Rattle.dn_types.proofs.{Fifo.IsProper, Ordered.suffix-proper, Ordered.trace-proper, Settled.link_eq-refl, Settled.link_eq-true, TransmissionTime.transmission-is-least}
 
 -- A link is free later and later.
 pub free-later : (link : Link) (stretch earlier : List Event) → IsProper (stretch ++ earlier) → free link earlier ≤ free link (stretch ++ earlier)

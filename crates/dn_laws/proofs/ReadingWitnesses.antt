@@ -1,10 +1,7 @@
 -- The laws of readings at an example: two packets of 1,000 bytes at 0, at 8 Mbit/s, to a pipe whose queue holds one.
-use Rattle.std.specs.Prelude.{◌≡◌, ◌+◌, ◌*◌, ℕ, true, List, [], ◌∷◌, ◌++◌, Some, None}
-use Rattle.std.proofs.Common.{refl, arith}
-use Rattle.std.proofs.lemmas.Bool.{leb-true}
+use Rattle.dn_laws.proofs.Words.{List, None, Some, [], arith, leb-true, no_mask, refl, to_pipe, true, ℕ, ◌*◌, ◌++◌, ◌+◌, ◌∷◌, ◌≡◌}
 use Rattle.dn_laws.proofs.LawWords.{trace_of, moment_of, settings, subject, reply_to_command, Treatment, treatment, accepted_since, start_count, free, reply, next_start, own, Accepted, Start, arrived}
 use Rattle.dn_laws.proofs.LawWords.{backlog, is_of, Call, Configure, Advance, Command, Pipe, DeletePipe, Slots, Ordered, ToPipe}
-use Rattle.dn_types.proofs.ExampleWords.{no_mask, to_pipe}
 use Rattle.dn_laws.proofs.Readings.{moments-are-named, subjects-are-named, commands-are-answered, targets-are-treated, links-are-told-apart, queues-are-read, starts-are-due, packets-are-counted}
 
 abbrev narrow : Command

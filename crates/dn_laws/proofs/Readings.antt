@@ -1,18 +1,10 @@
 -- What laws read off calls and events is what these say.
-use Rattle.std.proofs.Common.{◌≡◌, ◌∙◌, ◌≤◌, ℕ, Bool, true, false, cond, List, [], ◌∷◌, ◌++◌, refl, ap, sym, subst, drop, arith}
-use Rattle.std.specs.Prelude.{Option, Some, None, nat_eq, nat_le, ◌≢◌}
-use Rattle.std.specs.List.{count_by}
-use Rattle.std.specs.Option.{option_map}
-use Rattle.std.proofs.lemmas.Bool.{eqb-true, eq-eqb, and_from}
-use Rattle.std.proofs.lemmas.Bool.Decides.{nat_tests}
+use Rattle.dn_laws.proofs.Words.{Bool, CommandsAreAnswered, GoesBy, IsElsewhere, LinksAreToldApart, List, MomentsAreNamed, None, Option, PacketsAreCounted, QueuesAreRead, Some, StartsAreDue}
+use Rattle.dn_laws.proofs.Words.{SubjectsAreNamed, TargetsAreTreated, [], and-left, and-right, and_from, ap, arith, cond, count-delivery, count-event, count_by, drop, eq-eqb, eqb-true, false}
+use Rattle.dn_laws.proofs.Words.{given_as, link_eq-refl, link_eq-true, nat_eq, nat_le, nat_tests, option_map, refl, starts_as, subst, sym, true, ℕ, ◌++◌, ◌∙◌, ◌∷◌, ◌≡◌, ◌≢◌, ◌≤◌}
 use Rattle.dn_laws.proofs.LawWords.{trace_of, after_command, given, Treatment, treatment, keys, accepted_since, started_since, is_packet, is_start_with, start_count, free, next_packet, next_start}
 use Rattle.dn_laws.proofs.LawWords.{start_at, Link, link_eq, Accepted, Start, Event, opened, arrived, started, lost, refused, discarded, collected, backlog, Configure, Command, Pipe, Queue}
 use Rattle.dn_laws.proofs.LawWords.{DeletePipe, DeleteQueue, Delivery, Mask, Reply, IsMaskedBy}
-use Rattle.dn_types.proofs.Giving.{count-event, count-delivery}
-use Rattle.dn_types.proofs.Settled.{and-left, link_eq-true, link_eq-refl}
-use Rattle.dn_types.proofs.Settling.{and-right}
-use Rattle.dn_laws.specs.ReadingLaws.{MomentsAreNamed, SubjectsAreNamed, CommandsAreAnswered, TargetsAreTreated, LinksAreToldApart, IsElsewhere, GoesBy}
-use Rattle.dn_laws.specs.ReadingLaws.{QueuesAreRead, StartsAreDue, starts_as, given_as, PacketsAreCounted}
 use Rattle.dn_laws.proofs.DropLaws.{not-exhausted}
 
 pub moments-are-named : MomentsAreNamed

@@ -1,17 +1,12 @@
 -- The readings of the definitions obey the laws of readings, and so they do on what happened on one link alone.
-use Rattle.std.proofs.Common.{◌≡◌, ◌∙◌, ◌≢◌, ◌≤◌, ◌<◌, ◌⊎◌, inl, inr, ⊎_elim, ℕ, zero, suc, ◌+◌, ◌*◌, ◌/◌, max, Bool, true, false, cond, List, [], ◌∷◌, ◌++◌, refl, ap, sym, subst, arith}
-use Rattle.std.specs.Prelude.{slice_get, nat_eq, map, sum, take, drop}
-use Rattle.std.proofs.lemmas.Bool.{eqb-true, eq-eqb, and_from}
-use Rattle.std.proofs.lemmas.Bool.Decides.{leb_tells}
-use Rattle.std.proofs.lemmas.List.Sums.{sum_by-cons}
+use Rattle.dn_laws.proofs.Words.{Bool, IsNotOf, List, [], and-left, and-right, and_from, ap, arith, backlog-above, backlog-own, cond, drop, eq-eqb, eqb-true, false, first-own, inl, inr, leb_tells}
+use Rattle.dn_laws.proofs.Words.{link_eq-refl, link_eq-true, map, max, nat_eq, refl, slice_get, subst, suc, sum, sum_by-cons, sym, take, true, zero, ℕ, ⊎_elim, ◌*◌, ◌++◌, ◌+◌, ◌/◌, ◌<◌, ◌∙◌, ◌∷◌}
+use Rattle.dn_laws.proofs.Words.{◌≡◌, ◌≢◌, ◌≤◌, ◌⊎◌}
 use Rattle.dn_laws.proofs.LawWords.{Readings, AreReadings, Has, IsOf, IsFirst, IsRaised, GrowsBy, weights, is_on, on_link, IsDueBy, IsNoStart, IsNoOpening, IsApart, free, last_due, arrival_time}
 use Rattle.dn_laws.proofs.LawWords.{due_by, virtual_time, last_finish_tag, link_heads, Link, link_eq, is_of, Accepted, Start, Event, opened, arrived, started, lost, refused, discarded, collected}
 use Rattle.dn_laws.proofs.LawWords.{backlog, flow_bound, Stamped, heads, raised, least_start_tag, weight_sum, grown, Rule, Free, Ordered}
-use Rattle.dn_laws.specs.Determined.Emulators.{IsNotOf}
 use Rattle.dn_laws.proofs.Isolation.{false-if}
 use Rattle.dn_laws.proofs.SameReadings.{same-readings}
-use Rattle.dn_types.proofs.Settled.{and-left, link_eq-true, link_eq-refl}
-use Rattle.dn_types.proofs.Settling.{and-right, backlog-own, backlog-above, first-own}
 
 abbrev pub read : Rule → Readings
 read rule = record {

@@ -1,54 +1,17 @@
 -- The laws of packet files and histories hold.
-use Rattle.std.proofs.Common.{◌≡◌, ◌∙◌, ◌≢◌, refl, sym, ap, subst, ⊎_elim, ℕ, ◌+◌, ◌^◌, ◌<◌, ◌==◌, true, false, List, [], ◌∷◌, ◌++◌, length, map, arith, append_assoc, append-nil}
-use Rattle.std.specs.Prelude.{Some, Result, Ok, Err, codes, decimal, flat_map, nat_le, nat_lt}
-use Rattle.std.specs.Char.{digit_value}
-use Rattle.std.specs.List.{All, join_with_byte}
-use Rattle.std.proofs.lemmas.Bool.{le-leb, lt-leb, ne_eqb}
-use Rattle.std.proofs.lemmas.List.Elements.{All-cons, All-head, All-nil, All-tail}
-use Rattle.csv.specs.Records.{field_at}
-use Rattle.csv.specs.Reading.{strip_bom}
-use Rattle.csv.specs.Writing.{fields_text, is_blank}
-use Rattle.dn_types.specs.declared.call.Call.{Call}
-use Rattle.dn_types.specs.declared.call.Call.TheVariants.{Submit}
-use Rattle.dn_types.specs.declared.entry.Entry.{Entry}
-use Rattle.dn_types.specs.declared.flow_status.FlowStatus.{FlowStatus}
-use Rattle.dn_types.specs.declared.packet.Packet.{Packet}
-use Rattle.dn_types.specs.declared.reply.Reply.{Reply}
+use Rattle.dn_laws.proofs.Words.{All, All-cons, All-head, All-nil, All-tail, AllFilled, AllPlain, AreEntries, BadRow, Call, Entry, Err, FlowStatus, HasNoMark, HistoriesAreRead}
+use Rattle.dn_laws.proofs.Words.{HistoriesAreWritten, HistoryVersion, IsEntry, IsPiece, IsPlain, IsRow, LimitsAreKnown, List, Live, Ok, Packet, Piece, ReplayFault, Reply, Result, Row, RowsAreRead}
+use Rattle.dn_laws.proofs.Words.{RowsHaveTenFields, Rule, Second, Some, Submit, Target, Texts, Third, [], address-plain, address_back, address_of, aim, answered, ap, append-nil, append_assoc}
+use Rattle.dn_laws.proofs.Words.{arith, asked, bits, call_fields, codes, columns, decimal, digit-plain, digit_value, dotted, end_record, entry, entry_records, false, field_at, fields_text}
+use Rattle.dn_laws.proofs.Words.{file_of, flat_map, has_deletes, header, history_header, history_in, is_address_byte, is_blank, is_header, item_records, join_with_byte, le-leb, length, line-is}
+use Rattle.dn_laws.proofs.Words.{line_of, listed, lt-leb, map, nat_le, nat_lt, ne_eqb, number_digits, number_within, packet_at, piece_entries, piece_records, plain-field, plain_end, ranged_back}
+use Rattle.dn_laws.proofs.Words.{read-back, read_as, records, records-back, records_of, refl, reply_fields, row_line, row_of, rows_below, rows_from, rule_of, state, status_record, strip_bom}
+use Rattle.dn_laws.proofs.Words.{subst, sym, target_at, target_name, target_number, text_of, true, tuple_at, version_record, with_front, ℕ, ⊎_elim, ◌++◌, ◌+◌, ◌<◌, ◌==◌, ◌^◌, ◌∙◌, ◌∷◌, ◌≡◌, ◌≢◌}
 use Rattle.dn_types.specs.declared.reply.Reply.TheVariants as r
-use Rattle.dn_types.specs.declared.rule.Rule.{Rule}
-use Rattle.dn_types.specs.declared.target.Target.{Target}
 use Rattle.dn_types.specs.declared.target.Target.TheVariants.{Pipe, Queue}
-use Rattle.dn_config.specs.Tokens.Addresses.{address_of}
-use Rattle.dn_config.specs.Tokens.Numbers.{number_within}
-use Rattle.dn_config.proofs.NumbersBack.{ranged_back}
-use Rattle.dn_config.proofs.UntilBack.{number_digits}
 use Rattle.dn_config.proofs.UntilBack.{address_back as address_bytes}
-use Rattle.dn_config.proofs.UntilParts.{is_address_byte}
-use Rattle.dn_records.specs.Records.{AllFilled, HasNoMark, line_of, records_of, text_of}
-use Rattle.dn_records.proofs.ReadBack.{read-back}
-use Rattle.dn_files.specs.Fields.{packet_at, target_at, tuple_at}
-use Rattle.dn_files.specs.PacketFile.{is_header, row_of, rows_below, rows_from}
-use Rattle.dn_files.specs.PacketParts.{header, with_front}
 use Rattle.dn_files.specs.Reading.{◌>>=◌}
-use Rattle.dn_files.specs.declared.replay_fault.ReplayFault.{ReplayFault}
-use Rattle.dn_files.specs.declared.replay_fault.ReplayFault.TheVariants.{BadRow}
-use Rattle.dn_files.specs.declared.row.Row.{Row}
-use Rattle.dn_files.proofs.PlainFields.{AllPlain, IsPlain}
-use Rattle.dn_files.proofs.PlainLines.{line-is, plain-field, plain_end}
-use Rattle.dn_files.proofs.PlainRows.{address-plain, digit-plain}
-use Rattle.dn_history.specs.EntryRecords.{call_fields, item_records, reply_fields, status_record, target_name, target_number}
-use Rattle.dn_history.specs.HistoryFile.{history_in}
-use Rattle.dn_history.specs.HistoryRecords.{has_deletes, rule_of}
-use Rattle.dn_history.specs.HistoryText.{end_record, entry_records, history_header}
-use Rattle.dn_history.specs.Ranges.{AreEntries, IsEntry}
-use Rattle.dn_history.specs.declared.history_version.HistoryVersion.{HistoryVersion}
-use Rattle.dn_history.specs.declared.history_version.HistoryVersion.TheVariants.{Second, Third, Live}
-use Rattle.dn_history.proofs.EntriesBack.{IsPiece, Piece, piece_entries, piece_records, read_as}
-use Rattle.dn_history.proofs.FieldsBack.{address_back}
-use Rattle.dn_history.proofs.HistoryBack.{records-back}
-use Rattle.dn_history.proofs.VersionLines.{version_record}
-use Rattle.dn_laws.specs.RecordLaws.{Texts, dotted, tuple, bits, aim, columns, row_line, file_of, IsRow, asked, answered, state, listed, entry, records}
-use Rattle.dn_laws.specs.RecordLaws.{RowsAreRead, RowsHaveTenFields, HistoriesAreWritten, HistoriesAreRead, LimitsAreKnown}
+use Rattle.dn_laws.specs.RecordLaws.{tuple}
 
 address-is : (a : ℕ) → a < 2 ^ 32 → address_of (dotted a) ≡ Some a
 address-is a l = address_back a l

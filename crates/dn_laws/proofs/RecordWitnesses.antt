@@ -1,26 +1,9 @@
 -- The laws of packet files and histories at examples.
-use Rattle.std.proofs.Common.{◌≡◌, refl, inl, inr, ℕ, ◌<◌, List, [], ◌∷◌, length, arith}
-use Rattle.std.specs.Prelude.{Ok, Err, codes}
+use Rattle.dn_laws.proofs.Words.{Advance, Advanced, All-cons, All-nil, BadRow, Config, Entry, Err, IsEntry, IsRow, List, Ok, Ordered, Row, TooLong, [], arith, codes, config_file, csv_on_literals}
+use Rattle.dn_laws.proofs.Words.{escaped, fields_text, history_file, history_text, inl, inr, is_blank, length, packet_file, refl, rows_of, text_of, ℕ, ◌<◌, ◌∷◌, ◌≡◌}
 use Rattle.std.specs.Fmt.{digits}
-use Rattle.std.proofs.lemmas.List.Elements.{All-cons, All-nil}
-use Rattle.csv.proofs.OnLiterals.{csv_on_literals}
-use Rattle.csv.specs.Writing.{escaped, fields_text, is_blank}
-use Rattle.dn_types.specs.declared.call.Call.TheVariants.{Advance}
-use Rattle.dn_types.specs.declared.entry.Entry.{Entry}
-use Rattle.dn_types.specs.declared.reply.Reply.TheVariants.{Advanced}
-use Rattle.dn_types.specs.declared.rule.Rule.TheVariants.{Ordered}
 use Rattle.dn_types.specs.declared.target.Target.TheVariants.{Queue}
-use Rattle.dn_records.specs.Records.{text_of}
-use Rattle.dn_files.specs.ConfigFile.{config_file}
-use Rattle.dn_files.specs.PacketFile.{packet_file, rows_of}
-use Rattle.dn_files.specs.declared.replay_fault.ReplayFault.TheVariants.{BadRow, TooLong}
-use Rattle.dn_files.specs.declared.row.Row.{Row}
-use Rattle.dn_files.specs.declared.source.Source.TheVariants.{Config}
-use Rattle.dn_history.specs.HistoryFile.{history_file}
-use Rattle.dn_history.specs.HistoryText.{history_text}
-use Rattle.dn_history.specs.Ranges.{IsEntry}
 use Rattle.dn_laws.proofs.RecordLawsHold.{histories-are-read, histories-are-written, limits-are-known, rows-are-read, rows-have-ten-fields}
-use Rattle.dn_laws.specs.RecordLaws.{IsRow}
 
 -- From 10.0.0.3 to 10.0.0.2, by TCP.
 abbrev row : Row

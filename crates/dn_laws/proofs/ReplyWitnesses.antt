@@ -1,17 +1,14 @@
 -- The laws of replies, of acceptance, of discards and of what stays at examples: what they ask for is there.
-use Rattle.std.specs.Prelude.{◌≡◌, ◌≢◌, ◌≤◌, ◌<◌, ◌+◌, ◌*◌, ◌^◌, ◌⊎◌, ℕ, List, [], ◌∷◌, ◌++◌, drop, take, length, Some, None}
-use Rattle.std.specs.List.{count_by}
-use Rattle.std.proofs.Common.{refl, arith}
-use Rattle.std.proofs.lemmas.Bool.{leb-true}
+use Rattle.dn_laws.proofs.Words.{List, None, Some, Waits, WasDiscarded, [], arith, count_by, delivery, drop, key, leb-true, length, no_mask, pipe, queue, refl, sized, status, take, to_pipe}
+use Rattle.dn_laws.proofs.Words.{to_queue, ℕ, ◌*◌, ◌++◌, ◌+◌, ◌<◌, ◌^◌, ◌∷◌, ◌≡◌, ◌≢◌, ◌≤◌, ◌⊎◌}
 use Rattle.dn_laws.proofs.LawWords.{trace_of, effective_moment, settings, free, IsAccepted, IsDelete, reply, replies, HasStarted, IsDelivered, last_finish_tag, moment_told, is_queued, times_told, own}
 use Rattle.dn_laws.proofs.LawWords.{shared, is_start_of, Accepted, Start, Call, Configure, Advance, Collect, Show, Command, Pipe, Queue, DeletePipe, DeleteQueue, Slots, NoSuchPipe, PipeHasQueues}
 use Rattle.dn_laws.proofs.LawWords.{Deleted, Configured, Queued, Full, Delivered, Status, Exhausted, Ordered, ToPipe, ToQueue}
-use Rattle.dn_laws.specs.ReplyLaws.{Waits, WasDiscarded}
 use Rattle.dn_laws.proofs.{Acceptance.arrivals-are-told, AtHome.packets-add-up, AtHome.shows-are-told, Comes.discards-are-deletes, Delivered.queued-packets-are-delivered, Fates.queued-packets-stay}
 use Rattle.dn_laws.proofs.{Obeyed.obeys-as-told, Obeyed.clock-follows, Obeyed.starts-are-counted, QueuesRate.queues-share-the-rate, Seen.flows-were-told, Spares.commands-spare}
 use Rattle.dn_laws.proofs.{Spares.packets-spare-tags, Tags.busy-periods-begin, ToldCommands.limit-is-counted, ToldCommands.replies-tell-the-clock, ToldCommands.clock-is-the-greatest}
 use Rattle.dn_laws.proofs.{ToldCommands.commands-are-told, ToldCounts.packets-are-numbered, ToldDeliveries.told-once, ToldDeliveries.told-when-due}
-use Rattle.dn_types.proofs.ExampleWords.{tuple, no_mask, sized, delivery, key, status, pipe, queue, to_pipe, to_queue}
+use Rattle.dn_types.proofs.ExampleWords.{tuple}
 
 abbrev narrow : Command
 narrow = Pipe 1 8000000 0 (Slots 1) 0 None no_mask

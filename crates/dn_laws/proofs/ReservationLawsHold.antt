@@ -1,19 +1,7 @@
 -- The laws of room hold.
-use Rattle.std.proofs.Common.{◌≡◌, ◌∙◌, ◌≢◌, ℕ, true, false, refl, sym, ap, subst, length}
-use Rattle.std.specs.Prelude.{Option, Some, None, is_some, nat_le}
-use Rattle.std.proofs.lemmas.Bool.{lt-leb}
-use Rattle.dn_shaper.specs.Refinement.Settings.{InForce, settings_of}
-use Rattle.dn_shaper.specs.Room.{HasRoomBy, HasRoomOf, IsOther}
-use Rattle.dn_shaper.specs.declared.state.State.{State}
-use Rattle.dn_types.specs.Clock.{call_limit, counted}
-use Rattle.dn_types.specs.Configuration.{Settings, settings, subject}
-use Rattle.dn_types.specs.Flows.{Treatment, key_of, treatment}
-use Rattle.dn_types.specs.declared.call.Call.TheVariants.{Configure, Submit, Advance, Collect, Show}
-use Rattle.dn_types.specs.declared.command.Command.{Command}
-use Rattle.dn_types.specs.declared.flow_key.FlowKey.{FlowKey}
-use Rattle.dn_types.specs.declared.packet.Packet.{Packet}
-use Rattle.dn_types.specs.declared.target.Target.{Target}
-use Rattle.dn_laws.specs.ReservationLaws.{IsOfFlow, OnlyMakersLackMemory, ChangesHaveRoom, RoomStays}
+use Rattle.dn_laws.proofs.Words.{Advance, ChangesHaveRoom, Collect, Command, Configure, FlowKey, HasRoomBy, HasRoomOf, InForce, IsOfFlow, IsOther, None, OnlyMakersLackMemory, Option, Packet}
+use Rattle.dn_laws.proofs.Words.{RoomStays, Settings, Show, Some, State, Submit, Target, Treatment, ap, call_limit, counted, false, is_some, key_of, length, lt-leb, nat_le, refl, settings}
+use Rattle.dn_laws.proofs.Words.{settings_of, subject, subst, sym, treatment, true, ℕ, ◌∙◌, ◌≡◌, ◌≢◌}
 
 treated-there : (o : Option Command) → is_some (treatment o) ≡ true → o ≢ None
 treated-there None some none = absurd (cc)

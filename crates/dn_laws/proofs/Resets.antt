@@ -1,12 +1,10 @@
 -- A busy period begins with tags of 0, a delete forgets its flows' tags, and a packet that is dropped changes nothing.
-use Rattle.std.proofs.Common.{◌≡◌, ◌∙◌, ◌≤◌, ℕ, zero, suc, max, Bool, true, false, cond, List, [], ◌∷◌, refl, ap, length, arith}
-use Rattle.std.specs.Prelude.{nat_le, nat_eq}
-use Rattle.std.proofs.lemmas.Bool.{eq-eqb, le-leb, and_from}
+use Rattle.dn_laws.proofs.Words.{Bool, DroppedChangesNothing, IsDropped, List, PipeDeleteResets, QueueDeleteResets, TagsBeginAfresh, [], and_from, ap, arith, cond, eq-eqb, false, le-leb, length}
+use Rattle.dn_laws.proofs.Words.{max, nat_eq, nat_le, refl, suc, true, zero, ℕ, ◌∙◌, ◌∷◌, ◌≡◌, ◌≤◌}
 use Rattle.dn_laws.proofs.LawWords.{link_of, Verdict, no_target, loses, refuses, takes, accept, after_verdict, verdict, trace_of, call_limit, effective_moment, Settings, settings, target_eq}
 use Rattle.dn_laws.proofs.LawWords.{undelivered, Treatment, keys, key_of, flow_number, free, last_due, counted_reply, reply_to_verdict, waiting, opening, virtual_time, last_finish_tag, settled, Link}
 use Rattle.dn_laws.proofs.LawWords.{Accepted, Event, opened, arrived, backlog, flow_bound, total, start_tag_on_arrival, Call, Submit, Advance, DeletePipe, DeleteQueue, Packet, Exhausted, Rule, Target}
 use Rattle.dn_laws.proofs.LawWords.{ToQueue}
-use Rattle.dn_laws.specs.ResetLaws.{DroppedChangesNothing, IsDropped, PipeDeleteResets, QueueDeleteResets, TagsBeginAfresh}
 use Rattle.dn_laws.proofs.Begun.{IsCaused, IsTaken, call-causes, adds-among}
 use Rattle.dn_types.proofs.{Conserving.busy-link, Keys.target_eq-refl, Known.reached-cleared, Settled.link_eq-refl}
 use Rattle.dn_laws.proofs.Isolation.{after-deleted, none-left}

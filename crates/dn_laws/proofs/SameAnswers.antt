@@ -1,10 +1,7 @@
 -- Two that obey the laws, with the same readings, answer one call more the same where they agree on the calls before it.
-use Rattle.std.proofs.Common.{◌≡◌, ◌∙◌, ◌≤◌, ◌<◌, ⊎_elim, ℕ, zero, suc, ◌+◌, ◌*◌, ◌/◌, List, [], ◌∷◌, refl, ap, sym, subst, arith}
-use Rattle.std.specs.Prelude.{Option, Some, None}
-use Rattle.std.proofs.lemmas.Bool.Decides.{leb_tells}
+use Rattle.dn_laws.proofs.Words.{List, None, Option, Some, [], ap, arith, leb_tells, refl, subst, suc, sym, with_starts, zero, ℕ, ⊎_elim, ◌*◌, ◌+◌, ◌/◌, ◌<◌, ◌∙◌, ◌∷◌, ◌≡◌, ◌≤◌}
 use Rattle.dn_laws.proofs.LawWords.{Readings, IsFirst, IsPick, IsTransmission, pipe_under, IsBy, IsStart, AreStarts, Settles, IsTaggedBy, Joins, Link, Accepted, Start, Event, opened, arrived, started}
 use Rattle.dn_laws.proofs.LawWords.{Command, Pipe, Queue, DeletePipe, DeleteQueue, Target, ToPipe}
-use Rattle.dn_laws.specs.Determined.Links.{with_starts}
 use Rattle.dn_laws.proofs.SameReadings.{raised-one}
 
 module _ (r : Readings) where

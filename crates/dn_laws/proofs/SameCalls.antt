@@ -1,14 +1,10 @@
 -- Two that obey the laws, with the same readings, answer each call the same and make the same happen.
-use Rattle.std.proofs.Common.{◌≡◌, ◌∙◌, ◌≢◌, ◌≤◌, ◌<◌, ⊎_elim, ℕ, ◌+◌, false, List, [], ◌∷◌, refl, ap, sym, subst, length, arith}
-use Rattle.std.specs.Prelude.{◌^◌, ◌%◌, Option, Some, None, slice_get, map, sum}
-use Rattle.std.specs.List.{All, count_by}
-use Rattle.std.proofs.lemmas.Option.{slice_get_within, slice_get_cases}
+use Rattle.dn_laws.proofs.Words.{All, IsKept, List, None, Option, Some, [], ap, arith, count_by, false, keys-apart, length, map, one-place, refl, settings-kept, slice_get, slice_get_cases}
+use Rattle.dn_laws.proofs.Words.{slice_get_within, subst, sum, sym, ℕ, ⊎_elim, ◌%◌, ◌+◌, ◌<◌, ◌^◌, ◌∙◌, ◌∷◌, ◌≡◌, ◌≢◌, ◌≤◌}
 use Rattle.dn_laws.proofs.LawWords.{call_limit, Emulator, Readings, answers, AnswersOneMore, ObeysTheLaws, key_by, IsWeight, Settles, Joins, discards, link_to, IsGivenBy, GivesNot, starts_of}
 use Rattle.dn_laws.proofs.LawWords.{IsStateBy, IsJudgedBy, flow_told, IsMaskedBy, keys, is_queued, is_queued_of, is_lost_of, is_full_of, IsCarriedBy, Link, own, shared, Event, Call, Configure, Submit}
 use Rattle.dn_laws.proofs.LawWords.{Advance, Collect, Show, Command, Pipe, Queue, DeletePipe, DeleteQueue, Delivery, FlowKey, FlowStatus, Limit, Mask, Packet, Reply, Deleted, NoTarget, Queued}
 use Rattle.dn_laws.proofs.LawWords.{Advanced, Delivered, Status, Rule, Target, ToPipe, ToQueue}
-use Rattle.dn_types.proofs.InForce.{IsKept, settings-kept}
-use Rattle.dn_types.proofs.Keys.{one-place, keys-apart}
 use Rattle.dn_laws.proofs.Obeying.{clock-is, forced, commands-told, flows-are}
 use Rattle.dn_laws.proofs.SameAnswers.{settles-one, joins-one}
 use Rattle.dn_laws.proofs.SameReadings.{same-link}

@@ -1,12 +1,8 @@
 -- What is read off a trace is determined: two families of readings that obey the laws are the same, if at first the same waits.
-use Rattle.std.proofs.Common.{◌≡◌, ◌∙◌, ◌≢◌, ◌≤◌, ◌⊎◌, inl, inr, ⊎_elim, ℕ, zero, suc, ◌+◌, ◌*◌, ◌/◌, max, Bool, true, false, List, [], ◌∷◌, ◌++◌, refl, ap, sym, subst, arith}
-use Rattle.std.specs.Prelude.{nat_eq, map, sum, take, drop}
-use Rattle.std.proofs.lemmas.Bool.{eqb-true, eq-eqb, and_from}
-use Rattle.std.proofs.lemmas.Bool.Decides.{leb_tells}
+use Rattle.dn_laws.proofs.Words.{Bool, List, [], and-left, and-right, and_from, ap, arith, drop, eq-eqb, eqb-true, false, inl, inr, leb_tells, link_eq-refl, link_eq-true, map, max, nat_eq, refl}
+use Rattle.dn_laws.proofs.Words.{subst, suc, sum, sym, take, true, zero, ℕ, ⊎_elim, ◌*◌, ◌++◌, ◌+◌, ◌/◌, ◌∙◌, ◌∷◌, ◌≡◌, ◌≢◌, ◌≤◌, ◌⊎◌}
 use Rattle.dn_laws.proofs.LawWords.{Readings, AreReadings, IsOf, IsFirst, IsRaised, GrowsBy, weights, IsDueBy, IsNoStart, IsNoOpening, IsApart, Link, link_eq, is_of, Accepted, Start, Event, opened}
 use Rattle.dn_laws.proofs.LawWords.{arrived, started, lost, refused, discarded, collected, Rule}
-use Rattle.dn_types.proofs.Settled.{and-left, link_eq-true, link_eq-refl}
-use Rattle.dn_types.proofs.Settling.{and-right}
 use Rattle.dn_laws.proofs.ToldDeliveries.{one-due}
 
 pub decided : {A : Type 0} (b : Bool) → (b ≡ true → A) → (A → b ≡ true) → A ⊎ (A → ⊥)

@@ -1,6 +1,5 @@
 -- Lists that the laws of Collects and of Shows determine, and the reply to a packet.
-use Rattle.std.proofs.Common.{◌≡◌, ◌∙◌, inl, inr, ⊎_elim, ℕ, zero, suc, List, [], ◌∷◌, refl, ap, sym, subst, length, arith}
-use Rattle.std.specs.Prelude.{Some, slice_get}
+use Rattle.dn_laws.proofs.Words.{List, Some, [], ap, arith, inl, inr, length, refl, slice_get, subst, suc, sym, zero, ℕ, ⊎_elim, ◌∙◌, ◌∷◌, ◌≡◌}
 use Rattle.dn_laws.proofs.LawWords.{Has, ComesBefore, ComeInOrder, IsExplained, IsAtLimit, flow_told, moment_told, Delivery, FlowStatus, Limit, Reply, Queued, Lost, Full}
 
 not-both : (d x : Delivery) → ComesBefore d x → ComesBefore x d → ⊥

@@ -1,15 +1,11 @@
 -- Each flow was named in a reply to a packet.
-use Rattle.std.proofs.Common.{◌≡◌, ◌∙◌, ◌≤◌, ◌<◌, ◌⊎◌, inl, inr, ⊎_elim, ℕ, zero, suc, ◌+◌, max, Bool, true, false, cond, ◌||◌, List, [], ◌∷◌, ◌++◌, map, refl, ap, sym, length, arith}
-use Rattle.std.specs.Prelude.{Option, Some, None, nat_eq, slice_get}
-use Rattle.std.specs.List.{count_by, list_any}
-use Rattle.std.proofs.lemmas.Bool.{eq-eqb}
-use Rattle.std.proofs.lemmas.List.Sums.{sum_by-cons}
+use Rattle.dn_laws.proofs.Words.{Bool, FlowsWereTold, List, None, Option, Some, [], ap, arith, cond, count_by, eq-eqb, false, inl, inr, length, list_any, map, max, nat_eq, place-is, refl}
+use Rattle.dn_laws.proofs.Words.{slice_get, suc, sum_by-cons, sym, true, zero, ℕ, ⊎_elim, ◌++◌, ◌+◌, ◌<◌, ◌||◌, ◌∙◌, ◌∷◌, ◌≡◌, ◌≤◌, ◌⊎◌}
 use Rattle.dn_laws.proofs.LawWords.{loses, refuses, takes, link_of, verdict_by, trace_of, call_limit, effective_moment, settings, is_lost, is_full, Treatment, treatment, key_eq, key_of, keys}
 use Rattle.dn_laws.proofs.LawWords.{keys_with, flow_number, reply, replies, reply_to_verdict, settled, is_queued_of, is_lost_of, is_full_of, Link, Event, backlog, Call, Submit, FlowKey, Packet, Reply}
 use Rattle.dn_laws.proofs.LawWords.{Rule, Target}
-use Rattle.dn_laws.specs.ReplyLaws.{FlowsWereTold}
 use Rattle.dn_laws.proofs.DropLaws.{not-exhausted}
-use Rattle.dn_types.proofs.Known.{place, place-is}
+use Rattle.dn_types.proofs.Known.{place}
 
 new-place : (key : FlowKey) (known : List FlowKey) → list_any (key_eq key) known ≡ false → place key known ≡ length known
 new-place key [] e = refl

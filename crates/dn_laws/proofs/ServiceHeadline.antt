@@ -1,6 +1,5 @@
 -- A closed service and its calls by the laws: whatever obeys them gives the replies.
-use Rattle.dn_types.specs.declared.rule.Rule.TheVariants.{Ordered}
-use Rattle.dn_laws.specs.ServiceLaws.{ServicesByTheLaws, CallsByTheLaws}
+use Rattle.dn_laws.proofs.Words.{CallsByTheLaws, Ordered, ServicesByTheLaws}
 use Rattle.dn_laws.proofs.LawsHold.{histories-by-the-laws}
 use Rattle.dn_laws.proofs.ServiceLawsHold.{callers-are-left, none-is-foreign}
 

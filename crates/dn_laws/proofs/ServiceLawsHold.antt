@@ -1,34 +1,10 @@
 -- The laws of closed services hold.
-use Rattle.std.proofs.Common.{◌≡◌, ◌∙◌, ◌≤◌, ◌<◌, ⊎_elim, inl, inr, ℕ, zero, suc, ◌+◌, Bool, true, false, cond, List, [], ◌∷◌, ◌++◌, length, map, refl, ap, sym, subst, arith, append_assoc}
-use Rattle.std.specs.Prelude.{◌⊎◌, ◌==◌, ◌||◌, Some, slice_get, nat_eq, reverse, sum}
-use Rattle.std.specs.List.{All, count_by}
-use Rattle.std.proofs.lemmas.Bool.{eqb-true}
-use Rattle.std.proofs.lemmas.Bool.Decides.{leb_tells}
-use Rattle.std.proofs.lemmas.Grind.{reverse_onto}
-use Rattle.std.proofs.lemmas.List.Elements.{All-head, All-tail}
-use Rattle.std.proofs.lemmas.List.Sums.{sum_by-cons}
-use Rattle.dn_types.specs.Calls.{trace_of}
-use Rattle.dn_types.specs.Clock.{call_limit, effective_moment}
-use Rattle.dn_types.specs.Flows.{keys}
-use Rattle.dn_types.specs.History.{IsLawfulAfter}
-use Rattle.dn_types.specs.Links.{last_due}
-use Rattle.dn_types.specs.Replies.{reply}
-use Rattle.dn_types.specs.Trace.{Link, Start, Event, started}
-use Rattle.dn_types.specs.declared.call.Call.{Call}
-use Rattle.dn_types.specs.declared.call.Call.TheVariants.{Collect}
-use Rattle.dn_types.specs.declared.delivery.Delivery.{Delivery}
-use Rattle.dn_types.specs.declared.entry.Entry.{Entry}
-use Rattle.dn_types.specs.declared.reply.Reply.{Reply}
-use Rattle.dn_types.specs.declared.reply.Reply.TheVariants.{Delivered}
-use Rattle.dn_types.specs.declared.rule.Rule.TheVariants.{Ordered}
-use Rattle.dn_types.proofs.Dues.{due-is-last, due-moments-never-fall}
-use Rattle.dn_types.proofs.Fifo.{IsProper}
-use Rattle.dn_types.proofs.Ordered.{trace-proper, suffix-proper}
+use Rattle.dn_laws.proofs.Words.{All, All-cons, All-head, All-nil, All-tail, AnswersSuffice, Bool, Call, CallerView, CallersAreLeft, Collect, Delivered, Delivery, Entry, Event, Has}
+use Rattle.dn_laws.proofs.Words.{HistoriesSuffice, IsAccounted, IsAccountedFor, IsDelivered, IsDeliveryOf, IsFaced, IsLawfulAfter, IsProper, Link, List, NoneIsForeign, NoneIsOvertaken, Ordered}
+use Rattle.dn_laws.proofs.Words.{Reply, ServiceView, Some, Start, WasTold, [], ap, append_assoc, arith, call_limit, cond, count_by, due-is-last, due-moments-never-fall, effective_moment, eq-eqb}
+use Rattle.dn_laws.proofs.Words.{eqb-true, false, has_number, inl, inr, keys, last_due, leb_tells, length, lost_to, map, nat_eq, refl, reply, reverse, reverse_onto, slice_get, started, subst, suc}
+use Rattle.dn_laws.proofs.Words.{suffix-proper, sum, sum_by-cons, sym, trace-proper, trace_of, true, zero, ℕ, ⊎_elim, ◌++◌, ◌+◌, ◌<◌, ◌==◌, ◌||◌, ◌∙◌, ◌∷◌, ◌≡◌, ◌≤◌, ◌⊎◌}
 use Rattle.dn_service.specs.Accounts.{times}
-use Rattle.dn_service.specs.Callers.{ServiceView, CallerView, IsAccountedFor, IsFaced, has_number, lost_to}
-use Rattle.dn_laws.specs.Determined.Emulators.{Has}
-use Rattle.dn_laws.specs.Explained.{IsDeliveryOf}
-use Rattle.dn_laws.specs.ServiceLaws.{WasTold, CallersAreLeft, NoneIsForeign, IsDelivered, NoneIsOvertaken}
 use Rattle.dn_laws.proofs.AtHome.{IsHomeOf, HaveHomes, have-homes, start-home, home-is}
 use Rattle.dn_laws.proofs.QueuesRate.{suffix-homes}
 use Rattle.dn_laws.proofs.Rates.{starts-apart, shape}
@@ -169,3 +145,38 @@ module _ (calls : List Call) where
 pub none-is-overtaken : NoneIsOvertaken
 none-is-overtaken service callers history d e closes a b same soon =
     in-turn (calls-after [] history) d e (delivered-start [] history closes.lawful d a) (delivered-start [] history closes.lawful e b) same soon
+
+pub answers-suffice : AnswersSuffice
+answers-suffice before after c r between lawful below front own all =
+    record { lawful = lawful; below = below; between = between; front = front; own = own; all_own = all }
+
+-- Each caller that is accounted for has its account, and was faced as its account says.
+accounts-hold : (history : List Entry) (all callers : List CallerView) → All (IsAccounted history all) callers → All (IsAccountedFor history) callers
+accounts-hold history all [] h = All-nil (IsAccountedFor history)
+accounts-hold history all (c ∷ callers) h =
+    let first = All-head (IsAccounted history all) c callers h in
+    All-cons (IsAccountedFor history) c callers (record { front = first.0; own = first.1 }) (accounts-hold history all callers (All-tail (IsAccounted history all) c callers h))
+
+faced-hold : (history : List Entry) (all callers : List CallerView) → All (IsAccounted history all) callers → All (IsFaced all) callers
+faced-hold history all [] h = All-nil (IsFaced all)
+faced-hold history all (c ∷ callers) h =
+    All-cons (IsFaced all) c callers ((All-head (IsAccounted history all) c callers h).2 ∙ sym (lost-sum c.number all)) (faced-hold history all callers (All-tail (IsAccounted history all) c callers h))
+
+or-true : (b : Bool) → b || true ≡ true
+or-true true = refl
+or-true false = refl
+
+has-its-number : (k : ℕ) (callers : List CallerView) (c : CallerView) → Has callers c → c.number ≡ k → has_number k callers ≡ true
+has-its-number k [] c there is = absurd there
+has-its-number k (o ∷ callers) c there is = ⊎_elim
+    (λ e. ap (λ b. b || has_number k callers) (eq-eqb o.number k (ap (λ (x : CallerView). x.number) e ∙ is)))
+    (λ rest. ap (λ b. o.number == k || b) (has-its-number k callers c rest is) ∙ or-true (o.number == k)) there
+
+pub histories-suffice : HistoriesSuffice
+histories-suffice service callers history lawful below accounted whole = record {
+  lawful = lawful;
+  below = below;
+  accounts = accounts-hold history callers callers accounted;
+  faced = faced-hold history callers callers accounted;
+  whole = λ k l. let found = whole k l in has-its-number k callers found.0 found.1 found.2;
+}

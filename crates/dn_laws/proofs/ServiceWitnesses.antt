@@ -1,20 +1,8 @@
 -- The laws of closed services at a service of one caller, who sent two packets at 0 and collected both at 2 ms.
 -- Whatever obeys the laws tells this Collect both.
-use Rattle.std.proofs.Common.{◌≡◌, ◌≤◌, ◌<◌, refl, inl, inr, ℕ, zero, suc, true, List, [], ◌∷◌, take, drop, arith}
-use Rattle.std.specs.Prelude.{Some, slice_get}
-use Rattle.std.specs.List.{All}
-use Rattle.std.proofs.lemmas.List.Elements.{All-nil, All-cons}
-use Rattle.dn_types.specs.declared.call.Call.{Call}
-use Rattle.dn_types.specs.declared.call.Call.TheVariants.{Collect}
-use Rattle.dn_types.specs.declared.delivery.Delivery.{Delivery}
-use Rattle.dn_types.specs.declared.entry.Entry.{Entry}
-use Rattle.dn_types.specs.declared.reply.Reply.{Reply}
-use Rattle.dn_types.specs.declared.reply.Reply.TheVariants.{Configured, Queued, Delivered}
-use Rattle.dn_types.proofs.ExampleWords.{pipe, to_pipe, delivery}
-use Rattle.dn_types.specs.declared.rule.Rule.TheVariants.{Ordered}
-use Rattle.dn_service.specs.Callers.{ServiceView, CallerView, IsAccountedFor, IsFaced, Answered, Closes, has_number}
-use Rattle.dn_laws.specs.Determined.Emulators.{Emulator}
-use Rattle.dn_laws.specs.Determined.Laws.{ObeysTheLaws}
+use Rattle.dn_laws.proofs.Words.{All, All-cons, All-nil, Answered, Call, CallerView, Closes, Collect, Configured, Delivered, Delivery, Emulator, Entry, IsAccountedFor, IsFaced, List, ObeysTheLaws}
+use Rattle.dn_laws.proofs.Words.{Ordered, Queued, Reply, ServiceView, Some, [], arith, delivery, drop, has_number, inl, inr, pipe, refl, slice_get, suc, take, to_pipe, true, zero, ℕ, ◌<◌, ◌∷◌}
+use Rattle.dn_laws.proofs.Words.{◌≡◌, ◌≤◌}
 use Rattle.dn_laws.proofs.ServiceHeadline.{services-by-the-laws, calls-by-the-laws}
 use Rattle.dn_laws.proofs.ServiceLawsHold.{callers-are-left, none-is-foreign, none-is-overtaken}
 

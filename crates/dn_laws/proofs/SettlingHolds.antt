@@ -1,8 +1,6 @@
 -- What the definitions settle on a link is what the law of settling asks for.
-use Rattle.std.proofs.Common.{◌≡◌, ◌∙◌, ◌≤◌, ◌<◌, ⊎_elim, ℕ, zero, suc, max, Bool, true, false, cond, List, [], ◌∷◌, ◌++◌, refl, ap, sym, subst, length, arith}
-use Rattle.std.specs.Prelude.{Option, Some, None, is_some, map, slice_get, option_and_then}
-use Rattle.std.specs.List.{All}
-use Rattle.std.proofs.lemmas.List.Elements.{All-head, All-tail}
+use Rattle.dn_laws.proofs.Words.{All, All-head, All-tail, Bool, List, None, Option, Some, [], ap, arith, cond, false, is_some, length, map, max, option_and_then, refl, slice_get, subst, suc, sym}
+use Rattle.dn_laws.proofs.Words.{true, zero, ℕ, ⊎_elim, ◌++◌, ◌<◌, ◌∙◌, ◌∷◌, ◌≡◌, ◌≤◌}
 use Rattle.dn_laws.proofs.LawWords.{trace_of, link_of, effective_moment, Settings, settings, Readings, Has, IsFirst, IsRaised, IsPick, IsTransmission, IsBy, IsStart, AreStarts, Settles, on_link, keys}
 use Rattle.dn_laws.proofs.LawWords.{free, transmission_time, virtual_time, link_heads, next_packet, bandwidth_of, delay_of, start_at, next_start, first_start, settle, waiting_all, Link, own, shared}
 use Rattle.dn_laws.proofs.LawWords.{pipe_of, link_eq, Accepted, Start, Event, started, backlog, flow_bound, links, Stamped, heads, raised, pick, Call, Advance, Command, Pipe, Queue, DeletePipe}
@@ -10,8 +8,8 @@ use Rattle.dn_laws.proofs.LawWords.{DeleteQueue, FlowKey, Rule, Target, ToPipe, 
 use Rattle.dn_laws.proofs.{AtHome.have-homes, AtHome.waits-home, Begun.HasSettled, Begun.none-settled, Begun.settled-more, Begun.next_start-is, Begun.begun-next, PickLaws.pick-is-first}
 use Rattle.dn_laws.proofs.{ReadingsObey.read, ReadingsObey.read-on, ReadingsObey.reads-on, ReadingsObey.mine-is, ReadingsObey.is-raised, ReadingsObey.first-head, ReadingsObey.queue-on}
 use Rattle.dn_laws.proofs.{ReadingsObey.free-on, SameAnswers.first-one, Shares.pick-is-least}
-use Rattle.dn_types.proofs.{Conserving.conserves-work, Firsts.next-picked, InForce.IsKept, InForce.settings-kept, Known.AreKnown, Known.all-known, Settled.link_eq-true, Settled.first_start-of}
-use Rattle.dn_types.proofs.{Settled.next_start-link, Settling.next_start-packet, Settling.first-own, Settling.backlog-own, TransmissionTime.unlimited-takes-no-time}
+use Rattle.dn_types.proofs.{Conserving.conserves-work, Firsts.next-picked, InForce.IsKept, InForce.settings-kept, Known.AreKnown, Known.all-known, Settled.first_start-of, Settled.link_eq-true}
+use Rattle.dn_types.proofs.{Settled.next_start-link, Settling.backlog-own, Settling.first-own, Settling.next_start-packet, TransmissionTime.unlimited-takes-no-time}
 use Rattle.dn_types.proofs.{TransmissionTime.transmission-is-least}
 
 all-at : (P : Stamped → Type 0) (ps : List Accepted) (p : Accepted) → All P (map (λ q. q.stamped) ps) → Has ps p → P p.stamped

@@ -1,20 +1,11 @@
 -- Tags by weight, a fair pick, and how virtual time is raised and grows.
-use Rattle.std.proofs.Common.{◌≡◌, ◌∙◌, ◌≤◌, ◌<◌, ⊎_elim, ℕ, ◌+◌, ◌*◌, max, min, true, false, cond, List, [], ◌∷◌, ◌++◌, map, refl, ap, sym, subst, length, arith, get_or}
-use Rattle.std.specs.Prelude.{◌/◌, Option, Some, None, nat_le, nat_lt, nat_eq, ◌||◌, ◌&&◌, sum}
-use Rattle.std.specs.List.{All, filter}
-use Rattle.std.proofs.Math.Nat.{add-mul, lt-div-mul-add, div-mul-le_self}
-use Rattle.std.proofs.lemmas.List.Sums.{sum-map, sum_by-cons}
-use Rattle.std.proofs.lemmas.Bool.Decides.{nat_tests, leb_tells}
-use Rattle.std.proofs.lemmas.Bool.{leb-true, le-leb}
+use Rattle.dn_laws.proofs.Words.{All, All-cons, All-filter, GrowsByWork, List, None, Option, PickIsLeast, Some, TagsByWeight, [], add-mul, ap, arith, cond, div-mul-le_self, false, filter}
+use Rattle.dn_laws.proofs.Words.{filter_passes, first_to_go-one-of, get_or, goes_before, is_eligible, le-leb, leb-true, leb_tells, length, link_eq-refl, lt-div-mul-add, map, max, min, nat_eq}
+use Rattle.dn_laws.proofs.Words.{nat_le, nat_lt, nat_tests, refl, subst, sum, sum-map, sum_by-cons, sym, true, ℕ, ⊎_elim, ◌&&◌, ◌*◌, ◌++◌, ◌+◌, ◌/◌, ◌<◌, ◌||◌, ◌∙◌, ◌∷◌, ◌≡◌, ◌≤◌}
 use Rattle.dn_laws.proofs.LawWords.{trace_of, accept, link_of, IsTagged, Treatment, treatment, keys, key_of, flow_number, virtual_time, link_heads, last_finish_tag, Link, link_eq, Accepted, Event}
 use Rattle.dn_laws.proofs.LawWords.{arrived, started, backlog, Stamped, pick, raised, least_start_tag, weight_sum, grown, Submit, Queue, Packet}
-use Rattle.dn_laws.specs.SharingLaws.{GrowsByWork, PickIsLeast, TagsByWeight}
-use Rattle.dn_types.specs.Wf2q.{is_eligible, goes_before}
 use Rattle.dn_laws.proofs.Begun.{IsCaused, call-causes, adds-among}
-use Rattle.dn_types.proofs.Firsts.{first_to_go-one-of}
 use Rattle.dn_laws.proofs.Least.{pick-least}
-use Rattle.dn_types.proofs.Settled.{link_eq-refl}
-use Rattle.std.proofs.lemmas.List.Elements.{All-filter, filter_passes, All-cons}
 
 -- Where one has a greater finish tag, or the same, it doesn't go before.
 not-before : (f g m n : ℕ) → (nat_lt f g || nat_eq f g && nat_lt m n) ≡ false → g ≤ f

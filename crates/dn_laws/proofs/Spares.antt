@@ -1,11 +1,8 @@
 -- What a command that deletes nothing leaves, and what leaves the last finish tags of a link.
-use Rattle.std.proofs.Common.{◌≡◌, ◌∙◌, ◌≢◌, ℕ, zero, suc, max, Bool, true, false, cond, ◌&&◌, List, ◌∷◌, refl, ap, sym}
-use Rattle.std.specs.Prelude.{Option, Some, None, nat_eq, nat_le}
+use Rattle.dn_laws.proofs.Words.{Bool, CommandsSpare, List, None, Option, PacketsSpareTags, Some, ap, cond, false, max, nat_eq, nat_le, refl, suc, sym, true, zero, ℕ, ◌&&◌, ◌∙◌, ◌∷◌, ◌≡◌, ◌≢◌}
 use Rattle.dn_laws.proofs.LawWords.{Verdict, no_target, loses, refuses, takes, verdict, accept, join, after_verdict, after_command, trace_of, effective_moment, Settings, settings, target_eq, subject}
 use Rattle.dn_laws.proofs.LawWords.{setting_after, reply_to_command, treatment, keys, free, reply, waiting, opening, last_finish_tag, first_start, settle, start_at, waiting_all, Link, link_eq}
 use Rattle.dn_laws.proofs.LawWords.{Accepted, Start, Event, opened, arrived, started, backlog, links, Call, Configure, Advance, Command, Packet, Reply, Configured, Deleted, Rule, Target}
-use Rattle.dn_laws.specs.PacketLaws.{CommandsSpare}
-use Rattle.dn_laws.specs.KeptLaws.{PacketsSpareTags}
 use Rattle.dn_laws.proofs.DropLaws.{not-exhausted}
 use Rattle.dn_laws.proofs.Isolation.{IsElsewhere, elsewhere-by, carried-by}
 

@@ -1,12 +1,9 @@
 -- When a packet starts, which one, and with what bandwidth and delay.
-use Rattle.std.proofs.Common.{◌≡◌, ◌∙◌, ◌⊎◌, ⊎_elim, inl, inr, ℕ, List, ◌∷◌, ◌++◌, refl, ap, sym, subst, true, false}
-use Rattle.std.specs.Prelude.{Option, Some, None, is_some, ⊤}
+use Rattle.dn_laws.proofs.Words.{IsKept, IsOfTarget, List, None, Option, Some, StartsAsConfigured, ap, false, inl, inr, is_some, next-picked, refl, settings-kept, subst, sym, true, ℕ, ⊎_elim, ⊤}
+use Rattle.dn_laws.proofs.Words.{◌++◌, ◌∙◌, ◌∷◌, ◌≡◌, ◌⊎◌}
 use Rattle.dn_laws.proofs.LawWords.{trace_of, effective_moment, settings, IsStartBy, free, transmission_time, next_packet, virtual_time, link_heads, start_at, bandwidth_of, delay_of, Link, shared}
 use Rattle.dn_laws.proofs.LawWords.{Start, Event, arrived, started, pipe_of, pick, Call, Command, Pipe, ToPipe}
-use Rattle.dn_laws.specs.ConfiguredLaws.{StartsAsConfigured}
-use Rattle.dn_types.proofs.InForce.{IsKept, IsOfTarget, settings-kept}
 use Rattle.dn_laws.proofs.Begun.{IsBegun, IsCaused, call-causes, adds-among}
-use Rattle.dn_types.proofs.Firsts.{next-picked}
 
 abbrev IsPipe : Command → Type 0
 IsPipe (Pipe number bw delay limit loss buckets mask) = ⊤

@@ -1,8 +1,5 @@
 -- A Show of the definitions tells what the law of states asks for.
-use Rattle.std.proofs.Common.{◌≡◌, ◌∙◌, ◌<◌, ℕ, Bool, true, false, cond, List, [], ◌∷◌, refl, ap, sym, length, arith}
-use Rattle.std.specs.Prelude.{Some, nat_eq, map, sum, slice_get}
-use Rattle.std.specs.List.{count_by}
-use Rattle.std.proofs.lemmas.Bool.{eqb-true}
+use Rattle.dn_laws.proofs.Words.{Bool, List, Some, [], ap, arith, cond, count_by, eqb-true, false, length, map, nat_eq, refl, slice_get, sum, sym, true, ℕ, ◌<◌, ◌∙◌, ◌∷◌, ◌≡◌}
 use Rattle.dn_laws.proofs.LawWords.{trace_of, link_of, call_limit, link_to, starts_of, IsStateBy, on_link, emulated, keys, reply, IsStateOf, is_queued_of, is_lost_of, is_full_of, Link, link_eq, Start}
 use Rattle.dn_laws.proofs.LawWords.{Event, opened, arrived, started, lost, refused, discarded, collected, backlog, is_start_of, Call, Show, FlowKey, FlowStatus, Status, Rule}
 use Rattle.dn_laws.proofs.AtHome.{HaveHomes, have-homes, start-home, home-is, shows-are-told}

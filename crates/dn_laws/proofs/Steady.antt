@@ -1,18 +1,10 @@
 -- In the trace of calls each busy period begins with no packet waiting, each packet is tagged behind its flow's last, and
 -- each start is of its link's next packet.
-use Rattle.std.proofs.Common.{◌≡◌, ◌∙◌, ◌≤◌, ◌<◌, ⊎_elim, ℕ, ◌+◌, ◌*◌, Bool, true, false, cond, List, [], ◌∷◌, ◌++◌, refl, ap, sym, subst, length, drop, arith}
-use Rattle.std.specs.Prelude.{◌/◌, Some, nat_eq, ⊤}
-use Rattle.std.specs.List.{All}
-use Rattle.std.proofs.lemmas.List.Elements.{All-push, All-drop}
-use Rattle.std.proofs.lemmas.Bool.{eqb-true}
-use Rattle.std.proofs.lemmas.Bool.Decides.{leb_tells}
+use Rattle.dn_laws.proofs.Words.{All, All-drop, All-push, Bool, EachThatWaits, List, Some, [], and-left, and-right, ap, arith, backlog-above, cond, drop, eqb-true, false, leb_tells, length}
+use Rattle.dn_laws.proofs.Words.{link_eq-true, nat_eq, refl, subst, sym, total-at, true, ℕ, ⊎_elim, ⊤, ◌*◌, ◌++◌, ◌+◌, ◌/◌, ◌<◌, ◌∙◌, ◌∷◌, ◌≡◌, ◌≤◌}
 use Rattle.dn_laws.proofs.LawWords.{trace_of, link_of, Treatment, keys, key_of, flow_number, waiting, next_packet, last_finish_tag, Link, link_eq, Accepted, Event, opened, arrived, started, discarded}
 use Rattle.dn_laws.proofs.LawWords.{is_of, backlog, flow_bound, Call, Submit}
-use Rattle.dn_laws.specs.FairShare.{EachThatWaits}
 use Rattle.dn_laws.proofs.Begun.{IsCaused, IsTaken, AllEvents, call-causes}
-use Rattle.dn_types.proofs.Proper.{total-at}
-use Rattle.dn_types.proofs.Settled.{and-left, link_eq-true}
-use Rattle.dn_types.proofs.Settling.{and-right, backlog-above}
 use Rattle.dn_laws.proofs.Shares.{tagged}
 
 abbrev pub IsSound : Event → List Event → Type 0

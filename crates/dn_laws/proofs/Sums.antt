@@ -1,9 +1,7 @@
 -- The time from a packet's Submit to its due moment is the sum of its parts.
-use Rattle.std.proofs.Common.{◌≡◌, ◌∙◌, ◌≤◌, ℕ, ◌+◌, ◌-◌, List, ◌∷◌, ◌++◌, refl, sym, subst, get_or, arith}
-use Rattle.std.specs.List.{All}
+use Rattle.dn_laws.proofs.Words.{All, DelaysAddUp, IsLack, List, arith, get_or, refl, subst, sym, ℕ, ◌++◌, ◌+◌, ◌-◌, ◌∙◌, ◌∷◌, ◌≡◌, ◌≤◌}
 use Rattle.dn_laws.proofs.LawWords.{trace_of, effective_moment, undelivered, AreInOrder, IsDueBy, IsDeliveryOf, last_due, reply, IsDelayed, Start, Call, Submit, Collect, Delivery, Packet, Queued}
 use Rattle.dn_laws.proofs.LawWords.{Delivered, Exhausted, Rule, Free, Ordered, Target}
-use Rattle.dn_laws.specs.TimeLaws.{DelaysAddUp, IsLack}
 use Rattle.dn_laws.proofs.{Delays.delays-are-explained, Exactly.waits-for-its-link, ToldCounts.told-few, ToldDeliveries.collects-are-told, Timely.made-by, Timely.none-starts-early}
 
 lack-by : (rule : Rule) (s : Start) (last start due : ℕ) → start ≡ s.moment → IsDueBy rule s last due → (lack : ℕ) × IsLack rule last (start + s.transmission + s.delay) lack

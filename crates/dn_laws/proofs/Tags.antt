@@ -1,17 +1,10 @@
 -- What moves the last finish tag of a flow, and when a busy period begins.
-use Rattle.std.proofs.Common.{◌≡◌, ◌∙◌, ◌≤◌, ◌<◌, ⊎_elim, ℕ, zero, suc, true, cond, List, [], ◌∷◌, ◌++◌, refl, ap, length, arith}
-use Rattle.std.specs.Prelude.{nat_eq}
-use Rattle.std.specs.List.{All}
-use Rattle.std.proofs.lemmas.Bool.{eqb-true, eq-eqb, and_from}
-use Rattle.std.proofs.lemmas.Bool.Decides.{leb_tells}
-use Rattle.std.proofs.lemmas.List.Elements.{All-head, All-tail}
+use Rattle.dn_laws.proofs.Words.{All, All-head, All-tail, BusyPeriodsBegin, List, TagsAreKept, [], and-left, and-right, and_from, ap, arith, backlog-above, cond, eq-eqb, eqb-true, leb_tells}
+use Rattle.dn_laws.proofs.Words.{length, link_eq-refl, link_eq-true, nat_eq, refl, suc, true, zero, ℕ, ⊎_elim, ◌++◌, ◌<◌, ◌∙◌, ◌∷◌, ◌≡◌, ◌≤◌}
 use Rattle.dn_laws.proofs.LawWords.{trace_of, effective_moment, free, IsApart, waiting, last_finish_tag, Link, link_eq, Accepted, Event, opened, arrived, discarded, is_of, backlog, flow_bound, total}
-use Rattle.dn_laws.specs.KeptLaws.{BusyPeriodsBegin, TagsAreKept}
 use Rattle.dn_laws.proofs.Begun.{adds-among}
 use Rattle.dn_laws.proofs.Comes.{Comes, call-comes}
 use Rattle.dn_laws.proofs.Isolation.{false-if, none-left}
-use Rattle.dn_types.proofs.Settled.{and-left, link_eq-true, link_eq-refl}
-use Rattle.dn_types.proofs.Settling.{and-right, backlog-above}
 
 module _ (link : Link) (flow : ℕ) where
   -- An event apart leaves the tag.

@@ -1,14 +1,10 @@
 -- While calls are about other pipes, the flows of a pipe keep their last finish tags.
-use Rattle.std.proofs.Common.{◌≡◌, ◌∙◌, ℕ, zero, suc, ◌+◌, max, Bool, true, false, cond, List, [], ◌∷◌, ◌++◌, refl, ap, sym, subst, arith}
-use Rattle.std.specs.Prelude.{Option, Some, None, nat_eq, slice_get}
-use Rattle.std.proofs.lemmas.Bool.{eqb-true}
-use Rattle.std.proofs.lemmas.Option.{slice_get_within}
+use Rattle.dn_laws.proofs.Words.{Bool, IsKept, List, None, Option, Some, [], ap, arith, cond, eqb-true, false, keys-stay, max, nat_eq, refl, settings-kept, slice_get, slice_get_within, subst, suc}
+use Rattle.dn_laws.proofs.Words.{sym, target_eq-true, true, zero, ℕ, ◌++◌, ◌+◌, ◌∙◌, ◌∷◌, ◌≡◌}
 use Rattle.dn_laws.proofs.LawWords.{verdict_by, after_verdict, reaches, discard_reached, after_command, trace_of, effective_moment, settings, target_eq, reply_to_command, treatment, keys}
 use Rattle.dn_laws.proofs.LawWords.{IsCommandElsewhere, IsElsewhere, AreElsewhere, last_finish_tag, settled, Link, pipe_of, Event, discarded, Call, Configure, Submit, Advance, Collect, Show, Command}
 use Rattle.dn_laws.proofs.LawWords.{Pipe, Queue, DeletePipe, DeleteQueue, FlowKey, Packet, Reply, Deleted, Rule, Target, ToPipe, ToQueue}
-use Rattle.dn_types.proofs.InForce.{IsKept, settings-kept, target_eq-true}
 use Rattle.dn_laws.proofs.Isolation.{false-if}
-use Rattle.dn_types.proofs.Keys.{keys-stay}
 use Rattle.dn_laws.proofs.Spares.{clock-spares-tags, packets-spare-tags}
 
 split : (known : List FlowKey) (k : ℕ) (key : FlowKey) → slice_get known k ≡ Some key → (before behind : List FlowKey) × (known ≡ before ++ key ∷ behind)

@@ -1,11 +1,10 @@
 -- Each start lies between the clock before its call and the clock after it, and no packet starts before it was accepted.
-use Rattle.std.proofs.Common.{◌≡◌, ◌∙◌, ◌≤◌, ◌<◌, ◌⊎◌, ⊎_elim, inl, inr, ℕ, zero, suc, max, Bool, true, false, cond, List, [], ◌∷◌, ◌++◌, refl, ap, sym, subst, length, arith}
-use Rattle.std.specs.Prelude.{Option, Some, None, nat_le}
+use Rattle.dn_laws.proofs.Words.{Bool, IsMadeBy, List, None, NoneStartsEarly, Option, Some, StartsInTime, [], ap, arith, cond, false, inl, inr, length, max, nat_le, refl, subst, suc, sym, true}
+use Rattle.dn_laws.proofs.Words.{zero, ℕ, ⊎_elim, ◌++◌, ◌<◌, ◌∙◌, ◌∷◌, ◌≡◌, ◌≤◌, ◌⊎◌}
 use Rattle.dn_laws.proofs.LawWords.{Verdict, no_target, loses, refuses, takes, verdict, trace_of, call_limit, effective_moment, Settings, settings, free, reply, counted_reply, reply_to_verdict}
 use Rattle.dn_laws.proofs.LawWords.{settle, settled, first_start, waiting_all, Start, Event, started, backlog, links, is_arrival, accepted_count, Call, Submit, Packet, Queued, Exhausted, Rule, Target}
-use Rattle.dn_laws.specs.TimeLaws.{IsMadeBy, NoneStartsEarly, StartsInTime}
 use Rattle.dn_laws.proofs.{Begun.IsBegun, Begun.call-causes, Rates.free-later, Rates.shape, StartLaws.begun, StartLaws.starts-as-configured}
-use Rattle.dn_types.proofs.{Conserving.busy-link, Fifo.IsProper, Giving.count-event, Ordered.trace-proper, Ordered.suffix-proper, PacketCounts.start-below}
+use Rattle.dn_types.proofs.{Conserving.busy-link, Fifo.IsProper, Giving.count-event, Ordered.suffix-proper, Ordered.trace-proper, PacketCounts.start-below}
 
 pub events-stay : (calls : List Call) (c : Call) → (added : List Event) × (trace_of (c ∷ calls) ≡ added ++ trace_of calls)
 events-stay calls c = let adds = call-causes calls c in (adds.0, adds.1)

@@ -1,15 +1,11 @@
 -- What the calls are told of the limit, of the clock and of commands.
-use Rattle.std.proofs.Common.{◌≡◌, ◌∙◌, ◌≢◌, ◌≤◌, ◌<◌, ◌⊎◌, inl, inr, ⊎_elim, ℕ, max, Bool, true, false, cond, ◌||◌, List, [], ◌∷◌, ◌++◌, refl, ap, sym, subst, length, arith}
-use Rattle.std.specs.Prelude.{◌^◌, Option, Some, None, nat_le, is_some}
-use Rattle.std.proofs.lemmas.Bool.{eqb-true, eq-eqb}
-use Rattle.std.proofs.lemmas.Bool.Decides.{nat_tests, leb_tells}
+use Rattle.dn_laws.proofs.Words.{Bool, ClockIsTheGreatest, CommandsAreTold, IsQueueOf, LimitIsCounted, List, None, Option, RepliesTellTheClock, Some, [], any-of, ap, arith, cond, eq-eqb, eqb-true}
+use Rattle.dn_laws.proofs.Words.{false, inl, inr, is_some, leb_tells, length, max, nat_le, nat_tests, refl, settings-whole, subst, sym, true, ℕ, ⊎_elim, ◌++◌, ◌<◌, ◌^◌, ◌||◌, ◌∙◌, ◌∷◌, ◌≡◌, ◌≢◌}
+use Rattle.dn_laws.proofs.Words.{◌≤◌, ◌⊎◌}
 use Rattle.dn_laws.proofs.LawWords.{Verdict, no_target, loses, refuses, takes, verdict, trace_of, call_limit, moment_of, effective_moment, Settings, settings, is_queue_of, has_queues, queue_numbers}
 use Rattle.dn_laws.proofs.LawWords.{command_reply, IsTimed, counted_reply, reply_to_verdict, IsToldBy, settled, moment_told, HasQueue, IsThere, Event, Call, Configure, Submit, Advance, Collect, Show}
 use Rattle.dn_laws.proofs.LawWords.{Command, Pipe, Queue, DeletePipe, DeleteQueue, Reply, Configured, NoSuchPipe, Deleted, PipeHasQueues, NoSuchQueue, Advanced, Exhausted, Rule, ToPipe, ToQueue}
-use Rattle.dn_laws.specs.ReplyLaws.{ClockIsTheGreatest, CommandsAreTold, LimitIsCounted, RepliesTellTheClock}
-use Rattle.dn_laws.specs.Told.{IsQueueOf}
 use Rattle.dn_laws.proofs.DropLaws.{not-exhausted}
-use Rattle.dn_types.proofs.InForce.{any-of, settings-whole}
 
 command-answered : (set : Settings) (queues : List ℕ) (command : Command) → command_reply set queues command ≢ Exhausted
 command-answered set queues (Pipe number bw delay limit loss buckets mask) e = absurd cc

@@ -1,18 +1,13 @@
 -- What was told of packets and of flows is what happened: as many are queued, lost and refused.
-use Rattle.std.proofs.Common.{◌≡◌, ◌∙◌, ◌≢◌, ◌≤◌, ◌<◌, ⊎_elim, ℕ, ◌+◌, max, Bool, true, false, cond, ◌&&◌, List, [], ◌∷◌, refl, ap, sym, length, arith}
-use Rattle.std.specs.Prelude.{nat_eq, nat_le, is_some, ⊤}
-use Rattle.std.specs.List.{count_by}
-use Rattle.std.proofs.lemmas.Bool.Decides.{leb_tells}
-use Rattle.std.proofs.lemmas.List.Sums.{sum_by-cons}
+use Rattle.dn_laws.proofs.Words.{Bool, List, PacketsAreNumbered, [], ap, arith, command-count, cond, count-event, count-none, count_by, false, is_some, leb_tells, length, max, nat_eq, nat_le}
+use Rattle.dn_laws.proofs.Words.{refl, settled-count, sum_by-cons, sym, true, ℕ, ⊎_elim, ⊤, ◌&&◌, ◌+◌, ◌<◌, ◌∙◌, ◌∷◌, ◌≡◌, ◌≢◌, ◌≤◌}
 use Rattle.dn_laws.proofs.LawWords.{Verdict, no_target, loses, refuses, takes, verdict, accept, join, after_verdict, trace_of, call_limit, effective_moment, Settings, settings, has_queues}
 use Rattle.dn_laws.proofs.LawWords.{queue_numbers, command_reply, reply_to_command, keys, free, reply, counted_reply, reply_to_verdict, replies, waiting, opening, settled, start_at, is_queued}
 use Rattle.dn_laws.proofs.LawWords.{is_queued_of, is_lost_of, is_full_of, is_arrival_of, Link, Accepted, Start, Event, opened, arrived, started, lost, refused, discarded, collected, is_arrival}
 use Rattle.dn_laws.proofs.LawWords.{is_loss_of, is_refusal_of, accepted_count, Call, Configure, Submit, Advance, Collect, Show, Command, Pipe, Queue, DeletePipe, DeleteQueue, Packet, Reply, Queued}
 use Rattle.dn_laws.proofs.LawWords.{Lost, Full, NoTarget, Exhausted, Configured, NoSuchPipe, Deleted, PipeHasQueues, NoSuchQueue, Rule, ToPipe, ToQueue}
-use Rattle.dn_laws.specs.ReplyLaws.{PacketsAreNumbered}
-use Rattle.dn_types.proofs.CallCounts.{count-none, settled-count, opened-count, command-count}
+use Rattle.dn_types.proofs.CallCounts.{opened-count}
 use Rattle.dn_laws.proofs.DropLaws.{not-exhausted}
-use Rattle.dn_types.proofs.Giving.{count-event}
 use Rattle.dn_laws.proofs.Timely.{queued}
 
 -- A reply that tells of no packet's end in a queue.

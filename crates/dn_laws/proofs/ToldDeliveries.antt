@@ -1,14 +1,10 @@
 -- What Collects are told: each packet that starts once, and by the first whose effective moment reaches its due moment.
-use Rattle.std.proofs.Common.{◌≡◌, ◌∙◌, ◌≤◌, ◌<◌, ℕ, ◌+◌, max, Bool, true, false, cond, List, [], ◌∷◌, ◌++◌, refl, ap, sym, subst, length, arith}
-use Rattle.std.specs.Prelude.{nat_eq, nat_le, is_some}
-use Rattle.std.specs.List.{All, count_by}
-use Rattle.std.proofs.lemmas.Bool.{eqb-true, eq-eqb}
-use Rattle.std.proofs.lemmas.List.Elements.{All-head, All-tail}
+use Rattle.dn_laws.proofs.Words.{All, All-head, All-tail, Bool, CollectsAreTold, List, ToldWhenDue, [], ap, arith, cond, count_by, eq-eqb, eqb-true, false, is_some, length, max, nat_eq, nat_le}
+use Rattle.dn_laws.proofs.Words.{refl, subst, sym, true, ℕ, ◌++◌, ◌+◌, ◌<◌, ◌∙◌, ◌∷◌, ◌≡◌, ◌≤◌}
 use Rattle.dn_laws.proofs.LawWords.{Verdict, no_target, loses, refuses, takes, verdict, trace_of, call_limit, effective_moment, Settings, settings, has_queues, queue_numbers, command_reply}
 use Rattle.dn_laws.proofs.LawWords.{undelivered, given, IsDueBy, IsDeliveryOf, is_packet, is_start_with, start_count, given_count, last_due, counted_reply, reply_to_verdict, replies, settled}
 use Rattle.dn_laws.proofs.LawWords.{times_in, times_told, Start, Event, started, collected, Call, Configure, Submit, Advance, Collect, Show, Command, Pipe, Queue, DeletePipe, DeleteQueue, Delivery}
 use Rattle.dn_laws.proofs.LawWords.{Configured, NoSuchPipe, Deleted, PipeHasQueues, NoSuchQueue, Exhausted, Rule, Free, Ordered, ToPipe, ToQueue}
-use Rattle.dn_laws.specs.ReplyLaws.{CollectsAreTold, ToldWhenDue}
 use Rattle.dn_laws.proofs.{Begun.AllEvents, Comes.Comes, Comes.Gathers, Comes.call-comes, Delays.all-still, Delays.delays-are-explained, DropLaws.not-exhausted}
 use Rattle.dn_types.proofs.{Dues.gives-what-is-due, Dues.leaves-what-is-not-due, Giving.count-delivery, Giving.count-event, Giving.gives-started, InTurn.gives-in-order, Once.starts-once}
 

@@ -1,16 +1,10 @@
 -- How long a packet waits at most, by the limit of its queue.
-use Rattle.std.proofs.Common.{◌≡◌, ◌∙◌, ◌≤◌, ◌<◌, ⊎_elim, ℕ, zero, suc, ◌+◌, ◌*◌, List, [], ◌∷◌, map, refl, ap, sym, subst, length, arith, add-mul, mul-le-mul_right}
-use Rattle.std.specs.Prelude.{◌^◌, ◌-◌, ◌%◌, Option, sum, get_or}
-use Rattle.std.specs.List.{All, sum_by}
-use Rattle.std.proofs.lemmas.Bool.Decides.{leb_tells}
-use Rattle.std.proofs.lemmas.List.{length-map}
-use Rattle.std.proofs.lemmas.List.Sums.{sum-map, sum_by-cons, sum_by-le}
+use Rattle.dn_laws.proofs.Words.{All, KbytesBoundTheWait, List, Option, SlotsBoundTheWait, [], add-mul, ap, arith, get_or, leb_tells, length, length-map, map, mul-le-mul_right, refl, subst, suc}
+use Rattle.dn_laws.proofs.Words.{sum, sum-map, sum_by, sum_by-cons, sum_by-le, sym, transmission-is-least, zero, ℕ, ⊎_elim, ◌%◌, ◌*◌, ◌+◌, ◌-◌, ◌<◌, ◌^◌, ◌∙◌, ◌∷◌, ◌≡◌, ◌≤◌}
 use Rattle.dn_laws.proofs.LawWords.{IsAtLimit, IsExplained, transmission_time, StaysInForce, reply, Accepted, ahead, Call, Submit, Pipe, Limit, Slots, Kbytes, Mask, Packet, Reply, Queued, Exhausted}
 use Rattle.dn_laws.proofs.LawWords.{Rule, ToPipe}
-use Rattle.dn_laws.specs.WaitLaws.{SlotsBoundTheWait, KbytesBoundTheWait}
 use Rattle.dn_laws.proofs.DropLaws.{drops-are-explained}
 use Rattle.dn_laws.proofs.ToldCounts.{told-few}
-use Rattle.dn_types.proofs.TransmissionTime.{transmission-is-least}
 use Rattle.dn_laws.proofs.Waits.{at-first, wait-is-known}
 
 pub longer-takes-longer : (bw a b : ℕ) → a ≤ b → transmission_time bw a ≤ transmission_time bw b

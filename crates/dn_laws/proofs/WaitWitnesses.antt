@@ -1,12 +1,8 @@
 -- Each law of waiting at an example: its premises hold, and no bound is loose.
-use Rattle.std.proofs.Common.{◌≡◌, ◌≤◌, ◌+◌, ◌*◌, ℕ, max, List, [], ◌∷◌, ◌++◌, refl, drop, take}
-use Rattle.std.specs.Prelude.{◌^◌, ◌-◌, None}
-use Rattle.std.specs.List.{All}
-use Rattle.std.proofs.lemmas.List.Elements.{All-nil, All-cons}
-use Rattle.std.proofs.lemmas.Bool.{leb-true}
+use Rattle.dn_laws.proofs.Words.{All, All-cons, All-nil, List, None, [], delivery, drop, leb-true, max, no_mask, pipe, queue, refl, sized, take, to_pipe, to_queue, ℕ, ◌*◌, ◌++◌, ◌+◌, ◌-◌, ◌^◌}
+use Rattle.dn_laws.proofs.Words.{◌∷◌, ◌≡◌, ◌≤◌}
 use Rattle.dn_laws.proofs.LawWords.{trace_of, reply, own, Accepted, Start, Event, arrived, started, shared, starting, ahead, free_from, IsAtMost, Call, Configure, Advance, Collect, Command, Pipe}
 use Rattle.dn_laws.proofs.LawWords.{Delivery, Limit, Slots, Kbytes, Queued, Full, Delivered, Ordered, ToQueue}
-use Rattle.dn_types.proofs.ExampleWords.{no_mask, sized, pipe, queue, to_pipe, to_queue, delivery}
 use Rattle.dn_laws.proofs.DelayBound.{slots-bound-the-delay, kbytes-bound-the-delay}
 use Rattle.dn_laws.proofs.Pauses.{links-make-no-pause}
 use Rattle.dn_laws.proofs.WaitBounds.{slots-bound-the-wait, kbytes-bound-the-wait}

@@ -1,18 +1,14 @@
 -- When a packet that was sent to a pipe starts, by what is ahead of it at its acceptance.
-use Rattle.std.proofs.Common.{◌≡◌, ◌∙◌, ◌<◌, ⊎_elim, inl, inr, ℕ, ◌+◌, max, Bool, true, false, cond, List, [], ◌∷◌, ◌++◌, refl, ap, sym, subst, length, arith}
-use Rattle.std.specs.Prelude.{Option, Some, None, nat_eq, nat_le, ◌&&◌}
-use Rattle.std.specs.List.{sum_by}
-use Rattle.std.proofs.lemmas.List.{append_cancel_right, append_assoc}
-use Rattle.std.proofs.lemmas.List.Sums.{sum-map, sum_by_push}
+use Rattle.dn_laws.proofs.Words.{Bool, List, None, Option, Some, WaitIsKnown, WaitsForThoseAhead, [], ap, append_assoc, append_cancel_right, arith, cond, false, inl, inr, length, max, nat_eq}
+use Rattle.dn_laws.proofs.Words.{nat_le, refl, subst, sum-map, sum_by, sum_by_push, sym, true, ℕ, ⊎_elim, ◌&&◌, ◌++◌, ◌+◌, ◌<◌, ◌∙◌, ◌∷◌, ◌≡◌}
 use Rattle.dn_laws.proofs.LawWords.{trace_of, link_of, effective_moment, settings, IsAtBandwidth, Treatment, treatment, keys, key_of, flow_number, free, transmission_time, StaysInForce, reply}
 use Rattle.dn_laws.proofs.LawWords.{waiting, opening, Link, own, link_eq, pipe_of, Accepted, Start, Event, opened, arrived, started, backlog, accepted_count, starting, sending, Call, Submit, Advance}
 use Rattle.dn_laws.proofs.LawWords.{Command, Pipe, FlowKey, Limit, Mask, Packet, Queued, Rule, Target, ToPipe}
-use Rattle.dn_laws.specs.WaitLaws.{WaitsForThoseAhead, WaitIsKnown}
 use Rattle.dn_laws.proofs.{Acceptance.queued-packets-arrive, Ahead.IsPrompt, Ahead.all-sent, AtHome.HaveHomes, AtHome.IsHomeOf, AtHome.have-homes, AtHome.start-home, Begun.IsCaused, Begun.IsTaken}
 use Rattle.dn_laws.proofs.{Begun.AllEvents, Begun.call-causes, Begun.adds-among, ConfiguredRate.both-at, ConfiguredRate.front-at, ConfiguredRate.back-at, ConfiguredRate.call-at}
 use Rattle.dn_laws.proofs.{ConfiguredRate.calls-at, Exactly.waits-for-its-link, Fates.all-stay, Rates.shape, Timely.split, Timely.queued, Timely.count-later, Timely.started-below}
-use Rattle.dn_types.proofs.{Conserving.busy-link, Fifo.IsProper, InForce.IsKept, InForce.settings-kept, Ordered.IsHome, Ordered.link_of-home, Ordered.trace-proper, Ordered.suffix-proper}
-use Rattle.dn_types.proofs.{Ordered.opened-free, Ordered.opened-backlog}
+use Rattle.dn_types.proofs.{Conserving.busy-link, Fifo.IsProper, InForce.IsKept, InForce.settings-kept, Ordered.IsHome, Ordered.link_of-home, Ordered.suffix-proper, Ordered.trace-proper}
+use Rattle.dn_types.proofs.{Ordered.opened-backlog, Ordered.opened-free}
 
 at-home : (known : List FlowKey) (s : Start) → IsHomeOf known s.packet.link s.packet.stamped.flow → IsHome s.packet.link s.packet.stamped.flow
 at-home known s h = subst (λ (l : Link). IsHome l s.packet.stamped.flow) (sym h.is) (link_of-home h.key.target s.packet.stamped.flow h.key.pipe)

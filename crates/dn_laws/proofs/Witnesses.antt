@@ -1,23 +1,16 @@
 -- Each law at the calls of a worked example, where it says something: its premises hold, and what it speaks of is there.
-use Rattle.std.specs.Prelude.{◌≡◌, ◌≤◌, ◌<◌, ◌+◌, ◌-◌, ◌*◌, ◌^◌, ℕ, true, List, [], ◌∷◌, ◌++◌, length, map, replicate, reverse, take, Some, None, is_some, refl, drop}
-use Rattle.std.specs.List.{All, count_by}
-use Rattle.std.proofs.Common.{arith}
-use Rattle.std.proofs.lemmas.List.{length-append, length-replicate}
-use Rattle.std.proofs.lemmas.List.Elements.{All-nil, All-cons}
+use Rattle.dn_laws.proofs.Words.{All, All-cons, All-nil, HasBoundedBytes, HasBoundedMoments, IsFirstEligible, IsInRange, List, None, Some, [], arith, count_by, counted, delivery, drop, is_some}
+use Rattle.dn_laws.proofs.Words.{key, length, length-append, length-replicate, map, no_mask, own_entries, pipe, queue, refl, replicate, reverse, standing, status, take, to_pipe, to_queue, true, ℕ}
+use Rattle.dn_laws.proofs.Words.{◌*◌, ◌++◌, ◌+◌, ◌-◌, ◌<◌, ◌^◌, ◌∷◌, ◌≡◌, ◌≤◌}
 use Rattle.dn_laws.proofs.LawWords.{HasBoundedCounts, trace_of, call_limit, settings, delivery_of, given, undelivered, accepted_since, started_since, is_packet, start_count, given_count, IsLawful}
 use Rattle.dn_laws.proofs.LawWords.{calls_of, free, last_due, replies, reply, link_heads, virtual_time, waiting, next_start, settled, Event, own, shared, backlog, Start, started, Stamped, pick, Call}
 use Rattle.dn_laws.proofs.LawWords.{Advance, Collect, Show, Entry, Reply, Configured, Delivered, Exhausted, Queued, Status, Ordered, ToPipe}
-use Rattle.dn_types.specs.Bounds.{IsInRange, HasBoundedMoments, HasBoundedBytes}
-use Rattle.dn_types.specs.Clock.{counted}
-use Rattle.dn_types.specs.History.{own_entries}
-use Rattle.dn_laws.specs.Laws.{IsFirstEligible}
-use Rattle.dn_types.specs.Standing.{standing}
 use Rattle.dn_laws.proofs.{BoundedCounts.bounded-counts, PickLaws.pick-is-first, Shares.grows-by-work, Shares.pick-is-least, StartLaws.starts-the-pick}
-use Rattle.dn_types.proofs.{BoundedReplies.bounded-moments, BoundedReplies.due-moments-bounded, BoundedReplies.bounded-bytes, Bridge.exhausted-changes-nothing, Bridge.replies-by-standing}
+use Rattle.dn_types.proofs.{BoundedReplies.bounded-bytes, BoundedReplies.bounded-moments, BoundedReplies.due-moments-bounded, Bridge.exhausted-changes-nothing, Bridge.replies-by-standing}
 use Rattle.dn_types.proofs.{Dues.due-is-last, Dues.due-moments-never-fall, Dues.gives-once, Dues.gives-what-is-due, Dues.leaves-what-is-not-due, Giving.gives-started, Histories.own-entries-begin}
-use Rattle.dn_types.proofs.{Histories.counts-up-to-the-limit, Histories.lawful-replies, Histories.lawful-more, Histories.own-entries-grow, Once.starts-once, Ordered.sends-one-at-a-time}
+use Rattle.dn_types.proofs.{Histories.counts-up-to-the-limit, Histories.lawful-more, Histories.lawful-replies, Histories.own-entries-grow, Once.starts-once, Ordered.sends-one-at-a-time}
 use Rattle.dn_types.proofs.{Ordered.starts-in-order, Picks.pick-some, Settled.settled-ends, TransmissionTime.transmission-is-least}
-use Rattle.dn_types.proofs.ExampleWords.{delivery, key, no_mask, pipe, queue, status, to_pipe, to_queue, tuple}
+use Rattle.dn_types.proofs.ExampleWords.{tuple}
 
 -- Two packets to queue 1 of weight 1 and three to queue 2 of weight 3, all at 0, newest first.
 abbrev calls : List Call

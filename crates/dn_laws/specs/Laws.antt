@@ -1,5 +1,5 @@
 -- The laws that the definitions keep, as statements in the words of the subject.
-use Rattle.std.specs.Prelude.{◌≡◌, ◌≤◌, ◌<◌, ◌+◌, ◌*◌, ◌^◌, ℕ, cond, List, [], ◌∷◌, ◌++◌, length, map, reverse, nat_eq, nat_le, true, false, is_some, Some, None}
+use Rattle.std.specs.Prelude.{◌≡◌, ◌≤◌, ◌<◌, ◌+◌, ◌*◌, ◌^◌, ℕ, cond, List, [], ◌∷◌, ◌++◌, length, map, reverse, nat_eq, nat_le, true, false, is_some, Option, Some, None}
 use Rattle.std.specs.List.{All, Contains, count_by}
 use Rattle.dn_types.specs.Bounds.{IsInRange, HasBoundedMoments, HasBoundedBytes, HasBoundedCounts}
 use Rattle.dn_types.specs.Calls.{trace_of}
@@ -15,11 +15,16 @@ use Rattle.dn_types.specs.Starts.{next_start, settled}
 use Rattle.dn_types.specs.Trace.{Event, Link, Start, started, backlog}
 use Rattle.dn_types.specs.Wf2q.{Stamped, pick, raised, goes_before}
 use Rattle.dn_types.specs.declared.call.Call.{Call}
-use Rattle.dn_types.specs.declared.call.Call.TheVariants.{Collect}
+use Rattle.dn_types.specs.declared.call.Call.TheVariants.{Configure, Submit, Advance, Collect}
+use Rattle.dn_types.specs.declared.command.Command.TheVariants.{Pipe, Queue}
 use Rattle.dn_types.specs.declared.entry.Entry.{Entry}
+use Rattle.dn_types.specs.declared.limit.Limit.TheVariants.{Slots, Kbytes}
+use Rattle.dn_types.specs.declared.mask.Mask.{Mask}
+use Rattle.dn_types.specs.declared.packet.Packet.{Packet}
 use Rattle.dn_types.specs.declared.reply.Reply.TheVariants.{Exhausted}
 use Rattle.dn_types.specs.declared.rule.Rule.{Rule}
 use Rattle.dn_types.specs.declared.rule.Rule.TheVariants.{Ordered}
+use Rattle.dn_types.specs.declared.target.Target.{Target}
 
 -- After a settling no start is due on any link.
 abbrev pub SettlingEnds : Type 0
@@ -127,3 +132,13 @@ BytesAreBounded = (rule : Rule) (calls : List Call) (c : Call) → All IsInRange
 -- No count of a reply and no number of a packet reaches 2^62, whatever the calls.
 abbrev pub CountsAreBounded : Type 0
 CountsAreBounded = (rule : Rule) (calls : List Call) (c : Call) → HasBoundedCounts (reply rule calls c)
+
+-- A call is in range where its packet's length has 16 bits, its moment is at most 2^62 ns, a delay at most an hour, and a limit 10,000 packets
+-- or 1,024 units.
+pub record CallsAreInRange : Type 0 where
+  pub packets : (target : Target) (packet : Packet) (moment : ℕ) → packet.len < 2 ^ 16 → moment ≤ 2 ^ 62 → IsInRange (Submit target packet moment)
+  pub moments : (moment : ℕ) → moment ≤ 2 ^ 62 → IsInRange (Advance moment) × IsInRange (Collect moment)
+  pub limits : (n on other loss count : ℕ) (buckets : Option ℕ) (mask : Mask) → (count ≤ 10000 → IsInRange (Configure (Queue n on other (Slots count) loss buckets mask)))
+      × (count ≤ 1024 → IsInRange (Configure (Queue n on other (Kbytes count) loss buckets mask)))
+  pub delays : (n bw delay loss count : ℕ) (buckets : Option ℕ) (mask : Mask) → delay ≤ 3600000 → (count ≤ 10000 → IsInRange (Configure (Pipe n bw delay (Slots count) loss buckets mask)))
+      × (count ≤ 1024 → IsInRange (Configure (Pipe n bw delay (Kbytes count) loss buckets mask)))

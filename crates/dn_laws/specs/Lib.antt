@@ -8,6 +8,7 @@ pub mod FlowLaws
 pub mod KeptLaws
 pub mod Laws
 pub mod LineLaws
+pub mod LineRefusals
 pub mod OtherPipes
 pub mod PacketLaws
 pub mod PartLaws

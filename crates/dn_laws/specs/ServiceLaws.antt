@@ -1,10 +1,11 @@
 -- The laws of a closed service: what its history is to its callers, to what they were told, and to whatever obeys the laws.
 use Rattle.std.specs.Prelude.{ℕ, ◌≡◌, ◌≤◌, ◌<◌, List, [], ◌∷◌, ◌++◌, map, reverse, sum, nat_eq, Some, slice_get}
-use Rattle.std.specs.List.{count_by, filter}
+use Rattle.std.specs.List.{All, count_by, filter}
 use Rattle.dn_laws.specs.Determined.Emulators.{Emulator, Has}
 use Rattle.dn_laws.specs.Determined.Laws.{ObeysTheLaws}
 use Rattle.dn_laws.specs.Emulated.{IsToldAfter}
 use Rattle.dn_service.specs.Callers.{ServiceView, CallerView, Answered, new_caller, Closes}
+use Rattle.dn_types.specs.History.{IsLawful}
 use Rattle.dn_types.specs.declared.call.Call.{Call}
 use Rattle.dn_types.specs.declared.call.Call.TheVariants.{Collect}
 use Rattle.dn_types.specs.declared.delivery.Delivery.{Delivery}
@@ -40,6 +41,22 @@ IsDelivered history d = (entry : Entry) × (moment : ℕ) × (at : ℕ) × (list
 abbrev pub NoneIsOvertaken : Type 0
 NoneIsOvertaken = (service : ServiceView) (callers : List CallerView) (history : List Entry) (d e : Delivery) → Closes service callers history →
     IsDelivered history d → IsDelivered history e → d.flow ≡ e.flow → d.start < e.start → d.due ≤ e.due
+
+-- Nothing more is asked of an answer: where the caller has seen such a history, and has its own entries of it, the call was answered so.
+abbrev pub AnswersSuffice : Type 0
+AnswersSuffice = (before after : CallerView) (c : Call) (r : Reply) (between : List Entry) → IsLawful Ordered after.front → All (λ e. e.caller < before.service.callers) after.front →
+    after.front ≡ (before.front ++ between) ++ record { caller = before.number; call = c; reply = r } ∷ [] → after.own ≡ before.own ++ record { caller = before.number; call = c; reply = r } ∷ [] →
+    after.own ≡ filter (λ e. nat_eq e.caller before.number) after.front → Answered before c r after
+
+-- The caller has seen a front of the history, has its own entries of it, and was found in a call as often as the callers noted.
+abbrev pub IsAccounted : List Entry → List CallerView → CallerView → Type 0
+IsAccounted history callers c = ((rest : List Entry) × (history ≡ c.front ++ rest)) × (c.own ≡ filter (λ e. nat_eq e.caller c.number) history)
+    × (c.faced ≡ sum (map (λ other. count_by (λ k. nat_eq k c.number) other.lost) callers))
+
+-- Nor is more asked of what a service leaves: any lawful history of its callers, each of them there and accounted for.
+abbrev pub HistoriesSuffice : Type 0
+HistoriesSuffice = (service : ServiceView) (callers : List CallerView) (history : List Entry) → IsLawful Ordered history → All (λ e. e.caller < service.callers) history →
+    All (IsAccounted history callers) callers → ((k : ℕ) → k < service.callers → (c : CallerView) × Has callers c × (c.number ≡ k)) → Closes service callers history
 
 -- The headline with an emulator in the place of `reply`: each reply in the history is the emulator's after the calls before.
 -- Each caller's calls are there with their replies, once and in order, and each entry is a caller's.

@@ -13,7 +13,7 @@ ghost use Rattle.dn_laws.specs.Divided.{PartsAreAlone, PartsHappenAlone};
 ghost use Rattle.dn_laws.specs.FlowLaws.{FlowsAreByMask, FlowsHaveTheirKeys, FlowsStay};
 ghost use Rattle.dn_laws.specs.KeptLaws.{BusyPeriodsBegin, ClockSparesTags, LinksAreKept};
 ghost use Rattle.dn_laws.specs.KeptLaws.{PacketsSpareTags, TagsAreKept, VirtualTimeIsKept};
-ghost use Rattle.dn_laws.specs.Laws.{BytesAreBounded, CountsAreBounded, CountsUpToTheLimit};
+ghost use Rattle.dn_laws.specs.Laws.{BytesAreBounded, CallsAreInRange, CountsAreBounded, CountsUpToTheLimit};
 ghost use Rattle.dn_laws.specs.Laws.{DueIsLast, DueMomentsAreBounded, DueMomentsNeverFall};
 ghost use Rattle.dn_laws.specs.Laws.{ExhaustedChangesNothing, GivesOnce, GivesStarted};
 ghost use Rattle.dn_laws.specs.Laws.{GivesWhatIsDue, LawfulHistoriesGrow, LawfulReplies};
@@ -118,6 +118,7 @@ pub fn laws_of_bounds()
     ensures dues { DueMomentsAreBounded }
     ensures bytes { BytesAreBounded }
     ensures counts { CountsAreBounded }
+    ensures calls { CallsAreInRange }
 {}
 
 /// Each call is in range, as the laws of bounds ask, since its types hold no other values.

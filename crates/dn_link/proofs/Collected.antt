@@ -6,7 +6,6 @@ use Rattle.std.specs.Prelude.{option_map, slice_get}
 use Rattle.std.specs.Ordering.{is_lt}
 use Rattle.std.proofs.lemmas.List.Elements.{All-nil, All-cons}
 use Rattle.std.proofs.lemmas.Bool.{cases_lt}
-use Rattle.std.proofs.lemmas.Bool.Decides.{nat_tests}
 use Rattle.dn_types.specs.declared.delivery.Delivery.{Delivery}
 use Rattle.dn_types.specs.declared.rule.Rule.{Rule}
 use Rattle.dn_types.specs.Deliveries.{delivery_cmp, is_given_before, in_order, delivery_of, undelivered}
@@ -44,7 +43,7 @@ IsInOrder-undelivered rule (discarded f ∷ trace) = IsInOrder-undelivered rule 
 -- What is given later isn't due sooner.
 due_order : (a b : Delivery) → is_given_before b a ≡ false → a.due ≤ b.due
 due_order a b h = elim (cases_lt b.due a.due) [
-  | inl sooner ↦ absurd (let z : is_lt (delivery_cmp b a) ≡ true = grind (arith, nat_tests) in cc)
+  | inl sooner ↦ absurd (let z : is_lt (delivery_cmp b a) ≡ true = grind arith in cc)
   | inr order ↦ order
 ]
 
@@ -52,19 +51,17 @@ due_order a b h = elim (cases_lt b.due a.due) [
 none_due : (at : ℕ) (d : Delivery) (ds : List Delivery) → NoneBefore is_given_before d ds → at < d.due → due_at at ds ≡ []
 none_due at d [] behind later = refl
 none_due at d (e ∷ es) behind later =
-    let order = due_order d e behind.0 in
-    let test : nat_le e.due at ≡ false = grind (arith, nat_tests) in
+    let test : nat_le e.due at ≡ false = grind arith in
     rw test (none_due at d es behind.1 later)
 
 all_stay : (at : ℕ) (d : Delivery) (ds : List Delivery) → NoneBefore is_given_before d ds → at < d.due → not_due_at at ds ≡ ds
 all_stay at d [] behind later = refl
 all_stay at d (e ∷ es) behind later =
-    let order = due_order d e behind.0 in
-    let test : nat_lt at e.due ≡ true = grind (arith, nat_tests) in
+    let test : nat_lt at e.due ≡ true = grind arith in
     rw test (ap (λ l. e ∷ l) (all_stay at d es behind.1 later))
 
 first_is_not : (b : Bool) (d : Delivery) → cond b (Some d) None ≡ None → b ≡ false
-first_is_not true d h = absurd (let z : true ≡ false = ap is_some h in cc)
+first_is_not true d h = absurd (cc)
 first_is_not false d h = refl
 
 -- Where the first of a list in order isn't due, none is.
@@ -72,14 +69,13 @@ pub due-none : (at : ℕ) (ds : List Delivery) → IsInOrder ds → due_first at
 due-none at [] ordered h = refl
 due-none at (d ∷ ds) ordered h =
     let test = first_is_not (nat_le d.due at) d h in
-    rw test (none_due at d ds ordered.0 (grind (arith, nat_tests)))
+    rw test (none_due at d ds ordered.0 (grind arith))
 
 pub not_due-none : (at : ℕ) (ds : List Delivery) → IsInOrder ds → due_first at ds ≡ None → not_due_at at ds ≡ ds
 not_due-none at [] ordered h = refl
 not_due-none at (d ∷ ds) ordered h =
-    let test = first_is_not (nat_le d.due at) d h in
-    let later : nat_lt at d.due ≡ true = grind (arith, nat_tests) in
-    rw later (ap (λ l. d ∷ l) (all_stay at d ds ordered.0 (grind (arith, nat_tests))))
+    let later : nat_lt at d.due ≡ true = grind arith in
+    rw later (ap (λ l. d ∷ l) (all_stay at d ds ordered.0 (grind arith)))
 
 -- And every packet is due later.
 all_later : (at : ℕ) (d : Delivery) (ds : List Delivery) → NoneBefore is_given_before d ds → at < d.due → All (λ e. at < e.due) ds
@@ -92,7 +88,7 @@ pub later-none : (at : ℕ) (ds : List Delivery) → IsInOrder ds → is_some (d
 later-none at [] ordered h = All-nil (λ (e : Delivery). at < e.due)
 later-none at (d ∷ ds) ordered h =
     let test : nat_le d.due at ≡ false = sym (first_due at d ds (d ∷ ds) refl) ∙ h in
-    let later : at < d.due = grind (arith, nat_tests) in
+    let later : at < d.due = grind arith in
     All-cons (λ (e : Delivery). at < e.due) d ds later (all_later at d ds ordered.0 later)
 
 pub IsInOrder-all_in_order : (ds : List Delivery) → IsInOrder (all_in_order ds)
@@ -114,8 +110,3 @@ module _ (d : Delivery) (ds : List Delivery) (held : Contains ds d) (least : All
       let found = first_in_order d ds held least in
       let ordered : IsInOrder (d ∷ found.0) = subst IsInOrder found.1 (IsInOrder-all_in_order ds) in
       subst (All (λ (e : Delivery). d.due ≤ e.due)) (sym found.1) (All-cons (λ (e : Delivery). d.due ≤ e.due) d found.0 (omega arith) (no_sooner d found.0 ordered.0))
-
--- Where a heap gives none it holds none, and no packet is the first.
-pub none-value : (ds : List Delivery) → (0 < length ds → false ≡ true) → None ≡ option_map (λ (x : Delivery). x.due) (slice_get (all_in_order ds) 0)
-none-value [] none = refl
-none-value (d ∷ ds) none = absurd (let z : false ≡ true = none (omega arith) in cc)

@@ -7,7 +7,6 @@ use Rattle.std.specs.declared.cmp.Ordering.TheVariants.{Less, Equal, Greater}
 use Rattle.std.specs.Cmp.{IsTotalOrder}
 use Rattle.std.specs.Ordering.{is_lt, is_gt, ordering_reverse, ordering_then, nat_cmp}
 use Rattle.std.proofs.lemmas.Cmp.{then_total, on_total, nat_cmp_total, upto, tied_itself}
-use Rattle.std.proofs.lemmas.Bool.Decides.{nat_tests}
 use Rattle.dn_types.specs.declared.delivery.Delivery.{Delivery}
 use Rattle.dn_types.specs.Deliveries.{delivery_cmp, is_given_before, in_order}
 use Rattle.dn_link.specs.Line.{all_in_order, due_first, after_due}
@@ -34,21 +33,21 @@ lt_gt r Greater e = ap is_lt e
 equal_only : (r s : Ordering) → r ≡ ordering_reverse s → is_lt r ≡ false → is_lt s ≡ false → r ≡ Equal
 equal_only r Less e h k = absurd (let z : true ≡ false = k in cc)
 equal_only r Equal e h k = e
-equal_only r Greater e h k = absurd (let z : true ≡ false = sym (ap is_lt e) ∙ h in cc)
+equal_only r Greater e h k = absurd (cc)
 
 less_not_back : (r s : Ordering) → s ≡ ordering_reverse r → is_lt r ≡ true → is_lt s ≡ false
 less_not_back Less s e h = ap is_lt e
 less_not_back Equal s e h = ap is_lt e
-less_not_back Greater s e h = absurd (let z : false ≡ true = h in cc)
+less_not_back Greater s e h = absurd (cc)
 
 -- Numbers that compare as equal are the same, and so are deliveries.
 equal_numbers : (x y : ℕ) → nat_cmp x y ≡ Equal → x ≡ y
-equal_numbers x y h = grind (arith, nat_tests)
+equal_numbers x y h = grind arith
 
 then_first : (r s : Ordering) → ordering_then r s ≡ Equal → (r ≡ Equal) × (s ≡ Equal)
 then_first Less s h = absurd (let z : Less ≡ Equal = h in cc)
 then_first Equal s h = (refl, h)
-then_first Greater s h = absurd (let z : Greater ≡ Equal = h in cc)
+then_first Greater s h = absurd (cc)
 
 same_delivery : (a b : Delivery) → delivery_cmp a b ≡ Equal → a ≡ b
 same_delivery a b h =

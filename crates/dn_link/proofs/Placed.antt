@@ -127,7 +127,6 @@ module _ {K : Type 0} (before : K → K → Bool) where
             let c = none_counted y ys h in
             let d : cond {A = ℕ} (before x y) 1 0 ≡ 1 = ap (λ t. cond {A = ℕ} t 1 0) p in
             let e : cond {A = ℕ} (before y y) 1 0 ≡ 0 = ap (λ t. cond {A = ℕ} t 1 0) (o.own y) in
-            let g = same f in
             absurd (omega arith)
 
     -- Two lists that ascend and have the same elements are the same list.

@@ -1,20 +1,8 @@
 -- A call that a line asks for is by one of 16 callers.
-use Rattle.std.proofs.Common.{◌≡◌, refl, ℕ, ◌<◌, ◌≤◌, ◌&&◌, Bool, true, false, not, cond, List, [], ◌∷◌, nat_le, arith}
-use Rattle.std.specs.Prelude.{⊤, Option, Some, None, Result, Ok, Err, codes}
-use Rattle.std.specs.Result.{result_ok}
-use Rattle.std.proofs.lemmas.Bool.{and_parts}
-use Rattle.std.proofs.lemmas.Bool.Decides.{nat_tests}
-use Rattle.dn_types.specs.declared.call.Call.{Call}
-use Rattle.dn_types.specs.declared.command.Command.{Command}
-use Rattle.dn_config.specs.Tokens.Numbers.{number_of, within}
-use Rattle.dn_config.specs.declared.tokens.number_fault.NumberFault.{NumberFault}
-use Rattle.dn_records.specs.Records.{Fields}
-use Rattle.dn_files.specs.Fields.{column, is_form, is_name, or_place}
-use Rattle.dn_history.specs.HistoryRecords.{caller_of, is_call, plain_call}
-use Rattle.dn_live.specs.Asked.{asked, asked_by, asked_by_first, asked_of, call_asked, command_in, configure_asked, is_asking, is_comment, plain_asked, records_in, typed_asked}
-use Rattle.dn_live.specs.declared.asked.Asked.{Asked}
-use Rattle.dn_live.specs.declared.asked.Asked.TheVariants.{Nothing, Next, Calls, Bad}
-use Rattle.dn_live.specs.declared.cause.Cause.{Cause}
+use Rattle.dn_live.proofs.Words.{Asked, Bad, Bool, Call, Calls, Cause, Command, Err, Fields, List, Next, None, Nothing, NumberFault, Ok, Option, Result, Some, [], and_parts, arith, asked}
+use Rattle.dn_live.proofs.Words.{asked_by, asked_by_first, asked_of, call_asked, caller_of, codes, column, command_in, cond, configure_asked, false, is_asking, is_call, is_comment, is_form}
+use Rattle.dn_live.proofs.Words.{is_name, nat_le, nat_tests, not, number_of, or_place, plain_asked, plain_call, records_in, refl, result_ok, true, typed_asked, within, ℕ, ⊤, ◌&&◌, ◌<◌, ◌∷◌, ◌≡◌}
+use Rattle.dn_live.proofs.Words.{◌≤◌}
 
 abbrev pub IsByFew : Asked → Type 0
 IsByFew (Calls caller call) = caller < 16

@@ -1,13 +1,7 @@
 -- What a configuration line says, by whether it is text and by the grammar's answer.
-use Rattle.std.proofs.Common.{◌≡◌, refl, ℕ, List, Option, Result, Err, inl, inr}
-use Rattle.std.proofs.lemmas.Bool.{cases_Bool}
-use Rattle.std.proofs.lemmas.Str.{IsUtf8-from_is_utf8, is_utf8-from_IsUtf8}
-use Rattle.std.specs.Str.{IsUtf8, is_utf8}
-use Rattle.dn_types.specs.declared.command.Command.{Command}
+use Rattle.dn_live.proofs.Words.{Command, Err, IsUtf8, IsUtf8-from_is_utf8, LineFault, List, NotText, Option, Result, cases_Bool, command_in, inl, inr, is_utf8, is_utf8-from_IsUtf8, refl, said, ℕ}
+use Rattle.dn_live.proofs.Words.{◌≡◌}
 use Rattle.dn_config.specs.Line.{answer}
-use Rattle.dn_config.specs.declared.fault.LineFault.{LineFault}
-use Rattle.dn_live.specs.Asked.{command_in, said}
-use Rattle.dn_live.specs.declared.cause.Cause.TheVariants.{NotText}
 
 pub no_text : (line : List ℕ) → (IsUtf8 line → ⊥) → command_in line ≡ Err NotText
 no_text line bad = elim (cases_Bool (is_utf8 line)) [

@@ -1,7 +1,5 @@
 -- The records in a line, as they are read.
-use Rattle.std.proofs.Common.{◌≡◌, refl, ap, Bool, true, false, not, List, [], ◌∷◌}
-use Rattle.dn_records.specs.Records.{Fields, Takes}
-use Rattle.dn_live.specs.LinesTaken.{has_none, IsRead}
+use Rattle.dn_live.proofs.Words.{Bool, Fields, IsRead, List, Takes, [], ap, false, has_none, not, refl, true, ◌∷◌, ◌≡◌}
 
 -- The line has no record.
 pub none_read : (old new : List Fields) (row fields : Fields) → Takes old new false row → fields ≡ [] → IsRead old true fields

@@ -5,3 +5,4 @@ pub mod LineReturns
 pub mod LineSteps
 pub mod SessionSteps
 pub mod Transcripts
+pub mod Words

@@ -1,23 +1,10 @@
 -- A line that ends in a carriage return is read as without it, where no other byte of it means more than itself to CSV.
-use Rattle.std.proofs.Common.{◌≡◌, ◌≢◌, ◌∙◌, refl, ap, ℕ, zero, suc, ◌+◌, ◌<◌, ◌≤◌, ◌==◌, Bool, true, false, inl, inr, List, [], ◌∷◌, ◌++◌, Option, Some, None}
-use Rattle.std.proofs.Common.{length, get_or, arith, add-one, append_assoc}
-use Rattle.std.specs.Prelude.{◌||◌, not, IfOk, Result, Ok, Err}
-use Rattle.std.specs.List.{list_any, onto_first, slice_split}
-use Rattle.std.specs.Option.{is_some}
-use Rattle.std.proofs.lemmas.Bool.{cases_Bool, false_from_ne_true, or_parts}
-use Rattle.std.proofs.lemmas.List.{append-nil}
-use Rattle.std.proofs.lemmas.List.Elements.{All-from_get_or}
-use Rattle.std.proofs.lemmas.List.Folds.{list_any-append, list_any_none}
+use Rattle.dn_live.proofs.Words.{All-from_get_or, Bool, Err, Fields, IfOk, IsFirstByte, IsRead, List, None, Ok, Option, Result, Some, [], add-one, ap, append-nil, append_assoc, arith, at-front}
+use Rattle.dn_live.proofs.Words.{cases_Bool, default_config, false, false_from_ne_true, get_or, has_quotes, inl, inr, is_byte, is_some, length, list_any, list_any-append, list_any_none, not}
+use Rattle.dn_live.proofs.Words.{onto_first, or_parts, record-same, records_from, records_in, records_of, refl, slice_split, start-same, strip_bom, suc, true, zero, ℕ, ◌++◌, ◌+◌, ◌<◌, ◌==◌, ◌||◌}
+use Rattle.dn_live.proofs.Words.{◌∙◌, ◌∷◌, ◌≡◌, ◌≢◌, ◌≤◌}
 use Rattle.csv.specs.Machine.{next_record}
-use Rattle.csv.specs.Reading.{default_config, records_from, strip_bom}
 use Rattle.csv.specs.declared.parser.State.TheVariants as st
-use Rattle.csv.proofs.RoundTrip.{record-same, start-same}
-use Rattle.dn_records.specs.PlainLines.{has_quotes}
-use Rattle.dn_records.specs.Records.{Fields, records_of}
-use Rattle.memchr.specs.Find.{IsFirstByte, is_byte}
-use Rattle.dn_records.proofs.PlainLines.{at-front}
-use Rattle.dn_live.specs.Asked.{records_in}
-use Rattle.dn_live.specs.LinesTaken.{IsRead}
 
 -- The first of some fields goes on with the bytes of the field at hand.
 abbrev onto : List ℕ → Fields → Fields

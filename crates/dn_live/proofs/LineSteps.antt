@@ -1,14 +1,7 @@
 -- Lines taken off known bytes, step by step.
-use Rattle.std.proofs.Common.{◌≡◌, ◌∙◌, sym, ap, ℕ, ◌<◌, ◌≤◌, ◌+◌, suc, Bool, true, false, List, [], ◌∷◌, ◌++◌, Option, Some, None, length, take, drop, get_or}
-use Rattle.std.proofs.Common.{append_assoc, append-nil, take-append-drop, drop-cons, drop-drop, length-take, take_all, min, arith}
-use Rattle.std.proofs.lemmas.Bool.Decides.{nat_tests}
-use Rattle.std.specs.List.{position_or_len}
-use Rattle.std.specs.Io.KnownBytes.{Consumes, Keeps, prepend_known}
-use Rattle.std.proofs.lemmas.List.Elements.{All-append}
-use Rattle.std.proofs.lemmas.List.Sums.{fails_before_first, passes_at_first}
-use Rattle.std.proofs.lemmas.List.{get_or-take}
-use Rattle.dn_config.specs.Tokens.Lines.{is_line_feed}
-use Rattle.dn_live.specs.LinesTaken.{HasFront, IsOneLine, IsTooLong, TakesPiece, line_limit}
+use Rattle.dn_live.proofs.Words.{All-append, Bool, Consumes, HasFront, IsOneLine, IsTooLong, Keeps, List, None, Option, Some, TakesPiece, [], ap, append-nil, append_assoc, arith, drop, drop-cons}
+use Rattle.dn_live.proofs.Words.{drop-drop, fails_before_first, false, get_or, get_or-take, is_line_feed, length, length-take, line_limit, min, nat_tests, passes_at_first, position_or_len}
+use Rattle.dn_live.proofs.Words.{prepend_known, suc, sym, take, take-append-drop, take_all, true, ℕ, ◌++◌, ◌+◌, ◌<◌, ◌∙◌, ◌∷◌, ◌≡◌, ◌≤◌}
 
 -- The bytes before the first line feed have none.
 pub before-feed : (xs : List ℕ) (n : ℕ) → n ≡ position_or_len is_line_feed xs → IsOneLine (take n xs)

@@ -1,34 +1,10 @@
 -- A session, line by line.
-use Rattle.std.proofs.Common.{◌≡◌, ◌∙◌, refl, sym, ap, subst, ℕ, ◌<◌, ◌≤◌, ◌+◌, ◌^◌, inl, Bool, true, false, List, [], ◌∷◌, ◌++◌, Option, Some, None, length, length-append, take, append-nil, arith}
-use Rattle.std.proofs.Math.Seq.{take-append-add}
-use Rattle.std.proofs.lemmas.List.{take-append-le}
-use Rattle.std.proofs.lemmas.List.Elements.{All-cons, All-nil}
-use Rattle.std.proofs.KnownBytes.{Appends-trans, Consumes-trans}
-use Rattle.std.specs.List.{All}
-use Rattle.std.specs.Prelude.{codes}
-use Rattle.std.specs.Io.KnownBytes.{Appends, Consumes, IsAtEnd, Keeps, prepend_known}
-use Rattle.csv.specs.Writing.{fields_text, is_blank}
-use Rattle.dn_types.specs.declared.call.Call.{Call}
-use Rattle.dn_types.specs.declared.rule.Rule.TheVariants.{Ordered}
-use Rattle.dn_shaper.specs.Shaper.{StandsAfter}
-use Rattle.dn_shaper.specs.declared.state.State.{State}
-use Rattle.dn_history.specs.HistoryText.{end_record, live_header}
-use Rattle.dn_records.specs.Devices.{AppendsPart}
-use Rattle.dn_records.specs.Records.{text_of}
-use Rattle.dn_records.proofs.TextSteps.{text-append}
-use Rattle.dn_files.specs.Reading.{IsTextOf}
-use Rattle.dn_files.specs.Writing.{IsUnwritten}
-use Rattle.dn_files.proofs.Causes.{unwritten-cases}
-use Rattle.dn_files.specs.declared.replay_fault.ReplayFault.{ReplayFault}
-use Rattle.dn_files.specs.declared.replay_fault.ReplayFault.TheVariants.{Read, Write, TooLong, OutOfMemory}
-use Rattle.dn_files.specs.declared.source.Source.TheVariants.{History}
-use Rattle.dn_live.specs.Asked.{asked}
-use Rattle.dn_live.specs.LinesTaken.{HasFront, IsLine, IsNotTaken, TakesLine}
-use Rattle.dn_live.specs.Session.{answer, answers, bad_lines, bad_of, bad_tail, begun, calls_after, calls_of, closing, count_of, IsBrokenOff, lines_text, served_of, tail_answer}
-use Rattle.dn_live.specs.declared.asked.Asked.{Asked}
-use Rattle.dn_live.specs.declared.asked.Asked.TheVariants.{Nothing, Next, Calls, Bad}
-use Rattle.dn_live.specs.declared.served.Served.{Served}
-use Rattle.dn_live.specs.Transcripts.{AreTyped, IsServedTyped, IsTyped}
+use Rattle.dn_live.proofs.Words.{All, All-cons, All-nil, Appends, Appends-trans, AppendsPart, AreTyped, Asked, Bad, Bool, Call, Calls, Consumes, Consumes-trans, HasFront, History, IsAtEnd}
+use Rattle.dn_live.proofs.Words.{IsBrokenOff, IsLine, IsNotTaken, IsServedTyped, IsTextOf, IsTyped, IsUnwritten, Keeps, List, Next, None, Nothing, Option, Ordered, OutOfMemory, Read, ReplayFault}
+use Rattle.dn_live.proofs.Words.{Served, Some, StandsAfter, State, TakesLine, TooLong, Write, [], answers, ap, append-nil, arith, asked, bad_lines, bad_of, bad_tail, begun, calls_after, calls_of}
+use Rattle.dn_live.proofs.Words.{closing, codes, count_of, end_record, false, fields_text, inl, is_blank, length, length-append, lines_text, live_header, prepend_known, refl, served_of, subst}
+use Rattle.dn_live.proofs.Words.{sym, tail_answer, take, take-append-add, take-append-le, text-append, text_of, true, unwritten-cases, ℕ, ◌++◌, ◌+◌, ◌<◌, ◌^◌, ◌∙◌, ◌∷◌, ◌≡◌, ◌≤◌}
+use Rattle.dn_live.specs.Session.{answer}
 use Rattle.dn_live.proofs.LineSteps.{front, front-behind}
 
 pub counts : (calls : List Call) (what : Asked) → length (calls_after calls what) ≡ length calls + count_of what

@@ -1,39 +1,12 @@
 -- What is written of a session is read as the history of its calls.
-use Rattle.std.proofs.Common.{◌≡◌, ◌∙◌, refl, sym, ap, subst, ℕ, ◌+◌, ◌<◌, ◌≤◌, ◌^◌, not, List, [], ◌∷◌, ◌++◌, Option, Some, None, length, true, length-append, append-nil, append_assoc, arith}
-use Rattle.std.specs.List.{All}
-use Rattle.std.specs.Prelude.{Ok, Err, flat_map}
-use Rattle.std.specs.Io.KnownBytes.{Appends}
-use Rattle.std.proofs.lemmas.List.Concat.{flat_map-append}
-use Rattle.std.proofs.lemmas.List.Elements.{All-append, All-cons, All-nil, filter-append}
-use Rattle.csv.specs.Reading.{strip_bom}
-use Rattle.csv.specs.Records.{field_at}
-use Rattle.csv.specs.Writing.{escaped, fields_text, is_blank}
-use Rattle.dn_types.specs.Calls.{trace_of}
-use Rattle.dn_types.specs.Clock.{counted}
+use Rattle.dn_live.proofs.Words.{All, All-append, All-cons, All-nil, AllFilled, Appends, AreTyped, Asked, Bad, BadLine, Call, Calls, Entry, Err, Fields, HasNoMark, IsPiece, IsServed}
+use Rattle.dn_live.proofs.Words.{IsServedTyped, IsTranscript, IsTyped, List, Live, Next, NoLineFeed, None, Nothing, Ok, Option, Ordered, Piece, Served, Some, [], answers, ap, append-nil}
+use Rattle.dn_live.proofs.Words.{append_assoc, arith, asked, bad_record, calls_after, calls_of, calls_of-more, counted, end_record, entry-filled, entry-plain, entry_records, escaped, field_at}
+use Rattle.dn_live.proofs.Words.{fields_text, filled-append, filter-append, flat_map, flat_map-append, history_header, history_in, history_records, is_blank, is_remark, lawful-more, length}
+use Rattle.dn_live.proofs.Words.{length-append, live_header, not, piece_entries, piece_records, read-back, read_as, refl, reply, strip_bom, subst, sym, tail_answer, text-append, text_of, trace_of}
+use Rattle.dn_live.proofs.Words.{true, wake_of, without_remarks, ℕ, ◌++◌, ◌+◌, ◌<◌, ◌^◌, ◌∙◌, ◌∷◌, ◌≡◌, ◌≤◌}
 use Rattle.dn_types.specs.History.{IsLawful, calls_of as history_calls}
-use Rattle.dn_types.specs.Replies.{reply}
-use Rattle.dn_types.specs.declared.call.Call.{Call}
-use Rattle.dn_types.specs.declared.entry.Entry.{Entry}
-use Rattle.dn_types.specs.declared.rule.Rule.TheVariants.{Ordered}
-use Rattle.dn_types.proofs.Histories.{calls_of-more, lawful-more}
-use Rattle.dn_records.specs.Records.{AllFilled, Fields, HasNoMark, text_of}
-use Rattle.dn_records.proofs.ReadBack.{read-back}
-use Rattle.dn_records.proofs.TextSteps.{text-append}
-use Rattle.dn_shaper.specs.Waking.{wake_of}
-use Rattle.dn_history.specs.HistoryText.{end_record, entry_records, history_header, history_records, live_header}
-use Rattle.dn_history.specs.HistoryFile.{history_in}
-use Rattle.dn_history.specs.Remarks.{is_remark, without_remarks}
-use Rattle.dn_history.specs.declared.history_version.HistoryVersion.TheVariants.{Live}
-use Rattle.dn_history.proofs.EntriesBack.{IsPiece, Piece, piece_entries, piece_records, read_as}
-use Rattle.dn_history.proofs.HistoryBack.{entry-filled, entry-plain, filled-append}
-use Rattle.dn_live.specs.Asked.{asked}
-use Rattle.dn_live.specs.Session.{answer, answers, bad_record, calls_after, calls_of, IsServed, next_record, tail_answer}
-use Rattle.dn_live.specs.Transcripts.{AreTyped, IsServedTyped, IsTranscript, IsTyped}
-use Rattle.dn_live.specs.declared.asked.Asked.{Asked}
-use Rattle.dn_live.specs.declared.asked.Asked.TheVariants.{Nothing, Next, Calls, Bad}
-use Rattle.dn_live.specs.declared.bad_line.BadLine.{BadLine}
-use Rattle.dn_live.specs.declared.cause.Cause.TheVariants.{NoLineFeed}
-use Rattle.dn_live.specs.declared.served.Served.{Served}
+use Rattle.dn_live.specs.Session.{answer, next_record}
 use Rattle.dn_live.proofs.Callers.{IsByFew, asked-few}
 use Rattle.dn_live.proofs.SessionSteps.{counts, one-at-most}
 

@@ -1,11 +1,7 @@
 -- The first line of a text: behind an end of line no byte order mark is passed over.
-use Rattle.std.proofs.Common.{◌≡◌, sym, ap, ℕ, suc, ◌+◌, ◌==◌, List, [], ◌∷◌, length, refl, arith, add-one, inl, inr}
-use Rattle.std.proofs.lemmas.Bool.{cases_Bool, eqb-true}
-use Rattle.csv.specs.Machine.{next_record}
-use Rattle.csv.specs.Reading.{default_config, records_from, records_next, strip_bom}
+use Rattle.dn_records.proofs.Words.{List, [], add-one, ap, arith, cases_Bool, default_config, eqb-true, inl, inr, length, next_record, records_after, records_from, records_next, records_of, refl}
+use Rattle.dn_records.proofs.Words.{strip_bom, suc, sym, ℕ, ◌+◌, ◌==◌, ◌∷◌, ◌≡◌}
 use Rattle.csv.specs.declared.parser.State.TheVariants as st
-use Rattle.dn_records.specs.Reading.{records_after}
-use Rattle.dn_records.specs.Records.{records_of}
 use Rattle.dn_records.proofs.NextRecord.{turns}
 
 no-mark : (text : List ℕ) → strip_bom (10 ∷ text) ≡ 10 ∷ text

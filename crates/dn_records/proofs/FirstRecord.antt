@@ -1,16 +1,10 @@
 -- The first record of a text, byte by byte.
-use Rattle.std.proofs.Common.{◌≡◌, ◌∙◌, refl, sym, ℕ, ◌-◌, ◌<◌, ◌≤◌, true, false, List, [], ◌∷◌, ◌++◌, length, take, drop, get_or, arith, Some, None}
-use Rattle.std.proofs.lemmas.List.{take_all, take_rest}
-use Rattle.csv.specs.Machine.{Read, ends_at_end, field_after, fields_after, is_end, next_record, step}
-use Rattle.csv.specs.Reading.{default_config, records_from}
-use Rattle.csv.specs.Records.{Row, fields_of, partial_of}
+use Rattle.dn_records.proofs.Words.{Fields, Holds, List, None, Read, Row, Some, Step, TakesFront, [], arith, csv_state, csv_step, default_config, drop, ends_at_end, false, field_after}
+use Rattle.dn_records.proofs.Words.{fields_after, fields_of, get_or, is_end, length, next_record, partial_of, records_after, records_from, records_of, refl, step, sym, take, take_all, take_rest}
+use Rattle.dn_records.proofs.Words.{true, ℕ, ◌++◌, ◌-◌, ◌<◌, ◌∙◌, ◌∷◌, ◌≡◌, ◌≤◌}
 use Rattle.csv.specs.declared.parser.State.TheVariants as st
-use Rattle.dn_records.specs.Reading.{records_after}
-use Rattle.dn_records.specs.Records.{Fields, records_of}
-use Rattle.dn_records.specs.Steps.{Holds, TakesFront, csv_state, csv_step}
 use Rattle.dn_records.specs.declared.state.State.{State}
 use Rattle.dn_records.specs.declared.state.State.TheVariants as s
-use Rattle.dn_records.specs.declared.state.Step.{Step}
 use Rattle.dn_records.proofs.LineEnds.{first-is}
 use Rattle.dn_records.proofs.NextRecord.{next-between, next-shorter}
 use Rattle.dn_records.proofs.PlainLines.{none-in}

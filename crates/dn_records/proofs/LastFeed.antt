@@ -1,13 +1,7 @@
 -- The last line feed of a text, and what follows it.
-use Rattle.std.proofs.Common.{◌≡◌, ◌∙◌, sym, ap, refl, ℕ, zero, suc, ◌+◌, ◌<◌, ◌==◌, Bool, true, false, List, [], ◌∷◌, ◌++◌, length, take, drop, append_assoc, length-append, arith}
-use Rattle.std.proofs.Common.{Option, Some, None}
-use Rattle.std.specs.Prelude.{◌||◌}
-use Rattle.std.specs.List.{list_any}
-use Rattle.std.specs.Option.{is_some}
-use Rattle.std.proofs.lemmas.Bool.{false≢true}
-use Rattle.std.proofs.lemmas.List.Folds.{list_any-append, list_any_at}
-use Rattle.std.proofs.Math.Seq.{drop-append_seam, get_or-append_seam, take-append_seam}
-use Rattle.memchr.specs.Find.{IsFirstByte, NoneAfter, Nowhere, Passes, is_byte}
+use Rattle.dn_records.proofs.Words.{Bool, IsFirstByte, List, None, NoneAfter, Nowhere, Option, Passes, Some, [], ap, append_assoc, arith, drop, drop-append_seam, false, false≢true}
+use Rattle.dn_records.proofs.Words.{get_or-append_seam, is_byte, is_some, length, length-append, list_any, list_any-append, list_any_at, refl, suc, sym, take, take-append_seam, true, zero, ℕ}
+use Rattle.dn_records.proofs.Words.{◌++◌, ◌+◌, ◌<◌, ◌==◌, ◌||◌, ◌∙◌, ◌∷◌, ◌≡◌}
 
 -- Where no line feed follows a line feed, the front before the last one ends.
 last-place : (front rest : List ℕ) (last : ℕ) → last < length (front ++ 10 ∷ rest) → Passes (is_byte 10) (front ++ 10 ∷ rest) last

@@ -11,3 +11,4 @@ pub mod Steps
 pub mod TextSteps
 pub mod WholeRecords
 pub mod Witnesses
+pub mod Words

@@ -1,17 +1,9 @@
 -- A line is read as its fields, each written as it is or in quotes, whether it ends in a line feed alone or behind a carriage return.
-use Rattle.std.proofs.Common.{◌≡◌, ◌∙◌, ℕ, suc, ◌+◌, ◌<◌, ◌==◌, false, true, inl, inr, List, [], ◌∷◌, ◌++◌, Bool, length, refl, sym, ap, arith, add-one, append_assoc, length-append, Some}
-use Rattle.std.specs.Prelude.{◌||◌}
-use Rattle.std.specs.List.{list_any}
-use Rattle.std.proofs.lemmas.Bool.{cases_Bool}
-use Rattle.std.proofs.lemmas.List.{append-nil}
-use Rattle.csv.specs.Machine.{ends_at_end, next_record}
-use Rattle.csv.specs.Reading.{default_config, records_from}
-use Rattle.csv.specs.Writing.{default_writer, escaped, field_text, needs_byte}
+use Rattle.dn_records.proofs.Words.{BeginsLine, Bool, Fields, List, Some, [], add-one, after-quote-same, ap, append-nil, append_assoc, arith, cases_Bool, default_config, default_writer}
+use Rattle.dn_records.proofs.Words.{ends_at_end, escaped, false, field-run, field_text, inl, inr, length, length-append, list_any, needs_byte, next_record, quoted-run, record-same, records_after}
+use Rattle.dn_records.proofs.Words.{records_from, refl, suc, sym, true, ℕ, ◌++◌, ◌+◌, ◌<◌, ◌==◌, ◌||◌, ◌∙◌, ◌∷◌, ◌≡◌}
 use Rattle.csv.specs.declared.parser.State.{State}
 use Rattle.csv.specs.declared.parser.State.TheVariants as st
-use Rattle.csv.proofs.RoundTrip.{after-quote-same, field-run, quoted-run, record-same}
-use Rattle.dn_records.specs.Reading.{BeginsLine, records_after}
-use Rattle.dn_records.specs.Records.{Fields}
 use Rattle.dn_records.proofs.NextRecord.{turns}
 
 -- The bytes of a field as it is written: before any byte but a quote they are read as this field.

@@ -1,22 +1,8 @@
 -- The bytes of a line: those of its fields, one after the other.
-use Rattle.std.proofs.Common.{◌≡◌, ◌∙◌, ℕ, ◌+◌, ◌<◌, ◌≤◌, ◌==◌, ◌^◌, suc, Bool, false, cond, List, [], ◌∷◌, ◌++◌, length, take, drop, get_or, refl, sym, ap, subst, arith}
-use Rattle.std.proofs.Common.{append_assoc, length-append, Result, Ok, Err, inl, inr}
-use Rattle.std.specs.Prelude.{OnErr, decimal, ◌/◌, ◌%◌}
-use Rattle.std.specs.List.{list_any}
-use Rattle.std.proofs.Math.Seq.{split_at, take-append_seam}
-use Rattle.std.specs.Io.{StartsWith}
-use Rattle.std.proofs.lemmas.List.{append-nil, map-append, take-append-drop, take-take, take_more}
-use Rattle.std.proofs.lemmas.Bool.{cases_Bool}
-use Rattle.std.proofs.lemmas.Bool.{ne_eqb}
-use Rattle.std.proofs.lemmas.Bool.Decides.{eqb_tells}
-use Rattle.std.proofs.lemmas.List.Folds.{list_any-append}
-use Rattle.std.proofs.lemmas.Str.Parse.{digit_from_value}
-use Rattle.std.proofs.lemmas.Fmt.{decimal_is_IsNumeral_wide}
-use Rattle.std.specs.Str.Parse.{AllDigits}
-use Rattle.csv.specs.Writing.{default_writer, escaped, field_text, fields_text, is_blank, needs_byte, row_body}
-use Rattle.dn_records.specs.Records.{line_of}
-use Rattle.dn_records.specs.Writing.{address_text, bytes_of, record_of, with_point}
-use Rattle.dn_records.specs.declared.field.Field.{Field}
+use Rattle.dn_records.proofs.Words.{AllDigits, Bool, Err, Field, List, Ok, OnErr, Result, StartsWith, [], address_text, ap, append-nil, append_assoc, arith, bytes_of, cases_Bool, cond, decimal}
+use Rattle.dn_records.proofs.Words.{decimal_is_IsNumeral_wide, default_writer, digit_from_value, drop, eqb_tells, escaped, false, field_text, fields_text, get_or, inl, inr, is_blank, length}
+use Rattle.dn_records.proofs.Words.{length-append, line_of, list_any, list_any-append, map-append, ne_eqb, needs_byte, record_of, refl, row_body, split_at, subst, suc, sym, take, take-append-drop}
+use Rattle.dn_records.proofs.Words.{take-append_seam, take-take, take_more, with_point, ℕ, ◌%◌, ◌++◌, ◌+◌, ◌/◌, ◌<◌, ◌==◌, ◌^◌, ◌∙◌, ◌∷◌, ◌≡◌, ◌≤◌}
 
 -- what holds anyway holds at a refusal
 pub on_err : {T E : Type 0} {P : Type 0} (r : Result T E) → P → OnErr r P
@@ -96,17 +82,6 @@ pub starts-shorter : (xs front back : List ℕ) → StartsWith xs (front ++ back
 starts-shorter xs front back h =
     let shorter : length front ≤ length (front ++ back) = omega (arith, length-append front back) in
     sym (take-take (length front) (length (front ++ back)) xs shorter) ∙ ap (take (length front)) h ∙ take-append_seam front back
-
--- a text that is a front and more starts with the front
-pub starts-with : (xs front back : List ℕ) → xs ≡ front ++ back → StartsWith xs front
-starts-with xs front back is = ap (take (length front)) is ∙ take-append_seam front back
-
--- what starts with a text that starts with another starts with that
-pub starts-through : (xs middle front : List ℕ) → StartsWith xs middle → StartsWith middle front → StartsWith xs front
-starts-through xs middle front h is =
-    let e = take-append-drop (length front) middle in
-    let parts : middle ≡ front ++ drop (length front) middle = sym e ∙ ap (λ (t : List ℕ). t ++ drop (length front) middle) is in
-    starts-shorter xs front (drop (length front) middle) (subst (StartsWith xs) parts h)
 
 -- a record is blank where its fields have no byte
 blank-is : (fields : List (List ℕ)) → is_blank default_writer fields ≡ (length (row_body default_writer fields) == 0)

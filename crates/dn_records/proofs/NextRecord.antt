@@ -1,9 +1,6 @@
 -- The next record of a text takes at least one byte, and the machine then stands between two records.
-use Rattle.std.proofs.Common.{◌≡◌, ℕ, suc, zero, ◌<◌, ◌≤◌, ◌==◌, true, false, List, [], ◌∷◌, length, refl, ap, arith, Option, Some, None, inl, inr}
-use Rattle.std.proofs.lemmas.Bool.{cases_Bool}
-use Rattle.csv.specs.Machine.{Read, ends_at_end, field_after, fields_after, in_field, is_end, next_record, start_field, start_record, step}
-use Rattle.csv.specs.Reading.{default_config, records_from, records_next}
-use Rattle.csv.specs.declared.parser.Config.{Config}
+use Rattle.dn_records.proofs.Words.{Config, List, None, Option, Read, Some, [], ap, arith, cases_Bool, default_config, ends_at_end, false, field_after, fields_after, in_field, inl, inr, is_end}
+use Rattle.dn_records.proofs.Words.{length, next_record, records_from, records_next, refl, start_field, start_record, step, suc, true, zero, ℕ, ◌<◌, ◌==◌, ◌∷◌, ◌≡◌, ◌≤◌}
 use Rattle.csv.specs.declared.parser.State.{State}
 use Rattle.csv.specs.declared.parser.State.TheVariants as st
 

@@ -1,26 +1,12 @@
 -- Records whose lines are written plainly: how a line is read from its bytes, and what is left behind it.
-use Rattle.std.proofs.Common.{◌≡◌, ◌≢◌, ◌∙◌, refl, sym, ap, subst, ℕ, ◌+◌, ◌-◌, ◌<◌, ◌≤◌, ◌==◌, Bool, true, false, inl, inr, List, [], ◌∷◌, ◌++◌, Option, Some}
-use Rattle.std.proofs.Common.{None, length, take, drop, get_or, min, arith, append_assoc, length-append, length-take}
-use Rattle.std.specs.Prelude.{◌||◌, ◌&&◌}
-use Rattle.std.specs.List.{All, join_with_byte, list_any, onto_first, slice_split}
-use Rattle.std.specs.Option.{is_some}
-use Rattle.std.proofs.lemmas.Bool.{cases_Bool, eqb-true, false≢true, false_from_ne_true, or_parts}
-use Rattle.std.proofs.lemmas.List.{drop_more, get_or-take, take-append-drop, take_all, take_rest}
-use Rattle.std.proofs.lemmas.List.Sums.{count_by-le-length}
-use Rattle.std.proofs.lemmas.List.Elements.{All-from_get_or}
-use Rattle.std.proofs.lemmas.List.Folds.{list_any-append, list_any_at, list_any_none}
-use Rattle.std.proofs.lemmas.List.Splits.{join_with_byte-slice_split, length-slice_split, slice_split_at, slice_split_none}
-use Rattle.std.proofs.Math.Seq.{drop-append_seam}
-use Rattle.memchr.specs.Find.{IsFirstByte, NoneBefore, Nowhere, Passes, is_byte, is_byte2}
-use Rattle.csv.specs.Machine.{ends_with, next_record}
-use Rattle.csv.specs.Reading.{is_bom, records_from, strip_bom}
-use Rattle.csv.specs.Writing.{default_writer, needs_byte}
+use Rattle.dn_records.proofs.Words.{All, All-from_get_or, BeginsBare, BeginsFront, BeginsLine, Bool, Fields, IsFirstByte, List, None, NoneBefore, Nowhere, Option, Passes, Some, StandsBehindLine}
+use Rattle.dn_records.proofs.Words.{TakesFront, [], ap, append_assoc, arith, cases_Bool, count_by-le-length, default_writer, drop, drop-append_seam, drop_more, ends_with, eqb-true, false}
+use Rattle.dn_records.proofs.Words.{false_from_ne_true, false≢true, get_or, get_or-take, has_quotes, inl, inr, is_bom, is_byte, is_byte2, is_some, join_with_byte, join_with_byte-slice_split}
+use Rattle.dn_records.proofs.Words.{length, length-append, length-slice_split, length-take, list_any, list_any-append, list_any_at, list_any_none, min, needs_byte, next_record, onto_first}
+use Rattle.dn_records.proofs.Words.{or_parts, records_after, records_from, records_of, refl, slice_split, slice_split_at, slice_split_none, strip_bom, subst, sym, take, take-append-drop, take_all}
+use Rattle.dn_records.proofs.Words.{take_rest, true, ℕ, ◌&&◌, ◌++◌, ◌+◌, ◌-◌, ◌<◌, ◌==◌, ◌||◌, ◌∙◌, ◌∷◌, ◌≡◌, ◌≢◌, ◌≤◌}
 use Rattle.csv.specs.declared.parser.State.TheVariants as st
 use Rattle.csv.specs.declared.parser.Terminator.TheVariants as term
-use Rattle.dn_records.specs.PlainLines.{BeginsBare, StandsBehindLine, has_quotes}
-use Rattle.dn_records.specs.Reading.{BeginsLine, records_after}
-use Rattle.dn_records.specs.Records.{Fields, records_of}
-use Rattle.dn_records.specs.Steps.{BeginsFront, TakesFront}
 use Rattle.dn_records.proofs.FirstLine.{behind-feed, behind-return}
 use Rattle.dn_records.proofs.LineEnds.{BeginsFields, Opens, Writes, feed-line, field-begins, fields-then, line-reads, plain-writes, return-line}
 
@@ -153,17 +139,6 @@ all-pieces line fields is =
     let count = length-slice_split (λ b. b == 44) line in
     let few = count_by-le-length (λ b. b == 44) line in
     is ∙ take_all (length line + 1) (slice_split (λ b. b == 44) line) (omega (arith, count, few))
-
--- The first line is the first record.
-pub takes-line : (most : ℕ) (old new : List Fields) (text : List ℕ) (fields : Fields) (rest : List ℕ) → old ≡ records_after st.StartRecord text
-    → BeginsFront most text fields rest → new ≡ records_after st.StartRecord rest → TakesFront most old new true fields
-takes-line most old new text fields rest is begins goes =
-    let first = is ∙ line-reads text begins.whole rest begins.line in rw first (refl, begins.front, goes)
-
--- Where there was a next record, fewer are left.
-pub front-shorter : (most : ℕ) (old new : List Fields) (found : Bool) (fields : Fields) → TakesFront most old new found fields → found ≡ true → length new < length old
-front-shorter most [] new found fields takes e = absurd (false≢true (sym takes.0 ∙ e))
-front-shorter most (first ∷ rest) new found fields takes e = rw takes.2 (omega arith)
 
 -- The rest stands behind the line feed of the line.
 pub behind-line : (text : List ℕ) (fields : Fields) (rest : List ℕ) → BeginsLine text fields rest → StandsBehindLine text rest

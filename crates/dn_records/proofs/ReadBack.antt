@@ -1,11 +1,7 @@
 -- The records of a text that was written are the records that were written.
-use Rattle.std.proofs.Common.{◌≡◌, ℕ, ◌+◌, ◌≤◌, List, [], ◌∷◌, ◌++◌, length, ap, refl, arith, suc, zero, length-append}
-use Rattle.csv.specs.Machine.{next_record}
-use Rattle.csv.specs.Reading.{default_config, records_from}
-use Rattle.csv.specs.Writing.{default_writer, row_body}
+use Rattle.dn_records.proofs.Words.{AllFilled, Fields, HasNoMark, List, [], ap, arith, default_config, default_writer, length, length-append, line_of, next_record, read-write, records_from}
+use Rattle.dn_records.proofs.Words.{records_of, refl, row_body, suc, text_of, zero, ℕ, ◌++◌, ◌+◌, ◌∷◌, ◌≡◌, ◌≤◌}
 use Rattle.csv.specs.declared.parser.State.TheVariants as st
-use Rattle.csv.proofs.RoundTrip.{read-write}
-use Rattle.dn_records.specs.Records.{AllFilled, Fields, HasNoMark, line_of, records_of, text_of}
 
 -- what ends in a line feed has a byte
 ends : (body blank : List ℕ) → 1 ≤ length (body ++ (blank ++ (10 ∷ [])))

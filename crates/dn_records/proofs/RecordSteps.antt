@@ -1,12 +1,8 @@
 -- One read of a record, by the records that are left.
-use Rattle.std.proofs.Common.{◌≡◌, ◌∙◌, ℕ, ◌+◌, ◌<◌, Bool, true, false, not, List, [], ◌∷◌, length, refl, sym, arith, Option, Some, None, IsSome, inl, add-one, Bor}
-use Rattle.std.proofs.lemmas.Bool.{false≢true, not-false}
-use Rattle.csv.specs.Machine.{Read, ends_at_end, next_record}
-use Rattle.csv.specs.Reading.{NextIs, ReadRecord, ReadsNext, default_config, is_flexible, pending_of, reader_state, records_from, records_next, took_first}
+use Rattle.dn_records.proofs.Words.{Bool, Bor, Fields, IsReading, IsSome, List, NextIs, None, Option, Read, ReadRecord, Reader, ReadsNext, Some, Takes, [], add-one, arith, default_config}
+use Rattle.dn_records.proofs.Words.{ends_at_end, false, false≢true, inl, is_flexible, length, next_record, not, not-false, pending_of, reader_state, records_after, records_between, records_from}
+use Rattle.dn_records.proofs.Words.{records_left, records_next, refl, sym, text_left, took_first, true, ℕ, ◌+◌, ◌<◌, ◌∙◌, ◌∷◌, ◌≡◌}
 use Rattle.csv.specs.declared.parser.State.{State}
-use Rattle.csv.specs.declared.reader.Reader.{Reader}
-use Rattle.dn_records.specs.Reading.{IsReading, records_after, records_between, records_left, text_left}
-use Rattle.dn_records.specs.Records.{Fields, Takes}
 use Rattle.dn_records.proofs.NextRecord.{next-between, next-shorter, turns}
 
 -- the records of a text are what its first read gives

@@ -1,12 +1,7 @@
 -- The steps of csv's reader within a record, and what they make of its front.
-use Rattle.std.proofs.Common.{◌≡◌, ◌≢◌, ◌∙◌, refl, ap, ℕ, ◌==◌, true, false, inl, inr, List, ◌∷◌}
-use Rattle.std.proofs.lemmas.Bool.{cases_Bool, eqb-true, ne_eqb}
-use Rattle.csv.specs.Machine.{ends_with, in_field, is_end, start_record, step}
-use Rattle.csv.specs.Reading.{default_config}
+use Rattle.dn_records.proofs.Words.{List, ap, cases_Bool, csv_state, csv_step, default_config, ends_with, eqb-true, false, in_field, inl, inr, is_end, ne_eqb, records_after, records_of, refl}
+use Rattle.dn_records.proofs.Words.{start_record, step, true, ℕ, ◌==◌, ◌∙◌, ◌∷◌, ◌≡◌, ◌≢◌}
 use Rattle.csv.specs.declared.parser.Terminator.TheVariants as term
-use Rattle.dn_records.specs.Reading.{records_after}
-use Rattle.dn_records.specs.Records.{records_of}
-use Rattle.dn_records.specs.Steps.{csv_state, csv_step}
 use Rattle.dn_records.specs.declared.state.State.{State}
 use Rattle.dn_records.specs.declared.state.State.TheVariants as s
 use Rattle.dn_records.specs.declared.state.Step.TheVariants as step

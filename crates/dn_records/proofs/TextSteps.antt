@@ -1,8 +1,6 @@
 -- Texts of records: one record more, and the records of one item more.
-use Rattle.std.proofs.Common.{◌≡◌, ◌∙◌, sym, ap, refl, ℕ, ◌+◌, ◌<◌, take, length, get_or, List, [], ◌∷◌, ◌++◌, append_assoc}
-use Rattle.std.specs.Prelude.{flat_map, map}
-use Rattle.std.proofs.lemmas.List.{append-nil, flat_map_more, take_more, map_push}
-use Rattle.dn_records.specs.Records.{Fields, line_of, text_of}
+use Rattle.dn_records.proofs.Words.{Fields, List, [], ap, append-nil, append_assoc, flat_map, flat_map_more, get_or, length, line_of, map, map_push, refl, sym, take, take_more, text_of, ℕ, ◌++◌}
+use Rattle.dn_records.proofs.Words.{◌+◌, ◌<◌, ◌∙◌, ◌∷◌, ◌≡◌}
 
 -- The text of records and of further ones.
 pub text-append : (front back : List Fields) → text_of (front ++ back) ≡ text_of front ++ text_of back

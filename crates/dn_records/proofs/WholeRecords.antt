@@ -1,20 +1,12 @@
 -- A text behind which csv's reader stands at the start of a record: its records, and then those of what follows.
-use Rattle.std.proofs.Common.{◌≡◌, ◌∙◌, refl, sym, ap, ℕ, zero, suc, ◌+◌, ◌<◌, ◌==◌, Bool, true, false, List, [], ◌∷◌, ◌++◌}
-use Rattle.std.proofs.Common.{length, take, drop, get_or, length-append, arith, Option, Some, None, inl, inr, ◌⊎◌}
-use Rattle.std.specs.Option.{is_some}
-use Rattle.std.proofs.lemmas.Bool.{cases_Bool, eqb-true, false_from_ne_true}
-use Rattle.std.proofs.lemmas.List.{take-append-drop, take_more}
-use Rattle.memchr.specs.Find.{IsFirstByte, is_byte}
-use Rattle.csv.specs.Machine.{Read, ends_at_end, field_after, fields_after, in_field, is_end, next_record, start_field, start_record, step}
-use Rattle.csv.specs.Reading.{default_config, records_from, records_next}
-use Rattle.csv.specs.declared.parser.Action.{Action}
+use Rattle.dn_records.proofs.Words.{Action, BeginsRecords, Bool, Fields, IsFirstByte, IsWhole, List, None, Option, Read, Some, [], ap, arith, cases_Bool, default_config, drop, ends_at_end}
+use Rattle.dn_records.proofs.Words.{eqb-true, false, false_from_ne_true, field_after, fields_after, get_or, in_field, inl, inr, is_byte, is_end, is_some, length, length-append, next_record}
+use Rattle.dn_records.proofs.Words.{records_after, records_from, records_next, refl, start_field, start_record, state_after, step, suc, sym, take, take-append-drop, take_more, true, zero, ℕ, ◌++◌}
+use Rattle.dn_records.proofs.Words.{◌+◌, ◌<◌, ◌==◌, ◌∙◌, ◌∷◌, ◌≡◌, ◌⊎◌}
 use Rattle.csv.specs.declared.parser.Action.TheVariants as act
 use Rattle.csv.specs.declared.parser.State.{State}
 use Rattle.csv.specs.declared.parser.State.TheVariants as st
 use Rattle.dn_records.proofs.NextRecord.{next-between, next-shorter, turns}
-use Rattle.dn_records.specs.Reading.{records_after}
-use Rattle.dn_records.specs.Records.{Fields}
-use Rattle.dn_records.specs.WholeRecords.{BeginsRecords, IsWhole, state_after}
 
 some_eq : {A : Type 0} (x y : A) → ◌≡◌ {A = Option A} (Some x) (Some y) → x ≡ y
 some_eq x y e = cc

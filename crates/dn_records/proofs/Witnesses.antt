@@ -1,9 +1,5 @@
 -- Texts and their records, computed: what the definitions say of a text of this project, and of the corners of CSV.
-use Rattle.std.proofs.Common.{◌≡◌, List, [], ◌∷◌, refl, codes}
-use Rattle.csv.specs.Writing.{escaped, fields_text, is_blank}
-use Rattle.csv.proofs.OnLiterals.{csv_on_literals}
-use Rattle.csv.specs.Reading.{strip_bom}
-use Rattle.dn_records.specs.Records.{Fields, HasNoMark, records_of, text_of}
+use Rattle.dn_records.proofs.Words.{Fields, HasNoMark, List, [], codes, csv_on_literals, escaped, fields_text, is_blank, records_of, refl, strip_bom, text_of, ◌∷◌, ◌≡◌}
 use Rattle.dn_records.proofs.ReadBack.{read-back}
 
 -- a history file of four entries

@@ -1,21 +1,8 @@
 -- How many packets calls have accepted: a verdict takes one or none, and nothing else does.
-use Rattle.std.proofs.Common.{◌≡◌, ◌∙◌, ◌<◌, ◌≤◌, ℕ, ◌+◌, Bool, true, false, cond, ◌&&◌, List, ◌∷◌, refl, ap, length, arith}
-use Rattle.std.specs.Prelude.{nat_le, nat_eq}
-use Rattle.std.proofs.lemmas.Bool.Decides.{nat_tests}
-use Rattle.dn_types.specs.Calls.{Verdict, no_target, loses, refuses, takes, accept, join, after_verdict}
-use Rattle.dn_types.specs.Clock.{call_limit}
-use Rattle.dn_types.specs.Configuration.{Settings}
-use Rattle.dn_types.specs.Links.{free}
-use Rattle.dn_types.specs.Replies.{counted_reply, reply}
-use Rattle.dn_types.specs.SharedLinks.{waiting, opening}
-use Rattle.dn_types.specs.Starts.{start_at, settled}
-use Rattle.dn_types.specs.Trace.{Accepted, Event, arrived, started, lost, refused, accepted_count, is_arrival}
-use Rattle.dn_types.specs.declared.call.Call.{Call}
-use Rattle.dn_types.specs.declared.packet.Packet.{Packet}
-use Rattle.dn_types.specs.declared.rule.Rule.TheVariants.{Ordered}
-use Rattle.dn_types.proofs.CallCounts.{settled-count}
-use Rattle.dn_types.proofs.Giving.{count-event}
-use Rattle.dn_types.proofs.StepFacts.{opened-count}
+use Rattle.dn_replay.proofs.Words.{Bool, Call, Event, List, Ordered, Packet, Settings, Verdict, accept, accepted_count, after_verdict, ap, arith, arrived, call_limit, cond, count-event}
+use Rattle.dn_replay.proofs.Words.{counted_reply, false, free, is_arrival, join, length, loses, lost, nat_eq, nat_le, nat_tests, no_target, opened-count, opening, refl, refused, refuses, reply}
+use Rattle.dn_replay.proofs.Words.{settled, settled-count, start_at, started, takes, true, waiting, ℕ, ◌&&◌, ◌+◌, ◌<◌, ◌∙◌, ◌∷◌, ◌≡◌, ◌≤◌}
+use Rattle.dn_types.specs.Trace.{Accepted}
 
 -- An event that is no arrival.
 pub other-event : (e : Event) (trace : List Event) → is_arrival e ≡ false → accepted_count (e ∷ trace) ≡ accepted_count trace

@@ -1,14 +1,6 @@
 -- As many deliveries as there are packets, none of a packet twice, are one of each packet.
-use Rattle.std.proofs.Common.{◌≡◌, ◌∙◌, sym, refl, ℕ, zero, suc, ◌+◌, ◌<◌, ◌≤◌, inl, inr, arith, length, List, [], ◌∷◌, Bool, true, false, cond}
-use Rattle.std.specs.Prelude.{nat_eq, Some, is_some}
-use Rattle.std.specs.List.{All, count_by}
-use Rattle.std.proofs.lemmas.Bool.{cases_Bool}
-use Rattle.std.proofs.lemmas.Bool.Decides.{nat_tests}
-use Rattle.std.proofs.lemmas.List.Elements.{All-head, All-tail}
-use Rattle.std.proofs.lemmas.List.Sums.{sum_by-cons}
-use Rattle.dn_types.specs.Given.{is_packet}
-use Rattle.dn_types.specs.declared.delivery.Delivery.{Delivery}
-use Rattle.dn_replay.specs.Report.{delivery_of_packet}
+use Rattle.dn_replay.proofs.Words.{All, All-head, All-tail, Bool, Delivery, List, Some, [], arith, cases_Bool, cond, count_by, delivery_of_packet, false, inl, inr, is_packet, is_some, length}
+use Rattle.dn_replay.proofs.Words.{nat_eq, nat_tests, refl, suc, sum_by-cons, sym, true, zero, ℕ, ◌+◌, ◌<◌, ◌∙◌, ◌∷◌, ◌≡◌, ◌≤◌}
 use Rattle.dn_replay.proofs.KeptOrder.{AreGiven}
 
 -- How many deliveries are of packets with numbers below n.

@@ -1,16 +1,7 @@
 -- The calls of one caller, one call at a time.
-use Rattle.std.proofs.Common.{◌≡◌, ◌≢◌, ◌∙◌, ℕ, ◌+◌, ◌%◌, ◌<◌, true, false, cond, List, [], ◌∷◌, ◌++◌, eqb, eq-eqb, ne_eqb, length, take, get_or, refl, sym, ap, arith}
-use Rattle.std.proofs.lemmas.List.{length-take-le, take_more}
-use Rattle.dn_types.specs.History.{calls_of}
-use Rattle.dn_types.specs.declared.call.Call.{Call}
-use Rattle.dn_types.specs.declared.entry.Entry.{Entry}
-use Rattle.dn_types.specs.declared.reply.Reply.{Reply}
-use Rattle.dn_service.specs.Callers.{Answered, CallerView, IsSameCaller}
-use Rattle.dn_service.specs.Histories.{entry_of}
-use Rattle.dn_replay.specs.Rows.{submit, submitted}
-use Rattle.dn_replay.specs.Callers.{calls_by, HasSubmitted, rows_at, rows_of_caller}
-use Rattle.dn_files.specs.declared.row.Row.{Row}
-use Rattle.dn_types.proofs.Histories.{calls_of-more}
+use Rattle.dn_replay.proofs.Words.{Answered, Call, CallerView, Entry, HasSubmitted, IsSameCaller, List, Reply, Row, [], ap, arith, calls_by, calls_of, calls_of-more, cond, entry_of, eq-eqb, eqb}
+use Rattle.dn_replay.proofs.Words.{false, get_or, length, length-take-le, ne_eqb, refl, rows_at, rows_of_caller, submit, submitted, sym, take, take_more, true, ℕ, ◌%◌, ◌++◌, ◌+◌, ◌<◌, ◌∙◌, ◌∷◌}
+use Rattle.dn_replay.proofs.Words.{◌≡◌, ◌≢◌}
 use Rattle.dn_replay.proofs.Runs.{submitted-append}
 
 -- One call more of a caller.

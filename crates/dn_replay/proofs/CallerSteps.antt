@@ -1,22 +1,7 @@
 -- A replay by several callers, and why there is none, step by step.
-use Rattle.std.proofs.Common.{◌≡◌, ◌∙◌, refl, ap, subst, ℕ, Bool, false, List, Option, None}
-use Rattle.std.proofs.KnownBytes.{Keeps-refl}
-use Rattle.dn_types.specs.History.{calls_of}
-use Rattle.dn_types.specs.declared.call.Call.{Call}
-use Rattle.dn_types.specs.declared.entry.Entry.{Entry}
-use Rattle.dn_replay.specs.CallerReplays.{IsCount, IsHistoryOfCallers, IsReplayOfCallers, IsUnansweredByCallers, IsUnopened}
-use Rattle.dn_files.specs.PacketFile.{packet_file}
-use Rattle.dn_files.specs.Reading.{ReadsAs}
-use Rattle.dn_replay.specs.Replays.{AskFor, config_calls, failed_read, IsUnread}
-use Rattle.dn_replay.specs.Report.{report}
-use Rattle.dn_replay.specs.Runs.{history_of}
-use Rattle.dn_files.specs.Writing.{IsUnwritten}
-use Rattle.dn_files.proofs.Causes.{unwritten-cases}
-use Rattle.dn_files.specs.declared.replay_fault.ReplayFault.{ReplayFault}
-use Rattle.dn_files.specs.declared.replay_fault.ReplayFault.TheVariants.{Write, OutOfMemory, BadCount}
-use Rattle.dn_files.specs.declared.row.Row.{Row}
-use Rattle.dn_files.specs.declared.source.Source.{Source}
-use Rattle.dn_files.specs.declared.source.Source.TheVariants.{Report}
+use Rattle.dn_replay.proofs.Words.{AskFor, BadCount, Bool, Call, Entry, IsCount, IsHistoryOfCallers, IsReplayOfCallers, IsUnansweredByCallers, IsUnopened, IsUnread, IsUnwritten, Keeps-refl, List}
+use Rattle.dn_replay.proofs.Words.{None, Option, OutOfMemory, ReadsAs, ReplayFault, Report, Row, Source, Write, ap, calls_of, config_calls, failed_read, false, history_of, packet_file, refl}
+use Rattle.dn_replay.proofs.Words.{report, subst, unwritten-cases, ℕ, ◌∙◌, ◌≡◌}
 use Rattle.dn_replay.proofs.OwnFaults.{no_count_asked}
 use Rattle.dn_replay.proofs.ReplaySteps.{made, unreplayed}
 

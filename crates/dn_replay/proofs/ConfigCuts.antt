@@ -1,14 +1,7 @@
 -- Where a joined input is cut, by the line that its last line feed ends, or by its end.
-use Rattle.std.proofs.Common.{◌≡◌, ◌∙◌, ℕ, ◌+◌, ◌<◌, ◌==◌, length, take, drop, get_or, add-one, drop-cons, take-append-drop, true, false, List, [], ◌∷◌, ◌++◌}
-use Rattle.std.proofs.Common.{refl, sym, ap, inl, inr, append_assoc, append-nil}
-use Rattle.std.specs.Prelude.{is_some, bytes_eq, codes}
-use Rattle.std.proofs.lemmas.Bool.{cases_Bool}
-use Rattle.std.proofs.lemmas.List.{take_more}
-use Rattle.std.proofs.lemmas.List.Elements.{All-head, All-tail}
-use Rattle.std.proofs.lemmas.Slice.Eq.{bytes_eq-Decides}
-use Rattle.dn_config.specs.Tokens.Joined.{after_end, after_mark, joined_parts, parts_from}
-use Rattle.dn_replay.specs.OnePass.{behind, is_mark, IsConfigSoFar, IsLine}
-use Rattle.dn_replay.specs.declared.config.config_part.ConfigPart.{ConfigPart}
+use Rattle.dn_replay.proofs.Words.{All-head, All-tail, ConfigPart, IsConfigSoFar, IsLine, List, [], add-one, after_end, after_mark, ap, append-nil, append_assoc, behind, bytes_eq}
+use Rattle.dn_replay.proofs.Words.{bytes_eq-Decides, cases_Bool, codes, drop, drop-cons, false, get_or, inl, inr, is_mark, is_some, joined_parts, length, parts_from, refl, sym, take}
+use Rattle.dn_replay.proofs.Words.{take-append-drop, take_more, true, ℕ, ◌++◌, ◌+◌, ◌<◌, ◌==◌, ◌∙◌, ◌∷◌, ◌≡◌}
 
 head : (byte : ℕ) (line : List ℕ) → IsLine (byte ∷ line) → (byte == 10) ≡ false
 head byte line is = All-head (λ (b : ℕ). (b == 10) ≡ false) byte line is

@@ -1,17 +1,7 @@
 -- The table of deliveries, one delivery and one entry at a time.
-use Rattle.std.proofs.Common.{◌≡◌, ◌∙◌, ◌≢◌, sym, ap, refl, ℕ, ◌+◌, ◌<◌, ◌≤◌, nat_eq, arith, take, drop, length}
-use Rattle.std.proofs.Common.{get_or, set, Some, None, Option, List, [], ◌∷◌, ◌++◌, true, false, inl, inr, append_assoc, replicate, take-append-drop}
-use Rattle.std.specs.Option.{option_or, is_some}
-use Rattle.std.specs.Prelude.{nat_lt}
-use Rattle.std.proofs.lemmas.List.{length-replicate, get_or-replicate}
-use Rattle.std.proofs.Math.ListN.{get_or-eq_default}
-use Rattle.std.proofs.lemmas.Bool.{cases_Bool, eqb-true}
-use Rattle.std.proofs.lemmas.Bool.Decides.{nat_tests}
-use Rattle.std.proofs.lemmas.List.{append-nil, get_or-set_same, get_or-set_other, take_more}
-use Rattle.std.proofs.lemmas.List.Folds.{find-append}
-use Rattle.dn_types.specs.declared.delivery.Delivery.{Delivery}
-use Rattle.dn_types.specs.declared.entry.Entry.{Entry}
-use Rattle.dn_replay.specs.Report.{delivered, deliveries, delivery_of_packet}
+use Rattle.dn_replay.proofs.Words.{Delivery, Entry, List, None, Option, Some, [], ap, append-nil, append_assoc, arith, cases_Bool, delivered, deliveries, delivery_of_packet, drop, eqb-true, false}
+use Rattle.dn_replay.proofs.Words.{find-append, get_or, get_or-eq_default, get_or-replicate, get_or-set_other, get_or-set_same, inl, inr, is_some, length, length-replicate, nat_eq, nat_lt}
+use Rattle.dn_replay.proofs.Words.{nat_tests, option_or, refl, replicate, set, sym, take, take-append-drop, take_more, true, ℕ, ◌++◌, ◌+◌, ◌<◌, ◌∙◌, ◌∷◌, ◌≡◌, ◌≢◌, ◌≤◌}
 use Rattle.dn_replay.proofs.LineSteps.{differ}
 
 or-none : (o : Option Delivery) → option_or o None ≡ o
@@ -32,14 +22,6 @@ beyond table d packet far below =
 some-or : (o x : Option Delivery) → is_some o ≡ true → o ≡ option_or o x
 some-or None x e = cc e
 some-or (Some d) x e = refl
-
--- A delivery whose packet has one already.
-pub present : (table : List (Option Delivery)) (d : Delivery) (packet : ℕ) → is_some (get_or table d.packet None) ≡ true
-    → get_or table packet None ≡ option_or (get_or table packet None) (delivery_of_packet packet (d ∷ []))
-present table d packet there = elim (cases_Bool (nat_eq d.packet packet)) [
-  | inl is ↦ some-or (get_or table packet None) _ (ap (λ (n : ℕ). is_some (get_or table n None)) (sym (eqb-true d.packet packet is)) ∙ there)
-  | inr other ↦ rw other (sym (or-none (get_or table packet None)))
-]
 
 none-of : (o : Option Delivery) → is_some o ≡ false → o ≡ None
 none-of None e = refl

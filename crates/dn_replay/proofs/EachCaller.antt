@@ -1,21 +1,10 @@
 -- The callers of one service, step by step.
-use Rattle.std.proofs.Common.{◌≡◌, ◌∙◌, ℕ, zero, suc, ◌+◌, ◌<◌, ◌≤◌, ◌^◌, true, true≢false, List, [], ◌∷◌, ◌++◌}
-use Rattle.std.proofs.Common.{All, map, set, get_or, length, length-set, Result, Ok, append-nil, eq-eqb, ne_eqb, refl, sym, ap, subst, arith}
-use Rattle.std.specs.Prelude.{IfOk}
-use Rattle.std.proofs.lemmas.List.{length-map}
-use Rattle.std.proofs.lemmas.List.Elements.{All-nil, All-cons, All-head, All-tail}
+use Rattle.dn_replay.proofs.Words.{Absent, All, All-cons, All-head, All-nil, All-tail, AllSubmitted, AreCallersOf, Call, CallerView, CloseFault, Collect, Entry, HasSubmitted, IfOk, IsAccountedFor}
+use Rattle.dn_replay.proofs.Words.{IsCloseFault, IsOf, IsSameCaller, List, Ok, Result, Row, ServiceView, [], ap, append-nil, arith, calls_by, calls_given, calls_of, eq-eqb, get_or, has_number}
+use Rattle.dn_replay.proofs.Words.{length, length-map, length-set, map, ne_eqb, new_callers, own_entries, refl, rows_of_caller, set, submitted, subst, suc, sym, true, true≢false, zero, ℕ, ◌++◌}
+use Rattle.dn_replay.proofs.Words.{◌+◌, ◌<◌, ◌^◌, ◌∙◌, ◌∷◌, ◌≡◌, ◌≤◌}
 use mathlib.Core.Logic.{dite}
 use native.Mathlib.Decide.{ℕ_discrete}
-use Rattle.dn_types.specs.History.{calls_of, own_entries}
-use Rattle.dn_types.specs.declared.call.Call.{Call}
-use Rattle.dn_types.specs.declared.call.Call.TheVariants.{Collect}
-use Rattle.dn_types.specs.declared.entry.Entry.{Entry}
-use Rattle.dn_service.specs.Callers.{CallerView, has_number, IsAccountedFor, IsCloseFault, IsOf, IsSameCaller, new_callers, ServiceView}
-use Rattle.dn_service.specs.declared.close_fault.CloseFault.{CloseFault}
-use Rattle.dn_service.specs.declared.close_fault.CloseFault.TheVariants.{Absent}
-use Rattle.dn_replay.specs.Rows.{submitted}
-use Rattle.dn_replay.specs.Callers.{AllSubmitted, calls_by, calls_given, HasSubmitted, AreCallersOf, rows_of_caller}
-use Rattle.dn_files.specs.declared.row.Row.{Row}
 
 -- What the threads gave back is what each caller has submitted.
 pub all_back : {E : Type 0} (n : ℕ) (rows : List Row) (befores afters : List CallerView) (back : List (Result CallerView E)) → map Ok afters ≡ back → length back ≡ length befores

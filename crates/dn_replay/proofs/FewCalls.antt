@@ -1,35 +1,10 @@
 -- How many calls inputs ask for: no more than they have bytes, and a few.
-use Rattle.std.proofs.Common.{◌≡◌, sym, ap, refl, ℕ, suc, ◌+◌, ◌<◌, ◌≤◌, ◌^◌, ◌==◌, arith, length, List, [], ◌∷◌, Bool, true, false, cond, Option, Some, None, Result, Ok, Err}
-use Rattle.std.specs.Prelude.{◌&&◌, is_some, nat_le, unwrap_or, if◌then◌else◌}
-use Rattle.std.specs.List.{slice_split}
-use Rattle.std.proofs.lemmas.Bool.Decides.{nat_tests}
-use Rattle.std.proofs.lemmas.List.Splits.{length-slice_split}
-use Rattle.std.proofs.lemmas.List.Sums.{count_by-le-length}
-use Rattle.dn_types.specs.Replies.{reply}
-use Rattle.dn_types.specs.declared.call.Call.{Call}
-use Rattle.dn_types.specs.declared.call.Call.TheVariants.{Configure}
-use Rattle.dn_types.specs.declared.command.Command.{Command}
-use Rattle.dn_types.specs.declared.rule.Rule.TheVariants.{Ordered}
-use Rattle.dn_config.specs.Tokens.Joined.{after_mark, joined_parts, parts_from}
-use Rattle.dn_config.specs.Tokens.Lines.{is_line_feed, lines_of, without_empty_end}
-use Rattle.dn_config.specs.Tokens.Words.{is_nonempty}
-use Rattle.dn_records.specs.Records.{Fields, records_of}
-use Rattle.dn_files.specs.ConfigFile.{command_at, config_limit}
-use Rattle.dn_files.specs.PacketFile.{is_header, row_at, row_of, rows_below, rows_from, rows_of}
-use Rattle.dn_files.specs.Reading.{◌>>=◌, ReadsAs, within_limit}
-use Rattle.dn_files.specs.declared.replay_fault.ReplayFault.{ReplayFault}
-use Rattle.dn_files.specs.declared.replay_fault.ReplayFault.TheVariants.{BadRow, TooLong}
-use Rattle.dn_files.specs.declared.row.Row.{Row}
-use Rattle.dn_files.specs.declared.source.Source.{Source}
-use Rattle.dn_files.specs.declared.source.Source.TheVariants.{Config, Input, Packets}
-use Rattle.dn_files.proofs.Inputs.{short}
-use Rattle.dn_history.proofs.HistoryReading.{numbered}
-use Rattle.dn_replay.specs.Rows.{submit, submitted}
-use Rattle.dn_replay.specs.Configuring.{applied, configured_by, configured_from, refusal, unless}
-use Rattle.dn_replay.specs.InParts.{calls_asked, IsLimit}
-use Rattle.dn_replay.specs.OnePass.{AreFew, calls_with}
-use Rattle.dn_replay.specs.Replays.{calls_of_joined_within, calls_of_parts, calls_within, config_calls}
-use Rattle.dn_replay.specs.Runs.{replayed}
+use Rattle.dn_replay.proofs.Words.{AreFew, BadRow, Bool, Call, Command, Config, Configure, Err, Fields, Input, IsLimit, List, None, Ok, Option, Ordered, Packets, ReadsAs, ReplayFault, Result, Row}
+use Rattle.dn_replay.proofs.Words.{Some, Source, TooLong, [], after_mark, ap, applied, arith, calls_asked, calls_of_joined_within, calls_of_parts, calls_with, calls_within, command_at, cond}
+use Rattle.dn_replay.proofs.Words.{config_calls, config_limit, configured_by, configured_from, count_by-le-length, false, if◌then◌else◌, is_header, is_line_feed, is_nonempty, is_some}
+use Rattle.dn_replay.proofs.Words.{joined_parts, length, length-slice_split, lines_of, nat_le, nat_tests, numbered, parts_from, records_of, refl, refusal, replayed, reply, row_at, row_of}
+use Rattle.dn_replay.proofs.Words.{rows_below, rows_from, rows_of, short, slice_split, submit, submitted, suc, sym, true, unless, unwrap_or, within_limit, without_empty_end, ℕ, ◌&&◌, ◌+◌, ◌<◌}
+use Rattle.dn_replay.proofs.Words.{◌==◌, ◌>>=◌, ◌^◌, ◌∷◌, ◌≡◌, ◌≤◌}
 
 -- ---- Rows
 

@@ -1,27 +1,9 @@
 -- What an input asks for, and what became of it, by the parts of it.
-use Rattle.std.proofs.Common.{◌≡◌, ◌∙◌, ℕ, ◌≤◌, Bool, true, false, List, [], ◌++◌, length, Option, Some, None, Result, Ok, Err, refl, sym, ap, subst, append_assoc, append-nil}
-use Rattle.std.specs.Prelude.{IfErr, IfOk}
-use Rattle.std.proofs.lemmas.Bool.{false≢true}
-use Rattle.dn_types.specs.declared.call.Call.{Call}
-use Rattle.dn_types.specs.declared.entry.Entry.{Entry}
-use Rattle.dn_config.specs.Tokens.Joined.{joined_parts}
-use Rattle.dn_files.specs.PacketFile.{rows_of}
-use Rattle.dn_files.specs.Reading.{◌>>=◌, IsFaultOf, IsTextOf, within_limit}
-use Rattle.dn_files.specs.declared.replay_fault.ReplayFault.{ReplayFault}
-use Rattle.dn_files.specs.declared.replay_fault.ReplayFault.TheVariants.{Read, Write, OutOfMemory}
-use Rattle.dn_files.specs.declared.source.Source.{Source}
-use Rattle.dn_files.specs.declared.source.Source.TheVariants.{Packets}
-use Rattle.dn_files.proofs.Inputs.{carried, short}
-use Rattle.dn_replay.specs.Configuring.{configured_by}
-use Rattle.dn_replay.specs.declared.replays.pass.Pass.{Pass}
-use Rattle.dn_replay.specs.declared.replays.stage.Stage.{Stage}
+use Rattle.dn_replay.proofs.Words.{AnswersByOne, AskForWithin, Bool, Call, EitherFailed, Entry, Err, HasTaken, IfErr, IfOk, IsAccepted, IsAnswered, IsCutAt, IsFaultOf, IsTextOf, IsUnreplayed}
+use Rattle.dn_replay.proofs.Words.{List, None, Ok, Option, OutOfMemory, Packets, Pass, Read, ReplayFault, ReplaysByOne, Result, Some, Source, Stage, TextFailed, Write, [], ap, append-nil}
+use Rattle.dn_replay.proofs.Words.{append_assoc, calls_asked, calls_of_joined_within, calls_of_parts, calls_with, calls_within, carried, config_calls, configured_by, failed_read, false}
+use Rattle.dn_replay.proofs.Words.{false≢true, has_entries, joined_parts, length, read_of, refl, replayed, rows_of, short, source_of, subst, sym, true, within_limit, ℕ, ◌++◌, ◌>>=◌, ◌∙◌, ◌≡◌, ◌≤◌}
 use Rattle.dn_replay.specs.declared.replays.stage.Stage.TheVariants as at
-use Rattle.dn_replay.specs.Held.{has_entries}
-use Rattle.dn_replay.specs.OnePass.{calls_with, HasTaken, IsAnswered, IsCutAt}
-use Rattle.dn_replay.specs.InParts.{calls_asked, source_of}
-use Rattle.dn_replay.specs.OneCaller.{AnswersByOne, ReplaysByOne}
-use Rattle.dn_replay.specs.Replays.{AskForWithin, calls_of_joined_within, calls_of_parts, calls_within, config_calls, EitherFailed, failed_read, IsAccepted, IsUnreplayed, read_of, TextFailed}
-use Rattle.dn_replay.specs.Runs.{replayed}
 use Rattle.dn_replay.proofs.ReplaySteps.{lawful_replay, one_replays}
 
 -- What an input within its limit asks for.

@@ -1,17 +1,6 @@
 -- What is kept for a report stays over the calls of a configuration, since they submit no packet.
-use Rattle.std.proofs.Common.{◌≡◌, ℕ, ◌+◌, List, [], ◌∷◌, Option, Some, None, Result, Ok, Err, subst}
-use Rattle.dn_types.specs.Replies.{reply}
-use Rattle.dn_types.specs.declared.call.Call.{Call}
-use Rattle.dn_types.specs.declared.call.Call.TheVariants.{Configure}
-use Rattle.dn_types.specs.declared.command.Command.{Command}
-use Rattle.dn_types.specs.declared.rule.Rule.TheVariants.{Ordered}
-use Rattle.dn_config.specs.Tokens.Lines.{lines_of}
-use Rattle.dn_files.specs.ConfigFile.{command_at}
-use Rattle.dn_files.specs.Reading.{◌>>=◌}
-use Rattle.dn_files.specs.declared.replay_fault.ReplayFault.{ReplayFault}
-use Rattle.dn_replay.specs.Configuring.{applied, configured_by, configured_from, refusal, unless}
-use Rattle.dn_replay.specs.Kept.{HasKept}
-use Rattle.dn_replay.specs.declared.report.kept.Kept.{Kept}
+use Rattle.dn_replay.proofs.Words.{Call, Command, Configure, Err, HasKept, Kept, List, None, Ok, Option, Ordered, ReplayFault, Result, Some, [], applied, command_at, configured_by}
+use Rattle.dn_replay.proofs.Words.{configured_from, lines_of, refusal, reply, subst, unless, ℕ, ◌+◌, ◌>>=◌, ◌∷◌, ◌≡◌}
 use Rattle.dn_replay.proofs.KeptSteps.{kept-configured}
 
 -- What follows calls that were accepted is what follows them.

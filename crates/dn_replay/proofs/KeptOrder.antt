@@ -1,23 +1,11 @@
 -- The lines of deliveries in their order, and the others by row, are what the sorts of a report give.
-use Rattle.std.proofs.Common.{◌≡◌, ◌∙◌, sym, ap, refl, ℕ, zero, suc, ◌+◌, ◌<◌, ◌≤◌, ◌⊎◌, inl, inr, arith, length, get_or, List, [], ◌∷◌, ◌++◌, map, Bool, true, false, cond}
-use Rattle.std.specs.Prelude.{filter, nat_eq, nat_lt, option_to_list, Option, Some, None}
-use Rattle.std.specs.List.{All, count_by}
-use Rattle.std.proofs.lemmas.Bool.Decides.{nat_tests}
-use Rattle.std.proofs.lemmas.List.{append-nil}
-use Rattle.std.proofs.lemmas.List.Elements.{All-head, All-tail, filter-append}
-use Rattle.std.proofs.lemmas.List.Sums.{sum_by-cons}
-use Rattle.dn_types.specs.Deliveries.{AreInOrder}
-use Rattle.dn_types.specs.Given.{is_packet}
-use Rattle.dn_types.specs.declared.delivery.Delivery.{Delivery}
-use Rattle.dn_replay.specs.Kept.{accepted_row, delivery_line, fate_line, fate_lines, is_accepted, no_row, rows_kept}
-use Rattle.dn_replay.specs.Report.{delivery_of_packet, due_of, is_other, is_out, outs_in_order, packet_of, queued_line, row_number, sorted_by}
-use Rattle.dn_replay.specs.declared.report.fate.Fate.{Fate}
-use Rattle.dn_replay.specs.declared.report.fate.Fate.TheVariants.{Accepted, Refused}
-use Rattle.dn_replay.specs.declared.report.kept_rows.AcceptedRow.{AcceptedRow}
-use Rattle.dn_replay.specs.declared.report.line.ReportLine.{ReportLine}
+use Rattle.dn_replay.proofs.Words.{AcceptedRow, All, All-head, All-tail, AreInOrder, Bool, Delivery, Fate, List, None, Option, Refusal, Refused, ReportLine, Some, Unanswered, [], accepted_row, ap}
+use Rattle.dn_replay.proofs.Words.{append-nil, arith, cond, count_by, delivery_line, delivery_of_packet, due_of, false, fate_line, fate_lines, filter, filter-append, get_or, inl, inr, is_accepted}
+use Rattle.dn_replay.proofs.Words.{is_other, is_out, is_packet, length, map, nat_eq, nat_lt, nat_tests, no_row, option_to_list, outs_in_order, packet_of, queued_line, refl, row_number, rows_kept}
+use Rattle.dn_replay.proofs.Words.{sorted_by, suc, sum_by-cons, sym, true, zero, ℕ, ◌++◌, ◌+◌, ◌<◌, ◌∙◌, ◌∷◌, ◌≡◌, ◌≤◌, ◌⊎◌}
+use Rattle.dn_replay.specs.declared.report.fate.Fate.TheVariants.{Accepted}
 use Rattle.dn_replay.specs.declared.report.line.ReportLine.TheVariants as line
-use Rattle.dn_replay.specs.declared.report.refusal.Refusal.{Refusal}
-use Rattle.dn_replay.specs.declared.report.refusal.Refusal.TheVariants.{Lost, Full, NoTarget, Unanswered}
+use Rattle.dn_replay.specs.declared.report.refusal.Refusal.TheVariants.{Full, Lost, NoTarget}
 use Rattle.dn_replay.proofs.Orders.{AtLeast, Rises, at, in_order-level, in_order-rises, unique}
 
 turned : (a b : ℕ) → nat_eq a b ≡ nat_eq b a

@@ -1,34 +1,12 @@
 -- The report of a run is that of what is kept of it.
-use Rattle.std.proofs.Common.{◌≡◌, ◌∙◌, sym, ap, refl, ℕ, suc, ◌+◌, ◌<◌, ◌≤◌, ◌^◌, max, arith, length, List, [], ◌∷◌, ◌++◌, map, Bool, true, false, cond}
-use Rattle.std.specs.List.{list_any}
-use Rattle.std.specs.Prelude.{◌==◌, ◌&&◌, ◌||◌, filter, nat_eq, nat_le, not}
-use Rattle.std.proofs.lemmas.Bool.Decides.{nat_tests}
-use Rattle.std.proofs.lemmas.List.{append-nil}
-use Rattle.std.proofs.lemmas.List.Elements.{All-filter, All-nil}
-use Rattle.dn_types.specs.Calls.{trace_of}
-use Rattle.dn_types.specs.Clock.{call_limit, effective_moment}
-use Rattle.dn_types.specs.Configuration.{settings}
+use Rattle.dn_replay.proofs.Words.{All-filter, All-nil, AreKnown, Bool, Call, CanReport, Collect, Delivery, Exhausted, Fate, Kept, List, Ordered, Refused, ReportLine, [], accepted_count}
+use Rattle.dn_replay.proofs.Words.{accepted_row, all_untargeted, ap, append-nil, are_untargeted, arith, call_limit, cond, counted_reply, delivered, deliveries, delivery_line, effective_moment}
+use Rattle.dn_replay.proofs.Words.{entry_after, false, fate_lines, filter, gives-in-order, gives-once, history_of, is_other, is_out, is_row, is_untargeted, kept_lines, lacks_target, length}
+use Rattle.dn_replay.proofs.Words.{line_fields, lines_after, list_any, map, max, nat_eq, nat_le, nat_tests, not, outs_in_order, refl, refused_row, reply, report, report_header, row_number}
+use Rattle.dn_replay.proofs.Words.{rows_kept, settings, settled, sorted_by, submit_lines, suc, sym, text_of, trace-proper, trace_of, true, undelivered-below, ℕ, ◌&&◌, ◌++◌, ◌+◌, ◌<◌, ◌==◌, ◌^◌}
+use Rattle.dn_replay.proofs.Words.{◌||◌, ◌∙◌, ◌∷◌, ◌≡◌, ◌≤◌}
 use Rattle.dn_types.specs.Deliveries.{given as given_at, undelivered}
-use Rattle.dn_types.specs.Replies.{counted_reply, reply}
-use Rattle.dn_types.specs.Starts.{settled}
-use Rattle.dn_types.specs.Trace.{accepted_count}
-use Rattle.dn_types.specs.declared.call.Call.{Call}
-use Rattle.dn_types.specs.declared.call.Call.TheVariants.{Collect}
-use Rattle.dn_types.specs.declared.delivery.Delivery.{Delivery}
-use Rattle.dn_types.specs.declared.reply.Reply.TheVariants.{Exhausted}
-use Rattle.dn_types.specs.declared.rule.Rule.TheVariants.{Ordered}
-use Rattle.dn_types.proofs.Dues.{gives-once}
-use Rattle.dn_types.proofs.InTurn.{gives-in-order}
-use Rattle.dn_types.proofs.Ordered.{trace-proper}
-use Rattle.dn_types.proofs.PacketCounts.{undelivered-below}
-use Rattle.dn_records.specs.Records.{text_of}
-use Rattle.dn_replay.specs.Kept.{accepted_row, all_untargeted, are_untargeted, AreKnown, CanReport, delivery_line, fate_lines, is_row, is_untargeted, kept_lines, lacks_target, refused_row, rows_kept}
-use Rattle.dn_replay.specs.Report.{delivered, deliveries, is_other, is_out, line_fields, lines_after, outs_in_order, report, report_header, row_number, sorted_by, submit_lines}
-use Rattle.dn_replay.specs.Runs.{entry_after, history_of}
-use Rattle.dn_replay.specs.declared.report.fate.Fate.{Fate}
-use Rattle.dn_replay.specs.declared.report.fate.Fate.TheVariants.{Accepted, Refused}
-use Rattle.dn_replay.specs.declared.report.kept.Kept.{Kept}
-use Rattle.dn_replay.specs.declared.report.line.ReportLine.{ReportLine}
+use Rattle.dn_replay.specs.declared.report.fate.Fate.TheVariants.{Accepted}
 use Rattle.dn_replay.proofs.Deliveries.{deliveries-append}
 use Rattle.dn_replay.proofs.KeptOrder.{AreGiven, others-by-row, outs-as-given}
 use Rattle.dn_replay.proofs.KeptSteps.{lines-push, other-row}

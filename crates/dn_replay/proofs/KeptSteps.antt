@@ -1,35 +1,12 @@
 -- What is kept of a run, one call at a time.
-use Rattle.std.proofs.Common.{◌≡◌, ◌∙◌, sym, ap, refl, ℕ, suc, ◌+◌, ◌*◌, arith, length, List, [], ◌∷◌, ◌++◌, Bool, true, false, cond, append_assoc}
-use Rattle.std.specs.Prelude.{◌&&◌, ◌||◌, nat_eq, nat_le, option_to_list, is_some, Option}
-use Rattle.std.specs.List.{count_by, list_any}
-use Rattle.std.proofs.lemmas.List.{append-nil, length_push}
-use Rattle.std.proofs.lemmas.List.Folds.{list_any-append}
-use Rattle.std.proofs.lemmas.List.Sums.{sum_by-cons}
-use Rattle.dn_types.specs.Calls.{Verdict, no_target, verdict}
-use Rattle.dn_types.specs.Clock.{call_limit}
-use Rattle.dn_types.specs.Configuration.{Settings, command_reply, has_queues, queue_numbers, settings, reply_to_command}
-use Rattle.dn_types.specs.Replies.{counted_reply, reply, reply_to_verdict}
-use Rattle.dn_types.specs.Trace.{Event}
-use Rattle.dn_types.specs.declared.call.Call.{Call}
-use Rattle.dn_types.specs.declared.call.Call.TheVariants.{Configure, Submit}
-use Rattle.dn_types.specs.declared.command.Command.{Command}
-use Rattle.dn_types.specs.declared.command.Command.TheVariants.{Pipe, Queue, DeletePipe, DeleteQueue}
-use Rattle.dn_types.specs.declared.delivery.Delivery.{Delivery}
-use Rattle.dn_types.specs.declared.entry.Entry.{Entry}
-use Rattle.dn_types.specs.declared.packet.Packet.{Packet}
-use Rattle.dn_types.specs.declared.reply.Reply.{Reply}
-use Rattle.dn_types.specs.declared.reply.Reply.TheVariants.{Configured, NoSuchPipe, Deleted, PipeHasQueues, NoSuchQueue, Queued, Exhausted}
-use Rattle.dn_types.specs.declared.rule.Rule.TheVariants.{Ordered}
-use Rattle.dn_types.specs.declared.target.Target.{Target}
+use Rattle.dn_replay.proofs.Words.{AcceptedRow, Bool, Call, Command, Configure, Configured, DeletePipe, DeleteQueue, Deleted, Delivery, Entry, Event, Exhausted, Fate, HasKept, Kept, List}
+use Rattle.dn_replay.proofs.Words.{NoSuchPipe, NoSuchQueue, Option, Ordered, Packet, Pipe, PipeHasQueues, Queue, Queued, Refused, RefusedRow, Reply, Settings, Submit, Target, Verdict, []}
+use Rattle.dn_replay.proofs.Words.{accepted_row, ap, append-nil, append_assoc, arith, call_limit, command_reply, cond, count_by, counted_reply, delivered, deliveries, entry_after, entry_line}
+use Rattle.dn_replay.proofs.Words.{false, fate_line, fate_lines, fate_of, has_queues, history_of, is_accepted, is_row, is_some, is_submit, length, length_push, lines_after, list_any}
+use Rattle.dn_replay.proofs.Words.{list_any-append, nat_eq, nat_le, no_target, option_to_list, queue_numbers, refl, refused_row, reply, reply_line, reply_to_command, reply_to_verdict, rows_kept}
+use Rattle.dn_replay.proofs.Words.{settings, submits_by, suc, sum_by-cons, sym, true, verdict, ℕ, ◌&&◌, ◌*◌, ◌++◌, ◌+◌, ◌||◌, ◌∙◌, ◌∷◌, ◌≡◌}
 use Rattle.dn_types.specs.declared.target.Target.TheVariants.{Pipe as ToPipe, Queue as ToQueue}
-use Rattle.dn_replay.specs.Kept.{HasKept, accepted_row, fate_line, fate_lines, fate_of, is_accepted, is_row, refused_row, rows_kept}
-use Rattle.dn_replay.specs.Report.{delivered, deliveries, entry_line, is_submit, lines_after, reply_line, submits_by}
-use Rattle.dn_replay.specs.Runs.{entry_after, history_of}
-use Rattle.dn_replay.specs.declared.report.fate.Fate.{Fate}
-use Rattle.dn_replay.specs.declared.report.fate.Fate.TheVariants.{Accepted, Refused}
-use Rattle.dn_replay.specs.declared.report.kept.Kept.{Kept}
-use Rattle.dn_replay.specs.declared.report.kept_rows.AcceptedRow.{AcceptedRow}
-use Rattle.dn_replay.specs.declared.report.kept_rows.RefusedRow.{RefusedRow}
+use Rattle.dn_replay.specs.declared.report.fate.Fate.TheVariants.{Accepted}
 use Rattle.dn_replay.proofs.Deliveries.{deliveries-append}
 use Rattle.dn_replay.proofs.PacketNumbers.{configured-accepts, number-is, submitted-accepts}
 

@@ -26,3 +26,4 @@ pub mod PassingTraffic
 pub mod Past
 pub mod ReplaySteps
 pub mod Runs
+pub mod Words

@@ -1,11 +1,7 @@
 -- The bytes of the lines of a report: numbers are written as they are, with commas between them.
-use Rattle.std.proofs.Common.{◌≡◌, ◌∙◌, ap, refl, ℕ, ◌<◌, ◌^◌, arith, length, List, [], ◌∷◌, ◌++◌, append_assoc}
-use Rattle.std.specs.Prelude.{decimal}
-use Rattle.csv.specs.Writing.{default_writer, fields_text, is_blank}
-use Rattle.dn_records.proofs.Lines.{decimal_is_plain}
-use Rattle.dn_records.specs.Records.{Fields, line_of}
-use Rattle.dn_replay.specs.Report.{line_fields, report_header}
-use Rattle.dn_replay.specs.declared.report.line.ReportLine.TheVariants.{Out, Held, Lost, Full, NoTarget}
+use Rattle.dn_replay.proofs.Words.{Fields, List, Out, [], ap, append_assoc, arith, decimal, decimal_is_plain, default_writer, fields_text, is_blank, length, line_fields, line_of, refl}
+use Rattle.dn_replay.proofs.Words.{report_header, ℕ, ◌++◌, ◌<◌, ◌^◌, ◌∙◌, ◌∷◌, ◌≡◌}
+use Rattle.dn_replay.specs.declared.report.line.ReportLine.TheVariants.{Full, Held, Lost, NoTarget}
 
 -- A number, and what stands behind it.
 number-then : (n : ℕ) (fields : Fields) (rest : List ℕ) → n < 2 ^ 128 → fields_text default_writer fields ++ 10 ∷ [] ≡ rest

@@ -1,19 +1,8 @@
 -- One entry more of a history, and the lines of a report.
-use Rattle.std.proofs.Common.{◌≡◌, ◌≢◌, ◌∙◌, sym, ap, refl, ℕ, suc, ◌+◌, ◌<◌, ◌≤◌, nat_eq, arith, take, drop}
-use Rattle.std.proofs.Common.{length, get_or, Option, List, [], ◌∷◌, ◌++◌, Bool, true, false, inl, inr, append_assoc, add-one, drop-cons}
-use Rattle.std.specs.Prelude.{◌&&◌, option_to_list, filter, map}
-use Rattle.std.proofs.lemmas.Bool.{cases_Bool, eqb-true}
-use Rattle.std.proofs.lemmas.Bool.Decides.{nat_tests}
-use Rattle.std.proofs.lemmas.List.{append-nil, take_more, drop_all, map-append, get_or-set_same, get_or-set_other}
-use Rattle.std.proofs.lemmas.List.Elements.{filter-append}
-use Rattle.std.proofs.lemmas.List.Sums.{count_by_more_yes, count_by_more_no}
-use Rattle.dn_types.specs.declared.delivery.Delivery.{Delivery}
-use Rattle.dn_types.specs.declared.entry.Entry.{Entry}
-use Rattle.dn_records.specs.Records.{line_of, text_of}
-use Rattle.dn_replay.specs.Report.{entry_line, sorted_by, is_other, is_out, is_submit, line_fields, lines_after, submit_lines, outs_in_order, report, report_header, row_number, submits_by}
-use Rattle.dn_replay.specs.Tables.{counts_after}
-use Rattle.dn_replay.specs.declared.report.line.ReportLine.{ReportLine}
-use Rattle.dn_records.proofs.TextSteps.{text-append}
+use Rattle.dn_replay.proofs.Words.{Bool, Delivery, Entry, List, Option, ReportLine, [], add-one, ap, append-nil, append_assoc, arith, cases_Bool, count_by_more_no, count_by_more_yes, counts_after}
+use Rattle.dn_replay.proofs.Words.{drop, drop-cons, drop_all, entry_line, eqb-true, false, filter, filter-append, get_or, get_or-set_other, get_or-set_same, inl, inr, is_other, is_out, is_submit}
+use Rattle.dn_replay.proofs.Words.{length, line_fields, line_of, lines_after, map, map-append, nat_eq, nat_tests, option_to_list, outs_in_order, refl, report, report_header, row_number, sorted_by}
+use Rattle.dn_replay.proofs.Words.{submit_lines, submits_by, suc, sym, take, take_more, text-append, text_of, true, ℕ, ◌&&◌, ◌++◌, ◌+◌, ◌<◌, ◌∙◌, ◌∷◌, ◌≡◌, ◌≢◌, ◌≤◌}
 
 pub differ : (a b : ℕ) → nat_eq a b ≡ false → b ≢ a
 differ a b e = grind (arith, nat_tests)

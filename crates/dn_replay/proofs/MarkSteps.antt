@@ -1,14 +1,7 @@
 -- Marks, one delivery at a time.
-use Rattle.std.proofs.Common.{◌≡◌, ◌∙◌, ◌≢◌, ap, refl, sym, ℕ, ◌+◌, ◌<◌, ◌≤◌, arith, length, get_or, inl, inr, replicate, set, take, List, [], ◌∷◌, Bool, true, false, cond}
-use Rattle.std.specs.Prelude.{◌||◌, nat_eq, Option, Some, None, is_some}
-use Rattle.std.specs.Option.{option_or}
-use Rattle.std.proofs.lemmas.List.{get_or-replicate, get_or-set_same, get_or-set_other, length-replicate, take_more}
-use Rattle.std.proofs.lemmas.Bool.{cases_Bool}
-use Rattle.std.proofs.lemmas.Bool.Decides.{nat_tests}
-use Rattle.std.proofs.lemmas.List.Folds.{find-append}
-use Rattle.dn_types.specs.declared.delivery.Delivery.{Delivery}
-use Rattle.dn_replay.specs.Kept.{AreMarksOf}
-use Rattle.dn_replay.specs.Report.{delivery_of_packet}
+use Rattle.dn_replay.proofs.Words.{AreMarksOf, Bool, Delivery, List, None, Option, Some, [], ap, arith, cases_Bool, cond, delivery_of_packet, false, find-append, get_or, get_or-replicate}
+use Rattle.dn_replay.proofs.Words.{get_or-set_other, get_or-set_same, inl, inr, is_some, length, length-replicate, nat_eq, nat_tests, option_or, refl, replicate, set, sym, take, take_more, true}
+use Rattle.dn_replay.proofs.Words.{ℕ, ◌+◌, ◌<◌, ◌||◌, ◌∙◌, ◌∷◌, ◌≡◌, ◌≢◌, ◌≤◌}
 
 -- A mark for each of n packets.
 pub record IsMarked (marks : List Bool) (n : ℕ) (given : List Delivery) : Type 0 where

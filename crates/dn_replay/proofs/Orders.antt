@@ -1,17 +1,8 @@
 -- A list in order is the only one that is in order and leaves what is level as it stands.
-use Rattle.std.proofs.Common.{◌≡◌, ◌∙◌, ℕ, suc, ◌<◌, ◌≤◌, Bool, true, false, cond, nat_eq, List, [], ◌∷◌, length, get_or, nat_cmp, arith, refl, sym, ap, ◌⊎◌, inl, inr}
-use Rattle.std.specs.Prelude.{filter, not, ◌&&◌, nat_lt}
-use Rattle.std.specs.Ordering.{is_lt}
-use Rattle.std.specs.List.Sorted.{IsNonDecreasingBy, IsStableByKey}
-use Rattle.std.specs.Borrow.{Bor}
-use Rattle.std.specs.Fn.{Called, ComputesKey}
-use Rattle.std.specs.List.Sorted.{IsSortedByKey}
-use Rattle.std.proofs.lemmas.Fn.{always_returns_same}
-use Rattle.std.proofs.lemmas.List.Sorted.{IsNonDecreasingBy-from_sort_by_key}
+use Rattle.dn_replay.proofs.Words.{Bool, Bor, Called, ComputesKey, IsNonDecreasingBy, IsNonDecreasingBy-from_sort_by_key, IsSortedByKey, IsStableByKey, List, [], always_returns_same, ap, arith}
+use Rattle.dn_replay.proofs.Words.{cases_Bool, cond, false, filter, get_or, inl, inr, is_lt, length, nat_cmp, nat_eq, nat_lt, nat_tests, not, refl, sorted_by, suc, sym, true, with_placed, ℕ, ◌&&◌}
+use Rattle.dn_replay.proofs.Words.{◌<◌, ◌∙◌, ◌∷◌, ◌≡◌, ◌≤◌, ◌⊎◌}
 use denote.Param.Members.{Mut}
-use Rattle.std.proofs.lemmas.Bool.{cases_Bool}
-use Rattle.std.proofs.lemmas.Bool.Decides.{nat_tests}
-use Rattle.dn_replay.specs.Report.{sorted_by, with_placed}
 
 -- Each element's place is at least n.
 abbrev pub AtLeast : {X : Type 0} → (X → ℕ) → ℕ → List X → Type 0

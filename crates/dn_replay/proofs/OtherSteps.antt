@@ -1,24 +1,11 @@
 -- The lines of the packets that are not given, one row at a time.
-use Rattle.std.proofs.Common.{◌≡◌, ◌≢◌, ◌∙◌, sym, ap, refl, ℕ, ◌+◌, ◌-◌, ◌<◌, ◌≤◌, arith, inl, inr, length, drop, get_or, List, [], ◌∷◌, ◌++◌, map, true, false, cond, append_assoc}
-use Rattle.std.specs.Prelude.{filter, nat_lt, option_to_list, Option, Some, None, is_none, is_some}
-use Rattle.std.proofs.lemmas.List.{append-nil, drop_all, drop_more, map-append}
-use Rattle.std.proofs.lemmas.Bool.{cases_Bool}
-use Rattle.std.proofs.lemmas.Bool.Decides.{nat_tests}
-use Rattle.std.proofs.lemmas.List.Elements.{filter-append}
-use Rattle.dn_records.proofs.TextSteps.{text-append}
-use Rattle.dn_records.specs.Records.{line_of, text_of}
-use Rattle.dn_types.specs.declared.delivery.Delivery.{Delivery}
-use Rattle.dn_replay.specs.Kept.{accepted_line, accepted_row, fate_line, fate_lines, is_accepted, IsKeptOf, no_row, other_text, refusal_in, refusal_line, refused_row, rows_kept}
-use Rattle.dn_replay.specs.Report.{delivery_of_packet, is_other, line_fields, queued_line}
-use Rattle.dn_replay.specs.declared.report.fate.Fate.{Fate}
-use Rattle.dn_replay.specs.declared.report.fate.Fate.TheVariants.{Accepted, Refused}
-use Rattle.dn_replay.specs.declared.report.kept.Kept.{Kept}
-use Rattle.dn_replay.specs.declared.report.kept_rows.AcceptedRow.{AcceptedRow}
-use Rattle.dn_replay.specs.declared.report.kept_rows.RefusedRow.{RefusedRow}
-use Rattle.dn_replay.specs.declared.report.line.ReportLine.{ReportLine}
+use Rattle.dn_replay.proofs.Words.{AcceptedRow, Delivery, Fate, IsKeptOf, Kept, List, None, Option, Refusal, Refused, RefusedRow, ReportLine, Some, Unanswered, [], accepted_line, accepted_row, ap}
+use Rattle.dn_replay.proofs.Words.{append-nil, append_assoc, arith, cases_Bool, cond, delivery_of_packet, drop, drop_all, drop_more, false, fate_line, fate_lines, filter, filter-append, get_or}
+use Rattle.dn_replay.proofs.Words.{inl, inr, is_accepted, is_none, is_other, is_some, length, line_fields, line_of, map, map-append, nat_lt, nat_tests, no_row, option_to_list, other_text}
+use Rattle.dn_replay.proofs.Words.{queued_line, refl, refusal_in, refusal_line, refused_row, rows_kept, sym, text-append, text_of, true, ℕ, ◌++◌, ◌+◌, ◌-◌, ◌<◌, ◌∙◌, ◌∷◌, ◌≡◌, ◌≢◌, ◌≤◌}
+use Rattle.dn_replay.specs.declared.report.fate.Fate.TheVariants.{Accepted}
 use Rattle.dn_replay.specs.declared.report.line.ReportLine.TheVariants as line
-use Rattle.dn_replay.specs.declared.report.refusal.Refusal.{Refusal}
-use Rattle.dn_replay.specs.declared.report.refusal.Refusal.TheVariants.{Lost, Full, NoTarget, Unanswered}
+use Rattle.dn_replay.specs.declared.report.refusal.Refusal.TheVariants.{Full, Lost, NoTarget}
 use Rattle.dn_replay.proofs.KeptSteps.{rows-count}
 use Rattle.dn_replay.proofs.PartSteps.{one-line}
 

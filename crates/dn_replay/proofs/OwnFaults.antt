@@ -1,30 +1,9 @@
 -- No fault of an input is a bad count of callers.
-use Rattle.std.proofs.Common.{◌≡◌, ℕ, ◌+◌, true, false, cond, List, [], ◌∷◌, length, nat_le, Option, Some, None, Result, Ok, Err}
-use Rattle.std.specs.Prelude.{⊤, IfErr}
-use Rattle.std.specs.Str.{is_utf8}
-use Rattle.dn_types.specs.Replies.{reply}
-use Rattle.dn_types.specs.declared.call.Call.{Call}
-use Rattle.dn_types.specs.declared.call.Call.TheVariants.{Configure}
-use Rattle.dn_types.specs.declared.command.Command.{Command}
-use Rattle.dn_types.specs.declared.reply.Reply.{Reply}
+use Rattle.dn_replay.proofs.Words.{AskFor, BadCount, BadRow, Call, Command, Config, ConfigText, Configure, Err, Fields, IfErr, LineFault, List, None, Ok, Option, Ordered, Packets, ReplayFault}
+use Rattle.dn_replay.proofs.Words.{Reply, Result, Row, Some, Source, TooLong, [], answer, applied, calls_of_inputs, calls_within, command_at, cond, config_calls, config_limit, configured_by}
+use Rattle.dn_replay.proofs.Words.{configured_from, false, fault_at, is_header, is_utf8, length, lines_of, nat_le, packet_file, packet_limit, position_of, records_of, refusal, replayed, reply}
+use Rattle.dn_replay.proofs.Words.{row_at, row_of, rows_below, rows_from, rows_of, said_at, true, unless, within_limit, ℕ, ⊤, ◌+◌, ◌>>=◌, ◌∷◌, ◌≡◌}
 use Rattle.dn_types.specs.declared.reply.Reply.TheVariants as r
-use Rattle.dn_types.specs.declared.rule.Rule.TheVariants.{Ordered}
-use Rattle.dn_config.specs.Line.{answer}
-use Rattle.dn_config.specs.Faults.{position_of}
-use Rattle.dn_config.specs.declared.fault.LineFault.{LineFault}
-use Rattle.dn_records.specs.Records.{Fields, records_of}
-use Rattle.dn_config.specs.Tokens.Lines.{lines_of}
-use Rattle.dn_files.specs.ConfigFile.{command_at, config_limit, fault_at, said_at}
-use Rattle.dn_replay.specs.Configuring.{applied, configured_by, configured_from, refusal, unless}
-use Rattle.dn_files.specs.PacketFile.{is_header, packet_file, packet_limit, row_at, row_of, rows_below, rows_from, rows_of}
-use Rattle.dn_files.specs.Reading.{◌>>=◌, within_limit}
-use Rattle.dn_replay.specs.Replays.{AskFor, calls_of_inputs, calls_within, config_calls}
-use Rattle.dn_replay.specs.Runs.{replayed}
-use Rattle.dn_files.specs.declared.replay_fault.ReplayFault.{ReplayFault}
-use Rattle.dn_files.specs.declared.replay_fault.ReplayFault.TheVariants.{BadCount, BadRow, ConfigText, TooLong}
-use Rattle.dn_files.specs.declared.row.Row.{Row}
-use Rattle.dn_files.specs.declared.source.Source.{Source}
-use Rattle.dn_files.specs.declared.source.Source.TheVariants.{Config, Packets}
 
 abbrev IsOther : ReplayFault → Type 0
 IsOther BadCount = ⊥

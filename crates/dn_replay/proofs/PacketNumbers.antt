@@ -1,28 +1,9 @@
 -- The numbers of the packets of a run: a packet's is the count of those accepted before it, and each call accepts one or none.
-use Rattle.std.proofs.Common.{◌≡◌, ◌∙◌, ◌<◌, ℕ, ◌+◌, max, Bool, true, false, cond, ◌&&◌, List, [], ◌∷◌, refl, ap, length, arith}
-use Rattle.std.specs.Prelude.{nat_le, nat_eq}
-use Rattle.std.proofs.lemmas.Bool.Decides.{nat_tests}
-use Rattle.dn_types.specs.Calls.{Verdict, no_target, loses, refuses, takes, verdict, accept, after_verdict, reaches, discard_reached, after_command, trace_of}
-use Rattle.dn_types.specs.Clock.{call_limit, effective_moment}
-use Rattle.dn_types.specs.Configuration.{Settings, settings, reply_to_command}
-use Rattle.dn_types.specs.Flows.{keys}
-use Rattle.dn_types.specs.Links.{free}
-use Rattle.dn_types.specs.Replies.{counted_reply, reply, reply_to_verdict}
-use Rattle.dn_types.specs.SharedLinks.{waiting, opening}
-use Rattle.dn_types.specs.Starts.{settled}
-use Rattle.dn_types.specs.Trace.{Event, lost, refused, discarded, accepted_count}
-use Rattle.dn_types.specs.declared.call.Call.{Call}
-use Rattle.dn_types.specs.declared.call.Call.TheVariants.{Configure, Submit}
-use Rattle.dn_types.specs.declared.command.Command.{Command}
-use Rattle.dn_types.specs.declared.flow_key.FlowKey.{FlowKey}
-use Rattle.dn_types.specs.declared.packet.Packet.{Packet}
-use Rattle.dn_types.specs.declared.reply.Reply.{Reply}
-use Rattle.dn_types.specs.declared.reply.Reply.TheVariants.{Queued, Deleted, Exhausted}
-use Rattle.dn_types.specs.declared.rule.Rule.TheVariants.{Ordered}
-use Rattle.dn_types.specs.declared.target.Target.{Target}
-use Rattle.dn_types.proofs.StepFacts.{opened-count}
+use Rattle.dn_replay.proofs.Words.{Bool, Call, Command, Configure, Deleted, Event, Exhausted, FlowKey, List, Ordered, Packet, Queued, Reply, Settings, Submit, Target, Verdict, [], accept}
+use Rattle.dn_replay.proofs.Words.{accepted_count, after_command, after_verdict, ap, arith, call_limit, cond, counted_reply, discard_reached, discarded, effective_moment, false, fate_of, free}
+use Rattle.dn_replay.proofs.Words.{is_accepted, keys, length, loses, lost, max, nat_eq, nat_le, nat_tests, no_target, opened-count, opening, reaches, refl, refused, refuses, reply}
+use Rattle.dn_replay.proofs.Words.{reply_to_command, reply_to_verdict, settings, settled, takes, trace_of, true, verdict, waiting, ℕ, ◌&&◌, ◌+◌, ◌<◌, ◌∙◌, ◌∷◌, ◌≡◌}
 use Rattle.dn_replay.proofs.Accepting.{counts, joined, other-event, settled-accepts}
-use Rattle.dn_replay.specs.Kept.{fate_of, is_accepted}
 
 discards : (command : Command) (flow : ℕ) (known : List FlowKey) (trace : List Event) → accepted_count (discard_reached command flow known trace) ≡ accepted_count trace
 discards command flow [] trace = refl

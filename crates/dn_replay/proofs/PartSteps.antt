@@ -1,13 +1,6 @@
 -- A text that is written in parts, one part and one line at a time.
-use Rattle.std.proofs.Common.{◌≡◌, ◌∙◌, sym, ap, refl, ℕ, zero, suc, ◌+◌, ◌<◌, arith, length, take, drop, get_or, List, [], ◌∷◌, ◌++◌, map, append_assoc, length-append}
-use Rattle.std.specs.Prelude.{Option}
-use Rattle.std.specs.Io.KnownBytes.{Appends}
-use Rattle.std.proofs.KnownBytes.{Appends-nil, Appends-trans}
-use Rattle.std.proofs.lemmas.List.{append-nil, map-append, take-append-drop, take_more}
-use Rattle.dn_records.proofs.TextSteps.{text-append}
-use Rattle.dn_records.specs.Devices.{AppendsPart}
-use Rattle.dn_records.specs.Records.{Fields, line_of, text_of}
-use Rattle.dn_replay.specs.Parts.{IsUnderWay}
+use Rattle.dn_replay.proofs.Words.{Appends, Appends-nil, Appends-trans, AppendsPart, Fields, IsUnderWay, List, Option, [], ap, append-nil, append_assoc, arith, drop, get_or, length, length-append}
+use Rattle.dn_replay.proofs.Words.{line_of, map, map-append, refl, suc, sym, take, take-append-drop, take_more, text-append, text_of, zero, ℕ, ◌++◌, ◌+◌, ◌<◌, ◌∙◌, ◌∷◌, ◌≡◌}
 
 -- The text so far was written whole, or is in the buffer.
 pub begun : (start : Option (List ℕ)) → IsUnderWay start start [] []

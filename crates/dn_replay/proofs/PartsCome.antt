@@ -1,16 +1,7 @@
 -- Which text has come of a replay, step by step.
-use Rattle.std.proofs.Common.{◌≡◌, refl, subst, sym, ℕ, ◌+◌, ◌-◌, ◌≤◌, Bool, List, [], ◌++◌, length, length-append, Option, Some, None, Result, Ok, arith}
-use Rattle.dn_types.specs.declared.call.Call.{Call}
-use Rattle.dn_config.specs.Tokens.Joined.{joined_parts}
-use Rattle.dn_files.specs.declared.replay_fault.ReplayFault.{ReplayFault}
-use Rattle.dn_files.specs.declared.source.Source.TheVariants.{Input, Packets}
-use Rattle.dn_replay.specs.Held.{has_entries}
-use Rattle.dn_replay.specs.InParts.{CanGoOn, Coming, HasCome, IsLimit}
-use Rattle.dn_replay.specs.OnePass.{AreFew, calls_with, HasFed, HasTaken, IsConfigSoFar, IsFresh}
-use Rattle.dn_replay.specs.Replays.{calls_of_parts, config_calls}
-use Rattle.dn_replay.specs.declared.config.config_part.ConfigPart.{ConfigPart}
-use Rattle.dn_replay.specs.declared.replays.pass.Pass.{Pass}
-use Rattle.dn_replay.specs.declared.replays.stage.Stage.{Stage}
+use Rattle.dn_replay.proofs.Words.{AreFew, Bool, Call, CanGoOn, Coming, ConfigPart, HasCome, HasFed, HasTaken, Input, IsConfigSoFar, IsFresh, IsLimit, List, None, Ok, Option, Packets, Pass}
+use Rattle.dn_replay.proofs.Words.{ReplayFault, Result, Some, Stage, [], arith, calls_of_parts, calls_with, config_calls, has_entries, joined_parts, length, length-append, refl, subst, sym, ℕ}
+use Rattle.dn_replay.proofs.Words.{◌++◌, ◌+◌, ◌-◌, ◌≡◌, ◌≤◌}
 use Rattle.dn_replay.specs.declared.replays.stage.Stage.TheVariants as at
 use Rattle.dn_replay.proofs.FewCalls.{few-asked}
 use Rattle.dn_replay.proofs.InputSteps.{asked_within, joined_asks, packets_ask, records-taken}

@@ -1,37 +1,10 @@
 -- One part more of a packets' text, and its end.
-use Rattle.std.proofs.Common.{◌≡◌, ◌∙◌, ◌^◌, ◌<◌, ◌+◌, ℕ, suc, arith, length, Bool, true, false, List, [], ◌∷◌, ◌++◌, Option, Result, Ok, Err, refl, sym, ap, subst}
-use Rattle.std.specs.Io.KnownBytes.{Appends}
-use Rattle.std.proofs.lemmas.Bool.{false≢true}
-use Rattle.dn_types.specs.Replies.{reply}
-use Rattle.dn_types.specs.declared.call.Call.{Call}
-use Rattle.dn_types.specs.declared.call.Call.TheVariants.{Collect}
-use Rattle.dn_types.specs.declared.delivery.Delivery.{Delivery}
-use Rattle.dn_types.specs.declared.entry.Entry.{Entry}
-use Rattle.dn_types.specs.declared.reply.Reply.{Reply}
-use Rattle.dn_types.specs.declared.rule.Rule.TheVariants.{Ordered}
-use Rattle.dn_shaper.specs.Shaper.{StandsAfter}
-use Rattle.dn_shaper.specs.declared.state.State.{State}
-use Rattle.dn_files.specs.PacketFile.{rows_of}
-use Rattle.dn_files.specs.Reading.{IsFaultOf}
-use Rattle.dn_files.specs.Writing.{IsUnwritten}
-use Rattle.dn_files.specs.declared.replay_fault.ReplayFault.{ReplayFault}
-use Rattle.dn_files.specs.declared.row.Row.{Row}
-use Rattle.dn_files.specs.declared.source.Source.TheVariants.{Report}
-use Rattle.dn_files.proofs.Inputs.{carried}
-use Rattle.dn_replay.specs.Rows.{submit, submitted}
+use Rattle.dn_replay.proofs.Words.{Appends, AreFew, Bool, Call, CanReport, Collect, Delivery, Entries, Entry, Err, Given, HasAnswered, HasFed, HasKept, HasMade, HasMadeLast, HasNoted}
+use Rattle.dn_replay.proofs.Words.{HoldsNothing, IsAnswered, IsFaultOf, IsFresh, IsUnheld, IsUnreplayed, IsUnwritten, Kept, List, NoneFailed, Ok, Option, Ordered, Pass, ReplayFault, Reply, Report}
+use Rattle.dn_replay.proofs.Words.{Result, Row, Run, StandsAfter, State, [], all_untargeted, ap, arith, calls_with, carried, configured_by, delivered, entry_after, false, false≢true, has_entries}
+use Rattle.dn_replay.proofs.Words.{history_of, length, refl, replayed, reply, report, rows_of, submit, submitted, subst, suc, sym, true, ℕ, ◌++◌, ◌+◌, ◌<◌, ◌^◌, ◌∙◌, ◌∷◌, ◌≡◌}
 use Rattle.dn_replay.proofs.Past.{past-first, past-last, past-submit}
-use Rattle.dn_replay.specs.Kept.{all_untargeted, CanReport, HasKept}
-use Rattle.dn_replay.specs.Configuring.{configured_by}
-use Rattle.dn_replay.specs.Held.{has_entries, HasAnswered, HasMadeLast, HasNoted, HoldsNothing, IsUnheld}
-use Rattle.dn_replay.specs.OnePass.{AreFew, calls_with, HasFed, IsAnswered, IsFresh, NoneFailed}
-use Rattle.dn_replay.specs.Replays.{IsUnreplayed}
-use Rattle.dn_replay.specs.Report.{delivered, report}
-use Rattle.dn_replay.specs.Runs.{entry_after, HasMade, history_of, replayed}
-use Rattle.dn_replay.specs.declared.config.run.Run.{Run}
 use Rattle.dn_replay.specs.declared.replays.held.Held.{Held}
-use Rattle.dn_replay.specs.declared.replays.held.Held.TheVariants.{Entries, Given}
-use Rattle.dn_replay.specs.declared.replays.pass.Pass.{Pass}
-use Rattle.dn_replay.specs.declared.report.kept.Kept.{Kept}
 use Rattle.dn_replay.proofs.KeptCalls.{kept-configuration}
 use Rattle.dn_replay.proofs.ReplaySteps.{lawful, unread_text, unreplayed, unreported}
 use Rattle.dn_replay.proofs.Runs.{no-row, submitted-append, submitted-both}

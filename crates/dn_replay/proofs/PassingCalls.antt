@@ -1,38 +1,13 @@
 -- A Collect at the clock that calls leave gives packets earlier, and changes no later reply to a Submit.
-use Rattle.std.proofs.Common.{◌≡◌, ◌∙◌, sym, ap, subst, refl, ℕ, zero, suc, ◌<◌, ◌≤◌, max, arith, length, List, [], ◌∷◌, ◌++◌, append_assoc, Bool, true, false, cond}
-use Rattle.std.specs.Prelude.{filter, nat_le, nat_lt, option_map, Option, Some, None}
-use Rattle.std.specs.List.{All, count_by}
-use Rattle.std.proofs.lemmas.Bool.Decides.{nat_tests}
-use Rattle.std.proofs.lemmas.List.Elements.{All-filter, All-append, All-cons, All-head, All-nil, All-tail, filter-append}
-use Rattle.dn_types.specs.Calls.{Verdict, trace_of, verdict}
-use Rattle.dn_types.specs.Clock.{call_limit, effective_moment}
-use Rattle.dn_types.specs.Configuration.{Settings, settings}
+use Rattle.dn_replay.proofs.Words.{All, All-append, All-cons, All-filter, All-head, All-nil, All-tail, Bool, Call, Collect, Delivery, Event, HasPassed, IsPast, Link, List, None, Option, Ordered}
+use Rattle.dn_replay.proofs.Words.{Packet, Reply, Settings, Some, Standing, Start, Submit, Target, Traffic, Treatment, Verdict, [], accepted_count, after_verdict_in, ap, append_assoc, arith}
+use Rattle.dn_replay.proofs.Words.{busy-link, call_limit, collected, cond, count-event, count_by, counted_reply, counted_reply-standing, counted_step, counted_step_reply, delivered}
+use Rattle.dn_replay.proofs.Words.{effective_moment, false, filter, filter-append, first_start, first_start-of, free, gives-in-order, gives-what-is-due, is_arrival, is_loss_of, is_refusal_of}
+use Rattle.dn_replay.proofs.Words.{is_start_of, keys, length, links, max, nat_le, nat_lt, nat_tests, next_packet, next_start, option_map, refl, reply, settings, settle, settle_in, settled}
+use Rattle.dn_replay.proofs.Words.{settled-traffic, standing_of_counted, standing_of_counted-cons, start_at, started, subst, suc, sym, trace-proper, trace_of, traffic, treatment, true}
+use Rattle.dn_replay.proofs.Words.{undelivered-below, verdict, verdict_in, verdict_reply_in, waiting_all, with_given, without_passing, zero, ℕ, ◌++◌, ◌<◌, ◌∙◌, ◌∷◌, ◌≡◌, ◌≤◌}
 use Rattle.dn_types.specs.Deliveries.{given as given_at, undelivered, AreInOrder}
-use Rattle.dn_types.specs.Flows.{Treatment, keys, treatment}
-use Rattle.dn_types.specs.Links.{free}
-use Rattle.dn_types.specs.Replies.{counted_reply, reply}
-use Rattle.dn_types.specs.SharedLinks.{next_packet}
-use Rattle.dn_types.specs.Standing.{Standing, Traffic, standing_of_counted, traffic}
-use Rattle.dn_types.specs.Starts.{first_start, next_start, settle, settled, start_at, waiting_all}
-use Rattle.dn_types.specs.Trace.{Link, Accepted, Event, Start, accepted_count, collected, is_arrival, is_loss_of, is_refusal_of, is_start_of, links, started}
-use Rattle.dn_types.specs.declared.call.Call.{Call}
-use Rattle.dn_types.specs.declared.call.Call.TheVariants.{Collect, Submit}
-use Rattle.dn_types.specs.declared.delivery.Delivery.{Delivery}
-use Rattle.dn_types.specs.declared.packet.Packet.{Packet}
-use Rattle.dn_types.specs.declared.reply.Reply.{Reply}
-use Rattle.dn_types.specs.declared.rule.Rule.TheVariants.{Ordered}
-use Rattle.dn_types.specs.declared.target.Target.{Target}
-use Rattle.dn_types.proofs.Bridge.{counted_reply-standing, settled-traffic, standing_of_counted-cons}
-use Rattle.dn_types.proofs.Conserving.{busy-link}
-use Rattle.dn_types.proofs.Dues.{gives-what-is-due}
-use Rattle.dn_types.proofs.Giving.{count-event}
-use Rattle.dn_types.proofs.InTurn.{gives-in-order}
-use Rattle.dn_types.proofs.Ordered.{trace-proper}
-use Rattle.dn_types.proofs.PacketCounts.{undelivered-below}
-use Rattle.dn_types.proofs.Settled.{first_start-of}
-use Rattle.dn_types.proofs.Step.{after_verdict_in, counted_step, counted_step_reply, settle_in, verdict_in, verdict_reply_in}
-use Rattle.dn_replay.specs.Passing.{HasPassed, IsPast, with_given, without_passing}
-use Rattle.dn_replay.specs.Report.{delivered}
+use Rattle.dn_types.specs.Trace.{Accepted}
 use Rattle.dn_replay.proofs.Accepting.{counts, settled-accepts, verdict-grows}
 use Rattle.dn_replay.proofs.PassingTraffic.{IsBusy, after_verdict-behind, next-later, reply-behind, settled-behind, verdict-behind}
 

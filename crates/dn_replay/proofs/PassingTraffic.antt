@@ -1,33 +1,11 @@
 -- What starts while packets are still to be given that were due by an earlier clock: they stay first.
-use Rattle.std.proofs.Common.{◌≡◌, ◌∙◌, sym, ap, refl, ℕ, zero, suc, ◌+◌, ◌<◌, ◌≤◌, ◌⊎◌, inl, inr, arith, length, drop, get_or, List, [], ◌∷◌, ◌++◌, Bool, true, false, cond, ◌&&◌}
-use Rattle.std.specs.Prelude.{nat_le, nat_eq, option_map, Option, Some, None}
-use Rattle.std.specs.List.{All}
-use Rattle.std.specs.Cmp.{ranks}
-use Rattle.std.specs.Ordering.{is_lt, nat_cmp, ordering_then, MatchOrdering}
-use Rattle.std.specs.declared.cmp.Ordering.{Ordering}
-use Rattle.std.specs.declared.cmp.Ordering.TheVariants.{Less, Equal, Greater}
-use Rattle.std.proofs.lemmas.List.Elements.{All-head, All-tail}
-use Rattle.std.proofs.lemmas.Option.{slice_get_within}
-use Rattle.dn_types.specs.Calls.{Verdict, no_target, takes}
-use Rattle.dn_types.specs.Configuration.{Settings}
-use Rattle.dn_types.specs.Deliveries.{delivery_of, in_order, is_given_before}
-use Rattle.dn_types.specs.Flows.{Treatment}
-use Rattle.dn_types.specs.Links.{free}
-use Rattle.dn_types.specs.SharedLinks.{next_packet, waiting}
-use Rattle.dn_types.specs.Standing.{Traffic, traffic}
-use Rattle.dn_types.specs.Starts.{first_start, next_start, settle, sooner, start_at, waiting_all}
-use Rattle.dn_types.specs.Trace.{Link, own, shared, link_eq, Accepted, Event, Start, opened, arrived, started, is_of, backlog, links}
-use Rattle.dn_types.specs.declared.delivery.Delivery.{Delivery}
-use Rattle.dn_types.specs.declared.flow_key.FlowKey.{FlowKey}
-use Rattle.dn_types.specs.declared.packet.Packet.{Packet}
-use Rattle.dn_types.specs.declared.rule.Rule.TheVariants.{Ordered}
-use Rattle.dn_types.specs.declared.target.Target.{Target}
-use Rattle.dn_types.proofs.Bridge.{settled-traffic, traffic-cons}
-use Rattle.dn_types.proofs.Settled.{first_start-of}
-use Rattle.dn_types.proofs.Settling.{next_packet-first, next_start-packet}
-use Rattle.dn_types.proofs.Step.{accept_in, after_event, after_verdict_in, first_start_in, join_in, next_start_in, opening_in, settle_in, settle_most_in}
-use Rattle.dn_types.proofs.Step.{verdict_in, verdict_reply_in, waiting_all_in, waiting_in}
-use Rattle.dn_replay.specs.Passing.{IsPast, with_given}
+use Rattle.dn_replay.proofs.Words.{All, All-head, All-tail, Bool, Delivery, Equal, Event, FlowKey, Greater, IsPast, Less, Link, List, MatchOrdering, None, Option, Ordered, Ordering, Packet}
+use Rattle.dn_replay.proofs.Words.{Settings, Some, Start, Target, Traffic, Treatment, Verdict, [], accept_in, after_event, after_verdict_in, ap, arith, arrived, backlog, cond, delivery_of, drop}
+use Rattle.dn_replay.proofs.Words.{false, first_start, first_start-of, first_start_in, free, get_or, in_order, inl, inr, is_given_before, is_lt, is_of, join_in, length, link_eq, links, nat_cmp}
+use Rattle.dn_replay.proofs.Words.{nat_eq, nat_le, next_packet, next_packet-first, next_start, next_start-packet, next_start_in, no_target, opened, opening_in, option_map, ordering_then, own}
+use Rattle.dn_replay.proofs.Words.{ranks, refl, settle, settle_in, settle_most_in, settled-traffic, shared, slice_get_within, sooner, start_at, started, suc, sym, takes, traffic, traffic-cons}
+use Rattle.dn_replay.proofs.Words.{true, verdict_in, verdict_reply_in, waiting, waiting_all, waiting_all_in, waiting_in, with_given, zero, ℕ, ◌&&◌, ◌++◌, ◌+◌, ◌<◌, ◌∙◌, ◌∷◌, ◌≡◌, ◌≤◌, ◌⊎◌}
+use Rattle.dn_types.specs.Trace.{Accepted}
 
 -- ---- The order of deliveries
 

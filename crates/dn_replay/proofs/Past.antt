@@ -1,18 +1,7 @@
 -- A shaper that was asked calls with Collects in passing among them, one call more.
-use Rattle.std.proofs.Common.{◌≡◌, ◌∙◌, ◌<◌, ℕ, List, [], ◌∷◌, ◌++◌, ap, length, arith}
-use Rattle.dn_types.specs.Replies.{reply}
-use Rattle.dn_types.specs.declared.call.Call.{Call}
-use Rattle.dn_types.specs.declared.call.Call.TheVariants.{Collect, Submit}
-use Rattle.dn_types.specs.declared.delivery.Delivery.{Delivery}
-use Rattle.dn_types.specs.declared.packet.Packet.{Packet}
-use Rattle.dn_types.specs.declared.reply.Reply.{Reply}
-use Rattle.dn_types.specs.declared.rule.Rule.TheVariants.{Ordered}
-use Rattle.dn_types.specs.declared.target.Target.{Target}
-use Rattle.dn_replay.specs.Report.{delivered}
-use Rattle.dn_replay.specs.Passing.{CanPass, Collects, PassesBy, StandsPast, passing_limit}
+use Rattle.dn_replay.proofs.Words.{Call, CanPass, Collect, Collects, Delivery, List, Ordered, Packet, PassesBy, Reply, StandsAfter, StandsPast, State, Submit, Target, [], ap, arith, delivered}
+use Rattle.dn_replay.proofs.Words.{length, passing_limit, reply, ℕ, ◌++◌, ◌<◌, ◌∙◌, ◌∷◌, ◌≡◌}
 use Rattle.dn_replay.proofs.PassingCalls.{passed-collect, passed-none, passed-submit, same-collect, same-last, same-submit}
-use Rattle.dn_shaper.specs.Shaper.{StandsAfter}
-use Rattle.dn_shaper.specs.declared.state.State.{State}
 
 -- Before the first packet no Collect was made.
 pub past-first : (shaper : State) (calls : List Call) (given : List Delivery) → given ≡ [] → StandsAfter Ordered shaper calls → StandsPast shaper calls given

@@ -1,23 +1,8 @@
 -- Why a replay isn't made, step by step.
-use Rattle.std.proofs.Common.{◌≡◌, ◌∙◌, ℕ, ◌<◌, Bool, true, false, List, [], ◌∷◌, Option, Some, None, Result, Ok, Err, refl, sym, ap, All, arith}
-use Rattle.std.proofs.KnownBytes.{Keeps-refl}
-use Rattle.std.proofs.lemmas.List.Elements.{All-nil, All-push}
-use Rattle.dn_types.specs.History.{IsLawful, calls_of}
-use Rattle.dn_types.specs.Replies.{reply}
-use Rattle.dn_types.specs.declared.call.Call.{Call}
-use Rattle.dn_types.specs.declared.entry.Entry.{Entry}
-use Rattle.dn_types.specs.declared.rule.Rule.TheVariants.{Ordered}
-use Rattle.dn_files.specs.PacketFile.{packet_file}
-use Rattle.dn_files.specs.Reading.{IsFaultOf, IsRefusal, IsRefusedFor, IsTextOf, ReadsAs}
-use Rattle.dn_replay.specs.Replays.{AskFor, AskForWithin, calls_within, config_calls, EitherFailed, failed_read, IsReplayed, IsUnread, IsUnreplayed, IsUnreported}
-use Rattle.dn_replay.specs.Report.{report}
-use Rattle.dn_replay.specs.Runs.{entry_after, history_of}
-use Rattle.dn_files.specs.declared.replay_fault.ReplayFault.{ReplayFault}
-use Rattle.dn_files.specs.declared.replay_fault.ReplayFault.TheVariants.{Read, Write, OutOfMemory}
-use Rattle.dn_files.specs.declared.source.Source.{Source}
-use Rattle.dn_files.specs.declared.source.Source.TheVariants.{Config, Report}
-use Rattle.dn_files.proofs.Causes.{unwritten-cases}
-use Rattle.dn_types.proofs.Histories.{calls_of-more, lawful-more}
+use Rattle.dn_replay.proofs.Words.{All, All-nil, All-push, AskFor, AskForWithin, Bool, Call, Config, EitherFailed, Entry, Err, IsFaultOf, IsLawful, IsRefusal, IsRefusedFor, IsReplayed, IsTextOf}
+use Rattle.dn_replay.proofs.Words.{IsUnread, IsUnreplayed, IsUnreported, Keeps-refl, List, None, Ok, Option, Ordered, OutOfMemory, Read, ReadsAs, ReplayFault, Report, Result, Some, Source, Write}
+use Rattle.dn_replay.proofs.Words.{[], ap, arith, calls_of, calls_of-more, calls_within, config_calls, entry_after, failed_read, false, history_of, lawful-more, packet_file, refl, reply, report}
+use Rattle.dn_replay.proofs.Words.{sym, true, unwritten-cases, ℕ, ◌<◌, ◌∙◌, ◌∷◌, ◌≡◌}
 
 -- Each entry of a run is by caller 0.
 pub by_one : (calls : List Call) → All (λ e. e.caller < 1) (history_of calls)

@@ -1,21 +1,7 @@
 -- The history of a run, one call at a time.
-use Rattle.std.proofs.Common.{◌≡◌, ◌∙◌, ℕ, ◌+◌, ◌<◌, List, [], ◌∷◌, ◌++◌, Option, Some, None, Result, Ok, Err, refl, sym, ap, take, length, get_or, arith, length-append}
-use Rattle.std.proofs.lemmas.List.{take_more}
-use Rattle.dn_types.specs.Replies.{reply}
-use Rattle.dn_types.specs.declared.call.Call.{Call}
-use Rattle.dn_types.specs.declared.entry.Entry.{Entry}
-use Rattle.dn_types.specs.declared.reply.Reply.{Reply}
-use Rattle.dn_types.specs.declared.rule.Rule.TheVariants.{Ordered}
-use Rattle.dn_types.specs.declared.call.Call.TheVariants.{Configure}
-use Rattle.dn_types.specs.declared.command.Command.{Command}
-use Rattle.dn_files.specs.ConfigFile.{command_at}
-use Rattle.dn_replay.specs.Rows.{submit, submitted}
-use Rattle.dn_replay.specs.Configuring.{applied, configured_from, refusal}
-use Rattle.dn_files.specs.Reading.{IsFaultOf}
-use Rattle.dn_replay.specs.Runs.{entry_after, history_of}
-use Rattle.dn_files.specs.declared.replay_fault.ReplayFault.{ReplayFault}
-use Rattle.dn_files.proofs.Inputs.{carried}
-use Rattle.dn_files.specs.declared.row.Row.{Row}
+use Rattle.dn_replay.proofs.Words.{Call, Command, Configure, Entry, Err, IsFaultOf, List, None, Ok, Option, Ordered, ReplayFault, Reply, Result, Row, Some, [], ap, applied, arith, carried}
+use Rattle.dn_replay.proofs.Words.{command_at, configured_from, entry_after, get_or, history_of, length, length-append, refl, refusal, reply, submit, submitted, sym, take, take_more, ℕ, ◌++◌, ◌+◌}
+use Rattle.dn_replay.proofs.Words.{◌<◌, ◌∙◌, ◌∷◌, ◌≡◌}
 
 -- One call more.
 pub grown : (calls : List Call) (call : Call) (items : List Entry) (r : Reply) → items ≡ history_of calls → r ≡ reply Ordered calls call

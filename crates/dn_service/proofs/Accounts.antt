@@ -1,9 +1,7 @@
 -- Laws of a seat's accounts.
-use Rattle.std.proofs.Common.{◌≡◌, ℕ, zero, suc, ◌+◌, ◌<◌, ◌≤◌, List, [], ◌∷◌, ◌++◌, map, length, ⊎_elim, inl, inr, arith}
+use Rattle.dn_service.proofs.Words.{Account, Each, Entry, Has, List, [], arith, inl, inr, length, map, new_accounts, suc, up_to_date, zero, ℕ, ⊎_elim, ◌++◌, ◌+◌, ◌<◌, ◌∷◌, ◌≡◌, ◌≤◌}
 use mathlib.Core.Logic.{dite}
 use native.Mathlib.Decide.{ℕ_discrete}
-use Rattle.dn_types.specs.declared.entry.Entry.{Entry}
-use Rattle.dn_service.specs.Accounts.{Account, Each, Has, new_accounts, up_to_date}
 
 module _ {P Q : Account → Type 0} where
   pub each_map : (xs : List Account) → ((x : Account) → P x → Q x) → Each P xs → Each Q xs

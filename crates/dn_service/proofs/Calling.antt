@@ -1,17 +1,7 @@
 -- A call: what the seat of one caller knows at each step, and what the caller knows after it.
-use Rattle.std.proofs.Common.{◌≡◌, ℕ, ◌<◌, List, [], ◌∷◌, ◌++◌, map, sym, refl, ap, ◌∙◌, subst, inl, Some, None}
-use Rattle.atomic_table.specs.Seated.{TableId}
-use Rattle.dn_types.specs.History.{IsLawful, own_entries}
-use Rattle.dn_types.specs.declared.call.Call.{Call}
-use Rattle.dn_types.specs.declared.entry.Entry.{Entry}
-use Rattle.dn_types.specs.declared.reply.Reply.{Reply}
-use Rattle.dn_types.specs.declared.rule.Rule.TheVariants.{Ordered}
-use Rattle.dn_service.specs.Callers.{CallerView, IsSameCaller, Answered, having_lost, having_faced}
-use Rattle.dn_service.specs.Histories.{entry_of, AreBelow}
-use Rattle.dn_service.specs.Rule.{Follows}
-use Rattle.dn_service.specs.Pasts.{Past, BookView}
-use Rattle.dn_service.specs.Accounts.{Has, Each, up_to_date, front_in, own_in, lost_in, faced_in}
-use Rattle.dn_service.specs.Seats.{SeatState, SeatView, Slot, sitting, with_taken, with_loss, with_history}
+use Rattle.dn_service.proofs.Words.{Answered, AreBelow, BookView, Call, CallerView, Each, Entry, Follows, Has, IsLawful, IsSameCaller, List, None, Ordered, Past, Reply, SeatState, SeatView, Slot}
+use Rattle.dn_service.proofs.Words.{Some, TableId, [], ap, entry_of, faced_in, front_in, having_faced, having_lost, inl, lost_in, map, own_entries, own_in, refl, sitting, subst, sym, up_to_date}
+use Rattle.dn_service.proofs.Words.{with_history, with_loss, with_taken, ℕ, ◌++◌, ◌<◌, ◌∙◌, ◌∷◌, ◌≡◌}
 use Rattle.dn_service.proofs.HistoryLaws.{own-more, below_more}
 use Rattle.dn_service.proofs.Taking.{slot_in}
 

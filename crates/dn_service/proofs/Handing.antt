@@ -1,16 +1,10 @@
 -- Seats that are handed out to callers, and taken in again.
-use Rattle.std.proofs.Common.{◌≡◌, ℕ, zero, suc, ◌+◌, ◌-◌, ◌<◌, List, [], ◌∷◌, ◌++◌, All, true, ne_eqb, sym, refl, ap, ◌∙◌, subst, arith, inl, inr, length, length-append}
-use Rattle.std.proofs.Math.Seq.{get_or-append_seam}
-use Rattle.std.proofs.lemmas.List.{map-append}
-use Rattle.std.proofs.lemmas.List.Elements.{All-nil, All-cons}
+use Rattle.dn_service.proofs.Words.{Account, All, All-cons, All-nil, CallerView, Each, Entry, Follows, Has, IsAccountedFor, IsFaced, IsOf, Joins, List, SeatRule, SeatState, SeatView, ServiceView}
+use Rattle.dn_service.proofs.Words.{Splits, [], accounts_of, ap, arith, get_or-append_seam, has_number, inl, inr, joined, keeping, length, length-append, lost_to, map-append, met_by, ne_eqb}
+use Rattle.dn_service.proofs.Words.{new_account, new_accounts, new_caller, new_callers, only_first, refl, sitting, spent, subst, suc, sym, times, true, without_first, zero, ℕ, ◌++◌, ◌+◌, ◌-◌, ◌<◌}
+use Rattle.dn_service.proofs.Words.{◌∙◌, ◌∷◌, ◌≡◌}
 use mathlib.Core.Logic.{dite}
 use native.Mathlib.Decide.{ℕ_discrete}
-use Rattle.atomic_table.specs.Table.{Splits, Joins}
-use Rattle.dn_types.specs.declared.entry.Entry.{Entry}
-use Rattle.dn_service.specs.Callers.{ServiceView, CallerView, new_caller, new_callers, has_number, accounts_of, IsAccountedFor, IsFaced, IsOf, lost_to}
-use Rattle.dn_service.specs.Rule.{Follows, SeatRule}
-use Rattle.dn_service.specs.Accounts.{Account, Has, Each, new_account, new_accounts, times, met_by}
-use Rattle.dn_service.specs.Seats.{SeatState, SeatView, without_first, only_first, joined, spent, keeping, sitting}
 use Rattle.dn_service.proofs.Accounts.{has_none_new}
 use Rattle.dn_service.proofs.Splitting.{splits, joins}
 

@@ -1,11 +1,6 @@
 -- Laws of histories: what one entry more does.
-use Rattle.std.proofs.Common.{◌≡◌, ◌≢◌, ℕ, ◌<◌, ◌≤◌, arith, drop, length, List, [], ◌∷◌, ◌++◌, refl, sym, ap, ◌∙◌, append_assoc, append-nil, eqb, eq-eqb, ne_eqb, cond, Bool}
-use Rattle.std.proofs.lemmas.List.Elements.{All-append, All-nil, All-cons, filter-append}
-use Rattle.dn_types.specs.History.{own_entries}
-use Rattle.dn_types.specs.declared.call.Call.{Call}
-use Rattle.dn_types.specs.declared.entry.Entry.{Entry}
-use Rattle.dn_types.specs.declared.reply.Reply.{Reply}
-use Rattle.dn_service.specs.Histories.{entry_of, StartsWith, AreBelow}
+use Rattle.dn_service.proofs.Words.{All-append, All-cons, All-nil, AreBelow, Bool, Call, Entry, List, Reply, StartsWith, [], ap, append-nil, append_assoc, arith, cond, drop, entry_of, eq-eqb, eqb}
+use Rattle.dn_service.proofs.Words.{filter-append, length, ne_eqb, own_entries, refl, sym, ℕ, ◌++◌, ◌<◌, ◌∙◌, ◌∷◌, ◌≡◌, ◌≢◌, ◌≤◌}
 
 -- An entry of the caller is added to its own entries.
 pub own-more : (k : ℕ) (history : List Entry) (e : Entry) → e.caller ≡ k → own_entries k (history ++ e ∷ []) ≡ own_entries k history ++ e ∷ []

@@ -1,18 +1,8 @@
 -- What is taken out of a service that lasts, and what a caller learns from a token.
-use Rattle.std.proofs.Common.{◌≡◌, ℕ, ◌+◌, ◌<◌, ◌≤◌, ◌^◌, ◌⊎◌, inl, inr, Bool, true, false, cond, List, [], ◌∷◌, ◌++◌, length, length-append, sym, refl, ap, ◌∙◌, subst, arith}
-use Rattle.std.specs.Prelude.{nat_le}
-use Rattle.std.proofs.lemmas.Bool.Decides.{nat_tests}
-use Rattle.atomic_table.specs.Seated.{TableId}
-use Rattle.atomic_table.specs.Table.{Splits, Joins}
-use Rattle.dn_types.specs.History.{own_entries}
-use Rattle.dn_types.specs.declared.entry.Entry.{Entry}
-use Rattle.dn_service.specs.Histories.{StartsWith}
-use Rattle.dn_service.specs.Lasting.{SeenView, Learns, caller_at}
-use Rattle.dn_service.specs.Pasts.{IsCount}
-use Rattle.dn_service.specs.Rule.{Follows, SeatRule}
-use Rattle.dn_service.specs.Accounts.{Account, Each, front_in, own_in, lost_in, faced_in}
-use Rattle.dn_service.specs.Seats.{SeatState, SeatView, keeping, sitting, with_loss, with_shed, without_first, only_first, spent, shed_in, IsKeeperOf, IsCallerSeat}
-use Rattle.dn_service.specs.Tokens.{witness, witness_of, as_it_was, told_of, learned, longer}
+use Rattle.dn_service.proofs.Words.{Account, Bool, Each, Entry, Follows, IsCallerSeat, IsCount, IsKeeperOf, Joins, Learns, List, SeatRule, SeatState, SeatView, SeenView, Splits, StartsWith}
+use Rattle.dn_service.proofs.Words.{TableId, [], ap, arith, as_it_was, caller_at, cond, faced_in, false, front_in, inl, inr, keeping, learned, length, length-append, longer, lost_in, nat_le}
+use Rattle.dn_service.proofs.Words.{nat_tests, only_first, own_entries, own_in, refl, shed_in, sitting, spent, subst, sym, told_of, true, with_loss, with_shed, without_first, witness, witness_of}
+use Rattle.dn_service.proofs.Words.{ℕ, ◌++◌, ◌+◌, ◌<◌, ◌^◌, ◌∙◌, ◌∷◌, ◌≡◌, ◌≤◌, ◌⊎◌}
 use Rattle.dn_service.proofs.HistoryLaws.{starts_all, begins_longer}
 use Rattle.dn_service.proofs.Splitting.{splits}
 use Rattle.dn_service.proofs.Tokens.{witnesses, tells}

@@ -11,3 +11,4 @@ pub mod Taking
 pub mod Tokens
 pub mod Views
 pub mod Waking
+pub mod Words

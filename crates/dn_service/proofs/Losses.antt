@@ -1,13 +1,8 @@
 -- Tries that found a caller in a call: what the seats know of them adds up, and a step changes what one seat knows.
-use Rattle.std.proofs.Common.{◌≡◌, ◌≢◌, ℕ, zero, suc, ◌+◌, ◌<◌, List, [], ◌∷◌, ◌++◌, map, length, set, sym, refl, ap, ◌∙◌, ⊎_elim, inl, inr, arith, cond, ne_eqb}
-use Rattle.std.specs.Prelude.{nat_eq}
+use Rattle.dn_service.proofs.Words.{Account, Each, Entry, Faces, Has, List, SeatView, Sits, [], ap, arith, cond, faces, having_seen, inl, inr, length, map, met_by, met_in_all, nat_eq, ne_eqb}
+use Rattle.dn_service.proofs.Words.{new_accounts, note, refl, set, suc, sym, times, up_to_date, zero, ℕ, ⊎_elim, ◌++◌, ◌+◌, ◌<◌, ◌∙◌, ◌∷◌, ◌≡◌, ◌≢◌}
 use mathlib.Core.Option.{some, some-ne-none, some-injective}
 use lib.ListN.{get_elem?}
-use Rattle.dn_types.specs.declared.entry.Entry.{Entry}
-use Rattle.dn_service.specs.Rule.{Sits, Faces}
-use Rattle.dn_service.specs.Accounts.{Account, Each, Has, new_accounts, up_to_date, faces, note, times, met_by}
-use Rattle.dn_service.specs.Seats.{SeatView, met_in_all}
-use Rattle.dn_service.specs.Tokens.{having_seen}
 use Rattle.dn_service.proofs.Accounts.{each_map}
 
 -- ---- The sum

@@ -1,12 +1,6 @@
 -- What holds in any case holds where a call was refused, and what a caller's tries leave.
-use Rattle.std.proofs.Common.{◌≡◌, ℕ, List, [], ◌∷◌, ◌++◌, Result, Ok, Err, OnErr, ap, ◌∙◌, subst}
-use Rattle.dn_types.specs.History.{own_entries}
-use Rattle.dn_types.specs.declared.call.Call.{Call}
-use Rattle.dn_types.specs.declared.entry.Entry.{Entry}
-use Rattle.dn_types.specs.declared.reply.Reply.{Reply}
-use Rattle.dn_service.specs.Callers.{CallerView, ServiceView, IsSameCaller, KeepsSeen, Answered, having_lost, having_faced}
-use Rattle.dn_service.specs.Histories.{entry_of, StartsWith, AreBelow}
-use Rattle.dn_service.specs.Lasting.{LastingView, Takes}
+use Rattle.dn_service.proofs.Words.{Answered, AreBelow, Call, CallerView, Entry, Err, IsSameCaller, KeepsSeen, LastingView, List, Ok, OnErr, Reply, Result, ServiceView, StartsWith, Takes, [], ap}
+use Rattle.dn_service.proofs.Words.{entry_of, having_faced, having_lost, own_entries, subst, ℕ, ◌++◌, ◌∙◌, ◌∷◌, ◌≡◌}
 
 pub on_err : {T E P : Type 0} (r : Result T E) → P → OnErr r P
 on_err (Ok x) p = tt

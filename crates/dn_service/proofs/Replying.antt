@@ -1,21 +1,10 @@
 -- Which replies have a list: those to a Collect and to a Show alone.
-use Rattle.std.proofs.Common.{ℕ, ◌≤◌, max, Bool, true, false, List, cond, is_some, nat_le, length, arith}
-use Rattle.dn_types.specs.Calls.{Verdict, no_target, loses, refuses, takes, verdict, trace_of}
-use Rattle.dn_types.specs.Clock.{effective_moment, call_limit}
-use Rattle.dn_types.specs.Configuration.{Settings, settings, queue_numbers, has_queues, command_reply}
-use Rattle.dn_types.specs.Replies.{reply, counted_reply, reply_to_verdict}
-use Rattle.dn_types.specs.Starts.{settled}
-use Rattle.dn_types.specs.Trace.{Event}
-use Rattle.dn_types.specs.declared.call.Call.{Call}
-use Rattle.dn_types.specs.declared.call.Call.TheVariants.{Configure, Submit, Advance, Collect, Show}
-use Rattle.dn_types.specs.declared.command.Command.{Command}
-use Rattle.dn_types.specs.declared.command.Command.TheVariants.{Pipe, Queue, DeletePipe, DeleteQueue}
-use Rattle.dn_types.specs.declared.reply.Reply.{Reply}
-use Rattle.dn_types.specs.declared.reply.Reply.TheVariants.{Configured, NoSuchPipe, Deleted, PipeHasQueues, NoSuchQueue, Exhausted}
-use Rattle.dn_types.specs.declared.rule.Rule.{Rule}
+use Rattle.dn_service.proofs.Words.{Advance, Bool, Call, Collect, Command, Configure, Configured, DeletePipe, DeleteQueue, Deleted, Event, Exhausted, FitsRoom, IsRoomFor, List, NoSuchPipe}
+use Rattle.dn_service.proofs.Words.{NoSuchQueue, Pipe, PipeHasQueues, Queue, Reply, Rule, Settings, Show, Submit, Verdict, arith, call_limit, command_reply, cond, counted_reply, effective_moment}
+use Rattle.dn_service.proofs.Words.{false, has_queues, is_some, items_in, length, loses, max, nat_le, no_target, queue_numbers, refuses, reply, reply_to_verdict, settings, settled, trace_of, true}
+use Rattle.dn_service.proofs.Words.{verdict, ℕ, ◌≤◌}
+use Rattle.dn_types.specs.Calls.{takes}
 use Rattle.dn_types.specs.declared.target.Target.TheVariants.{Pipe as ToPipe, Queue as ToQueue}
-use Rattle.dn_shaper.specs.Shaper.{items_in}
-use Rattle.dn_service.specs.Rooms.{FitsRoom, IsRoomFor}
 
 either_has : (P : Reply → Type 0) (b : Bool) (r s : Reply) → P r → P s → P (cond b r s)
 either_has P true r s p q = p

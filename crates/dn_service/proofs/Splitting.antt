@@ -1,20 +1,12 @@
 -- A seat can be split, two can be joined, and the table can be opened: each keeps the rule.
-use Rattle.std.proofs.Common.{◌≡◌, ◌≢◌, ℕ, zero, suc, ◌+◌, ◌<◌, ◌≤◌, eqb, List, [], ◌∷◌, ◌++◌, length, get_or, set, sym, refl, ap, ◌∙◌, subst, ⊎_elim, inl}
-use Rattle.std.proofs.Common.{inr, arith, Some, length-set, eq-eqb, ne_eqb}
+use Rattle.dn_service.proofs.Words.{Account, BookView, Each, Entry, Faces, Has, Joins, Keeps, List, Past, SeatFits, SeatRule, SeatView, Sits, Some, Splits, StartsWith, [], ap, arith, at_last}
+use Rattle.dn_service.proofs.Words.{at_longer, at_set, eq-eqb, eqb, first_seat, get_or, inl, inr, keeping, length, length-set, met_in_all, ne_eqb, new_accounts, no_past, opening, refl, seat_with}
+use Rattle.dn_service.proofs.Words.{set, set_else, spent, subst, suc, sym, witness, zero, ℕ, ⊎_elim, ◌++◌, ◌+◌, ◌<◌, ◌∙◌, ◌∷◌, ◌≡◌, ◌≢◌, ◌≤◌}
 use mathlib.Core.Logic.{dite}
 use mathlib.Core.Option.{some, some-ne-none, some-injective}
 use native.Mathlib.Decide.{ℕ_discrete}
 use lib.ListN.{get_elem?}
 use prog.Atomic.{either}
-use Rattle.atomic_table.specs.Table.{Splits, Joins, opening}
-use Rattle.atomic_table.proofs.Lists.{at_set, set_else, at_longer, at_last}
-use Rattle.dn_types.specs.declared.entry.Entry.{Entry}
-use Rattle.dn_service.specs.Histories.{StartsWith}
-use Rattle.dn_service.specs.Pasts.{Past, BookView, Keeps, no_past}
-use Rattle.dn_service.specs.Rule.{Sits, Faces, SeatFits, SeatRule}
-use Rattle.dn_service.specs.Accounts.{Account, Each, Has, new_accounts}
-use Rattle.dn_service.specs.Seats.{SeatView, first_seat, met_in_all, seat_with, keeping, spent}
-use Rattle.dn_service.specs.Tokens.{witness}
 use Rattle.dn_service.proofs.Accounts.{each_join, has_left, has_right, has_new}
 use Rattle.dn_service.proofs.HistoryLaws.{below_none, starts_none}
 use Rattle.dn_service.proofs.Losses.{met_set, met_last, met_join, met_new, faces_new}

@@ -1,6 +1,8 @@
 -- The steps on the lock word keep the rule of the table: the try, and the ways to give the word back.
-use Rattle.std.proofs.Common.{◌≡◌, ◌≢◌, ℕ, ◌+◌, ◌-◌, ◌<◌, ◌≤◌, eqb, List, [], ◌∷◌, ◌++◌, map, length, get_or, set, sym, refl, ap, ◌∙◌, subst, arith, Option}
-use Rattle.std.proofs.Common.{Some, None, length-set, get_or-set_same, eq-eqb, ne_eqb}
+use Rattle.dn_service.proofs.Words.{Account, Allows, AreBelow, BookView, Each, Entry, Follows, Has, IsHome, IsLawful, Keeps, List, None, Option, Ordered, Past, SeatFits, SeatRule, SeatState}
+use Rattle.dn_service.proofs.Words.{SeatView, Sits, Slot, Some, StartsWith, State, [], all_shed, ap, arith, emptied, eq-eqb, eqb, faces, get_or, get_or-set_same, gives, keeps, length, length-set}
+use Rattle.dn_service.proofs.Words.{map, met_in_all, ne_eqb, published, refl, rest, returned, set, set_again, step, stepped, subst, sym, tried, up_to_date, with_entry, with_faced, with_history}
+use Rattle.dn_service.proofs.Words.{with_loss, with_shed, with_taken, ℕ, ◌++◌, ◌+◌, ◌-◌, ◌<◌, ◌∙◌, ◌∷◌, ◌≡◌, ◌≢◌, ◌≤◌}
 use mathlib.Core.Logic.{dite}
 use mathlib.Core.Option.{none, some}
 use mathlib.Core.Option as maybe
@@ -8,17 +10,7 @@ use native.Mathlib.Decide.{ℕ_discrete}
 use lib.ListN.{get_elem?}
 use lib.Seq.{set-get_or}
 use prog.Atomic.{either}
-use Rattle.atomic_table.specs.Table.{State, step, keeps, takes, gives, stepped, Allows, rest}
-use Rattle.atomic_table.proofs.Lists.{set_again}
-use Rattle.dn_types.specs.History.{IsLawful}
-use Rattle.dn_types.specs.declared.entry.Entry.{Entry}
-use Rattle.dn_types.specs.declared.rule.Rule.TheVariants.{Ordered}
-use Rattle.dn_service.specs.Histories.{StartsWith, AreBelow}
-use Rattle.dn_service.specs.Pasts.{Past, BookView, Keeps, with_entry, all_shed}
-use Rattle.dn_service.specs.Rule.{Follows, Sits, SeatFits, IsHome, SeatRule}
-use Rattle.dn_service.specs.Accounts.{Account, Each, Has, up_to_date, faces}
-use Rattle.dn_service.specs.Seats.{SeatState, SeatView, Slot, with_taken, with_loss, with_faced, with_history, with_shed, met_in_all}
-use Rattle.dn_service.specs.Steps.{tried, returned, published, emptied}
+use Rattle.atomic_table.specs.Table.{takes}
 use Rattle.dn_service.proofs.Accounts.{each_map, each_at, has_some, has_updated}
 use Rattle.dn_service.proofs.HistoryLaws.{own-other, below_more, starts_more, starts_all}
 use Rattle.dn_service.proofs.Losses.{met_alone, met_none, faces_all, met_set, met_kept, met_map, met_note, noted_some, noted_sit, noted_faces, has_noted}

@@ -1,19 +1,11 @@
 -- Seats that know of a history, and seats that are spent: each step with them keeps the rule.
-use Rattle.std.proofs.Common.{◌≡◌, ℕ, ◌<◌, List, [], ◌∷◌, ◌++◌, map, length, get_or, set, sym, refl, ap, ◌∙◌, subst, ⊎_elim, inl, inr, arith, Bool, true, false, cond}
-use Rattle.std.specs.Prelude.{nat_le}
+use Rattle.dn_service.proofs.Words.{Account, Allows, Bool, Each, Enters, Entry, Has, Joins, List, SeatFits, SeatRule, SeatState, SeatView, Sits, Splits, StartsWith, [], ap, arith, at_longer, cond}
+use Rattle.dn_service.proofs.Words.{false, get_or, having_seen, inl, inr, keeps, learned, learnt, length, longer, map, nat_le, refl, set, set_again, set_else, sitting, spent, step, subst, sym}
+use Rattle.dn_service.proofs.Words.{told_of, true, vacant, witness, ℕ, ⊎_elim, ◌++◌, ◌<◌, ◌∙◌, ◌∷◌, ◌≡◌}
 use mathlib.Core.Logic.{dite}
 use mathlib.Core.Option.{none, some, some-injective}
 use native.Mathlib.Decide.{ℕ_discrete}
 use lib.ListN.{get_elem?}
-use Rattle.atomic_table.specs.Table.{step, keeps, Allows, Splits, Joins, Enters}
-use Rattle.atomic_table.proofs.Lists.{set_again, set_else, at_longer}
-use Rattle.dn_types.specs.declared.entry.Entry.{Entry}
-use Rattle.dn_service.specs.Histories.{StartsWith}
-use Rattle.dn_service.specs.Rule.{Sits, SeatFits, SeatRule}
-use Rattle.dn_service.specs.Accounts.{Account, Each, Has}
-use Rattle.dn_service.specs.Seats.{SeatState, SeatView, sitting, spent}
-use Rattle.dn_service.specs.Tokens.{witness, told_of, having_seen, learned, longer}
-use Rattle.dn_service.specs.Steps.{learnt, vacant}
 use Rattle.dn_service.proofs.Accounts.{each_map}
 use Rattle.dn_service.proofs.HistoryLaws.{starts_none}
 use Rattle.dn_service.proofs.Losses.{met_last, met_kept, met_map, faces_learned}

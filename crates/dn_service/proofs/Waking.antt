@@ -1,18 +1,7 @@
 -- A caller asks when the next packet is due or starts: the step that gives the book back as it was, and what the caller has then seen.
-use Rattle.std.proofs.Common.{◌≡◌, ℕ, List, [], ◌∷◌, sym, refl, ◌∙◌, subst, arith, Option, Some}
+use Rattle.dn_service.proofs.Words.{Allows, AreBelow, BookView, Each, Entry, Follows, IsLawful, IsWakeOf, Keeps, List, Option, Ordered, Past, SeatRule, SeatState, SeatView, Some, TableId, Wakes}
+use Rattle.dn_service.proofs.Words.{[], arith, gives, lost_in, own_entries, read, refl, rest, sitting, step, subst, sym, up_to_date, with_history, ℕ, ◌∙◌, ◌∷◌, ◌≡◌}
 use mathlib.Core.Option.{none}
-use Rattle.atomic_table.specs.Seated.{TableId}
-use Rattle.atomic_table.specs.Table.{step, gives, Allows, rest}
-use Rattle.dn_types.specs.History.{IsLawful, own_entries}
-use Rattle.dn_types.specs.declared.entry.Entry.{Entry}
-use Rattle.dn_types.specs.declared.rule.Rule.TheVariants.{Ordered}
-use Rattle.dn_service.specs.Histories.{AreBelow}
-use Rattle.dn_service.specs.Pasts.{Past, BookView, Keeps}
-use Rattle.dn_service.specs.Rule.{Follows, SeatRule}
-use Rattle.dn_service.specs.Accounts.{Each, up_to_date, lost_in}
-use Rattle.dn_service.specs.Seats.{SeatState, SeatView, sitting, with_history}
-use Rattle.dn_service.specs.Steps.{read}
-use Rattle.dn_service.specs.Wakes.{IsWakeOf, Wakes}
 use Rattle.dn_service.proofs.Accounts.{has_updated}
 use Rattle.dn_service.proofs.Calling.{IsSitting, seen_from, has_seen}
 use Rattle.dn_service.proofs.Losses.{met_kept, met_map, faces_now}

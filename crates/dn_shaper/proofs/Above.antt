@@ -1,10 +1,6 @@
 -- A flow whose number is above those of all accepted packets has no finish tag and no discarded packet.
-use Rattle.std.proofs.Common.{◌≡◌, ◌∙◌, ◌≤◌, ℕ, ◌+◌, Bool, true, false, cond, List, [], ◌∷◌, refl, ap, length, arith}
-use Rattle.std.specs.Prelude.{nat_eq}
-use Rattle.dn_types.specs.SharedLinks.{last_finish_tag}
-use Rattle.dn_types.specs.Trace.{Link, link_eq, Accepted, Event, opened, arrived, started, lost, refused, discarded, collected, flow_bound, discarded_count}
-use Rattle.dn_flows.proofs.Places.{eq-no}
-use Rattle.dn_types.proofs.Settling.{and-no, backlog-above}
+use Rattle.dn_shaper.proofs.Words.{Accepted, Bool, Event, Link, List, [], and-no, ap, arith, arrived, backlog-above, collected, cond, discarded, discarded_count, eq-no, false, flow_bound}
+use Rattle.dn_shaper.proofs.Words.{last_finish_tag, length, link_eq, lost, nat_eq, opened, refl, refused, started, true, ℕ, ◌+◌, ◌∙◌, ◌∷◌, ◌≡◌, ◌≤◌}
 
 zero-if : (b : Bool) (n : ℕ) → n ≡ 0 → cond b 0 n ≡ 0
 zero-if true n e = refl

@@ -1,34 +1,10 @@
 -- A packet was accepted: all parts agree, and the heap and the counts follow.
-use Rattle.std.proofs.Common.{◌≡◌, ◌∙◌, ◌≤◌, ◌<◌, ◌^◌, ℕ, ◌+◌, Bool, true, false, cond, List, [], ◌∷◌, set, refl, ap, sym, subst, length, arith, IsPermutation}
-use Rattle.std.specs.Prelude.{Option, Some, None, nat_eq, nat_le, slice_get}
-use Rattle.std.proofs.lemmas.Bool.{eqb-true, and_parts}
-use Rattle.std.proofs.lemmas.Bool.Decides.{nat_tests}
-use Rattle.std.proofs.lemmas.List.{length-map}
-use Rattle.std.proofs.lemmas.List.Sorted.{length_permutation}
-use Rattle.dn_heap.specs.Heap.{Heap}
-use Rattle.dn_types.specs.Calls.{accept, join}
-use Rattle.dn_types.specs.Configuration.{Settings}
-use Rattle.dn_types.specs.Flows.{Treatment}
-use Rattle.dn_types.specs.SharedLinks.{opening, next_packet}
-use Rattle.dn_types.specs.Starts.{next_start, start_at}
-use Rattle.dn_types.specs.Trace.{Link, Event, arrived, started, links, with_link, pipe_of}
-use Rattle.dn_types.specs.declared.limit.Limit.TheVariants.{Slots}
-use Rattle.dn_types.specs.declared.packet.Packet.{Packet}
-use Rattle.dn_shaper.specs.declared.links.next_start.NextStart.{NextStart}
-use Rattle.dn_flows.specs.declared.home.Home.{Home}
-use Rattle.dn_shaper.specs.declared.links.link_parts.LinkParts.{LinkParts}
-use Rattle.dn_shaper.specs.declared.links.parts.Parts.{Parts}
-use Rattle.dn_shaper.specs.Refinement.Agreement.{AgreesWith, Agrees, GivesRates, link_names}
-use Rattle.dn_shaper.specs.Refinement.Arriving.{ArrivesAt, Accepts, KeepsFlows, is_idle}
-use Rattle.dn_shaper.specs.Refinement.NextStarts.{Holds}
-use Rattle.dn_shaper.specs.Refinement.Settling.{AreInStep}
-use Rattle.dn_shaper.specs.Refinement.Starting.{Within, StartsAt}
-use Rattle.dn_shaper.specs.Refinement.Submitting.{MayAccept}
-use Rattle.dn_shaper.specs.Refinement.Views.{homes_of, LinkView, queue_lengths, view_of, views_of, home, next_starts, next_start_of}
-use Rattle.std.proofs.lemmas.List.{set-set}
+use Rattle.dn_shaper.proofs.Words.{Accepts, Agrees, AgreesWith, AreInStep, ArrivesAt, Bool, Event, GivesRates, Heap, Holds, Home, IsPermutation, KeepsFlows, Link, LinkParts, LinkView, List}
+use Rattle.dn_shaper.proofs.Words.{MayAccept, NextStart, None, Option, Packet, Parts, Settings, Slots, Some, StartsAt, Treatment, Within, [], accept, and_parts, ap, arith, arrived, cond, eqb-true}
+use Rattle.dn_shaper.proofs.Words.{false, get-below, get-map, get-set, home, homes_of, is_idle, join, length, length-map, length-set, length_permutation, link_names, links, map-set-same, nat_eq}
+use Rattle.dn_shaper.proofs.Words.{nat_le, nat_tests, next_packet, next_start, next_start_of, next_starts, opening, pipe_of, queue_lengths, refl, set, set-set, slice_get, start_at, started, subst}
+use Rattle.dn_shaper.proofs.Words.{sym, true, view_of, views_of, with_link, ℕ, ◌+◌, ◌<◌, ◌^◌, ◌∙◌, ◌∷◌, ◌≡◌, ◌≤◌}
 use Rattle.dn_shaper.proofs.Arriving.{set-self, link-home, arrives-agree, next-alone, starts-at-once, arrives-nexts, arrives-names, arrives-within}
-use Rattle.std.proofs.lemmas.List.{length-set}
-use Rattle.dn_flows.proofs.Places.{get-set, get-map, map-set-same, get-below}
 use Rattle.dn_shaper.proofs.Starting.{starts-agree, starts-within, starts-nexts}
 use Rattle.dn_shaper.proofs.Accepting.{within-more, holds_pushed, backlogged-one, next-listed, next-some, next-none, may-agree}
 use Rattle.dn_shaper.proofs.HeldCounts.{counted-held}

@@ -1,26 +1,8 @@
 -- A packet is accepted: what that needs, and a heap with one key more.
-use Rattle.std.proofs.Common.{◌≡◌, ◌∙◌, ◌≤◌, ◌<◌, ◌⊎◌, ◌^◌, ℕ, zero, suc, ◌+◌, Bool, true, false, cond, List, [], ◌∷◌, set, get_or, refl, ap, sym, subst}
-use Rattle.std.proofs.Common.{length, arith, inl, inr, IsPermutation, slice_index_or, get_or-set_same, get_or-set_other}
-use Rattle.std.specs.Prelude.{Option, Some, None, is_some, nat_lt, slice_get}
-use Rattle.std.proofs.lemmas.Bool.{cases_eq, lt-ltb, le-ltb}
-use Rattle.std.proofs.lemmas.Bool.Decides.{nat_tests}
-use Rattle.std.proofs.lemmas.List.Elements.{All-cons}
-use Rattle.std.proofs.lemmas.List.Sorted.{All-permutation}
-use Rattle.std.proofs.lemmas.List.Sums.{sum_by-cons}
-use Rattle.dn_heap.specs.Heap.{Heap}
-use Rattle.dn_types.specs.Configuration.{Settings}
-use Rattle.dn_types.specs.Trace.{Link, own, shared}
-use Rattle.dn_shaper.specs.declared.links.next_start.NextStart.{NextStart}
-use Rattle.dn_flows.specs.declared.home.Home.{Home}
-use Rattle.dn_shaper.specs.declared.links.parts.Parts.{Parts}
-use Rattle.dn_shaper.specs.declared.links.link_parts.LinkParts.{LinkParts}
-use Rattle.dn_shaper.specs.Refinement.Agreement.{Agrees}
-use Rattle.dn_shaper.specs.Refinement.Arriving.{CanJoin}
-use Rattle.dn_shaper.specs.Refinement.NextStarts.{next_at, keys_at, Holds, one_backlogged, backlogged}
-use Rattle.dn_shaper.specs.Refinement.Starting.{Within}
-use Rattle.dn_shaper.specs.Refinement.Submitting.{MayAccept}
-use Rattle.dn_shaper.specs.Refinement.Views.{homes_of, LinkView, queue_lengths, view_of, views_of, next_start_of}
-use Rattle.dn_flows.specs.Table.{flow_at}
+use Rattle.dn_shaper.proofs.Words.{Agrees, All-cons, All-permutation, Bool, CanJoin, Heap, Holds, Home, IsPermutation, Link, LinkParts, LinkView, List, MayAccept, NextStart, None, Option, Parts}
+use Rattle.dn_shaper.proofs.Words.{Settings, Some, Within, [], ap, arith, backlogged, cases_eq, cond, false, flow_at, get_or, get_or-set_other, get_or-set_same, homes_of, inl, inr, is_some}
+use Rattle.dn_shaper.proofs.Words.{keys_at, le-ltb, length, lt-ltb, nat_lt, nat_tests, next_at, next_start_of, one_backlogged, own, queue_lengths, refl, set, shared, slice_get, slice_index_or}
+use Rattle.dn_shaper.proofs.Words.{subst, suc, sum_by-cons, sym, true, view_of, views_of, zero, ℕ, ◌+◌, ◌<◌, ◌^◌, ◌∙◌, ◌∷◌, ◌≡◌, ◌≤◌, ◌⊎◌}
 use Rattle.dn_shaper.proofs.HomeRead.{at-home, link-there}
 use Rattle.dn_shaper.proofs.NextStarts.{same_place, other_place, pushed, none_standing}
 

@@ -1,26 +1,9 @@
 -- One flow's queue changes, and of all links only the flow's own is seen otherwise.
-use Rattle.std.proofs.Common.{◌≡◌, ◌∙◌, ◌<◌, ◌+◌, ◌⊎◌, ℕ, zero, suc, cond, List, [], ◌∷◌, map, set, refl, ap, sym, length, inl, inr}
-use Rattle.std.specs.Prelude.{Option, Some, None, nat_eq, slice_get}
-use Rattle.std.proofs.lemmas.Bool.{cases_eq}
-use Rattle.dn_types.specs.Trace.{Link, own, shared, link_eq, Event}
-use Rattle.dn_types.specs.declared.flow_key.FlowKey.{FlowKey}
-use Rattle.dn_types.specs.declared.target.Target.{Target}
+use Rattle.dn_shaper.proofs.Words.{AgreesWith, Carries, Event, FlowKey, FlowState, GoesTo, HasOneMore, HoldsCount, IsAlone, Link, LinkParts, LinkView, List, LosesCount, None, Option, Own, Parts}
+use Rattle.dn_shaper.proofs.Words.{Shared, Some, Target, Waiting, [], ap, carried_link, carried_slots, carried_waits, cases_eq, cond, eq-no, eq-yes, flow_after_set, flow_at, get-map, home}
+use Rattle.dn_shaper.proofs.Words.{home_by, inl, inr, length, length-more, link_eq, link_eq-refl, link_of, map, map-set-but, nat_eq, own, pushed, queue_lengths, refl, set, shared, slice_get, suc}
+use Rattle.dn_shaper.proofs.Words.{sym, view_of, views_of, zero, ℕ, ◌+◌, ◌<◌, ◌∙◌, ◌∷◌, ◌≡◌, ◌⊎◌}
 use Rattle.dn_types.specs.declared.target.Target.TheVariants.{Pipe as ToPipe, Queue as ToQueue}
-use Rattle.dn_types.specs.Calls.{link_of}
-use Rattle.dn_types.proofs.Settled.{link_eq-refl}
-use Rattle.dn_flows.specs.Table.{FlowState, flow_at, pushed}
-use Rattle.dn_flows.specs.declared.waiting.Waiting.{Waiting}
-use Rattle.dn_flows.proofs.Places.{eq-no, eq-yes, get-map, length-more, map-set-but}
-use Rattle.dn_flows.proofs.Views.{flow_after_set}
-use Rattle.dn_shaper.specs.declared.links.link_parts.Carries.{Carries}
-use Rattle.dn_shaper.specs.declared.links.link_parts.Carries.TheVariants.{Own, Shared}
-use Rattle.dn_shaper.specs.declared.links.link_parts.LinkParts.{LinkParts}
-use Rattle.dn_shaper.specs.declared.links.parts.Parts.{Parts}
-use Rattle.dn_shaper.specs.Refinement.Agreement.{AgreesWith}
-use Rattle.dn_shaper.specs.Refinement.Arriving.{HasOneMore}
-use Rattle.dn_shaper.specs.Refinement.Discarding.{HoldsCount, LosesCount}
-use Rattle.dn_shaper.specs.Refinement.Submitting.{GoesTo}
-use Rattle.dn_shaper.specs.Refinement.Views.{LinkView, IsAlone, carried_link, carried_slots, carried_waits, home, home_by, queue_lengths, view_of, views_of}
 
 -- ---- A flow's own link is at one place
 

@@ -1,28 +1,12 @@
 -- All parts agree with the arrival of a packet at its flow's queue.
-use Rattle.std.proofs.Common.{◌≡◌, ◌∙◌, ◌<◌, ◌⊎◌, ℕ, ◌+◌, true, false, cond, ◌&&◌, ◌||◌, List, [], ◌∷◌, ◌++◌, map, set, refl, ap, sym, subst, length, arith, inl, inr, get_or-set_same}
-use Rattle.std.specs.Prelude.{Some, nat_eq, slice_get}
-use Rattle.std.proofs.lemmas.Bool.{cases_eq, and_from}
-use Rattle.dn_types.specs.Wf2q.{Stamped}
-use Rattle.dn_types.specs.Trace.{Link, shared, link_eq, Accepted, Event, arrived, is_of, backlog, links, with_link, is_start_of, is_loss_of, is_refusal_of, is_arrival}
-use Rattle.dn_types.specs.Links.{free, last_due}
-use Rattle.dn_types.specs.SharedLinks.{last_finish_tag, waiting}
-use Rattle.dn_types.specs.declared.delivery.Delivery.{Delivery}
-use Rattle.dn_types.specs.declared.flow_key.FlowKey.{FlowKey}
-use Rattle.dn_types.specs.declared.rule.Rule.{Rule}
-use Rattle.dn_flows.specs.Table.{FlowState, flow_at, pushed}
-use Rattle.dn_flows.specs.declared.waiting.Waiting.{Waiting}
-use Rattle.dn_flows.specs.declared.home.Home.{Home}
-use Rattle.dn_shaper.specs.Refinement.Views.{LinkView, home, as_queued, stamped_of, slotted}
-use Rattle.dn_shaper.specs.Refinement.Agreement.{AreDistinct, IsAt, IsLinkAt, IsFlowAt, IsScheduleAt, is_active, link_names}
-use Rattle.std.proofs.lemmas.List.{append-nil, length-set}
+use Rattle.dn_shaper.proofs.Words.{Accepted, AreDistinct, Ascends, Delivery, Event, FlowKey, FlowState, Home, IsAt, IsFlowAt, IsLinkAt, IsScheduleAt, Link, LinkView, List, Rule, Some, Stamped}
+use Rattle.dn_shaper.proofs.Words.{Waiting, [], and-no, and_from, ap, append-nil, arith, arrived, as_queued, backlog, cases_eq, cond, eq-no, eq-yes, false, flow_at, free, get_or-set_same, home}
+use Rattle.dn_shaper.proofs.Words.{inl, inr, is_active, is_arrival, is_loss_of, is_of, is_refusal_of, is_start_of, last_due, last_finish_tag, length, length-set, link_eq, link_eq-refl, link_names}
+use Rattle.dn_shaper.proofs.Words.{links, map, map-append, map-set-same, nat_eq, pushed, refl, set, shared, slice_get, slotted, stamped_of, subst, sym, top, true, waiting, with_link, ℕ, ◌&&◌}
+use Rattle.dn_shaper.proofs.Words.{◌++◌, ◌+◌, ◌<◌, ◌||◌, ◌∙◌, ◌∷◌, ◌≡◌, ◌⊎◌}
 use Rattle.dn_shaper.proofs.Events.{uncounted, counted-once}
-use Rattle.dn_flows.proofs.Places.{eq-no, eq-yes, map-set-same}
-use Rattle.dn_types.proofs.Settled.{link_eq-refl}
 use Rattle.dn_shaper.proofs.Unseen.{not_with}
-use Rattle.dn_types.proofs.Settling.{and-no}
 use Rattle.dn_wf2q.specs.Schedule.{Flow, flow_at as slot_at, no_packets, joined_by}
-use Rattle.std.proofs.lemmas.List.{map-append}
-use Rattle.dn_shaper.specs.Refinement.Slots.{Ascends, top}
 use Rattle.dn_shaper.proofs.Homes.{home-after, slots_home-after}
 use Rattle.dn_shaper.proofs.Next.{distinct_views}
 use Rattle.dn_shaper.proofs.OnePlace.{each-flow, each-set}

@@ -1,37 +1,18 @@
 -- All parts agree with a packet that is accepted.
-use Rattle.std.proofs.Common.{◌≡◌, ◌∙◌, ◌≤◌, ◌<◌, ◌⊎◌, ℕ, zero, suc, ◌+◌, Bool, true, false, cond, ◌&&◌, List, [], ◌∷◌, ◌++◌, set, refl, ap, sym, subst, length, arith, ⊎_elim, inl, inr}
-use Rattle.std.specs.Prelude.{Some, None, nat_eq, nat_le, slice_get, option_map}
-use Rattle.std.proofs.lemmas.Bool.{cases_lt, and_parts, and_right}
-use Rattle.dn_types.specs.Calls.{accept}
-use Rattle.dn_types.specs.Configuration.{Settings}
-use Rattle.dn_types.specs.Flows.{Treatment}
-use Rattle.dn_types.specs.Links.{free}
-use Rattle.dn_types.specs.SharedLinks.{opening, waiting, next_packet}
-use Rattle.dn_types.specs.Starts.{next_start, start_at}
-use Rattle.dn_types.specs.Trace.{Link, own, shared, Accepted, Event, opened, arrived, backlog, links, with_link, is_of}
-use Rattle.dn_types.specs.Wf2q.{Stamped, scaled, start_tag_on_arrival}
-use Rattle.dn_types.specs.declared.packet.Packet.{Packet}
-use Rattle.dn_flows.specs.Table.{FlowState, flow_at, places, pushed}
-use Rattle.dn_flows.specs.declared.waiting.Waiting.{Waiting}
+use Rattle.dn_shaper.proofs.Words.{Accepted, AgreesWith, AreCountsWithin, ArrivesAt, ArrivesInSchedule, ArrivesOn, Bool, Event, FlowState, Home, IsAt, IsHomeOf, Link, LinkView, List, None, Packet}
+use Rattle.dn_shaper.proofs.Words.{Parts, Settings, Some, Stamped, Treatment, Waiting, Within, [], accept, and_parts, and_right, ap, arith, arrived, as_queued, backlog, begun_flows, begun_time}
+use Rattle.dn_shaper.proofs.Words.{cases_lt, cond, eq-yes, eqb-true, false, flow_at, free, get-set, home, homes_of, inl, inr, is_of, length, length-map, length-more, link_names, links}
+use Rattle.dn_shaper.proofs.Words.{map-set-same, nat_eq, nat_le, next_packet, next_packet-first, next_start, next_start_of, next_starts, opened, opening, option_map, own, places, places-used}
+use Rattle.dn_shaper.proofs.Words.{pushed, refl, scaled, set, set-set, set_past, shared, slice_get, slotted, stamped_of, start_at, start_tag_on_arrival, subst, suc, sum-set, sym, true, views_of}
+use Rattle.dn_shaper.proofs.Words.{waiting, waits_in_all, with_link, zero, ℕ, ⊎_elim, ◌&&◌, ◌++◌, ◌+◌, ◌<◌, ◌∙◌, ◌∷◌, ◌≡◌, ◌≤◌, ◌⊎◌}
 use Rattle.dn_wf2q.specs.Schedule.{Flow, Schedule, flow_at as slot_at, waiting_of as waiting_in, joined_by, stamped}
-use Rattle.dn_flows.specs.declared.home.Home.{Home}
-use Rattle.dn_shaper.specs.declared.links.parts.Parts.{Parts}
-use Rattle.dn_shaper.specs.Refinement.Agreement.{AgreesWith, IsAt, IsHomeOf, link_names}
-use Rattle.dn_shaper.specs.Refinement.Arriving.{begun_flows, begun_time, ArrivesInSchedule, ArrivesOn, ArrivesAt}
-use Rattle.dn_shaper.specs.Refinement.Starting.{AreCountsWithin, Within}
-use Rattle.dn_shaper.specs.Refinement.Views.{homes_of, LinkView, views_of, home, as_queued, stamped_of, slotted, next_starts, next_start_of}
 use Rattle.dn_shaper.proofs.Arrived.{arrived-agrees}
 use Rattle.dn_shaper.proofs.HomeRead.{home-of}
 use Rattle.dn_shaper.proofs.Next.{home-here, next_exists}
 use Rattle.dn_shaper.proofs.OnePlace.{agrees-as, each-flow, each-set}
 use Rattle.dn_shaper.proofs.Opened.{opened-agrees}
-use Rattle.dn_flows.proofs.Places.{eq-yes, get-set, map-set, map-set-same, sum-set, length-more}
-use Rattle.dn_flows.proofs.Reservations.{places-used}
-use Rattle.dn_types.proofs.Settling.{next_packet-first}
+use Rattle.dn_flows.proofs.Places.{map-set}
 use Rattle.dn_shaper.proofs.Waiting.{empty-all}
-use Rattle.std.proofs.lemmas.Bool.{eqb-true}
-use Rattle.std.proofs.lemmas.List.{length-map, set-set, set_past}
-use Rattle.dn_shaper.specs.Refinement.Views.{waits_in_all}
 
 pub set-self : {X : Type 0} (xs : List X) (k : ℕ) (x : X) → slice_get xs k ≡ Some x → set xs k x ≡ xs
 set-self [] k x e = absurd cc

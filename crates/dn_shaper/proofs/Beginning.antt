@@ -1,21 +1,7 @@
 -- A new shaper stands after no call.
-use Rattle.std.proofs.Common.{◌≡◌, ◌∙◌, ◌^◌, ℕ, List, [], map, refl, ap, sym, subst, length, arith}
-use Rattle.std.specs.Prelude.{Option, Some, None, slice_get}
-use Rattle.std.proofs.lemmas.List.Elements.{All-nil}
-use Rattle.dn_types.specs.Trace.{Link}
-use Rattle.dn_types.specs.declared.delivery.Delivery.{Delivery}
-use Rattle.dn_types.specs.declared.rule.Rule.{Rule}
-use Rattle.dn_types.specs.declared.target.Target.{Target}
-use Rattle.dn_flows.specs.Table.{FlowState, flow_at, places}
-use Rattle.dn_shaper.specs.declared.links.next_start.NextStart.{NextStart}
-use Rattle.dn_shaper.specs.declared.state.State.{State}
-use Rattle.dn_shaper.specs.Refinement.Agreement.{AgreesWith, IsAt, link_names}
-use Rattle.dn_shaper.specs.Refinement.NextStarts.{Holds, next_at}
-use Rattle.dn_shaper.specs.Refinement.Settings.{at_number, settings_of}
-use Rattle.dn_shaper.specs.Refinement.Sound.{IsIndexed, IsSound}
-use Rattle.dn_shaper.specs.Standing.{StandsAt}
-use Rattle.dn_shaper.specs.Refinement.Starting.{AreCountsWithin, Within}
-use Rattle.dn_shaper.specs.Refinement.Views.{homes_of, LinkView, queue_lengths, view_of, views_of, next_starts, waits_in_all}
+use Rattle.dn_shaper.proofs.Words.{AgreesWith, All-nil, AreCountsWithin, Delivery, FlowState, Holds, IsAt, IsIndexed, IsSound, Link, LinkView, List, NextStart, None, Option, Rule, Some, StandsAt}
+use Rattle.dn_shaper.proofs.Words.{State, Target, Within, [], ap, arith, at_number, flow_at, homes_of, length, link_names, map, next_at, next_starts, places, queue_lengths, refl, settings_of}
+use Rattle.dn_shaper.proofs.Words.{slice_get, subst, sym, view_of, views_of, waits_in_all, ℕ, ◌^◌, ◌∙◌, ◌≡◌}
 use Rattle.dn_shaper.proofs.OnePlace.{agrees-as}
 
 nothing-agrees : (rule : Rule) → IsAt rule 0 [] [] [] [] [] [] []

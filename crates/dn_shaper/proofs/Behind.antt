@@ -1,18 +1,7 @@
 -- A packet joins others on a link of its flow's own: of all links that one alone is seen otherwise, with one packet more.
-use Rattle.std.proofs.Common.{◌≡◌, ◌∙◌, ◌<◌, ◌+◌, ◌&&◌, ℕ, zero, suc, false, List, [], ◌∷◌, map, refl, ap, sym, subst, length, arith}
-use Rattle.std.specs.Prelude.{Some, nat_le, slice_get}
-use Rattle.dn_types.specs.Trace.{Link, own, shared, Event}
-use Rattle.dn_flows.specs.Table.{flow_at, pushed}
-use Rattle.dn_flows.specs.declared.waiting.Waiting.{Waiting}
-use Rattle.dn_flows.proofs.Places.{eq-no, get-map}
-use Rattle.dn_shaper.specs.declared.links.link_parts.Carries.{Carries}
-use Rattle.dn_shaper.specs.declared.links.link_parts.Carries.TheVariants.{Own, Shared}
-use Rattle.dn_flows.specs.declared.home.Home.{Home}
-use Rattle.dn_shaper.specs.declared.links.link_parts.LinkParts.{LinkParts}
-use Rattle.dn_shaper.specs.declared.links.parts.Parts.{Parts}
-use Rattle.dn_shaper.specs.Refinement.Agreement.{AgreesWith, IsHomeOf}
-use Rattle.dn_shaper.specs.Refinement.Arriving.{ArrivesAt, ArrivesOn, JoinsQueue}
-use Rattle.dn_shaper.specs.Refinement.Views.{LinkView, carried_link, carried_waits, home, queue_lengths, view_of, views_of}
+use Rattle.dn_shaper.proofs.Words.{AgreesWith, ArrivesAt, ArrivesOn, Carries, Event, Home, IsHomeOf, JoinsQueue, Link, LinkParts, LinkView, List, Own, Parts, Shared, Some, Waiting, [], ap, arith}
+use Rattle.dn_shaper.proofs.Words.{carried_link, carried_waits, eq-no, false, flow_at, get-map, home, length, map, nat_le, own, pushed, queue_lengths, refl, shared, slice_get, subst, suc, sym}
+use Rattle.dn_shaper.proofs.Words.{view_of, views_of, zero, ℕ, ◌&&◌, ◌+◌, ◌<◌, ◌∙◌, ◌∷◌, ◌≡◌}
 use Rattle.dn_shaper.proofs.Alone.{is-alone, push-longer, set-seen}
 use Rattle.dn_shaper.proofs.Arriving.{set-self}
 

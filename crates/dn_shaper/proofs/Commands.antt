@@ -1,18 +1,8 @@
 -- The commands in force as a function of the target, and a test that one of a list of numbers passes.
-use Rattle.std.proofs.Common.{◌≡◌, ◌∙◌, ◌||◌, ℕ, Bool, true, false, cond, List, [], ◌∷◌, refl, ap, sym, ⊎_elim, true≢false}
-use Rattle.std.specs.Prelude.{Option, Some, None, is_some, nat_eq}
-use Rattle.std.specs.List.{list_any}
-use Rattle.std.proofs.lemmas.Bool.{eqb-true, or_right}
-use Rattle.dn_types.specs.Configuration.{is_queue_of, settings, command_reply, queue_numbers, setting_after}
-use Rattle.dn_types.specs.declared.call.Call.{Call}
-use Rattle.dn_types.specs.declared.call.Call.TheVariants.{Configure, Submit, Advance, Collect, Show}
-use Rattle.dn_types.specs.declared.command.Command.{Command}
-use Rattle.dn_types.specs.declared.command.Command.TheVariants.{Pipe, Queue, DeletePipe, DeleteQueue}
-use Rattle.dn_types.specs.declared.reply.Reply.TheVariants.{Deleted, NoSuchQueue}
+use Rattle.dn_shaper.proofs.Words.{Advance, Bool, Call, Collect, Command, Configure, DeletePipe, DeleteQueue, Deleted, List, Lists, NoSuchQueue, None, Option, Pipe, Queue, Show, Some, Submit, []}
+use Rattle.dn_shaper.proofs.Words.{ap, command_reply, cond, eq-yes, eqb-true, false, is_queue_of, is_some, list_any, nat_eq, or_right, queue_numbers, refl, setting_after, settings, sym, true}
+use Rattle.dn_shaper.proofs.Words.{true_or_false, true≢false, ℕ, ⊎_elim, ◌||◌, ◌∙◌, ◌∷◌, ◌≡◌}
 use Rattle.dn_types.specs.declared.target.Target.TheVariants.{Queue as ToQueue}
-use Rattle.dn_types.proofs.Settled.{true_or_false}
-use Rattle.dn_shaper.specs.Refinement.Configuring.{Lists}
-use Rattle.dn_flows.proofs.Places.{eq-yes}
 
 pub is-some : (pipe : ℕ) (o : Option Command) → is_queue_of pipe o ≡ true → is_some o ≡ true
 is-some pipe None e = absurd (true≢false (sym e))

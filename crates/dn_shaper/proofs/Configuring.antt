@@ -1,32 +1,9 @@
 -- A shaper stands after a Configure call more, and stays sound.
-use Rattle.std.proofs.Common.{◌≡◌, ◌∙◌, ◌≤◌, ℕ, ◌+◌, max, Bool, true, false, cond, List, [], ◌∷◌, refl, ap, sym, subst, arith}
-use Rattle.std.specs.Prelude.{Option, Some, None}
-use Rattle.dn_heap.specs.Heap.{Heap}
-use Rattle.dn_types.specs.Calls.{after_command, trace_of}
-use Rattle.dn_types.specs.Clock.{effective_moment}
-use Rattle.dn_types.specs.Configuration.{settings, setting_after, command_reply, reply_to_command, target_eq, subject}
-use Rattle.dn_types.specs.Trace.{Link, Event}
-use Rattle.dn_types.specs.declared.call.Call.{Call}
-use Rattle.dn_types.specs.declared.call.Call.TheVariants.{Configure}
-use Rattle.dn_types.specs.declared.command.Command.{Command}
-use Rattle.dn_types.specs.declared.flow_key.FlowKey.{FlowKey}
-use Rattle.dn_types.specs.declared.reply.Reply.{Reply}
-use Rattle.dn_types.specs.declared.reply.Reply.TheVariants.{Configured, NoSuchPipe, Deleted, PipeHasQueues, NoSuchQueue, Queued, Lost, Full, NoTarget, Advanced, Delivered, Status, Exhausted}
-use Rattle.dn_types.specs.declared.rule.Rule.{Rule}
-use Rattle.dn_types.specs.declared.target.Target.{Target}
-use Rattle.dn_shaper.specs.declared.links.next_start.NextStart.{NextStart}
-use Rattle.dn_shaper.specs.declared.links.parts.Parts.{Parts}
-use Rattle.dn_shaper.specs.declared.state.State.{State}
-use Rattle.dn_shaper.specs.Refinement.Agreement.{AgreesWith, link_names}
-use Rattle.dn_shaper.specs.Refinement.Arriving.{KeepsFlows}
-use Rattle.dn_shaper.specs.Refinement.Configuring.{Lists, Puts, DiscardsReached}
-use Rattle.dn_shaper.specs.Refinement.Settings.{InForce, settings_of}
-use Rattle.dn_shaper.specs.Refinement.Settling.{AreInStep}
-use Rattle.dn_shaper.specs.Refinement.Calls.{Does}
-use Rattle.dn_shaper.specs.Refinement.Sound.{IsSound}
-use Rattle.dn_shaper.specs.Standing.{StandsAt}
-use Rattle.dn_shaper.specs.Refinement.Starting.{Within}
-use Rattle.dn_shaper.specs.Refinement.Views.{views_of}
+use Rattle.dn_shaper.proofs.Words.{Advanced, AgreesWith, AreInStep, Bool, Call, Command, Configure, Configured, Deleted, Delivered, DiscardsReached, Does, Event, Exhausted, FlowKey, Heap, InForce}
+use Rattle.dn_shaper.proofs.Words.{IsSound, KeepsFlows, Link, List, Lists, NextStart, NoSuchPipe, NoSuchQueue, NoTarget, None, Option, Parts, PipeHasQueues, Puts, Queued, Reply, Rule, Some}
+use Rattle.dn_shaper.proofs.Words.{StandsAt, State, Status, Target, Within, [], after_command, ap, arith, command_reply, cond, effective_moment, false, link_names, max, refl, reply_to_command}
+use Rattle.dn_shaper.proofs.Words.{setting_after, settings, settings_of, subject, subst, sym, target_eq, trace_of, true, views_of, ℕ, ◌+◌, ◌∙◌, ◌∷◌, ◌≡◌, ◌≤◌}
+use Rattle.dn_types.specs.declared.reply.Reply.TheVariants.{Full, Lost}
 use Rattle.dn_shaper.proofs.Accepting.{within-more}
 use Rattle.dn_shaper.proofs.Needing.{answered-after}
 use Rattle.dn_shaper.proofs.Noted.{indexed-still}

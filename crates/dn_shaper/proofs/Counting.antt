@@ -1,19 +1,7 @@
 -- Calls count up to the limit, and those beyond it change nothing.
-use Rattle.std.proofs.Common.{◌≡◌, ◌∙◌, ◌<◌, ◌≤◌, ◌⊎◌, ◌^◌, ◌-◌, suc, cond, List, ◌∷◌, drop, length, refl, ap, sym, subst, inl, inr, arith}
-use Rattle.std.specs.Prelude.{Result, Ok, Err, IfOk, OnErr, IsOk}
-use Rattle.std.proofs.lemmas.Bool.{cases_lt, lt-leb, le-leb}
-use Rattle.std.proofs.lemmas.List.{length-drop}
-use Rattle.dn_types.specs.Clock.{counted}
-use Rattle.dn_types.specs.Replies.{counted_reply, reply}
-use Rattle.dn_types.specs.declared.call.Call.{Call}
-use Rattle.dn_types.specs.declared.reply.Reply.{Reply}
-use Rattle.dn_types.specs.declared.reply.Reply.TheVariants.{Exhausted}
-use Rattle.dn_types.specs.declared.rule.Rule.{Rule}
-use Rattle.dn_shaper.specs.declared.state.State.{State}
-use Rattle.dn_shaper.specs.Shaper.{CanNeedMemory, StandsAfter}
-use Rattle.dn_shaper.specs.Refinement.Calls.{Does, StillStands}
-use Rattle.dn_shaper.specs.Refinement.Sound.{IsSound}
-use Rattle.dn_shaper.specs.Standing.{StandsAt}
+use Rattle.dn_shaper.proofs.Words.{Call, CanNeedMemory, Does, Err, Exhausted, IfOk, IsOk, IsSound, List, Ok, OnErr, Reply, Result, Rule, StandsAfter, StandsAt, State, StillStands, ap, arith}
+use Rattle.dn_shaper.proofs.Words.{cases_lt, cond, counted, counted_reply, drop, inl, inr, le-leb, length, length-drop, lt-leb, refl, reply, subst, suc, sym, ◌-◌, ◌<◌, ◌^◌, ◌∙◌, ◌∷◌, ◌≡◌, ◌≤◌}
+use Rattle.dn_shaper.proofs.Words.{◌⊎◌}
 
 pub all-count : (calls : List Call) → length calls ≤ 2 ^ 62 → counted calls ≡ calls
 all-count calls le = let none : length calls - 2 ^ 62 ≡ 0 = omega arith in ap (λ n. drop n calls) none

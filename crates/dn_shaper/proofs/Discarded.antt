@@ -1,30 +1,15 @@
 -- All parts agree with the discarding of a flow's packets.
-use Rattle.std.proofs.Common.{◌≡◌, ◌∙◌, ◌<◌, ℕ, zero, suc, ◌+◌, true, false, cond, List, [], ◌∷◌, map, set, refl, ap, sym, subst, length, arith}
-use Rattle.std.specs.Prelude.{Some, nat_eq, slice_get}
-use Rattle.std.proofs.lemmas.List.{length-map}
-use Rattle.dn_types.specs.Trace.{Link, shared, link_eq, Accepted, Event, discarded, backlog, is_start_of, is_loss_of, is_refusal_of, is_arrival, discarded_count}
-use Rattle.dn_types.specs.Links.{free, last_due}
-use Rattle.dn_types.specs.SharedLinks.{last_finish_tag, waiting}
-use Rattle.dn_types.specs.declared.delivery.Delivery.{Delivery}
-use Rattle.dn_types.specs.declared.flow_key.FlowKey.{FlowKey}
-use Rattle.dn_types.specs.declared.rule.Rule.{Rule}
-use Rattle.dn_flows.specs.Table.{FlowState, flow_at, emptied}
-use Rattle.dn_flows.specs.declared.waiting.Waiting.{Waiting}
-use Rattle.dn_flows.specs.declared.home.Home.{Home}
-use Rattle.dn_shaper.specs.Refinement.Views.{LinkView, home, as_queued, stamped_of, slotted}
-use Rattle.dn_shaper.specs.Refinement.Agreement.{AreDistinct, IsAt, IsLinkAt, IsFlowAt, IsScheduleAt, is_active, link_names}
-use Rattle.std.proofs.lemmas.List.{length-set}
+use Rattle.dn_shaper.proofs.Words.{Accepted, AreDistinct, Ascends, Delivery, Event, FlowKey, FlowState, Home, IsAt, IsFlowAt, IsLinkAt, IsScheduleAt, Link, LinkView, List, Rule, Some, Waiting, []}
+use Rattle.dn_shaper.proofs.Words.{ap, arith, as_queued, backlog, clear-none, cond, discarded, discarded_count, emptied, eq-no, eq-yes, false, flow_at, free, home, is_active, is_arrival}
+use Rattle.dn_shaper.proofs.Words.{is_loss_of, is_refusal_of, is_start_of, last_due, last_finish_tag, length, length-map, length-set, link_eq, link_eq-refl, link_names, map, map-set-same, nat_eq}
+use Rattle.dn_shaper.proofs.Words.{refl, set, shared, slice_get, slotted, stamped_of, subst, suc, sym, top, true, waiting, zero, ℕ, ◌+◌, ◌<◌, ◌∙◌, ◌∷◌, ◌≡◌}
 use Rattle.dn_shaper.proofs.Events.{uncounted}
-use Rattle.dn_flows.proofs.Places.{eq-no, eq-yes, map-set-same}
-use Rattle.dn_types.proofs.Settled.{link_eq-refl}
 use Rattle.dn_wf2q.specs.Schedule.{Flow, flow_at as slot_at, no_packets, after_discard}
-use Rattle.dn_shaper.specs.Refinement.Slots.{Ascends, top}
 use Rattle.dn_shaper.proofs.Homes.{home-after, slots_home-after}
 use Rattle.dn_shaper.proofs.Next.{distinct_views}
 use Rattle.dn_shaper.proofs.OnePlace.{each-flow, each-set}
 use Rattle.dn_shaper.proofs.OneSlot.{slot-set}
 use Rattle.dn_shaper.proofs.Waiting.{waiting-discarded}
-use Rattle.dn_types.proofs.StepFacts.{clear-none}
 
 module _ (rule : Rule) (accepted : ℕ) (keys : List FlowKey) (homes : List Home) (views : List LinkView) (flows : List FlowState) (pending : List Delivery)
     (more : List Link) (trace : List Event) (a : IsAt rule accepted keys homes views flows pending more trace) where

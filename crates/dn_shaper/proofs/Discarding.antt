@@ -1,27 +1,15 @@
 -- A flow's packets are discarded: all parts agree, and a link only loses its backlog.
-use Rattle.std.proofs.Common.{◌≡◌, ◌∙◌, ◌≤◌, ◌<◌, ◌⊎◌, ◌^◌, ℕ, ◌+◌, cond, List, set, refl, ap, sym, subst, length, arith, inl, inr}
-use Rattle.std.specs.Prelude.{Some, None, nat_lt, slice_get}
-use Rattle.std.proofs.lemmas.List.{length-map}
-use Rattle.dn_types.specs.Trace.{Link, own, shared, Accepted, backlog}
-use Rattle.dn_types.specs.Wf2q.{Stamped}
-use Rattle.dn_flows.specs.Table.{FlowState, flow_at, emptied, places}
-use Rattle.dn_flows.specs.declared.waiting.Waiting.{Waiting}
-use Rattle.dn_wf2q.specs.Schedule.{Schedule}
-use Rattle.dn_flows.specs.declared.home.Home.{Home}
-use Rattle.dn_shaper.specs.declared.links.parts.Parts.{Parts}
-use Rattle.dn_shaper.specs.Refinement.Agreement.{Agrees, IsHomeOf, link_names}
-use Rattle.dn_shaper.specs.Refinement.Arriving.{KeepsFlows}
-use Rattle.dn_shaper.specs.Refinement.Discarding.{DiscardsOn, DiscardsAt, DiscardsFlow, HoldsCount}
-use Rattle.dn_shaper.specs.Refinement.Starting.{AreCountsWithin, Within}
-use Rattle.dn_shaper.specs.Refinement.Views.{homes_of, LinkView, IsAlone, views_of, home, as_queued, slotted, next_starts, next_start_of, stamped_of, waits_in_all}
+use Rattle.dn_shaper.proofs.Words.{Accepted, Agrees, AreCountsWithin, DiscardsAt, DiscardsFlow, DiscardsOn, FlowState, HoldsCount, Home, IsAlone, IsHomeOf, KeepsFlows, Link, LinkView, List, None}
+use Rattle.dn_shaper.proofs.Words.{Parts, Schedule, Some, Stamped, Waiting, Within, ap, arith, as_queued, backlog, cond, emptied, flow_at, get-map, home, homes_of, inl, inr, length, length-map}
+use Rattle.dn_shaper.proofs.Words.{link_names, map-set-same, nat_lt, next_start_of, next_starts, own, places, places-same, refl, set, shared, slice_get, slotted, stamped_of, subst, sum-le}
+use Rattle.dn_shaper.proofs.Words.{sum-set, sym, views_of, waits_in_all, ℕ, ◌+◌, ◌<◌, ◌^◌, ◌∙◌, ◌≡◌, ◌≤◌, ◌⊎◌}
 use Rattle.dn_shaper.proofs.Accepting.{next-some}
 use Rattle.dn_shaper.proofs.Alone.{is-alone}
 use Rattle.dn_shaper.proofs.Discarded.{discarded-agrees}
 use Rattle.dn_shaper.proofs.HomeRead.{home-of, in-table}
 use Rattle.dn_shaper.proofs.Next.{home-here}
 use Rattle.dn_shaper.proofs.OnePlace.{agrees-as, each-flow, each-set}
-use Rattle.dn_flows.proofs.Reservations.{places-same}
-use Rattle.dn_flows.proofs.Places.{get-map, map-set, map-set-same, sum-set, sum-le}
+use Rattle.dn_flows.proofs.Places.{map-set}
 use Rattle.dn_shaper.proofs.Waiting.{waiting-discarded}
 
 module _ {p : Parts} (bound : Within (2 ^ 62) p) (agrees : Agrees p) {flow : ℕ} (within : flow < length p.flows.keys) where

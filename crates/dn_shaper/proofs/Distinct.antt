@@ -1,11 +1,6 @@
 -- The links of a trace are distinct.
-use Rattle.std.proofs.Common.{◌≡◌, ◌∙◌, ◌⊎◌, ℕ, zero, suc, Bool, true, false, cond, ◌||◌, List, [], ◌∷◌, ◌++◌, refl, ap, sym, length, ⊎_elim, inl, inr}
-use Rattle.std.specs.Prelude.{Some, slice_get}
-use Rattle.std.specs.List.{list_any}
-use Rattle.std.proofs.lemmas.Bool.{or_parts}
-use Rattle.dn_types.specs.Trace.{Link, link_eq, Event, opened, arrived, started, lost, refused, discarded, collected, links, with_link}
-use Rattle.dn_shaper.specs.Refinement.Agreement.{AreDistinct}
-use Rattle.dn_types.proofs.Settled.{link_eq-true, link_eq-refl, true_or_false}
+use Rattle.dn_shaper.proofs.Words.{AreDistinct, Bool, Event, Link, List, Some, [], ap, arrived, collected, cond, discarded, false, inl, inr, length, link_eq, link_eq-refl, link_eq-true, links}
+use Rattle.dn_shaper.proofs.Words.{list_any, lost, opened, or_parts, refl, refused, slice_get, started, suc, sym, true, true_or_false, with_link, zero, ℕ, ⊎_elim, ◌++◌, ◌||◌, ◌∙◌, ◌∷◌, ◌≡◌, ◌⊎◌}
 
 in_append : (ls : List Link) (m : Link) (i : ℕ) (l : Link) → slice_get (ls ++ m ∷ []) i ≡ Some l → (slice_get ls i ≡ Some l) ⊎ ((i ≡ length ls) × (l ≡ m))
 in_append [] m zero l e = let same : m ≡ l = cc in inr (refl, sym same)

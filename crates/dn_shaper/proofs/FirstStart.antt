@@ -1,16 +1,7 @@
 -- The least key of the heap is the first start of all links.
-use Rattle.std.proofs.Common.{◌≡◌, ◌∙◌, ◌≤◌, ◌<◌, ℕ, zero, suc, Bool, true, false, cond, List, [], ◌∷◌, ◌++◌, map, refl, ap, sym, arith, inl, inr, slice_index_or, All, IsPermutation}
-use Rattle.std.specs.Prelude.{Option, Some, None, option_map, slice_get, nat_le, nat_lt}
-use Rattle.std.proofs.lemmas.Bool.{cases_order, le-ltb, lt-ltb}
-use Rattle.std.proofs.lemmas.Bool.Decides.{nat_tests}
-use Rattle.dn_heap.specs.Heap.{IsLeast}
-use Rattle.dn_types.specs.Configuration.{Settings}
-use Rattle.dn_types.specs.Trace.{Link, Accepted, Event, started, Start, links}
-use Rattle.dn_types.specs.Links.{free}
-use Rattle.dn_types.specs.SharedLinks.{next_packet}
-use Rattle.dn_types.specs.Starts.{next_start, sooner, first_start, start_at, settle}
-use Rattle.dn_shaper.specs.declared.links.next_start.NextStart.{NextStart}
-use Rattle.dn_shaper.specs.Refinement.NextStarts.{next_start_cmp, next_at, Holds}
+use Rattle.dn_shaper.proofs.Words.{Accepted, All, Bool, Event, Holds, IsLeast, IsPermutation, Link, List, NextStart, None, Option, Settings, Some, Start, [], ap, arith, cases_order, cond, false}
+use Rattle.dn_shaper.proofs.Words.{first_start, free, inl, inr, le-ltb, links, lt-ltb, map, nat_le, nat_lt, nat_tests, next_at, next_packet, next_start, next_start_cmp, option_map, refl, settle}
+use Rattle.dn_shaper.proofs.Words.{slice_get, slice_index_or, sooner, start_at, started, suc, sym, true, zero, ℕ, ◌++◌, ◌<◌, ◌∙◌, ◌∷◌, ◌≡◌, ◌≤◌}
 use Rattle.dn_shaper.proofs.NextStarts.{not_before, held_by}
 
 -- The moment from which the link is free, where a packet waits for it.

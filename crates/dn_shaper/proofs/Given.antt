@@ -1,16 +1,6 @@
 -- All parts agree with the trace after a new flow got its home, and the shaper stays sound.
-use Rattle.std.proofs.Common.{◌≡◌, ℕ, List, [], refl, sym, subst, length}
-use Rattle.std.specs.Prelude.{Option, Some, None}
-use Rattle.dn_types.specs.Trace.{Event}
-use Rattle.dn_types.specs.declared.flow_key.FlowKey.{FlowKey}
-use Rattle.dn_flows.specs.Table.{Table}
-use Rattle.dn_shaper.specs.declared.state.State.{State}
-use Rattle.dn_shaper.specs.Refinement.Agreement.{AgreesWith}
-use Rattle.dn_shaper.specs.Refinement.Homing.{GivesHome, Houses, place_for}
-use Rattle.dn_shaper.specs.Refinement.Making.{Prepares}
-use Rattle.dn_shaper.specs.Refinement.Sound.{IsSound}
-use Rattle.dn_shaper.specs.Refinement.Starting.{IsReady, KeepsReady}
-use Rattle.dn_shaper.specs.Refinement.Views.{LinkView, queue_lengths, views_of}
+use Rattle.dn_shaper.proofs.Words.{AgreesWith, Event, FlowKey, GivesHome, Houses, IsReady, IsSound, KeepsReady, LinkView, List, None, Option, Prepares, Some, State, Table, [], length, place_for}
+use Rattle.dn_shaper.proofs.Words.{queue_lengths, refl, subst, sym, views_of, ℕ, ◌≡◌}
 use Rattle.dn_shaper.proofs.Alone.{all-seen-same}
 use Rattle.dn_shaper.proofs.Preparing.{IsOneMore, lengths-more, with_flows}
 use Rattle.dn_shaper.proofs.SharedHome.{shared-leaves, shared-ready, shared-prepares, shared-sound}

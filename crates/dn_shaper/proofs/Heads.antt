@@ -1,18 +1,9 @@
 -- What is picked is the first of its slot's backlog, and it is the next packet of the link.
-use Rattle.std.proofs.Common.{◌≡◌, ◌∙◌, ◌≤◌, ◌<◌, ◌⊎◌, ℕ, zero, suc, max, List, [], ◌∷◌, map, refl, ap, sym, subst, length, arith, ⊎_elim, inl, inr}
-use Rattle.std.specs.Prelude.{Some, None, nat_eq, slice_get, option_map}
-use Rattle.std.specs.List.{All}
-use Rattle.std.proofs.lemmas.Bool.{eqb-true}
-use Rattle.dn_types.specs.Wf2q.{Stamped, heads, pick, grown}
-use Rattle.dn_types.specs.Trace.{Link, link_eq, Accepted, Event, backlog, flow_bound}
-use Rattle.dn_types.specs.SharedLinks.{virtual_time, link_heads}
+use Rattle.dn_shaper.proofs.Words.{Accepted, All, Ascends, Event, IsOwn, IsScheduleAt, Link, List, None, Some, Stamped, [], and-right, ap, arith, backlog, backlog-above, backlog-own, eqb-true}
+use Rattle.dn_shaper.proofs.Words.{flow_bound, grown, heads, heads-same, inl, inr, length, link_eq, link_heads, map, max, nat_eq, option_map, pick, pick-first, refl, slice_get, slotted}
+use Rattle.dn_shaper.proofs.Words.{stamped_of, subst, suc, sym, virtual_time, zero, ℕ, ⊎_elim, ◌<◌, ◌∙◌, ◌∷◌, ◌≡◌, ◌≤◌, ◌⊎◌}
 use Rattle.dn_wf2q.specs.Schedule.{Flow, Schedule, flow_at as slot_at, heads_of}
-use Rattle.dn_shaper.specs.Refinement.Slots.{Ascends}
 use Rattle.dn_shaper.proofs.Slots.{flow_from}
-use Rattle.dn_shaper.specs.Refinement.Views.{stamped_of, slotted}
-use Rattle.dn_shaper.specs.Refinement.Agreement.{IsScheduleAt}
-use Rattle.dn_types.proofs.Firsts.{heads-same, pick-first}
-use Rattle.dn_types.proofs.Settling.{backlog-own, backlog-above, and-right, IsOwn}
 use Rattle.dn_shaper.proofs.Slots.{flows-rise, flow-at, moved, heads-moved, heads-between, pick-moved, grown-moved, le-to}
 
 pub slot_or : (slots : List ℕ) (slot : ℕ) → ((flow : ℕ) × (slice_get slots slot ≡ Some flow)) ⊎ (length slots ≤ slot)

@@ -1,12 +1,7 @@
 -- As many keys stand in the heap as links have a backlog.
-use Rattle.std.proofs.Common.{◌≡◌, ◌∙◌, ℕ, zero, suc, true, false, Bool, cond, List, [], ◌∷◌, set, refl, ap, sym, length, arith}
-use Rattle.std.specs.Prelude.{Option, Some, None, is_some, slice_get}
-use Rattle.std.proofs.lemmas.List.Sorted.{IsPermutation-refl}
-use Rattle.std.proofs.lemmas.List.Sums.{sum_by-cons}
-use Rattle.dn_shaper.specs.declared.links.next_start.NextStart.{NextStart}
-use Rattle.dn_shaper.specs.Refinement.NextStarts.{next_at, one_backlogged, backlogged, Holds}
+use Rattle.dn_shaper.proofs.Words.{Bool, Holds, IsPermutation-refl, List, NextStart, None, Option, Some, [], ap, arith, backlogged, cond, false, is_some, length, next_at, one_backlogged, refl}
+use Rattle.dn_shaper.proofs.Words.{set, slice_get, suc, sum-set, sum_by-cons, sym, true, zero, ℕ, ◌∙◌, ◌∷◌, ◌≡◌}
 use Rattle.dn_shaper.proofs.NextStarts.{popped_next, holds_none}
-use Rattle.dn_flows.proofs.Places.{sum-set}
 
 none-backlogged : (nexts : List (Option ℕ)) → ((place : ℕ) → is_some (next_at nexts place) ≡ false) → backlogged nexts ≡ 0
 none-backlogged [] h = refl

@@ -1,35 +1,11 @@
 -- How many packets wait or are under way, and how many items the list in a reply has.
-use Rattle.std.proofs.Common.{◌≡◌, ◌∙◌, ◌≤◌, ◌+◌, ℕ, zero, suc, max, Bool, true, false, cond, List, [], ◌∷◌, length, refl, ap, sym, subst, ⊎_elim, arith}
-use Rattle.std.specs.Prelude.{Option, Some, None, is_some, nat_le, slice_get}
-use Rattle.std.proofs.lemmas.List.{append-nil}
-use Rattle.std.proofs.lemmas.List.Sums.{length-filter, count_by-le-length, sum_by-cons}
-use Rattle.dn_types.specs.Calls.{Verdict, no_target, loses, refuses, takes, trace_of, verdict}
-use Rattle.dn_types.specs.Clock.{counted, effective_moment}
-use Rattle.dn_types.specs.Configuration.{Settings, command_reply, has_queues, queue_numbers, settings}
-use Rattle.dn_types.specs.Deliveries.{delivery_of, given, undelivered}
-use Rattle.dn_types.specs.Flows.{keys}
-use Rattle.dn_types.specs.Links.{last_due}
-use Rattle.dn_types.specs.Replies.{counted_reply, reply, reply_to_verdict, statuses_from}
-use Rattle.dn_types.specs.SharedLinks.{waiting}
-use Rattle.dn_types.specs.Starts.{first_start, settle, settled, waiting_all}
-use Rattle.dn_types.specs.Trace.{Link, Event, Start, links, started}
-use Rattle.dn_types.specs.declared.call.Call.{Call}
-use Rattle.dn_types.specs.declared.call.Call.TheVariants.{Configure, Submit, Advance, Collect, Show}
-use Rattle.dn_types.specs.declared.command.Command.{Command}
-use Rattle.dn_types.specs.declared.command.Command.TheVariants.{Pipe, Queue, DeletePipe, DeleteQueue}
-use Rattle.dn_types.specs.declared.delivery.Delivery.{Delivery}
-use Rattle.dn_types.specs.declared.flow_key.FlowKey.{FlowKey}
-use Rattle.dn_types.specs.declared.reply.Reply.{Reply}
-use Rattle.dn_types.specs.declared.reply.Reply.TheVariants.{Configured, Deleted, NoSuchPipe, NoSuchQueue, PipeHasQueues}
-use Rattle.dn_types.specs.declared.rule.Rule.{Rule}
+use Rattle.dn_shaper.proofs.Words.{Advance, Bool, Call, Collect, Command, Configure, Configured, DeletePipe, DeleteQueue, Deleted, Delivery, Event, FlowKey, IsSound, Link, LinkView, List}
+use Rattle.dn_shaper.proofs.Words.{NoSuchPipe, NoSuchQueue, None, Option, Pipe, PipeHasQueues, Queue, Reply, Rule, Settings, Show, Some, StandsAt, Start, State, Submit, Verdict, [], ap}
+use Rattle.dn_shaper.proofs.Words.{append-nil, arith, command_reply, cond, count_by-le-length, counted, counted_reply, delivery_of, effective_moment, false, first_start, given, has_queues, held}
+use Rattle.dn_shaper.proofs.Words.{is_some, items_in, keys, last_due, length, length-filter, link_names, links, loses, max, nat_le, no_target, queue_numbers, refl, refuses, reply}
+use Rattle.dn_shaper.proofs.Words.{reply_to_verdict, settings, settle, settled, slice_get, started, statuses_from, subst, suc, sum_by-cons, sym, takes, trace_of, true, undelivered, verdict}
+use Rattle.dn_shaper.proofs.Words.{views_of, waiting, waiting_all, waiting_all-first, waits_in_all, zero, ℕ, ⊎_elim, ◌+◌, ◌∙◌, ◌∷◌, ◌≡◌, ◌≤◌}
 use Rattle.dn_types.specs.declared.target.Target.TheVariants.{Pipe as ToPipe, Queue as ToQueue}
-use Rattle.dn_types.proofs.Settled.{waiting_all-first}
-use Rattle.dn_shaper.specs.declared.state.State.{State}
-use Rattle.dn_shaper.specs.Refinement.Agreement.{link_names}
-use Rattle.dn_shaper.specs.Shaper.{held, items_in}
-use Rattle.dn_shaper.specs.Refinement.Sound.{IsSound}
-use Rattle.dn_shaper.specs.Standing.{StandsAt}
-use Rattle.dn_shaper.specs.Refinement.Views.{LinkView, views_of, waits_in_all}
 use Rattle.dn_shaper.proofs.Counting.{counts}
 use Rattle.dn_shaper.proofs.FirstStart.{settle-none, settle-some}
 use Rattle.dn_shaper.proofs.Starting.{length-in_order}

@@ -1,16 +1,8 @@
 -- A flow's home is read, and the link there: both are those that the parts agree on.
-use Rattle.std.proofs.Common.{◌≡◌, ◌∙◌, ◌<◌, ℕ, List, get_or, ap, sym, subst, length, arith}
-use Rattle.std.specs.Prelude.{Some, slice_get}
-use Rattle.dn_types.specs.Trace.{Link, Event}
-use Rattle.dn_flows.specs.declared.home.Home.{Home}
-use Rattle.dn_shaper.specs.declared.links.link_parts.LinkParts.{LinkParts}
-use Rattle.dn_shaper.specs.declared.links.parts.Parts.{Parts}
-use Rattle.dn_shaper.specs.Refinement.Agreement.{Agrees, AgreesWith, IsHomeOf}
-use Rattle.dn_shaper.specs.Refinement.Views.{homes_of, IsAlone, home, queue_lengths, view_of, views_of}
-use Rattle.dn_flows.specs.Table.{flow_at}
+use Rattle.dn_shaper.proofs.Words.{Agrees, AgreesWith, Event, Home, IsAlone, IsHomeOf, Link, LinkParts, List, Parts, Some, ap, arith, flow_at, get-below-map, get-map, get_or, home, homes_of}
+use Rattle.dn_shaper.proofs.Words.{length, queue_lengths, slice_get, subst, sym, view_of, viewed, views_of, ℕ, ◌<◌, ◌∙◌, ◌≡◌}
 use Rattle.dn_shaper.proofs.Alone.{is-alone}
 use Rattle.dn_shaper.proofs.HomesOf.{home-get}
-use Rattle.dn_flows.proofs.Places.{get-below-map, get-map, viewed}
 
 -- What stands at the flow's place among the homes is its home.
 pub home-of : (p : Parts) {more : List Link} {trace : List Event} → AgreesWith p more trace → {flow : ℕ} → flow < length p.flows.keys → {h : Home} →

@@ -1,14 +1,6 @@
 -- Homes of flows and slots of links stay while one link changes.
-use Rattle.std.proofs.Common.{◌≡◌, ◌∙◌, ◌≤◌, ◌<◌, ◌⊎◌, ℕ, List, set, ap, sym, arith, ⊎_elim, inl, inr}
-use Rattle.std.specs.Prelude.{Some, slice_get}
-use Rattle.std.proofs.lemmas.Bool.{cases_eq, cases_lt}
-use Rattle.dn_types.specs.Trace.{Link}
-use Rattle.dn_types.specs.declared.flow_key.FlowKey.{FlowKey}
-use Rattle.dn_flows.specs.declared.home.Home.{Home}
-use Rattle.dn_shaper.specs.Refinement.Slots.{Ascends}
-use Rattle.dn_shaper.specs.Refinement.Views.{LinkView, home}
-use Rattle.dn_shaper.specs.Refinement.Agreement.{IsHomeOf, AreSlotsAtHome}
-use Rattle.dn_flows.proofs.Places.{get-set, get-set-other}
+use Rattle.dn_shaper.proofs.Words.{AreSlotsAtHome, Ascends, FlowKey, Home, IsHomeOf, Link, LinkView, List, Some, ap, arith, cases_eq, cases_lt, get-set, get-set-other, home, inl, inr, set}
+use Rattle.dn_shaper.proofs.Words.{slice_get, sym, ℕ, ⊎_elim, ◌<◌, ◌∙◌, ◌≡◌, ◌≤◌, ◌⊎◌}
 use Rattle.dn_shaper.proofs.OnePlace.{each-set}
 use Rattle.dn_shaper.proofs.Slots.{flow-at, flows-rise}
 

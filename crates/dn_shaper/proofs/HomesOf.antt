@@ -1,10 +1,6 @@
 -- The homes of the flows, where flows change.
-use Rattle.std.proofs.Common.{◌≡◌, ◌<◌, ◌++◌, ◌∷◌, [], ℕ, zero, suc, List, length, refl, set, take, arith}
-use Rattle.std.specs.Prelude.{Some, slice_get}
-use Rattle.dn_flows.specs.declared.home.Home.{Home}
-use Rattle.dn_flows.specs.declared.waiting.Waiting.{Waiting}
-use Rattle.dn_flows.specs.Table.{FlowState, flow_at, popped, popped_from, with_home, with_place}
-use Rattle.dn_shaper.specs.Refinement.Views.{homes_of}
+use Rattle.dn_shaper.proofs.Words.{FlowState, Home, List, Some, Waiting, [], arith, flow_at, homes_of, length, popped, popped_from, refl, set, slice_get, suc, take, with_home, with_place, zero, ℕ}
+use Rattle.dn_shaper.proofs.Words.{◌++◌, ◌<◌, ◌∷◌, ◌≡◌}
 
 pub home-get : (flows : List FlowState) (flow : ℕ) → flow < length flows → slice_get (homes_of flows) flow ≡ Some (flow_at flows flow).home
 home-get [] flow lt = absurd (omega arith)

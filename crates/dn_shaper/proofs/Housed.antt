@@ -1,25 +1,8 @@
 -- What holds after a new flow got its home, whichever it is.
-use Rattle.std.proofs.Common.{◌≡◌, ◌∙◌, ◌≤◌, ◌<◌, ◌^◌, ℕ, ◌+◌, true, cond, List, [], ◌∷◌, ◌++◌, refl, ap, sym, set, subst, length, arith}
-use Rattle.std.specs.Prelude.{Some, slice_get}
-use Rattle.dn_types.specs.Trace.{Link, shared, Event}
-use Rattle.dn_types.specs.declared.delivery.Delivery.{Delivery}
-use Rattle.dn_types.specs.declared.flow_key.FlowKey.{FlowKey}
-use Rattle.dn_flows.specs.Table.{FlowState, Table, new_flow, flow_at, with_home, with_place}
-use Rattle.dn_flows.proofs.Views.{flow_after_set}
-use Rattle.dn_wf2q.specs.Schedule.{room_at}
-use Rattle.dn_shaper.specs.declared.links.next_start.NextStart.{NextStart}
-use Rattle.dn_flows.specs.declared.home.Home.{Home}
-use Rattle.dn_shaper.specs.declared.state.State.{State}
-use Rattle.dn_shaper.specs.Refinement.Agreement.{AgreesWith, IsAt, link_names}
-use Rattle.dn_shaper.specs.Refinement.NextStarts.{Holds}
-use Rattle.dn_shaper.specs.Refinement.Homing.{GivesHome}
-use Rattle.dn_shaper.specs.Refinement.Making.{KeepsPlaces, SameFlow}
-use Rattle.dn_shaper.specs.Refinement.Sound.{IsIndexed, IsSound}
-use Rattle.dn_shaper.specs.Refinement.Starting.{IsReady, KeepsReady, Within}
-use Rattle.dn_shaper.specs.Refinement.Views.{homes_of, LinkView, views_of, next_starts, waits_in_all}
-use Rattle.std.proofs.lemmas.List.{length-set}
-use Rattle.dn_flows.proofs.Places.{eq-yes, get-below, get-kept, get-last, length-more}
-use Rattle.dn_flows.proofs.Reservations.{reserved-below}
+use Rattle.dn_shaper.proofs.Words.{AgreesWith, Delivery, Event, FlowKey, FlowState, GivesHome, Holds, Home, IsAt, IsIndexed, IsReady, IsSound, KeepsPlaces, KeepsReady, Link, LinkView, List}
+use Rattle.dn_shaper.proofs.Words.{NextStart, SameFlow, Some, State, Table, Within, [], ap, arith, cond, eq-yes, flow_after_set, flow_at, get-below, get-kept, get-last, homes_of, length}
+use Rattle.dn_shaper.proofs.Words.{length-more, length-set, link_names, new_flow, next_starts, refl, reserved-below, room_at, set, shared, slice_get, subst, sym, true, views_of, waits_in_all}
+use Rattle.dn_shaper.proofs.Words.{with_home, with_place, ℕ, ◌++◌, ◌+◌, ◌<◌, ◌^◌, ◌∙◌, ◌∷◌, ◌≡◌, ◌≤◌}
 use Rattle.dn_shaper.proofs.HomesOf.{homes-last}
 use Rattle.dn_shaper.proofs.OnePlace.{agrees-as}
 use Rattle.dn_shaper.proofs.Preparing.{IsOneMore, flow-more, with_flows}

@@ -1,25 +1,8 @@
 -- The places that are noted for the links which queues share, and the links that are not there.
-use Rattle.std.proofs.Common.{◌≡◌, ◌∙◌, ◌≤◌, ◌⊎◌, ℕ, suc, Bool, true, false, cond, ◌||◌, List, [], ◌∷◌, ◌++◌, map, refl, ap, sym, length, arith, inl, inr}
-use Rattle.std.specs.Prelude.{Option, Some, None, nat_eq, slice_get}
-use Rattle.std.specs.List.{list_any}
-use Rattle.std.proofs.lemmas.List.Folds.{list_any-append}
-use Rattle.std.proofs.lemmas.Bool.{cases_eq}
-use Rattle.dn_types.specs.Calls.{link_of}
-use Rattle.dn_types.specs.Trace.{Link, own, shared, link_eq, links}
-use Rattle.dn_types.specs.declared.target.Target.{Target}
+use Rattle.dn_shaper.proofs.Words.{Bool, Carries, IsIndexed, Link, LinkParts, LinkView, List, None, NotesFor, Option, Own, Shared, Some, State, Target, [], and-no, ap, arith, at_number}
+use Rattle.dn_shaper.proofs.Words.{carried_link, carried_slots, cases_eq, cond, eq-no, eq-yes, false, get-kept, get-last, inl, inr, length, link_eq, link_names, link_of, links, list_any}
+use Rattle.dn_shaper.proofs.Words.{list_any-append, map, nat_eq, own, refl, shared, shared_only, slice_get, suc, sym, top, true, view_of, ℕ, ◌++◌, ◌||◌, ◌∙◌, ◌∷◌, ◌≡◌, ◌≤◌, ◌⊎◌}
 use Rattle.dn_types.specs.declared.target.Target.TheVariants.{Pipe as ToPipe, Queue as ToQueue}
-use Rattle.dn_shaper.specs.declared.links.link_parts.Carries.{Carries}
-use Rattle.dn_shaper.specs.declared.links.link_parts.Carries.TheVariants.{Own, Shared}
-use Rattle.dn_shaper.specs.declared.links.link_parts.LinkParts.{LinkParts}
-use Rattle.dn_shaper.specs.declared.state.State.{State}
-use Rattle.dn_shaper.specs.Refinement.Agreement.{link_names}
-use Rattle.dn_shaper.specs.Refinement.Homing.{NotesFor, shared_only}
-use Rattle.dn_shaper.specs.Refinement.Slots.{top}
-use Rattle.dn_shaper.specs.Refinement.Sound.{IsIndexed}
-use Rattle.dn_shaper.specs.Refinement.Views.{LinkView, carried_link, carried_slots, view_of}
-use Rattle.dn_shaper.specs.Refinement.Settings.{at_number}
-use Rattle.dn_flows.proofs.Places.{eq-no, eq-yes, get-kept, get-last}
-use Rattle.dn_types.proofs.Settling.{and-no}
 
 -- ---- The links that are noted
 

@@ -1,15 +1,8 @@
 -- How often a key is in a list, and lists in which each key is as often.
-use Rattle.std.proofs.Common.{◌≡◌, ◌∙◌, ◌⊎◌, ◌&&◌, ℕ, zero, suc, ◌+◌, ◌<◌, ◌≤◌, Bool, true, false, cond, not, nat_eq, List, [], ◌∷◌, ◌++◌, length, filter}
-use Rattle.std.proofs.Common.{slice_index_or, sum_by, All, Contains, IsPermutation, refl, sym, ap, subst, arith, inl, inr}
-use Rattle.std.proofs.lemmas.List.{length-append}
-use Rattle.std.proofs.lemmas.List.Sums.{sum_by-cons}
-use Rattle.std.proofs.lemmas.List.Sorted.{IsPermutation-refl, IsPermutation-sym, IsPermutation-trans, IsPermutation-cons, IsPermutation-middle}
-use Rattle.std.proofs.lemmas.List.Sorted.{IsPermutation-filter_both, Contains-permutation, length_permutation, sum_by-IsPermutation}
-use Rattle.std.proofs.lemmas.List.Elements.{All-head, All-tail}
-use Rattle.std.proofs.lemmas.Bool.{cases_Bool}
-use Rattle.std.proofs.lemmas.Bool.Decides.{nat_tests}
-use Rattle.dn_shaper.specs.declared.links.next_start.NextStart.{NextStart}
-use Rattle.dn_shaper.specs.Refinement.NextStarts.{one_at, keys_at}
+use Rattle.dn_shaper.proofs.Words.{All, All-head, All-tail, Bool, Contains, Contains-permutation, IsPermutation, IsPermutation-cons, IsPermutation-filter_both, IsPermutation-middle}
+use Rattle.dn_shaper.proofs.Words.{IsPermutation-refl, IsPermutation-sym, IsPermutation-trans, List, NextStart, [], ap, arith, cases_Bool, cond, false, filter, inl, inr, keys_at, length}
+use Rattle.dn_shaper.proofs.Words.{length-append, length_permutation, nat_eq, nat_tests, not, one_at, refl, slice_index_or, subst, suc, sum_by, sum_by-IsPermutation, sum_by-cons, sym, true, zero}
+use Rattle.dn_shaper.proofs.Words.{ℕ, ◌&&◌, ◌++◌, ◌+◌, ◌<◌, ◌∙◌, ◌∷◌, ◌≡◌, ◌≤◌, ◌⊎◌}
 use Rattle.dn_shaper.proofs.NextStarts.{same_place, other_place}
 
 abbrev pub key_eq : NextStart → NextStart → Bool

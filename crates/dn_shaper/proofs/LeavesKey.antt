@@ -1,11 +1,6 @@
 -- A link leaves its key in the heap: it counts no more, and all others count as before.
-use Rattle.std.proofs.Common.{◌≡◌, ◌∙◌, ℕ, zero, suc, ◌+◌, ◌<◌, Bool, true, false, List, [], ◌∷◌, set, length, filter, Contains, IsPermutation, refl, ap, sym, subst, arith, inl, inr}
-use Rattle.std.specs.Prelude.{Option, Some, None, slice_get}
-use Rattle.std.proofs.lemmas.Bool.{cases_Bool, cases_eq}
-use Rattle.dn_flows.proofs.Places.{sum-set}
-use Rattle.dn_shaper.specs.declared.links.next_start.NextStart.{NextStart}
-use Rattle.dn_shaper.specs.Refinement.Emptied.{is_left, counting}
-use Rattle.dn_shaper.specs.Refinement.NextStarts.{next_at, keys_at, one_backlogged, backlogged, Holds}
+use Rattle.dn_shaper.proofs.Words.{Bool, Contains, Holds, IsPermutation, List, NextStart, None, Option, Some, [], ap, arith, backlogged, cases_Bool, cases_eq, counting, false, filter, inl, inr}
+use Rattle.dn_shaper.proofs.Words.{is_left, keys_at, length, next_at, one_backlogged, refl, set, slice_get, subst, suc, sum-set, sym, true, zero, ℕ, ◌+◌, ◌<◌, ◌∙◌, ◌∷◌, ◌≡◌}
 use Rattle.dn_shaper.proofs.Accepting.{holds_pushed}
 use Rattle.dn_shaper.proofs.KeyCounts.{key_eq, one_if, count_of, same_key, itself, one_is, one_not, one_elsewhere, count-cons, same_counts, counted, count-below, count-failing, count-passing}
 use Rattle.dn_shaper.proofs.LeftKeys.{at-place, counts-in, counts-not, elsewhere, is-moment, left-only, none-left}

@@ -1,23 +1,10 @@
 -- A link that a discard empties leaves its key, and the parts and the heap stay in step.
-use Rattle.std.proofs.Common.{◌≡◌, ◌∙◌, ◌≤◌, ◌<◌, ◌^◌, ℕ, ◌+◌, cond, List, ◌∷◌, set, refl, ap, sym, subst, length, arith, Contains, IsPermutation, slice_index_or}
-use Rattle.std.specs.Prelude.{Option, Some, is_some, slice_get}
-use Rattle.std.proofs.lemmas.List.{length-map}
-use Rattle.std.proofs.lemmas.List.Sorted.{length_permutation}
-use Rattle.dn_flows.proofs.Places.{get-set}
-use Rattle.dn_heap.specs.Heap.{Heap}
-use Rattle.dn_flows.specs.declared.home.Home.{Home}
-use Rattle.dn_shaper.specs.declared.links.next_start.NextStart.{NextStart}
-use Rattle.dn_shaper.specs.declared.links.parts.Parts.{Parts}
-use Rattle.dn_types.specs.Trace.{discarded}
-use Rattle.dn_shaper.specs.Refinement.Agreement.{Agrees}
-use Rattle.dn_shaper.specs.Refinement.Discarding.{DiscardsAt}
-use Rattle.dn_shaper.specs.Refinement.NextStarts.{next_at, keys_at, Holds}
-use Rattle.dn_shaper.specs.Refinement.Settling.{AreInStep}
-use Rattle.dn_shaper.specs.Refinement.Views.{homes_of, LinkView, views_of, next_start_of, next_starts}
+use Rattle.dn_shaper.proofs.Words.{Agrees, AreInStep, Contains, DiscardsAt, Heap, Holds, Home, IsPermutation, LinkView, List, NextStart, Option, Parts, Some, ap, arith, cond, discarded, get-set}
+use Rattle.dn_shaper.proofs.Words.{homes_of, is_some, keys_at, length, length-map, length-set, length_permutation, next_at, next_start_of, next_starts, refl, set, slice_get, slice_index_or, subst}
+use Rattle.dn_shaper.proofs.Words.{sym, views_of, ℕ, ◌+◌, ◌<◌, ◌^◌, ◌∙◌, ◌∷◌, ◌≡◌, ◌≤◌}
 use Rattle.dn_shaper.proofs.Accepting.{next-listed, next-none, next-some}
 use Rattle.dn_shaper.proofs.Arriving.{set-self}
 use Rattle.dn_shaper.proofs.Discarding.{discards-agree, discards-nexts, discards-within, next-then}
-use Rattle.std.proofs.lemmas.List.{length-set}
 use Rattle.dn_shaper.proofs.NextStarts.{holds_none, next_listed, some_standing}
 
 -- The link after it lost its packets.

@@ -1,18 +1,9 @@
 -- The keys that emptied links left in the heap, and those that count: what each step does to both.
-use Rattle.std.proofs.Common.{◌≡◌, ◌∙◌, ◌⊎◌, ℕ, zero, suc, ◌+◌, ◌<◌, ◌≤◌, Bool, true, false, cond, not, nat_eq, List, [], ◌∷◌, ◌++◌, set, length, filter}
-use Rattle.std.proofs.Common.{slice_index_or, All, Contains, IsPermutation, refl, sym, ap, subst, arith, inl, inr}
-use Rattle.std.specs.Prelude.{Option, Some, None, is_some, slice_get}
-use Rattle.std.specs.Ordering.{is_lt}
-use Rattle.std.proofs.lemmas.List.{get_or-set_same, get_or-set_other, length-set}
-use Rattle.std.proofs.lemmas.List.Sorted.{All-permutation, IsPermutation-refl, IsPermutation-sym, IsPermutation-trans, length_permutation, sum_by-IsPermutation, sum_by_pushed, sum_by_popped}
-use Rattle.std.proofs.lemmas.List.Elements.{All-contains, All-filter, All-tail, All-weaker, filter_agree, filter_passes}
-use Rattle.std.proofs.lemmas.Bool.{cases_Bool, cases_eq, cases_lt}
-use Rattle.std.proofs.lemmas.Bool.Decides.{nat_tests}
-use Rattle.dn_flows.proofs.Places.{sum-set}
-use Rattle.dn_heap.specs.Heap.{Heap, IsLeast}
-use Rattle.dn_shaper.specs.declared.links.next_start.NextStart.{NextStart}
-use Rattle.dn_shaper.specs.Refinement.Emptied.{is_moment, is_left, counting, counted_heap, IsFirstCounting, HasKept, IsTidy, KeepsCounting}
-use Rattle.dn_shaper.specs.Refinement.NextStarts.{next_start_cmp, next_at, one_at, keys_at, one_backlogged, backlogged, Holds}
+use Rattle.dn_shaper.proofs.Words.{All, All-contains, All-filter, All-permutation, All-tail, All-weaker, Bool, Contains, HasKept, Heap, Holds, IsFirstCounting, IsLeast, IsPermutation}
+use Rattle.dn_shaper.proofs.Words.{IsPermutation-refl, IsPermutation-sym, IsPermutation-trans, IsTidy, KeepsCounting, List, NextStart, None, Option, Some, [], ap, arith, backlogged, cases_Bool}
+use Rattle.dn_shaper.proofs.Words.{cases_eq, cases_lt, cond, counted_heap, counting, false, filter, filter_agree, filter_passes, get_or-set_other, get_or-set_same, inl, inr, is_left, is_lt}
+use Rattle.dn_shaper.proofs.Words.{is_moment, is_some, keys_at, length, length-set, length_permutation, nat_eq, nat_tests, next_at, next_start_cmp, not, one_at, one_backlogged, refl, set}
+use Rattle.dn_shaper.proofs.Words.{slice_get, slice_index_or, subst, suc, sum-set, sum_by-IsPermutation, sum_by_popped, sum_by_pushed, sym, true, zero, ℕ, ◌++◌, ◌+◌, ◌<◌, ◌∙◌, ◌∷◌, ◌≡◌, ◌≤◌, ◌⊎◌}
 use Rattle.dn_shaper.proofs.HeldCounts.{counted-held, next-got}
 use Rattle.dn_shaper.proofs.KeyCounts.{key_eq, one_if, count_of, same_key, itself, one_is, one_not, one_elsewhere, count-cons, same_counts, counted}
 use Rattle.dn_shaper.proofs.KeyCounts.{contains_counted, count-by_place, filter-in, filter-out, count-passing, count-failing, filter-none, filter-permutation}

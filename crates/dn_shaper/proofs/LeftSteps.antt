@@ -1,13 +1,8 @@
 -- The heap of links after each step, with the keys that emptied links left there.
-use Rattle.std.proofs.Common.{◌≡◌, ◌∙◌, ℕ, ◌+◌, ◌^◌, ◌<◌, ◌≤◌, max, Bool, true, false, nat_eq, List, [], ◌∷◌, set, length, filter, Contains, IsPermutation, refl, sym, ap, subst, arith, inl, inr}
-use Rattle.std.specs.Prelude.{Option, Some, None, Result, Ok, Err, IfSome, OnOk, OnErr, is_some}
-use Rattle.std.proofs.lemmas.Bool.{cases_Bool, eqb-true}
-use Rattle.std.proofs.lemmas.List.{length-set}
-use Rattle.std.proofs.lemmas.List.Sorted.{Contains-permutation, IsPermutation-refl, IsPermutation-sym, IsPermutation-trans, length_permutation, sum_by-IsPermutation}
-use Rattle.dn_heap.specs.Heap.{Heap, IsLeast}
-use Rattle.dn_shaper.specs.declared.links.next_start.NextStart.{NextStart}
-use Rattle.dn_shaper.specs.Refinement.Emptied.{is_left, counting, IsFirstCounting, HasKept, IsTidy, KeepsCounting}
-use Rattle.dn_shaper.specs.Refinement.NextStarts.{next_start_cmp, next_at, keys_at, backlogged, Holds}
+use Rattle.dn_shaper.proofs.Words.{Bool, Contains, Contains-permutation, Err, HasKept, Heap, Holds, IfSome, IsFirstCounting, IsLeast, IsPermutation, IsPermutation-refl, IsPermutation-sym}
+use Rattle.dn_shaper.proofs.Words.{IsPermutation-trans, IsTidy, KeepsCounting, List, NextStart, None, Ok, OnErr, OnOk, Option, Result, Some, [], ap, arith, backlogged, cases_Bool, counting}
+use Rattle.dn_shaper.proofs.Words.{eqb-true, false, filter, inl, inr, is_left, is_some, keys_at, length, length-set, length_permutation, max, nat_eq, next_at, next_start_cmp, refl, set, subst}
+use Rattle.dn_shaper.proofs.Words.{sum_by-IsPermutation, sym, true, ℕ, ◌+◌, ◌<◌, ◌^◌, ◌∙◌, ◌∷◌, ◌≡◌, ◌≤◌}
 use Rattle.dn_shaper.proofs.KeyCounts.{contains_counted, count_of, count-cons, one_if, same_counts}
 use Rattle.dn_shaper.proofs.LeavesKey.{leaves-held}
 use Rattle.dn_shaper.proofs.LeftKeys.{alike-first, alike-held, back-fewer, back-first, back-held, back-keys, back-not, cleared-first, cleared-held}

@@ -70,3 +70,4 @@ pub mod Unseen
 pub mod Waiting
 pub mod Wakes
 pub mod Waking
+pub mod Words

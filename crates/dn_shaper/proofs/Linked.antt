@@ -1,13 +1,5 @@
 -- A link that was made for a new flow, on which nothing waits.
-use Rattle.std.proofs.Common.{◌≡◌, ◌<◌, ℕ, [], ◌∷◌, refl, arith, Box, Global}
-use Rattle.dn_types.specs.Trace.{own, shared}
-use Rattle.dn_link.specs.LinkState.{LinkState}
-use Rattle.dn_wf2q.specs.Schedule.{room_at}
-use Rattle.dn_shaper.specs.declared.links.link_parts.Carries.TheVariants.{Own, Shared}
-use Rattle.dn_shaper.specs.declared.links.shared_link.SharedLink.{SharedLink}
-use Rattle.dn_shaper.specs.Refinement.Homing.{IsNewLink}
-use Rattle.dn_shaper.specs.Refinement.Making.{OnlyRoom}
-use Rattle.dn_shaper.specs.Refinement.Views.{no_schedule, view_of}
+use Rattle.dn_shaper.proofs.Words.{Box, Global, IsNewLink, LinkState, OnlyRoom, Own, Shared, SharedLink, [], arith, no_schedule, own, refl, room_at, shared, view_of, ℕ, ◌<◌, ◌∷◌, ◌≡◌}
 use Rattle.dn_shaper.proofs.Scheduled.{waits_roomy}
 
 module _ (queues : ℕ → ℕ) (flow pipe : ℕ) (times : LinkState) (free : times.free ≡ 0) (last_due : times.last_due ≡ 0) where

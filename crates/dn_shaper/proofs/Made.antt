@@ -1,34 +1,15 @@
 -- All parts agree with a flow that is made before any event of it.
-use Rattle.std.proofs.Common.{◌≡◌, ◌∙◌, ◌≤◌, ◌<◌, ◌⊎◌, ℕ, zero, suc, ◌+◌, false, List, [], ◌∷◌, ◌++◌, map, set, refl, ap, sym, subst, length, arith, ⊎_elim, inl, inr}
-use Rattle.std.specs.Prelude.{Some, slice_get}
-use Rattle.std.specs.List.{list_any}
-use Rattle.std.proofs.lemmas.Bool.{cases_eq, cases_lt}
-use Rattle.dn_types.specs.Trace.{Link, shared, link_eq, Accepted, Event, backlog, flow_bound, links, discarded_count}
-use Rattle.dn_types.specs.SharedLinks.{waiting}
-use Rattle.dn_types.specs.declared.delivery.Delivery.{Delivery}
-use Rattle.dn_types.specs.declared.flow_key.FlowKey.{FlowKey}
-use Rattle.dn_types.specs.declared.rule.Rule.{Rule}
-use Rattle.dn_flows.specs.Table.{FlowState, flow_at}
-use Rattle.dn_flows.specs.declared.home.Home.{Home}
-use Rattle.dn_shaper.specs.Refinement.Views.{LinkView, home, as_queued, stamped_of, slotted}
-use Rattle.dn_shaper.specs.Refinement.Agreement.{AreDistinct, IsAt, IsLinkAt, IsFlowAt, IsHomeOf, IsScheduleAt, IsSlotAt, link_names}
-use Rattle.std.proofs.lemmas.List.{append-nil}
-use Rattle.dn_flows.proofs.Places.{get-set, map-set-same}
-use Rattle.std.proofs.lemmas.List.{map-append}
-use Rattle.dn_types.specs.Calls.{link_of}
+use Rattle.dn_shaper.proofs.Words.{Accepted, AreDistinct, AreSlotsAtHome, Ascends, Delivery, Event, FlowKey, FlowState, Home, IsAt, IsFlowAt, IsHomeOf, IsLinkAt, IsScheduleAt, IsSlotAt, Link}
+use Rattle.dn_shaper.proofs.Words.{LinkView, List, Rule, SameFlow, Some, [], ap, append-nil, arith, as_queued, backlog, backlog-above, backlog-unknown, cases_eq, cases_lt, discarded_count, false}
+use Rattle.dn_shaper.proofs.Words.{flow_at, flow_bound, get-kept, get-last, get-more, get-set, home, home_by, inl, inr, length, length-more, link_eq, link_names, link_of, links, list_any, map}
+use Rattle.dn_shaper.proofs.Words.{map-append, map-set-same, refl, set, shared, slice_get, slotted, stamped_of, subst, suc, sym, top, waiting, zero, ℕ, ⊎_elim, ◌++◌, ◌+◌, ◌<◌, ◌∙◌, ◌∷◌, ◌≡◌, ◌≤◌}
+use Rattle.dn_shaper.proofs.Words.{◌⊎◌}
 use Rattle.dn_wf2q.specs.Schedule.{Flow, Schedule, flow_at as slot_at, no_packets}
-use Rattle.dn_shaper.specs.Refinement.Agreement.{AreSlotsAtHome}
-use Rattle.dn_shaper.specs.Refinement.Making.{SameFlow}
-use Rattle.dn_shaper.specs.Refinement.Slots.{Ascends, top}
-use Rattle.dn_shaper.specs.Refinement.Views.{home_by}
 use Rattle.dn_shaper.proofs.Above.{last_finish-above, discarded-above}
 use Rattle.dn_shaper.proofs.Distinct.{distinct-more}
 use Rattle.dn_shaper.proofs.Homes.{home-set}
 use Rattle.dn_shaper.proofs.Next.{total-zero}
 use Rattle.dn_shaper.proofs.OnePlace.{each-set}
-use Rattle.dn_flows.proofs.Places.{get-more, get-kept, get-last, length-more}
-use Rattle.dn_types.proofs.Settled.{backlog-unknown}
-use Rattle.dn_types.proofs.Settling.{backlog-above}
 use Rattle.dn_shaper.proofs.Slots.{ascends-more, top-more, below-top}
 
 get-more-other : {X : Type 0} (xs : List X) (y : X) (k : ℕ) → (k ≡ length xs → ⊥) → slice_get (xs ++ y ∷ []) k ≡ slice_get xs k

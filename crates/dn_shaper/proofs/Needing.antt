@@ -1,21 +1,6 @@
 -- Which calls can be refused memory, by what is in force.
-use Rattle.std.proofs.Common.{◌≡◌, ◌∙◌, ℕ, true, List, ap, sym, subst}
-use Rattle.std.specs.Prelude.{Result, Ok, Err, OnErr, None, is_some}
-use Rattle.dn_types.specs.Configuration.{Settings, command_reply, queue_numbers, reply_to_command, subject}
-use Rattle.dn_types.specs.Flows.{treatment}
-use Rattle.dn_types.specs.declared.call.Call.{Call}
-use Rattle.dn_types.specs.declared.call.Call.TheVariants.{Configure, Submit}
-use Rattle.dn_types.specs.declared.command.Command.{Command}
-use Rattle.dn_types.specs.declared.packet.Packet.{Packet}
-use Rattle.dn_types.specs.declared.reply.Reply.{Reply}
-use Rattle.dn_types.specs.declared.reply.Reply.TheVariants.{Configured}
-use Rattle.dn_types.specs.declared.rule.Rule.{Rule}
-use Rattle.dn_types.specs.declared.target.Target.{Target}
-use Rattle.dn_shaper.specs.declared.state.State.{State}
-use Rattle.dn_shaper.specs.Refinement.Configuring.{IsAnswered, Lists}
-use Rattle.dn_shaper.specs.Refinement.Settings.{settings_of}
-use Rattle.dn_shaper.specs.Shaper.{CanNeedMemory}
-use Rattle.dn_shaper.specs.Standing.{StandsAt}
+use Rattle.dn_shaper.proofs.Words.{Call, CanNeedMemory, Command, Configure, Configured, Err, IsAnswered, List, Lists, None, Ok, OnErr, Packet, Reply, Result, Rule, Settings, StandsAt, State}
+use Rattle.dn_shaper.proofs.Words.{Submit, Target, ap, command_reply, is_some, queue_numbers, reply_to_command, settings_of, subject, subst, sym, treatment, true, ℕ, ◌∙◌, ◌≡◌}
 use Rattle.dn_shaper.proofs.Commands.{numbers-listed}
 
 -- The reply by what is in force is that after the calls.

@@ -1,28 +1,11 @@
 -- The home of a new flow is a link that is made.
-use Rattle.std.proofs.Common.{◌≡◌, ◌∙◌, ◌≤◌, ◌<◌, ◌⊎◌, ℕ, zero, suc, false, cond, List, [], ◌∷◌, ◌++◌, slice_index_or, refl, ap, sym, subst, length, arith, inl, inr}
-use Rattle.std.specs.Prelude.{Option, Some, None, nat_lt, is_some, slice_get}
-use Rattle.std.specs.List.{list_any}
-use Rattle.std.proofs.lemmas.List.{length-map, map-append}
-use Rattle.dn_types.specs.Calls.{link_of}
-use Rattle.dn_types.specs.Trace.{Link, link_eq, Event, links, with_link}
-use Rattle.dn_types.specs.declared.flow_key.FlowKey.{FlowKey}
-use Rattle.dn_flows.specs.Table.{Table}
-use Rattle.dn_wf2q.specs.Schedule.{room_at}
-use Rattle.dn_shaper.specs.declared.links.next_start.NextStart.{NextStart}
-use Rattle.dn_shaper.specs.declared.state.State.{State}
-use Rattle.dn_shaper.specs.Refinement.Agreement.{AgreesWith, link_names}
-use Rattle.dn_shaper.specs.Refinement.NextStarts.{Holds, next_at}
-use Rattle.dn_shaper.specs.Refinement.Homing.{GivesHome, Opens, NotesFor, place_for}
-use Rattle.dn_shaper.specs.Refinement.Making.{HasSlotRoom}
-use Rattle.dn_shaper.specs.Refinement.Slots.{Ascends, top}
-use Rattle.dn_shaper.specs.Refinement.Sound.{IsIndexed, IsSound}
-use Rattle.dn_shaper.specs.Refinement.Starting.{IsReady, KeepsReady, Within}
-use Rattle.dn_shaper.specs.Refinement.Submitting.{IsMade}
-use Rattle.dn_shaper.specs.Refinement.Views.{homes_of, LinkView, views_of, home, home_by, next_starts, next_start_of, queue_lengths, waits_in_all}
-use Rattle.std.proofs.lemmas.List.{append-nil}
+use Rattle.dn_shaper.proofs.Words.{AgreesWith, Ascends, Event, FlowKey, GivesHome, HasSlotRoom, Holds, IsIndexed, IsMade, IsReady, IsSound, KeepsReady, Link, LinkView, List, NextStart, None}
+use Rattle.dn_shaper.proofs.Words.{NotesFor, Opens, Option, Some, State, Table, Within, [], ap, append-nil, arith, cond, false, get-last, get-more, home, home_by, homes_of, inl, inr, is_some}
+use Rattle.dn_shaper.proofs.Words.{length, length-map, length-more, link_eq, link_names, link_of, links, list_any, map-append, nat_lt, next_at, next_start_of, next_starts, place_for}
+use Rattle.dn_shaper.proofs.Words.{queue_lengths, refl, room_at, slice_get, slice_index_or, subst, suc, sum-more, sym, top, views_of, waits_in_all, with_link, zero, ℕ, ◌++◌, ◌<◌, ◌∙◌, ◌∷◌, ◌≡◌}
+use Rattle.dn_shaper.proofs.Words.{◌≤◌, ◌⊎◌}
 use Rattle.dn_shaper.proofs.Indexed.{noted-more, unnoted-unknown}
 use Rattle.dn_shaper.proofs.Made.{linked-agrees}
-use Rattle.dn_flows.proofs.Places.{get-more, get-last, length-more, sum-more}
 use Rattle.dn_shaper.proofs.Preparing.{IsOneMore, with_flows}
 use Rattle.dn_shaper.proofs.Housed.{keys-are, same-flows, many-flows, ready-by, within-by, sound-by, agrees-by, leaves-by}
 

@@ -1,28 +1,12 @@
 -- Where packets wait for a link, one of them is the next, and its flow is the one that the parts take.
-use Rattle.std.proofs.Common.{◌≡◌, ◌∙◌, ◌≤◌, ◌<◌, ◌⊎◌, ℕ, zero, suc, true, false, cond, List, [], ◌∷◌, map, refl, ap, sym, length, arith, ⊎_elim, inl, inr}
-use Rattle.std.specs.Prelude.{Option, Some, None, is_some, slice_get, option_map, option_and_then}
-use Rattle.std.proofs.lemmas.Bool.{cases_lt, cases_eq, lt-ltb, le-ltb}
-use Rattle.std.proofs.lemmas.List.{length-map}
-use Rattle.dn_types.specs.Wf2q.{Stamped, total, heads, pick}
-use Rattle.dn_types.specs.Trace.{Link, own, shared, link_eq, Accepted, Event, backlog, flow_bound}
-use Rattle.dn_types.specs.SharedLinks.{next_packet, virtual_time, link_heads}
-use Rattle.dn_types.specs.declared.delivery.Delivery.{Delivery}
-use Rattle.dn_types.specs.declared.flow_key.FlowKey.{FlowKey}
-use Rattle.dn_types.specs.declared.rule.Rule.{Rule}
-use Rattle.dn_flows.specs.Table.{FlowState, flow_at}
-use Rattle.dn_flows.specs.declared.waiting.Waiting.{Waiting}
-use Rattle.dn_wf2q.specs.Schedule.{heads_of}
-use Rattle.dn_flows.specs.declared.home.Home.{Home}
-use Rattle.dn_shaper.specs.Refinement.Views.{LinkView, home, as_queued, IsNextToSend, CanSend, next_start_of, next_starts}
-use Rattle.dn_shaper.specs.Refinement.Agreement.{IsAt, IsHomeOf, IsScheduleAt, link_names}
+use Rattle.dn_shaper.proofs.Words.{Accepted, CanSend, Delivery, Event, FlowKey, FlowState, Home, IsAt, IsHomeOf, IsNextToSend, IsScheduleAt, Link, LinkView, List, None, Option, Rule, Some}
+use Rattle.dn_shaper.proofs.Words.{Stamped, Waiting, [], ap, arith, as_queued, backlog, backlog-above, cases_eq, cases_lt, cond, false, flow_at, flow_bound, free, get-map, heads, heads-none}
+use Rattle.dn_shaper.proofs.Words.{heads_of, home, inl, inr, is_some, le-ltb, length, length-map, link_eq, link_eq-refl, link_eq-true, link_heads, link_names, lt-ltb, map, next_packet}
+use Rattle.dn_shaper.proofs.Words.{next_packet-first, next_start_of, next_starts, option_and_then, option_map, own, pick, pick-some, refl, shared, slice_get, suc, sym, total, true, true_or_false}
+use Rattle.dn_shaper.proofs.Words.{virtual_time, waiting-start, zero, ℕ, ⊎_elim, ◌<◌, ◌∙◌, ◌∷◌, ◌≡◌, ◌≤◌, ◌⊎◌}
 use Rattle.dn_shaper.proofs.Alone.{own-home}
 use Rattle.dn_shaper.proofs.FirstStart.{moment_of_next}
 use Rattle.dn_shaper.proofs.Heads.{none-agree, flow-picked, packet-picked, pick-flow, backlog-flow}
-use Rattle.dn_types.proofs.Picks.{pick-some, heads-none}
-use Rattle.dn_flows.proofs.Places.{get-map}
-use Rattle.dn_types.proofs.Settled.{link_eq-true, link_eq-refl, true_or_false}
-use Rattle.dn_types.proofs.Settling.{backlog-above, next_packet-first, waiting-start}
-use Rattle.dn_types.specs.Links.{free}
 
 -- The flow that a link takes next.
 abbrev pub Takes : ℕ → LinkView → Link → Type 0

@@ -1,16 +1,7 @@
 -- The keys of the heap of links, each once with its next start.
-use Rattle.std.proofs.Common.{◌≡◌, ◌∙◌, ◌≤◌, ◌<◌, ℕ, zero, suc, ◌+◌, true, false, cond, List, [], ◌∷◌, set, refl, ap, sym, subst, length, arith, inl, inr, slice_index_or, All, IsPermutation}
-use Rattle.std.specs.Prelude.{Option, Some, None, is_some}
-use Rattle.std.proofs.lemmas.List.Sums.{sum_by-cons}
-use Rattle.std.proofs.lemmas.List.Sorted.{sum_by_pushed, sum_by_popped, All-permutation}
-use Rattle.std.proofs.lemmas.List.Elements.{All-nil, All-cons, All-head, All-tail}
-use Rattle.std.proofs.lemmas.List.{get_or-set_same, get_or-set_other}
-use Rattle.std.proofs.lemmas.Bool.{cases_eq, cases_order, cases_lt}
-use Rattle.std.proofs.lemmas.Bool.Decides.{nat_tests}
-use Rattle.std.specs.Ordering.{is_lt}
-use Rattle.dn_heap.specs.Heap.{IsLeast}
-use Rattle.dn_shaper.specs.declared.links.next_start.NextStart.{NextStart}
-use Rattle.dn_shaper.specs.Refinement.NextStarts.{next_start_cmp, next_at, one_at, keys_at, Holds}
+use Rattle.dn_shaper.proofs.Words.{All, All-cons, All-head, All-nil, All-permutation, All-tail, Holds, IsLeast, IsPermutation, List, NextStart, None, Option, Some, [], ap, arith, cases_eq}
+use Rattle.dn_shaper.proofs.Words.{cases_lt, cases_order, cond, false, get_or-set_other, get_or-set_same, inl, inr, is_lt, is_some, keys_at, length, nat_tests, next_at, next_start_cmp, one_at}
+use Rattle.dn_shaper.proofs.Words.{refl, set, slice_index_or, subst, suc, sum_by-cons, sum_by_popped, sum_by_pushed, sym, true, zero, ℕ, ◌+◌, ◌<◌, ◌∙◌, ◌∷◌, ◌≡◌, ◌≤◌}
 
 -- ---- Keys
 

@@ -1,19 +1,7 @@
 -- A loss or a full queue is noted in a flow's counts: the links are seen as before, and no count passes its limit.
-use Rattle.std.proofs.Common.{◌≡◌, ◌∙◌, ◌<◌, ◌+◌, ◌^◌, ℕ, true, List, [], ◌∷◌, set, length, refl, ap, sym, subst, arith}
-use Rattle.std.specs.Prelude.{slice_get}
-use Rattle.dn_types.specs.Trace.{Link, Event}
-use Rattle.dn_heap.specs.Heap.{Heap}
-use Rattle.dn_flows.specs.declared.home.Home.{Home}
-use Rattle.dn_flows.specs.Table.{FlowState, Table, flow_at}
-use Rattle.dn_shaper.specs.declared.links.next_start.NextStart.{NextStart}
-use Rattle.dn_shaper.specs.declared.links.parts.Parts.{Parts}
-use Rattle.dn_shaper.specs.Refinement.Agreement.{AgreesWith, IsAt, link_names}
-use Rattle.dn_shaper.specs.Refinement.Arriving.{KeepsFlows}
-use Rattle.dn_shaper.specs.Refinement.NextStarts.{Holds}
-use Rattle.dn_shaper.specs.Refinement.Settling.{AreInStep}
-use Rattle.dn_shaper.specs.Refinement.Starting.{AreCountsWithin, KeepsReady, Within}
-use Rattle.dn_shaper.specs.Refinement.Submitting.{CanSee, IsMade, Sees}
-use Rattle.dn_shaper.specs.Refinement.Views.{homes_of, LinkView, home, next_starts, queue_lengths, views_of}
+use Rattle.dn_shaper.proofs.Words.{AgreesWith, AreCountsWithin, AreInStep, CanSee, Event, FlowState, Heap, Holds, Home, IsAt, IsMade, KeepsFlows, KeepsReady, Link, LinkView, List, NextStart}
+use Rattle.dn_shaper.proofs.Words.{Parts, Sees, Table, Within, [], ap, arith, flow_at, home, homes_of, length, link_names, next_starts, queue_lengths, refl, set, slice_get, subst, sym, true}
+use Rattle.dn_shaper.proofs.Words.{views_of, ℕ, ◌+◌, ◌<◌, ◌^◌, ◌∙◌, ◌∷◌, ◌≡◌}
 use Rattle.dn_shaper.proofs.Accepting.{within-more}
 use Rattle.dn_shaper.proofs.Alone.{all-seen-same, lengths-same}
 use Rattle.dn_shaper.proofs.HomesOf.{homes-set}

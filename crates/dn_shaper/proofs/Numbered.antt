@@ -1,14 +1,7 @@
 -- What stands under each number after a place is made, and after a write.
-use Rattle.std.proofs.Common.{◌≡◌, ◌∙◌, ◌≤◌, ◌<◌, ℕ, zero, suc, length, set, cond, List, [], ◌∷◌, ◌++◌, refl, ap, sym, arith, ⊎_elim, get_or-set_same, get_or-set_other}
-use Rattle.std.specs.Prelude.{Option, Some, None, nat_eq, Box}
-use Rattle.std.specs.Global.{Global}
-use Rattle.std.specs.Option.{option_map}
-use Rattle.std.proofs.lemmas.Bool.{cases_eq, cases_lt}
-use Rattle.std.proofs.lemmas.List.{get_or_past, length-map, map-set}
-use Rattle.dn_types.specs.declared.command.Command.{Command}
-use Rattle.dn_flows.proofs.Places.{eq-no, eq-yes}
-use Rattle.dn_shaper.specs.Refinement.QueueCounts.{count_at, one_for}
-use Rattle.dn_shaper.specs.Refinement.Settings.{Sets, at_number, unboxed}
+use Rattle.dn_shaper.proofs.Words.{Box, Command, Global, List, None, Option, Sets, Some, [], ap, arith, at_number, cases_eq, cases_lt, cond, count_at, eq-no, eq-yes, get_or-set_other}
+use Rattle.dn_shaper.proofs.Words.{get_or-set_same, get_or_past, length, length-map, nat_eq, one_for, option_map, refl, set, suc, sym, unboxed, zero, ℕ, ⊎_elim, ◌++◌, ◌<◌, ◌∙◌, ◌∷◌, ◌≡◌, ◌≤◌}
+use Rattle.std.proofs.lemmas.List.{map-set}
 
 abbrev pub Place : Type 0
 Place = Option (Box Command Global)

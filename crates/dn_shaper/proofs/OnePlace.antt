@@ -1,18 +1,6 @@
 -- One link or one flow is set: what is so of it and of all others is so of each.
-use Rattle.std.proofs.Common.{◌≡◌, ◌∙◌, ◌<◌, ◌⊎◌, ℕ, cond, List, set, ap, sym, subst, length, inl, inr}
-use Rattle.std.specs.Prelude.{Some, nat_eq, slice_get}
-use Rattle.std.proofs.lemmas.Bool.{cases_eq}
-use Rattle.dn_types.specs.Trace.{Link, Event}
-use Rattle.dn_types.specs.declared.delivery.Delivery.{Delivery}
-use Rattle.dn_types.specs.declared.flow_key.FlowKey.{FlowKey}
-use Rattle.dn_types.specs.declared.rule.Rule.{Rule}
-use Rattle.dn_flows.specs.Table.{FlowState, flow_at}
-use Rattle.dn_flows.proofs.Places.{eq-no, eq-yes, get-set, get-set-other}
-use Rattle.dn_flows.proofs.Views.{flow_after_set}
-use Rattle.dn_flows.specs.declared.home.Home.{Home}
-use Rattle.dn_shaper.specs.declared.links.parts.Parts.{Parts}
-use Rattle.dn_shaper.specs.Refinement.Agreement.{AgreesWith, IsAt}
-use Rattle.dn_shaper.specs.Refinement.Views.{homes_of, LinkView, views_of}
+use Rattle.dn_shaper.proofs.Words.{AgreesWith, Delivery, Event, FlowKey, FlowState, Home, IsAt, Link, LinkView, List, Parts, Rule, Some, ap, cases_eq, cond, eq-no, eq-yes, flow_after_set, flow_at}
+use Rattle.dn_shaper.proofs.Words.{get-set, get-set-other, homes_of, inl, inr, length, nat_eq, set, slice_get, subst, sym, views_of, ℕ, ◌<◌, ◌∙◌, ◌≡◌, ◌⊎◌}
 
 pub each-set : {X : Type 0} (P : ℕ → X → Type 0) (xs : List X) (k : ℕ) (x : X) → slice_get xs k ≡ Some x → (y : X) → P k y →
     ((j : ℕ) (w : X) → slice_get xs j ≡ Some w → (j ≡ k → ⊥) → P j w) → (j : ℕ) (w : X) → slice_get (set xs k y) j ≡ Some w → P j w

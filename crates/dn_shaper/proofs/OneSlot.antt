@@ -1,13 +1,7 @@
 -- One slot of a schedule is set by an event. The schedule agrees with the trace after it if that slot does, and the other flows are as before.
-use Rattle.std.proofs.Common.{◌≡◌, ◌∙◌, ◌⊎◌, ℕ, List, set, ap, sym, subst, arith, inl, inr, get_or-set_other}
-use Rattle.std.specs.Prelude.{Some, slice_get}
-use Rattle.std.proofs.lemmas.Bool.{cases_eq}
-use Rattle.dn_types.specs.SharedLinks.{virtual_time}
-use Rattle.dn_types.specs.Trace.{Link, Event}
-use Rattle.dn_flows.proofs.Places.{get-below}
+use Rattle.dn_shaper.proofs.Words.{Ascends, Event, IsScheduleAt, IsSlotAt, Link, List, Some, ap, arith, cases_eq, get-below, get_or-set_other, inl, inr, set, slice_get, subst, sym, virtual_time}
+use Rattle.dn_shaper.proofs.Words.{ℕ, ◌∙◌, ◌≡◌, ◌⊎◌}
 use Rattle.dn_wf2q.specs.Schedule.{Flow, Schedule, flow_at as slot_at, no_packets}
-use Rattle.dn_shaper.specs.Refinement.Agreement.{IsScheduleAt, IsSlotAt}
-use Rattle.dn_shaper.specs.Refinement.Slots.{Ascends}
 use Rattle.dn_shaper.proofs.Homes.{slots-apart}
 
 module _ {link : Link} {trace : List Event} {s : Schedule} {slots : List ℕ} (c : IsScheduleAt link trace s slots) (up : Ascends 0 slots) {i flow : ℕ}

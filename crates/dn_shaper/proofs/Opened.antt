@@ -1,25 +1,12 @@
 -- All parts agree with the beginning of a busy period of a link.
-use Rattle.std.proofs.Common.{◌≡◌, ◌∙◌, ℕ, Bool, true, false, cond, List, ◌∷◌, set, refl, ap, sym, subst, length, arith}
-use Rattle.std.specs.Prelude.{Some, slice_get}
-use Rattle.dn_types.specs.Trace.{Link, shared, link_eq, Event, opened, is_start_of, is_loss_of, is_refusal_of, is_arrival}
-use Rattle.dn_types.specs.Links.{free, last_due}
-use Rattle.dn_types.specs.SharedLinks.{virtual_time, last_finish_tag, waiting}
-use Rattle.dn_types.specs.declared.delivery.Delivery.{Delivery}
-use Rattle.dn_types.specs.declared.flow_key.FlowKey.{FlowKey}
-use Rattle.dn_types.specs.declared.rule.Rule.{Rule}
-use Rattle.dn_flows.specs.Table.{FlowState}
-use Rattle.dn_flows.specs.declared.home.Home.{Home}
-use Rattle.dn_shaper.specs.Refinement.Views.{LinkView}
-use Rattle.dn_shaper.specs.Refinement.Agreement.{AreDistinct, IsAt, IsLinkAt, IsScheduleAt, link_names}
+use Rattle.dn_shaper.proofs.Words.{AreDistinct, Ascends, Bool, Delivery, Event, FlowKey, FlowState, Home, IsAt, IsLinkAt, IsScheduleAt, Link, LinkView, List, Rule, Some, ap, arith, cond, false}
+use Rattle.dn_shaper.proofs.Words.{forgotten_at, free, is_arrival, is_loss_of, is_refusal_of, is_start_of, last_due, last_finish_tag, length, link_eq, link_eq-refl, link_names, map-set-same}
+use Rattle.dn_shaper.proofs.Words.{opened, refl, set, shared, slice_get, subst, sym, top, true, virtual_time, waiting, ℕ, ◌∙◌, ◌∷◌, ◌≡◌}
 use Rattle.dn_shaper.proofs.Events.{uncounted}
-use Rattle.dn_flows.proofs.Places.{map-set-same}
-use Rattle.dn_types.proofs.Settled.{link_eq-refl}
 use Rattle.dn_wf2q.specs.Schedule.{Flow, flow_at as slot_at, forgotten, without_tag}
-use Rattle.dn_shaper.specs.Refinement.Slots.{Ascends, top}
 use Rattle.dn_shaper.proofs.Homes.{home-after, slots_home-after}
 use Rattle.dn_shaper.proofs.Next.{distinct_views}
 use Rattle.dn_shaper.proofs.OnePlace.{each-set}
-use Rattle.dn_wf2q.proofs.Begun.{forgotten_at}
 
 module _ (rule : Rule) (accepted : ℕ) (keys : List FlowKey) (homes : List Home) (views : List LinkView) (flows : List FlowState) (pending : List Delivery)
     (more : List Link) (trace : List Event) (a : IsAt rule accepted keys homes views flows pending more trace) where

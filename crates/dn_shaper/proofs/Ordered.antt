@@ -1,8 +1,5 @@
 -- Two numbers below 2^64 in one of 128 bits are in order as the pair of them is.
-use Rattle.std.proofs.Common.{◌≡◌, ◌<◌, ◌^◌, ℕ, ◌+◌, ◌*◌, arith, inl, inr}
-use Rattle.std.specs.Ordering.{nat_cmp, ordering_then}
-use Rattle.std.proofs.lemmas.Bool.{cases_order}
-use Rattle.std.proofs.lemmas.Bool.Decides.{nat_tests}
+use Rattle.dn_shaper.proofs.Words.{arith, cases_order, inl, inr, nat_cmp, nat_tests, ordering_then, ℕ, ◌*◌, ◌+◌, ◌<◌, ◌^◌, ◌≡◌}
 
 pub ordered : (a b c d : ℕ) → b < 2 ^ 64 → d < 2 ^ 64 → nat_cmp (a * 2 ^ 64 + b) (c * 2 ^ 64 + d) ≡ ordering_then (nat_cmp a c) (nat_cmp b d)
 ordered a b c d lb ld = elim (cases_order a c) [

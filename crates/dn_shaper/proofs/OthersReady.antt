@@ -1,20 +1,7 @@
 -- A packet uses up the room of its own flow alone.
-use Rattle.std.proofs.Common.{◌≡◌, ◌∙◌, ◌≤◌, ◌<◌, ℕ, Bool, true, List, refl, ap, sym, subst, length, arith}
-use Rattle.std.specs.Prelude.{Some, slice_get}
-use Rattle.dn_heap.specs.Heap.{Heap}
-use Rattle.dn_types.specs.Configuration.{Settings}
-use Rattle.dn_types.specs.Trace.{Link, own, shared}
-use Rattle.dn_flows.specs.Table.{FlowState, flow_at, pushed}
-use Rattle.dn_flows.proofs.Reservations.{reserved-below}
-use Rattle.dn_wf2q.specs.Schedule.{Schedule, room_at}
-use Rattle.dn_shaper.specs.declared.links.next_start.NextStart.{NextStart}
-use Rattle.dn_flows.specs.declared.home.Home.{Home}
-use Rattle.dn_shaper.specs.declared.links.parts.Parts.{Parts}
-use Rattle.dn_shaper.specs.Refinement.Agreement.{Agrees}
-use Rattle.dn_shaper.specs.Refinement.Arriving.{ArrivesAt, ArrivesOn}
-use Rattle.dn_shaper.specs.Refinement.Starting.{IsReady, KeepsOthersReady, StartsAt}
-use Rattle.dn_shaper.specs.Refinement.Submitting.{MayAccept}
-use Rattle.dn_shaper.specs.Refinement.Views.{homes_of, LinkView, views_of}
+use Rattle.dn_shaper.proofs.Words.{Agrees, ArrivesAt, ArrivesOn, Bool, FlowState, Heap, Home, IsReady, KeepsOthersReady, Link, LinkView, List, MayAccept, NextStart, Parts, Schedule, Settings}
+use Rattle.dn_shaper.proofs.Words.{Some, StartsAt, ap, arith, flow_at, homes_of, length, own, pushed, refl, reserved-below, room_at, shared, slice_get, subst, sym, true, views_of, ℕ, ◌<◌, ◌∙◌}
+use Rattle.dn_shaper.proofs.Words.{◌≡◌, ◌≤◌}
 use Rattle.dn_shaper.proofs.Accepting.{may-agree}
 use Rattle.dn_shaper.proofs.HomeRead.{home-of, in-table}
 use Rattle.dn_shaper.proofs.OnePlace.{each-flow, each-set}

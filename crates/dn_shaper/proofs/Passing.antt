@@ -1,38 +1,14 @@
 -- A packet starts at once on its link, which is idle. The parts between its arrival and its start are told here alone: neither its
 -- flow's queue nor the scheduler of a shared link ever holds it.
-use Rattle.std.proofs.Common.{◌≡◌, ◌∙◌, ◌<◌, ◌≤◌, ◌+◌, ◌^◌, ℕ, cond, List, [], ◌∷◌, ◌++◌, map, set, get_or, refl, ap, sym, subst, true, length, length-set, arith, Box, Global}
-use Rattle.std.specs.Prelude.{◌*◌, Some, slice_get, slice_set}
-use Rattle.std.specs.Box.{with_value}
-use Rattle.std.specs.Vec.{with_item}
-use Rattle.dn_heap.specs.Heap.{Heap}
-use Rattle.dn_types.specs.Configuration.{Settings}
-use Rattle.dn_types.specs.Deliveries.{in_order}
-use Rattle.dn_types.specs.Links.{transmission_time, due_by}
-use Rattle.dn_types.specs.Trace.{Accepted, Link, own, shared, backlog}
-use Rattle.dn_types.specs.declared.delivery.Delivery.{Delivery}
-use Rattle.dn_flows.specs.Table.{FlowState, flow_at, popped, pushed}
-use Rattle.dn_flows.specs.declared.waiting.Waiting.{Waiting}
-use Rattle.dn_flows.proofs.Places.{eq-yes, get-below, get-map, get-read, get-set}
-use Rattle.dn_flows.proofs.Views.{flow_after_set}
-use Rattle.dn_link.specs.LinkState.{LinkState}
+use Rattle.dn_shaper.proofs.Words.{Accepted, Agrees, ArrivesAt, Box, CanPass, CanStart, Carries, Delivery, FlowState, Global, HasFlowAt, Heap, Home, IsAlone, IsHomeOf, IsIdleAt, Joins, Link}
+use Rattle.dn_shaper.proofs.Words.{LinkParts, LinkState, LinkView, List, MayAccept, NextStart, Own, Parts, PassesLink, Settings, Shared, SharedLink, Some, StartsOn, TakesNext, Waiting, Within, []}
+use Rattle.dn_shaper.proofs.Words.{ap, arith, as_queued, backlog, cond, due_by, eq-yes, flow_after_set, flow_at, get-below, get-map, get-read, get-set, get_or, home, homes_of, in_order, length}
+use Rattle.dn_shaper.proofs.Words.{length-set, map, own, popped, pushed, queue_lengths, refl, set, set-set, shared, slice_get, slice_set, subst, sym, transmission_time, true, view_of, views_of}
+use Rattle.dn_shaper.proofs.Words.{with_item, with_value, ℕ, ◌*◌, ◌++◌, ◌+◌, ◌<◌, ◌^◌, ◌∙◌, ◌∷◌, ◌≡◌, ◌≤◌}
 use Rattle.dn_wf2q.specs.Schedule.{IsIdle, KeepsRoom, Passes as PassesIn, arrived, room_at}
-use Rattle.dn_flows.specs.declared.home.Home.{Home}
-use Rattle.dn_shaper.specs.declared.links.link_parts.Carries.{Carries}
-use Rattle.dn_shaper.specs.declared.links.link_parts.Carries.TheVariants.{Own, Shared}
-use Rattle.dn_shaper.specs.declared.links.link_parts.LinkParts.{LinkParts}
-use Rattle.dn_shaper.specs.declared.links.next_start.NextStart.{NextStart}
-use Rattle.dn_shaper.specs.declared.links.parts.Parts.{Parts}
-use Rattle.dn_shaper.specs.declared.links.shared_link.SharedLink.{SharedLink}
-use Rattle.dn_shaper.specs.Refinement.Agreement.{Agrees, IsHomeOf}
-use Rattle.dn_shaper.specs.Refinement.Arriving.{ArrivesAt, Joins}
-use Rattle.dn_shaper.specs.Refinement.Passing.{CanPass, HasFlowAt, IsIdleAt, PassesLink}
-use Rattle.dn_shaper.specs.Refinement.Starting.{CanStart, StartsOn, Within}
-use Rattle.dn_shaper.specs.Refinement.Submitting.{MayAccept}
-use Rattle.dn_shaper.specs.Refinement.Views.{homes_of, IsAlone, LinkView, TakesNext, as_queued, home, queue_lengths, view_of, views_of}
 use Rattle.dn_shaper.proofs.Accepted.{idle-is, mid-agrees, mid-all}
 use Rattle.dn_shaper.proofs.Accepting.{can-join, home-at, may-agree}
 use Rattle.dn_shaper.proofs.Alone.{one-more-at, push-longer, set-seen}
-use Rattle.std.proofs.lemmas.List.{set-set}
 use Rattle.dn_shaper.proofs.HomesOf.{homes-set, popped-home}
 use Rattle.dn_shaper.proofs.HomeRead.{home-alone, in-table, is-home}
 use Rattle.dn_shaper.proofs.Scheduled.{waits_forgotten}

@@ -1,37 +1,14 @@
 -- Where only room was made, a shaper stays sound. So does one whose last flow, which was made for a packet, is taken out.
-use Rattle.std.proofs.Common.{◌≡◌, ◌∙◌, ◌≤◌, ◌<◌, ◌-◌, ◌⊎◌, ℕ, zero, suc, ◌+◌, Bool, true, false, not, cond, ◌||◌, List, [], ◌∷◌, ◌++◌, map, refl, ap, sym, subst, length, take, arith, ⊎_elim, inl, inr}
-use Rattle.std.specs.Prelude.{Option, Some, Result, Ok, Err, OnErr, is_err, slice_get}
-use Rattle.std.specs.List.{list_any, position_or_len}
-use Rattle.std.proofs.lemmas.Bool.{cases_lt, or_right}
-use Rattle.std.proofs.lemmas.List.{get_or-take, get_or_past, length-take-le}
-use Rattle.std.proofs.Math.Seq.{take-append_seam}
-use Rattle.dn_heap.specs.Heap.{Heap}
-use Rattle.dn_types.specs.Flows.{key_eq, flow_number, with_key}
-use Rattle.dn_types.specs.Trace.{Link, shared, link_eq, Event, links}
-use Rattle.dn_types.specs.declared.flow_key.FlowKey.{FlowKey}
-use Rattle.dn_flows.specs.Table.{FlowState, Table, new_flow, flow_at, is_known, flows_with, places}
-use Rattle.dn_flows.specs.declared.waiting.Waiting.{Waiting}
-use Rattle.dn_shaper.specs.declared.links.next_start.NextStart.{NextStart}
-use Rattle.dn_shaper.specs.declared.links.parts.Parts.{Parts}
-use Rattle.dn_shaper.specs.declared.state.State.{State}
-use Rattle.dn_shaper.specs.Refinement.Agreement.{AgreesWith, link_names}
-use Rattle.dn_shaper.specs.Refinement.NextStarts.{Holds}
-use Rattle.dn_shaper.specs.Refinement.Homing.{KeepsHeap, OnlyReserves, without_last}
-use Rattle.dn_shaper.specs.Refinement.Making.{KeepsAt, KeepsPlaces, Prepares, OnlyMakesRoom, SameFlow}
-use Rattle.dn_shaper.specs.Refinement.Settling.{AreInStep}
-use Rattle.dn_shaper.specs.Refinement.Sound.{IsSound}
-use Rattle.dn_shaper.specs.Refinement.Starting.{HoldsPlaces, KeepsReady, Within}
-use Rattle.dn_shaper.specs.Refinement.Submitting.{IsMade}
-use Rattle.dn_shaper.specs.Refinement.Views.{homes_of, LinkView, view_of, views_of, next_starts, home, queue_lengths}
-use Rattle.dn_shaper.specs.Refinement.Settings.{at_number}
+use Rattle.dn_shaper.proofs.Words.{AgreesWith, AreInStep, Bool, Err, Event, FlowKey, FlowState, Heap, Holds, HoldsPlaces, IsMade, IsSound, KeepsAt, KeepsHeap, KeepsPlaces, KeepsReady, Link}
+use Rattle.dn_shaper.proofs.Words.{LinkView, List, NextStart, Ok, OnErr, OnlyMakesRoom, OnlyReserves, Option, Parts, Prepares, Result, SameFlow, Some, State, Table, Waiting, Within, [], ap}
+use Rattle.dn_shaper.proofs.Words.{append-nil, arith, at_number, cases_lt, cond, false, flow_at, flow_number, flows_with, get_or-take, get_or_past, home, homes_of, inl, inr, is_err, is_known}
+use Rattle.dn_shaper.proofs.Words.{key_eq, length, length-more, length-take-le, link_eq, link_eq-refl, link_names, links, list_any, map, new_flow, next_starts, not, or_right, places}
+use Rattle.dn_shaper.proofs.Words.{places-before, places-take, position_or_len, queue_lengths, refl, shared, slice_get, subst, suc, sym, take, take-append_seam, true, view_of, views_of, with_key}
+use Rattle.dn_shaper.proofs.Words.{without_last, zero, ℕ, ⊎_elim, ◌++◌, ◌+◌, ◌-◌, ◌<◌, ◌||◌, ◌∙◌, ◌∷◌, ◌≡◌, ◌≤◌, ◌⊎◌}
 use Rattle.dn_shaper.proofs.Alone.{all-seen-same}
-use Rattle.std.proofs.lemmas.List.{append-nil}
-use Rattle.dn_flows.proofs.Places.{length-more}
-use Rattle.dn_flows.proofs.Reservations.{places-before, places-take}
 use Rattle.dn_shaper.proofs.HomesOf.{homes-take}
 use Rattle.dn_shaper.proofs.Reserved.{reserved-names, reserves-agree, reserves-kept, reserves-within}
 use Rattle.dn_shaper.proofs.Reserving.{same-flow}
-use Rattle.dn_types.proofs.Settled.{link_eq-refl}
 
 -- ---- The flow's link is seen
 

@@ -1,17 +1,7 @@
 -- What a command that is put in force, or taken out, does to what is in force and to the counts of the queues that name a pipe.
-use Rattle.std.proofs.Common.{◌≡◌, ◌∙◌, ◌≤◌, ◌<◌, ◌+◌, ◌||◌, ℕ, zero, suc, length, Bool, true, false, cond, List, [], ◌∷◌, refl, ap, sym, subst, arith, true≢false, ⊎_elim}
-use Rattle.std.specs.Prelude.{Option, Some, None, is_some, nat_eq}
-use Rattle.std.specs.List.{list_any}
-use Rattle.std.specs.Option.{IfSome}
-use Rattle.std.proofs.lemmas.Bool.{cases_eq}
-use Rattle.dn_types.specs.Configuration.{is_queue_of}
-use Rattle.dn_types.specs.declared.command.Command.{Command}
-use Rattle.dn_types.specs.declared.command.Command.TheVariants.{Pipe, Queue, DeletePipe, DeleteQueue}
-use Rattle.dn_types.specs.declared.reply.Reply.TheVariants.{Configured, NoSuchPipe}
-use Rattle.dn_flows.proofs.Places.{eq-no, eq-yes}
-use Rattle.dn_shaper.specs.Refinement.Configuring.{IsAnswered, Lists}
-use Rattle.dn_shaper.specs.Refinement.QueueCounts.{count_at, named_pipe, one_for, CountsQueues}
-use Rattle.dn_shaper.specs.Refinement.Settings.{InForce, Sets, at_number, settings_of}
+use Rattle.dn_shaper.proofs.Words.{Bool, Command, Configured, CountsQueues, DeletePipe, DeleteQueue, IfSome, InForce, IsAnswered, List, Lists, NoSuchPipe, None, Option, Pipe, Queue, Sets, Some}
+use Rattle.dn_shaper.proofs.Words.{[], ap, arith, at_number, cases_eq, cond, count_at, eq-no, eq-yes, false, is_queue_of, is_some, length, list_any, named_pipe, nat_eq, one_for, refl, settings_of}
+use Rattle.dn_shaper.proofs.Words.{subst, suc, sym, true, true≢false, zero, ℕ, ⊎_elim, ◌+◌, ◌<◌, ◌||◌, ◌∙◌, ◌∷◌, ◌≡◌, ◌≤◌}
 use Rattle.dn_shaper.proofs.QueueCounts.{none-pass, queues-changed, counted-in, at-most}
 
 -- ---- What the answer to a command says of what is in force

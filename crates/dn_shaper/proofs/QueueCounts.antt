@@ -1,16 +1,7 @@
 -- The count of the queues that name a pipe: whether there is one, and what one command in the place of another does to it.
-use Rattle.std.proofs.Common.{◌≡◌, ◌∙◌, ◌≤◌, ◌<◌, ◌+◌, ℕ, zero, suc, Bool, true, false, cond, List, refl, ap, sym, arith, ⊎_elim}
-use Rattle.std.specs.Prelude.{Option, Some, None, is_some, nat_lt}
-use Rattle.std.proofs.lemmas.Bool.{cases_eq}
-use Rattle.std.proofs.lemmas.Bool.Decides.{nat_tests}
-use Rattle.dn_types.specs.Configuration.{is_queue_of, has_queues}
-use Rattle.dn_types.specs.declared.command.Command.{Command}
-use Rattle.dn_types.specs.declared.command.Command.TheVariants.{Pipe, Queue, DeletePipe, DeleteQueue}
-use Rattle.dn_types.proofs.Settled.{true_or_false}
-use Rattle.dn_flows.proofs.Places.{eq-no, eq-yes}
-use Rattle.dn_shaper.specs.Refinement.Configuring.{Lists}
-use Rattle.dn_shaper.specs.Refinement.QueueCounts.{count_below, queues_of, named_pipe, one_for}
-use Rattle.dn_shaper.specs.Refinement.Settings.{InForce, Sets, at_number, settings_of}
+use Rattle.dn_shaper.proofs.Words.{Bool, Command, DeletePipe, DeleteQueue, InForce, List, Lists, None, Option, Pipe, Queue, Sets, Some, ap, arith, at_number, cases_eq, cond, count_below, eq-no}
+use Rattle.dn_shaper.proofs.Words.{eq-yes, false, has_queues, is_queue_of, is_some, named_pipe, nat_lt, nat_tests, one_for, queues_of, refl, settings_of, suc, sym, true, true_or_false, zero, ℕ}
+use Rattle.dn_shaper.proofs.Words.{⊎_elim, ◌+◌, ◌<◌, ◌∙◌, ◌≡◌, ◌≤◌}
 use Rattle.dn_shaper.proofs.Commands.{is-some, listed-passes, passing, same-answer}
 
 -- ---- How many of the numbers below a limit pass

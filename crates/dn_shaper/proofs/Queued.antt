@@ -1,13 +1,6 @@
 -- A shared link's slot holds the lengths and weights of its flow's queue, since both hold the packets of the trace.
-use Rattle.std.proofs.Common.{◌≡◌, ◌∙◌, ℕ, List, [], ◌∷◌, map, refl, ap, sym}
-use Rattle.std.specs.Prelude.{Some, slice_get}
-use Rattle.dn_types.specs.Trace.{Link, own, shared, Accepted, backlog}
-use Rattle.dn_types.specs.Wf2q.{Stamped}
-use Rattle.dn_flows.specs.declared.waiting.Waiting.{Waiting}
-use Rattle.dn_shaper.specs.declared.links.parts.Parts.{Parts}
-use Rattle.dn_shaper.specs.Refinement.Agreement.{Agrees}
-use Rattle.dn_shaper.specs.Refinement.Sending.{HasQueues, cost_of, stamped_cost_of}
-use Rattle.dn_shaper.specs.Refinement.Views.{LinkView, as_queued, slotted, stamped_of, views_of}
+use Rattle.dn_shaper.proofs.Words.{Accepted, Agrees, HasQueues, Link, LinkView, List, Parts, Some, Stamped, Waiting, [], ap, as_queued, backlog, cost_of, map, own, refl, shared, slice_get}
+use Rattle.dn_shaper.proofs.Words.{slotted, stamped_cost_of, stamped_of, sym, views_of, ℕ, ◌∙◌, ◌∷◌, ◌≡◌}
 
 same-costs : (slot : ℕ) (ps : List Accepted) → map stamped_cost_of (map (slotted slot) (stamped_of ps)) ≡ map cost_of (map as_queued ps)
 same-costs slot [] = refl

@@ -1,21 +1,9 @@
 -- All parts agree with the loss or the refusal of a packet, and with what a Collect gives.
-use Rattle.std.proofs.Common.{◌≡◌, ◌∙◌, ◌<◌, ℕ, ◌+◌, false, List, [], ◌∷◌, ◌++◌, map, set, refl, ap, sym, length, arith}
-use Rattle.std.specs.Prelude.{nat_lt}
-use Rattle.std.specs.List.{filter, list_any}
-use Rattle.dn_types.specs.Deliveries.{undelivered}
-use Rattle.dn_types.specs.Links.{free, last_due}
-use Rattle.dn_types.specs.SharedLinks.{last_finish_tag, virtual_time, waiting}
-use Rattle.dn_types.specs.Trace.{Accepted, Link, Event, lost, refused, collected, accepted_count, backlog, flow_bound, link_eq, links, with_link, is_start_of, is_loss_of, is_refusal_of, is_arrival}
-use Rattle.dn_types.specs.declared.delivery.Delivery.{Delivery}
-use Rattle.dn_types.specs.declared.flow_key.FlowKey.{FlowKey}
-use Rattle.dn_types.specs.declared.rule.Rule.{Rule}
-use Rattle.dn_flows.specs.Table.{FlowState, flow_at, one_lost, one_full}
-use Rattle.dn_flows.specs.declared.home.Home.{Home}
-use Rattle.dn_shaper.specs.Refinement.Views.{LinkView, home, slotted, stamped_of}
-use Rattle.dn_shaper.specs.Refinement.Agreement.{IsAt, IsFlowAt, link_names}
-use Rattle.std.proofs.lemmas.List.{append-nil, length-set}
+use Rattle.dn_shaper.proofs.Words.{Accepted, Delivery, Event, FlowKey, FlowState, Home, IsAt, IsFlowAt, Link, LinkView, List, Rule, [], accepted_count, ap, append-nil, arith, backlog, collected}
+use Rattle.dn_shaper.proofs.Words.{eq-no, eq-yes, false, filter, flow_at, flow_bound, free, home, is_arrival, is_loss_of, is_refusal_of, is_start_of, last_due, last_finish_tag, length, length-set}
+use Rattle.dn_shaper.proofs.Words.{link_eq, link_names, links, list_any, lost, map, nat_lt, one_full, one_lost, refl, refused, set, slotted, stamped_of, sym, undelivered, virtual_time, waiting}
+use Rattle.dn_shaper.proofs.Words.{with_link, ℕ, ◌++◌, ◌+◌, ◌<◌, ◌∙◌, ◌∷◌, ◌≡◌}
 use Rattle.dn_shaper.proofs.Events.{uncounted, counted-once}
-use Rattle.dn_flows.proofs.Places.{eq-no, eq-yes}
 use Rattle.dn_shaper.proofs.OnePlace.{each-flow}
 use Rattle.dn_shaper.proofs.Unseen.{not_with}
 

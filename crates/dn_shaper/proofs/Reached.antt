@@ -1,21 +1,7 @@
 -- The flows that a delete reaches are discarded one by one.
-use Rattle.std.proofs.Common.{◌≡◌, ◌∙◌, ◌<◌, ℕ, zero, suc, ◌+◌, true, cond, List, [], ◌∷◌, set, refl, ap, sym, subst, length, arith}
-use Rattle.std.specs.Prelude.{Some, slice_get}
-use Rattle.std.specs.List.{count_by}
-use Rattle.std.proofs.lemmas.List.Sums.{sum_by-cons}
-use Rattle.dn_flows.specs.Table.{FlowState, emptied, flow_at}
-use Rattle.dn_types.specs.Calls.{reaches, discard_reached}
-use Rattle.dn_types.specs.Trace.{discarded}
-use Rattle.dn_types.specs.declared.command.Command.{Command}
-use Rattle.dn_types.specs.declared.flow_key.FlowKey.{FlowKey}
-use Rattle.dn_shaper.specs.declared.links.parts.Parts.{Parts}
-use Rattle.dn_shaper.specs.Refinement.Agreement.{is_active}
-use Rattle.dn_shaper.specs.Refinement.Arriving.{KeepsFlows}
-use Rattle.dn_shaper.specs.Refinement.Configuring.{DiscardsReached}
-use Rattle.dn_shaper.specs.Refinement.Discarding.{DiscardsFlow}
-use Rattle.dn_shaper.specs.Refinement.Making.{OnlyMakesRoom}
-use Rattle.dn_shaper.specs.Refinement.Reordering.{DiscardsSome, NoneActive, ReadsSame}
-use Rattle.dn_shaper.specs.Refinement.Views.{homes_of, views_of}
+use Rattle.dn_shaper.proofs.Words.{Command, DiscardsFlow, DiscardsReached, DiscardsSome, FlowKey, FlowState, KeepsFlows, List, NoneActive, OnlyMakesRoom, Parts, ReadsSame, Some, [], ap, arith}
+use Rattle.dn_shaper.proofs.Words.{cond, count_by, discard_reached, discarded, emptied, flow_at, homes_of, is_active, length, reaches, refl, set, slice_get, subst, suc, sum_by-cons, sym, true}
+use Rattle.dn_shaper.proofs.Words.{views_of, zero, ℕ, ◌+◌, ◌<◌, ◌∙◌, ◌∷◌, ◌≡◌}
 use Rattle.dn_shaper.proofs.Reordered.{agrees-same, none-active-reads, reached-once, same-reads, then-reads}
 use Rattle.dn_shaper.proofs.Reserved.{reserved-names, reserves-agree}
 

@@ -1,25 +1,9 @@
 -- Discards in another order, or made twice, leave every reading of a trace, and those of flows that aren't active leave all.
-use Rattle.std.proofs.Common.{◌≡◌, ◌∙◌, ◌⊎◌, ℕ, zero, suc, ◌+◌, Bool, true, false, cond, ◌||◌, List, [], ◌∷◌, ◌++◌, drop, map, refl, ap, sym, subst, length, arith, inl, inr}
-use Rattle.std.specs.Prelude.{Some, nat_eq, slice_get}
-use Rattle.std.specs.List.{count_by, list_any}
-use Rattle.std.proofs.lemmas.Bool.{cases_eq}
-use Rattle.dn_types.specs.Calls.{reaches, discard_reached}
-use Rattle.dn_types.specs.SharedLinks.{last_finish_tag, waiting}
-use Rattle.dn_types.specs.Trace.{Link, Accepted, Event, opened, arrived, started, lost, refused, discarded, collected, backlog, discarded_count, is_arrival}
-use Rattle.dn_types.specs.Trace.{is_loss_of, is_refusal_of, is_start_of, is_of, link_eq}
-use Rattle.dn_types.specs.Wf2q.{total}
-use Rattle.dn_types.specs.declared.command.Command.{Command}
-use Rattle.dn_types.specs.declared.delivery.Delivery.{Delivery}
-use Rattle.dn_types.specs.declared.flow_key.FlowKey.{FlowKey}
-use Rattle.dn_types.specs.declared.rule.Rule.{Rule}
-use Rattle.dn_types.proofs.Settling.{and-no}
-use Rattle.dn_flows.specs.Table.{FlowState}
-use Rattle.dn_flows.specs.declared.home.Home.{Home}
-use Rattle.dn_shaper.specs.Refinement.Agreement.{IsAt, is_active}
-use Rattle.dn_shaper.specs.Refinement.Reordering.{ReadsSame}
-use Rattle.dn_shaper.specs.Refinement.Views.{LinkView, as_queued, home, slotted, stamped_of}
+use Rattle.dn_shaper.proofs.Words.{Accepted, Bool, Command, Delivery, Event, FlowKey, FlowState, Home, IsAt, Link, LinkView, List, ReadsSame, Rule, Some, [], and-no, ap, arith, arrived, as_queued}
+use Rattle.dn_shaper.proofs.Words.{backlog, cases_eq, collected, cond, count_by, discard_reached, discarded, discarded_count, drop, eq-no, eq-yes, false, home, inl, inr, is_active, is_arrival}
+use Rattle.dn_shaper.proofs.Words.{is_loss_of, is_of, is_refusal_of, is_start_of, last_finish_tag, length, link_eq, list_any, lost, map, nat_eq, opened, reaches, refl, refused, slice_get, slotted}
+use Rattle.dn_shaper.proofs.Words.{stamped_of, started, subst, suc, sym, total, true, waiting, zero, ℕ, ◌++◌, ◌+◌, ◌||◌, ◌∙◌, ◌∷◌, ◌≡◌, ◌⊎◌}
 use Rattle.dn_shaper.proofs.Events.{uncounted}
-use Rattle.dn_flows.proofs.Places.{eq-no, eq-yes}
 
 pub same-reads : (t : List Event) → ReadsSame t t
 same-reads t = record {

@@ -1,12 +1,6 @@
 -- Each call of a list is answered after those before it.
-use Rattle.std.proofs.Common.{◌≡◌, ◌∙◌, ◌<◌, ◌+◌, ℕ, List, [], ◌∷◌, ◌++◌, get_or, reverse, take, length, ap, sym, subst}
-use Rattle.std.proofs.lemmas.List.{reverse-append, take_more}
-use Rattle.dn_types.specs.Replies.{replies, reply}
-use Rattle.dn_types.specs.declared.call.Call.{Call}
-use Rattle.dn_types.specs.declared.reply.Reply.{Reply}
-use Rattle.dn_types.specs.declared.rule.Rule.TheVariants.{Ordered}
-use Rattle.dn_shaper.specs.declared.state.State.{State}
-use Rattle.dn_shaper.specs.Shaper.{StandsAfter}
+use Rattle.dn_shaper.proofs.Words.{Call, List, Ordered, Reply, StandsAfter, State, [], ap, get_or, length, replies, reply, reverse, reverse-append, subst, sym, take, take_more, ℕ, ◌++◌, ◌+◌, ◌<◌}
+use Rattle.dn_shaper.proofs.Words.{◌∙◌, ◌∷◌, ◌≡◌}
 use Rattle.dn_shaper.proofs.Counting.{Answers}
 
 -- The calls so far, newest first.

@@ -1,27 +1,8 @@
 -- All parts agree with the same trace after room was made, and what is kept stays kept.
-use Rattle.std.proofs.Common.{◌≡◌, ◌∙◌, ◌^◌, ℕ, suc, List, [], ◌∷◌, map, refl, ap, sym, subst, length, arith}
-use Rattle.std.specs.Prelude.{Option, Some, None, nat_lt, slice_get}
-use Rattle.std.proofs.Common.{cond}
-use Rattle.std.proofs.lemmas.List.{length-map}
-use Rattle.std.proofs.lemmas.List.Sums.{sum_by-cons}
-use Rattle.dn_types.specs.Links.{free, last_due}
-use Rattle.dn_types.specs.SharedLinks.{waiting}
-use Rattle.dn_shaper.specs.Refinement.Agreement.{IsScheduleAt}
-use Rattle.dn_heap.specs.Heap.{Heap}
-use Rattle.dn_types.specs.Trace.{Link, Event}
-use Rattle.dn_types.specs.declared.delivery.Delivery.{Delivery}
-use Rattle.dn_types.specs.declared.rule.Rule.{Rule}
-use Rattle.dn_wf2q.specs.Schedule.{Flow}
-use Rattle.dn_shaper.specs.declared.links.next_start.NextStart.{NextStart}
-use Rattle.dn_flows.specs.declared.home.Home.{Home}
-use Rattle.dn_shaper.specs.declared.links.parts.Parts.{Parts}
-use Rattle.dn_shaper.specs.Refinement.Agreement.{AgreesWith, AreDistinct, IsAt, IsHomeOf, IsLinkAt, link_names}
-use Rattle.dn_shaper.specs.Refinement.NextStarts.{Holds}
-use Rattle.dn_shaper.specs.Refinement.Making.{KeepsLink, KeepsAt, KeepsPlaces, OnlyMakesRoom}
-use Rattle.dn_shaper.specs.Refinement.Settling.{AreInStep}
-use Rattle.dn_shaper.specs.Refinement.Slots.{Ascends, top}
-use Rattle.dn_shaper.specs.Refinement.Starting.{KeepsReady, Within}
-use Rattle.dn_shaper.specs.Refinement.Views.{homes_of, LinkView, views_of, home, next_starts, next_start_of, waits_in_all}
+use Rattle.dn_shaper.proofs.Words.{AgreesWith, AreDistinct, AreInStep, Ascends, Delivery, Event, Flow, Heap, Holds, Home, IsAt, IsHomeOf, IsLinkAt, IsScheduleAt, KeepsAt, KeepsLink, KeepsPlaces}
+use Rattle.dn_shaper.proofs.Words.{KeepsReady, Link, LinkView, List, NextStart, None, OnlyMakesRoom, Option, Parts, Rule, Some, Within, [], ap, arith, cond, free, home, homes_of, last_due, length}
+use Rattle.dn_shaper.proofs.Words.{length-map, link_names, map, nat_lt, next_start_of, next_starts, refl, slice_get, subst, suc, sum_by-cons, sym, top, views_of, waiting, waits_in_all, ℕ, ◌^◌}
+use Rattle.dn_shaper.proofs.Words.{◌∙◌, ◌∷◌, ◌≡◌}
 use Rattle.dn_shaper.proofs.OnePlace.{agrees-as}
 use Rattle.dn_shaper.proofs.Reserving.{same-within}
 

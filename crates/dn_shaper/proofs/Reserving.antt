@@ -1,20 +1,9 @@
 -- Reserving room leaves all that a trace says.
-use Rattle.std.proofs.Common.{◌≡◌, ◌∙◌, ◌<◌, ◌⊎◌, ℕ, true, cond, List, set, refl, ap, sym, subst, length, arith, inl, inr}
-use Rattle.std.specs.Prelude.{Option, Some, None, Result, Ok, Err, OnOk, slice_get}
-use Rattle.std.proofs.lemmas.Bool.{cases_eq}
-use Rattle.dn_flows.specs.declared.waiting.Waiting.{Waiting}
-use Rattle.dn_flows.specs.Table.{FlowState, flow_at, places, with_place}
-use Rattle.dn_flows.proofs.Reservations.{places-same}
-use Rattle.dn_flows.proofs.Views.{flow_after_set}
-use Rattle.dn_types.specs.Trace.{Link, own, shared}
-use Rattle.dn_wf2q.specs.Schedule.{room_at}
-use Rattle.dn_shaper.specs.Refinement.Making.{KeepsLink, KeepsPlaces, SameFlow, KeepsAt, HasSlotRoom}
-use Rattle.dn_shaper.specs.Refinement.Starting.{AreCountsWithin}
-use Rattle.dn_shaper.specs.Refinement.Views.{LinkView, queue_lengths}
+use Rattle.dn_shaper.proofs.Words.{AreCountsWithin, Err, FlowState, HasSlotRoom, KeepsAt, KeepsLink, KeepsPlaces, Link, LinkView, List, None, Ok, OnOk, Option, Result, SameFlow, Some, Waiting, ap}
+use Rattle.dn_shaper.proofs.Words.{arith, cases_eq, cond, eq-yes, flow_after_set, flow_at, get-set, get-set-other, inl, inr, length, length-set, own, places, places-same, queue_lengths, refl}
+use Rattle.dn_shaper.proofs.Words.{room_at, set, shared, slice_get, subst, sym, true, with_place, ℕ, ◌<◌, ◌∙◌, ◌≡◌, ◌⊎◌}
 use Rattle.dn_shaper.proofs.Alone.{lengths-same}
-use Rattle.std.proofs.lemmas.List.{length-set}
 use Rattle.dn_shaper.proofs.OnePlace.{each-flow}
-use Rattle.dn_flows.proofs.Places.{eq-yes, get-set, get-set-other}
 
 pub same-flow : (s : FlowState) → SameFlow s s
 same-flow s = record { backlog = refl; lost = refl; full = refl; started = refl; discarded = refl; active = refl }

@@ -1,23 +1,8 @@
 -- Room for a packet of a flow that is known stays where only packets start or are given.
-use Rattle.std.proofs.Common.{◌≡◌, ◌∙◌, ◌+◌, ◌<◌, ◌^◌, ◌||◌, ℕ, Bool, true, false, not, cond, List, [], ◌∷◌, ◌++◌, length, refl, ap, sym, subst, arith}
-use Rattle.std.specs.Prelude.{Option, Some, Result, Ok, Err, IfOk}
-use Rattle.dn_types.specs.Clock.{call_limit}
-use Rattle.dn_types.specs.Flows.{Treatment, flow_number, key_eq, key_of, treatment, with_key}
-use Rattle.dn_types.specs.declared.call.Call.{Call}
-use Rattle.dn_types.specs.declared.five_tuple.FiveTuple.{FiveTuple}
-use Rattle.dn_types.specs.declared.flow_key.FlowKey.{FlowKey}
-use Rattle.dn_types.specs.declared.rule.Rule.{Rule}
-use Rattle.dn_types.specs.declared.target.Target.{Target}
-use Rattle.dn_types.proofs.Keys.{key_eq-true}
-use Rattle.dn_flows.specs.Table.{is_known}
-use Rattle.dn_link.specs.Line.{Line}
-use Rattle.dn_shaper.specs.declared.links.parts.Parts.{Parts}
-use Rattle.dn_shaper.specs.declared.state.State.{State}
-use Rattle.dn_shaper.specs.Refinement.Settings.{settings_of}
-use Rattle.dn_shaper.specs.Refinement.Starting.{IsReady, KeepsOthersReady, KeepsReady}
-use Rattle.dn_shaper.specs.Room.{HasRoomOf, IsNewBy, IsNewFlow, IsOther, KeepsOthersRoom, KeepsRoom, LeavesRoom}
-use Rattle.dn_shaper.specs.Shaper.{StandsAfter}
-use Rattle.dn_shaper.specs.Standing.{StandsAt}
+use Rattle.dn_shaper.proofs.Words.{Bool, Call, Err, FiveTuple, FlowKey, HasRoomOf, IfOk, IsNewBy, IsNewFlow, IsOther, IsReady, KeepsOthersReady, KeepsOthersRoom, KeepsReady, LeavesRoom, Line}
+use Rattle.dn_shaper.proofs.Words.{List, Ok, Option, Parts, Result, Rule, Some, StandsAfter, StandsAt, State, Target, Treatment, [], ap, arith, call_limit, cond, false, flow_number, is_known}
+use Rattle.dn_shaper.proofs.Words.{key_eq, key_eq-true, key_of, length, not, refl, settings_of, subst, sym, treatment, true, with_key, ℕ, ◌++◌, ◌+◌, ◌<◌, ◌^◌, ◌||◌, ◌∙◌, ◌∷◌, ◌≡◌}
+use Rattle.dn_shaper.specs.Room.{KeepsRoom}
 use Rattle.dn_shaper.proofs.Counting.{all-count}
 
 pub keeps-room : (old new : State) → new.configured ≡ old.configured → new.parts.flows.keys ≡ old.parts.flows.keys

@@ -1,10 +1,6 @@
 -- How many packets wait in a schedule of which only room was made, or in which a busy period began.
-use Rattle.std.proofs.Common.{◌≡◌, ◌∙◌, ◌≤◌, ℕ, zero, suc, ◌+◌, List, [], ◌∷◌, refl, ap, sym, length, arith}
-use Rattle.std.proofs.lemmas.List.{get_or_past}
-use Rattle.dn_types.specs.Wf2q.{Stamped}
+use Rattle.dn_shaper.proofs.Words.{List, OnlyRoom, Stamped, [], ap, arith, forgotten_at, get_or_past, length, refl, suc, sym, zero, ℕ, ◌+◌, ◌∙◌, ◌∷◌, ◌≡◌, ◌≤◌}
 use Rattle.dn_wf2q.specs.Schedule.{Flow, Schedule, flow_at as slot_at, forgotten, no_packets, waiting_of}
-use Rattle.dn_wf2q.proofs.Begun.{forgotten_at}
-use Rattle.dn_shaper.specs.Refinement.Making.{OnlyRoom}
 use Rattle.dn_shaper.proofs.Waiting.{total-same, total-wide}
 
 -- The packets that wait at a slot.

@@ -1,38 +1,11 @@
 -- A shaper stands after a Submit call more, and stays sound.
-use Rattle.std.proofs.Common.{◌≡◌, ◌∙◌, ◌≤◌, ◌^◌, ℕ, suc, ◌+◌, max, not, ◌||◌, Bool, true, false, cond, List, [], ◌∷◌, ◌++◌, refl, ap, sym, subst, arith, ⊎_elim, true≢false}
-use Rattle.std.specs.Prelude.{◌&&◌, Option, None, Some, nat_eq, slice_get}
-use Rattle.std.specs.List.{list_any}
-use Rattle.std.proofs.lemmas.Bool.{eqb-true}
-use Rattle.dn_heap.specs.Heap.{Heap}
-use Rattle.dn_types.specs.Calls.{link_of, verdict_by, after_verdict, trace_of}
-use Rattle.dn_types.specs.Clock.{effective_moment}
-use Rattle.dn_types.specs.Configuration.{Settings, settings, target_eq}
-use Rattle.dn_types.specs.Flows.{Treatment, treatment, key_eq, key_of, keys, keys_with, with_key, flow_number, mask_eq, tuple_eq}
-use Rattle.dn_types.specs.Replies.{reply_to_verdict}
-use Rattle.dn_types.specs.Starts.{settled}
-use Rattle.dn_types.specs.Trace.{Link, shared, link_eq, Event}
-use Rattle.dn_types.specs.declared.call.Call.TheVariants.{Submit}
-use Rattle.dn_types.specs.declared.flow_key.FlowKey.{FlowKey}
-use Rattle.dn_types.specs.declared.packet.Packet.{Packet}
-use Rattle.dn_types.specs.declared.reply.Reply.{Reply}
-use Rattle.dn_types.specs.declared.reply.Reply.TheVariants.{NoTarget}
-use Rattle.dn_types.specs.declared.target.Target.{Target}
+use Rattle.dn_shaper.proofs.Words.{AgreesWith, Answers, AreInStep, Bool, Does, Event, FlowKey, Heap, IsSound, KeepsCalls, KeepsFlows, Link, List, NextStart, NoTarget, None, OnlyMakesRoom}
+use Rattle.dn_shaper.proofs.Words.{OnlyStarts, Option, Packet, Parts, Prepares, Reply, Settings, SettlesAll, Some, State, StillStands, Submit, Target, Treatment, Within, [], after_verdict}
+use Rattle.dn_shaper.proofs.Words.{and-left, and-right, ap, arith, cond, counted_at, effective_moment, eqb-true, false, flow_number, home, home_by, key_eq, key_of, keys, keys_with, link_eq}
+use Rattle.dn_shaper.proofs.Words.{link_names, link_of, list_any, mask_eq, max, nat_eq, not, refl, reply_to_verdict, settings, settings_of, settled, shared, slice_get, subst, suc, sym, target_eq}
+use Rattle.dn_shaper.proofs.Words.{trace_of, treatment, true, true_or_false, true≢false, tuple_eq, verdict_by, verdict_on, views_of, with_key, ℕ, ⊎_elim, ◌&&◌, ◌++◌, ◌+◌, ◌^◌, ◌||◌, ◌∙◌, ◌∷◌, ◌≡◌}
+use Rattle.dn_shaper.proofs.Words.{◌≤◌}
 use Rattle.dn_types.specs.declared.target.Target.TheVariants.{Pipe as ToPipe, Queue as ToQueue}
-use Rattle.dn_types.proofs.Settled.{and-left, true_or_false}
-use Rattle.dn_types.proofs.Settling.{and-right}
-use Rattle.dn_shaper.specs.declared.links.next_start.NextStart.{NextStart}
-use Rattle.dn_shaper.specs.declared.links.parts.Parts.{Parts}
-use Rattle.dn_shaper.specs.declared.state.State.{State}
-use Rattle.dn_shaper.specs.Refinement.Agreement.{AgreesWith, link_names}
-use Rattle.dn_shaper.specs.Refinement.Arriving.{KeepsFlows}
-use Rattle.dn_shaper.specs.Refinement.Making.{KeepsCalls, Prepares, OnlyMakesRoom}
-use Rattle.dn_shaper.specs.Refinement.Calls.{counted_at, Does, StillStands}
-use Rattle.dn_shaper.specs.Refinement.Settings.{settings_of}
-use Rattle.dn_shaper.specs.Refinement.Settling.{AreInStep, OnlyStarts, SettlesAll}
-use Rattle.dn_shaper.specs.Refinement.Sound.{IsSound}
-use Rattle.dn_shaper.specs.Refinement.Starting.{Within}
-use Rattle.dn_shaper.specs.Refinement.Submitting.{Answers, verdict_on}
-use Rattle.dn_shaper.specs.Refinement.Views.{views_of, home, home_by}
 use Rattle.dn_shaper.proofs.Accepting.{within-more}
 use Rattle.dn_shaper.proofs.Reserved.{reserves-agree}
 

@@ -1,37 +1,15 @@
 -- One step of the settling loop: the popped link's next packet is the first start of all links.
-use Rattle.std.proofs.Common.{◌≡◌, ◌∙◌, ◌≤◌, ◌<◌, ◌⊎◌, ◌^◌, ℕ, zero, suc, ◌+◌, false, cond, List, [], ◌∷◌, ◌++◌, map, set, get_or, refl, ap}
-use Rattle.std.proofs.Common.{sym, subst, length, arith, inl, inr, All, IsPermutation}
-use Rattle.std.specs.Prelude.{Contains, Option, Some, None, IfSome, slice_get, option_map}
-use Rattle.std.specs.List.{list_any}
-use Rattle.std.specs.Ordering.{is_lt}
-use Rattle.std.proofs.lemmas.Bool.{le-leb, cases_lt, or_from, lt-ltb, le-ltb}
-use Rattle.std.proofs.lemmas.List.Elements.{All-contains}
-use Rattle.std.proofs.lemmas.List.Sorted.{length_permutation}
-use Rattle.dn_heap.specs.Heap.{Heap, IsLeast}
-use Rattle.dn_types.specs.Configuration.{Settings}
-use Rattle.dn_types.specs.Links.{free}
-use Rattle.dn_types.specs.SharedLinks.{next_packet}
-use Rattle.dn_types.specs.Starts.{next_start, first_start, start_at, settle, waiting_all, settled}
-use Rattle.dn_types.specs.Trace.{Link, link_eq, pipe_of, Accepted, Event, started, Start, links}
-use Rattle.dn_types.specs.declared.delivery.Delivery.{Delivery}
-use Rattle.dn_shaper.specs.declared.links.next_start.NextStart.{NextStart}
-use Rattle.dn_shaper.specs.declared.links.link_parts.Carries.{Carries}
-use Rattle.dn_shaper.specs.declared.links.link_parts.LinkParts.{LinkParts}
-use Rattle.dn_shaper.specs.declared.links.link_parts.Carries.TheVariants.{Own, Shared}
-use Rattle.dn_shaper.specs.declared.links.parts.Parts.{Parts}
-use Rattle.dn_shaper.specs.Refinement.Views.{homes_of, LinkView, queue_lengths, view_of, views_of, next_starts, next_start_of, carried_link}
-use Rattle.dn_shaper.specs.Refinement.Agreement.{GivesRates, AgreesWith, Agrees, AreDistinct, link_names}
-use Rattle.dn_shaper.specs.Refinement.NextStarts.{next_start_cmp, next_at, Holds}
-use Rattle.dn_shaper.specs.Refinement.Starting.{CanStart, StartsAt}
-use Rattle.dn_shaper.specs.Refinement.Settling.{AreInStep, OnlyStarts, StartsFirst, HasNoStart, SettlesAll}
+use Rattle.dn_shaper.proofs.Words.{Accepted, Agrees, AgreesWith, All, All-contains, AreDistinct, AreInStep, CanStart, Carries, Contains, Delivery, Event, GivesRates, HasNoStart, Heap, Holds}
+use Rattle.dn_shaper.proofs.Words.{IfSome, IsLeast, IsPermutation, Link, LinkParts, LinkView, List, NextStart, None, OnlyStarts, Option, Own, Parts, Settings, SettlesAll, Shared, Some, Start}
+use Rattle.dn_shaper.proofs.Words.{StartsAt, StartsFirst, [], ap, arith, carried_link, cases_lt, cond, false, first_start, free, get-map, get-set, get_or, homes_of, inl, inr, is_lt, le-leb}
+use Rattle.dn_shaper.proofs.Words.{le-ltb, length, length-set, length_permutation, link_eq, link_names, links, list_any, lt-ltb, map, map-set-same, next_at, next_packet, next_start}
+use Rattle.dn_shaper.proofs.Words.{next_start_cmp, next_start_of, next_starts, none-unknown, option_map, or_from, pipe_of, queue_lengths, refl, set, settle, settled, slice_get, start_at, started}
+use Rattle.dn_shaper.proofs.Words.{subst, suc, sym, view_of, viewed, views_of, waiting_all, waiting_all-first, zero, ℕ, ◌++◌, ◌+◌, ◌<◌, ◌^◌, ◌∙◌, ◌∷◌, ◌≡◌, ◌≤◌, ◌⊎◌}
 use Rattle.dn_shaper.proofs.Accepting.{next-none, next-some}
 use Rattle.dn_shaper.proofs.Taking.{at-some}
 use Rattle.dn_shaper.proofs.NextStarts.{not_before, popped_next, holds_none, holds_some}
 use Rattle.dn_shaper.proofs.FirstStart.{moment_of_next, first_popped, none_next, first_start-more, settle-none, settle-some}
-use Rattle.std.proofs.lemmas.List.{length-set}
 use Rattle.dn_shaper.proofs.Next.{nexts-agree}
-use Rattle.dn_flows.proofs.Places.{get-set, viewed, map-set-same, get-map}
-use Rattle.dn_types.proofs.Settled.{none-unknown, waiting_all-first}
 use Rattle.dn_shaper.proofs.Starting.{starts-agree, starts-within, starts-ready, starts-nexts, length-in_order}
 
 pub pipe-carried : (pipe : ℕ) (c : Carries) → pipe_of (carried_link pipe c) ≡ pipe

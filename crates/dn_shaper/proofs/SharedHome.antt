@@ -1,26 +1,10 @@
 -- The home of a new flow is the next slot of a link that is there.
-use Rattle.std.proofs.Common.{◌≡◌, ◌∙◌, ◌≤◌, ◌<◌, ℕ, cond, List, [], ◌∷◌, ◌++◌, set, refl, ap, sym, subst, length, arith}
-use Rattle.std.specs.Prelude.{Option, Some, None, nat_lt, slice_get}
-use Rattle.std.specs.List.{list_any}
-use Rattle.dn_types.specs.Calls.{link_of}
-use Rattle.dn_types.specs.Trace.{Link, shared, link_eq, Event}
-use Rattle.dn_types.specs.declared.flow_key.FlowKey.{FlowKey}
-use Rattle.dn_flows.specs.Table.{Table}
-use Rattle.dn_wf2q.specs.Schedule.{room_at}
-use Rattle.dn_shaper.specs.declared.state.State.{State}
-use Rattle.dn_shaper.specs.Refinement.Agreement.{AgreesWith, link_names}
-use Rattle.dn_shaper.specs.Refinement.NextStarts.{Holds}
-use Rattle.dn_shaper.specs.Refinement.Homing.{GivesHome, Shares, place_for}
-use Rattle.dn_shaper.specs.Refinement.Sound.{IsIndexed, IsSound}
-use Rattle.dn_shaper.specs.Refinement.Starting.{IsReady, KeepsReady, Within}
-use Rattle.dn_shaper.specs.Refinement.Submitting.{IsMade}
-use Rattle.dn_shaper.specs.Refinement.Views.{homes_of, LinkView, views_of, next_starts, next_start_of, waits_in_all}
-use Rattle.dn_shaper.specs.Refinement.Settings.{at_number}
-use Rattle.std.proofs.lemmas.List.{length-set}
+use Rattle.dn_shaper.proofs.Words.{AgreesWith, Event, FlowKey, GivesHome, Holds, IsIndexed, IsMade, IsReady, IsSound, KeepsReady, Link, LinkView, List, None, Option, Shares, Some, State, Table}
+use Rattle.dn_shaper.proofs.Words.{Within, [], ap, arith, at_number, cond, get-set, homes_of, length, length-more, length-set, link_eq, link_names, link_of, list_any, map-set-same, nat_lt}
+use Rattle.dn_shaper.proofs.Words.{next_start_of, next_starts, place_for, refl, room_at, set, shared, slice_get, subst, sum-set, sym, views_of, waits_in_all, ℕ, ◌++◌, ◌<◌, ◌∙◌, ◌∷◌, ◌≡◌, ◌≤◌}
 use Rattle.dn_shaper.proofs.Indexed.{noted-found}
 use Rattle.dn_shaper.proofs.Made.{joined-agrees}
 use Rattle.dn_shaper.proofs.OnePlace.{each-set}
-use Rattle.dn_flows.proofs.Places.{get-set, length-more, map-set-same, sum-set}
 use Rattle.dn_shaper.proofs.Preparing.{IsOneMore, seen-made, with_flows}
 use Rattle.dn_shaper.proofs.Sharing.{named-at}
 use Rattle.dn_shaper.proofs.Housed.{keys-are, same-flows, many-flows, ready-by, within-by, sound-by, agrees-by, leaves-by}

@@ -1,16 +1,6 @@
 -- A link is read by the name that stands at its place.
-use Rattle.std.proofs.Common.{◌≡◌, ◌∙◌, ℕ, zero, suc, List, [], ◌∷◌, map, get_or, refl, ap, sym, subst}
-use Rattle.std.specs.Prelude.{Option, Some, None, Result, Ok, Err, IfOk, OnErr, slice_get}
-use Rattle.dn_heap.specs.Heap.{Heap}
-use Rattle.dn_types.specs.Calls.{link_of}
-use Rattle.dn_types.specs.Trace.{Link}
-use Rattle.dn_types.specs.declared.flow_key.FlowKey.{FlowKey}
-use Rattle.dn_shaper.specs.declared.links.next_start.NextStart.{NextStart}
-use Rattle.dn_flows.specs.declared.home.Home.{Home}
-use Rattle.dn_shaper.specs.declared.links.link_parts.LinkParts.{LinkParts}
-use Rattle.dn_shaper.specs.Refinement.Agreement.{link_names}
-use Rattle.dn_shaper.specs.Refinement.Homing.{Houses, NotesFor, Opens, Shares}
-use Rattle.dn_shaper.specs.Refinement.Views.{LinkView, view_of}
+use Rattle.dn_shaper.proofs.Words.{Err, FlowKey, Heap, Home, Houses, IfOk, Link, LinkParts, LinkView, List, NextStart, None, NotesFor, Ok, OnErr, Opens, Option, Result, Shares, Some, [], ap}
+use Rattle.dn_shaper.proofs.Words.{get_or, link_names, link_of, map, refl, slice_get, subst, suc, sym, view_of, zero, ℕ, ◌∙◌, ◌∷◌, ◌≡◌}
 
 pub named-at : (views : List LinkView) (place : ℕ) (link : Link) → slice_get (link_names views) place ≡ Some link → (v : LinkView) × (slice_get views place ≡ Some v) × (v.link ≡ link)
 named-at [] place link e = absurd cc

@@ -1,21 +1,8 @@
 -- What the flow table tells is what the definition tells of the trace.
-use Rattle.std.proofs.Common.{◌≡◌, ◌∙◌, ℕ, zero, suc, ◌+◌, List, [], ◌∷◌, ◌++◌, map, sum, drop, refl, ap, sym, subst, length, arith, append_assoc}
-use Rattle.std.specs.Prelude.{Some, slice_get}
-use Rattle.dn_types.specs.Calls.{trace_of, link_of}
-use Rattle.dn_types.specs.Clock.{effective_moment}
+use Rattle.dn_shaper.proofs.Words.{Accepted, Does, Event, FlowKey, FlowState, FlowStatus, IsFlowAt, IsSound, Link, List, Show, Some, State, Status, Waiting, [], ap, append_assoc, arith, as_queued}
+use Rattle.dn_shaper.proofs.Words.{backlog, drop, effective_moment, flow_at, home, home_by, length, lengths, link_names, link_of, map, refl, slice_get, status_of, subst, suc, sum, sym, told_from}
+use Rattle.dn_shaper.proofs.Words.{trace_of, views_of, zero, ℕ, ◌++◌, ◌+◌, ◌∙◌, ◌∷◌, ◌≡◌}
 use Rattle.dn_types.specs.Replies.{statuses_from, status_of as status_after}
-use Rattle.dn_types.specs.Trace.{Link, Accepted, Event, backlog}
-use Rattle.dn_types.specs.declared.call.Call.TheVariants.{Show}
-use Rattle.dn_types.specs.declared.flow_key.FlowKey.{FlowKey}
-use Rattle.dn_types.specs.declared.flow_status.FlowStatus.{FlowStatus}
-use Rattle.dn_types.specs.declared.reply.Reply.TheVariants.{Status}
-use Rattle.dn_flows.specs.Table.{FlowState, flow_at, lengths, status_of}
-use Rattle.dn_flows.specs.declared.waiting.Waiting.{Waiting}
-use Rattle.dn_shaper.specs.declared.state.State.{State}
-use Rattle.dn_shaper.specs.Refinement.Agreement.{IsFlowAt, link_names}
-use Rattle.dn_shaper.specs.Refinement.Calls.{told_from, Does}
-use Rattle.dn_shaper.specs.Refinement.Sound.{IsSound}
-use Rattle.dn_shaper.specs.Refinement.Views.{home, home_by, views_of, as_queued}
 use Rattle.dn_shaper.proofs.Accepting.{within-more}
 use Rattle.dn_shaper.proofs.Noted.{indexed-still}
 use Rattle.dn_shaper.proofs.Submitting.{length-lens}

@@ -1,12 +1,9 @@
 -- Slots: the flows of a shared link in ascending order. A scheduler that knows the flows by their places in this list
 -- picks as one that knows them by their numbers.
-use Rattle.std.proofs.Common.{◌≡◌, ◌∙◌, ◌≤◌, ◌<◌, ℕ, zero, suc, ◌+◌, ◌-◌, max, min, Bool, true, false, cond, ◌&&◌, ◌||◌, List, [], ◌∷◌, ◌++◌, map, refl, ap, sym, take, arith, ⊎_elim}
-use Rattle.std.specs.Prelude.{Option, Some, None, nat_lt, nat_eq, slice_get, option_map}
-use Rattle.std.specs.List.{filter}
-use Rattle.std.proofs.lemmas.List.{append-nil, take-map, map-append}
-use Rattle.std.proofs.lemmas.Bool.{cases_lt, cases_eq, lt-ltb, le-ltb}
-use Rattle.dn_types.specs.Wf2q.{Stamped, heads, least_start_tag, raised, goes_before, earlier, first_to_go, is_eligible, pick, weight_sum, grown, scaled}
-use Rattle.dn_shaper.specs.Refinement.Slots.{Ascends, top}
+use Rattle.dn_shaper.proofs.Words.{Ascends, Bool, List, None, Option, Some, Stamped, [], ap, append-nil, arith, cases_eq, cases_lt, cond, false, filter, first_to_go, goes_before, grown, heads}
+use Rattle.dn_shaper.proofs.Words.{is_eligible, le-ltb, least_start_tag, lt-ltb, map, map-append, max, min, nat_eq, nat_lt, option_map, pick, raised, refl, scaled, slice_get, suc, sym, take}
+use Rattle.dn_shaper.proofs.Words.{take-map, top, true, weight_sum, zero, ℕ, ⊎_elim, ◌&&◌, ◌++◌, ◌+◌, ◌-◌, ◌<◌, ◌||◌, ◌∙◌, ◌∷◌, ◌≡◌, ◌≤◌}
+use Rattle.dn_types.specs.Wf2q.{earlier}
 
 -- ---- The flows of the slots ascend
 

@@ -1,32 +1,7 @@
 -- A shaper stands after a call more, and stays sound.
-use Rattle.std.proofs.Common.{◌≡◌, ◌∙◌, ◌≤◌, ◌^◌, ℕ, ◌+◌, ◌*◌, max, List, [], ◌∷◌, refl, ap, subst, length, arith}
-use Rattle.std.specs.Prelude.{nat_le, nat_lt}
-use Rattle.std.specs.List.{filter}
-use Rattle.std.proofs.lemmas.List.Sums.{length-filter, count_by-le-length}
-use Rattle.dn_heap.specs.Heap.{Heap}
-use Rattle.dn_link.specs.Line.{Line}
-use Rattle.dn_types.specs.Calls.{trace_of}
-use Rattle.dn_types.specs.Clock.{effective_moment}
-use Rattle.dn_types.specs.Configuration.{Settings, settings}
-use Rattle.dn_types.specs.Deliveries.{given}
-use Rattle.dn_types.specs.Starts.{settled}
-use Rattle.dn_types.specs.Trace.{Link, Event, collected}
-use Rattle.dn_types.specs.declared.call.Call.{Call}
-use Rattle.dn_types.specs.declared.call.Call.TheVariants.{Advance, Collect}
-use Rattle.dn_types.specs.declared.delivery.Delivery.{Delivery}
-use Rattle.dn_types.specs.declared.reply.Reply.TheVariants.{Advanced, Delivered}
-use Rattle.dn_types.specs.declared.rule.Rule.{Rule}
-use Rattle.dn_shaper.specs.declared.links.next_start.NextStart.{NextStart}
-use Rattle.dn_shaper.specs.declared.links.parts.Parts.{Parts}
-use Rattle.dn_shaper.specs.declared.state.State.{State}
-use Rattle.dn_shaper.specs.Refinement.Agreement.{AgreesWith, link_names}
-use Rattle.dn_shaper.specs.Refinement.Settings.{settings_of}
-use Rattle.dn_shaper.specs.Refinement.Settling.{AreInStep, OnlyStarts, SettlesAll}
-use Rattle.dn_shaper.specs.Refinement.Calls.{Does}
-use Rattle.dn_shaper.specs.Refinement.Sound.{IsSound}
-use Rattle.dn_shaper.specs.Standing.{StandsAt}
-use Rattle.dn_shaper.specs.Refinement.Starting.{Within}
-use Rattle.dn_shaper.specs.Refinement.Views.{homes_of, views_of}
+use Rattle.dn_shaper.proofs.Words.{Advance, Advanced, AgreesWith, AreInStep, Call, Collect, Delivered, Delivery, Does, Event, Heap, IsSound, Line, Link, List, NextStart, OnlyStarts, Parts, Rule}
+use Rattle.dn_shaper.proofs.Words.{Settings, SettlesAll, StandsAt, State, Within, [], ap, arith, collected, count_by-le-length, effective_moment, filter, given, homes_of, length, length-filter}
+use Rattle.dn_shaper.proofs.Words.{link_names, max, nat_le, nat_lt, refl, settings, settings_of, settled, subst, trace_of, views_of, ℕ, ◌*◌, ◌+◌, ◌^◌, ◌∙◌, ◌∷◌, ◌≡◌, ◌≤◌}
 use Rattle.dn_shaper.proofs.Accepting.{within-more}
 use Rattle.dn_shaper.proofs.Noted.{indexed-still}
 use Rattle.dn_shaper.proofs.Quiet.{collected-agrees}

@@ -1,35 +1,18 @@
 -- All parts agree with a start of the next packet of a link.
-use Rattle.std.proofs.Common.{◌≡◌, ◌∙◌, ◌<◌, ◌⊎◌, ℕ, zero, suc, ◌+◌, Bool, true, false, cond, List, [], ◌∷◌, map, set, refl, ap, sym, subst, length, drop, arith, ⊎_elim, inl, inr, get_or-set_same}
-use Rattle.std.specs.Prelude.{Some, None, nat_eq, slice_get}
-use Rattle.std.specs.List.{list_any}
-use Rattle.std.proofs.lemmas.Bool.{cases_eq, and_parts}
-use Rattle.std.proofs.lemmas.List.{drop-map}
-use Rattle.dn_types.specs.Wf2q.{Stamped, total, grown}
-use Rattle.dn_types.specs.Trace.{Link, shared, link_eq, Accepted, Event, started, Start, is_of, backlog, flow_bound, links, is_start_of, is_loss_of, is_refusal_of, is_arrival}
-use Rattle.dn_types.specs.Links.{free, last_due, due_by, arrival_time}
-use Rattle.dn_types.specs.SharedLinks.{virtual_time, link_heads, waiting}
-use Rattle.dn_types.specs.Deliveries.{in_order, delivery_of}
-use Rattle.dn_types.specs.declared.delivery.Delivery.{Delivery}
-use Rattle.dn_types.specs.declared.flow_key.FlowKey.{FlowKey}
-use Rattle.dn_types.specs.declared.rule.Rule.{Rule}
-use Rattle.dn_flows.specs.Table.{FlowState, flow_at, popped, popped_from}
-use Rattle.dn_flows.specs.declared.waiting.Waiting.{Waiting}
-use Rattle.dn_flows.proofs.Views.{popped_backlog}
+use Rattle.dn_shaper.proofs.Words.{Accepted, AreDistinct, Ascends, Bool, Delivery, Event, FlowKey, FlowState, HasSentNothing, Home, IsAt, IsFlowAt, IsLinkAt, IsNextToSend, IsScheduleAt, Link}
+use Rattle.dn_shaper.proofs.Words.{LinkView, List, None, Rule, Some, Stamped, Start, Waiting, [], and-no, and_parts, ap, arith, arrival_time, as_queued, backlog, backlog-elsewhere}
+use Rattle.dn_shaper.proofs.Words.{backlog-unknown, cases_eq, cond, delivery_of, drop, drop-map, due_by, eq-no, eq-yes, false, flow_at, flow_bound, free, free-elsewhere, get_or-set_same, grown}
+use Rattle.dn_shaper.proofs.Words.{home, in_order, inl, inr, is_arrival, is_loss_of, is_of, is_of-start, is_refusal_of, is_start_of, last_due, last_due-elsewhere, length, length-set, link_eq}
+use Rattle.dn_shaper.proofs.Words.{link_eq-refl, link_eq-true, link_heads, link_names, links, list_any, map, map-set-same, nat_eq, popped, popped_backlog, popped_from, refl, set, shared}
+use Rattle.dn_shaper.proofs.Words.{slice_get, slotted, stamped_of, started, subst, suc, sym, top, total, true, true_or_false, virtual_time, virtual_time-elsewhere, waiting, waiting-start, zero, ℕ}
+use Rattle.dn_shaper.proofs.Words.{⊎_elim, ◌+◌, ◌<◌, ◌∙◌, ◌∷◌, ◌≡◌, ◌⊎◌}
 use Rattle.dn_wf2q.specs.Schedule.{Flow, flow_at as slot_at, heads_of, no_packets, without_head}
-use Rattle.dn_flows.specs.declared.home.Home.{Home}
-use Rattle.dn_shaper.specs.Refinement.Slots.{Ascends, top}
-use Rattle.dn_shaper.specs.Refinement.Views.{LinkView, home, as_queued, stamped_of, slotted, IsNextToSend}
-use Rattle.dn_shaper.specs.Refinement.Agreement.{AreDistinct, IsAt, IsLinkAt, IsFlowAt, IsScheduleAt, HasSentNothing, link_names}
-use Rattle.std.proofs.lemmas.List.{length-set}
 use Rattle.dn_shaper.proofs.Events.{uncounted, counted-once}
 use Rattle.dn_shaper.proofs.Homes.{home-after, slots_home-after}
 use Rattle.dn_shaper.proofs.Heads.{first-picked, packet-picked, grown-agree}
 use Rattle.dn_shaper.proofs.Next.{front, listed, schedule-at, distinct_views}
 use Rattle.dn_shaper.proofs.OnePlace.{each-flow, each-set}
 use Rattle.dn_shaper.proofs.OneSlot.{slot-set}
-use Rattle.dn_flows.proofs.Places.{eq-no, eq-yes, map-set-same}
-use Rattle.dn_types.proofs.Settled.{link_eq-true, link_eq-refl, true_or_false, backlog-elsewhere, free-elsewhere, virtual_time-elsewhere, last_due-elsewhere, backlog-unknown}
-use Rattle.dn_types.proofs.Settling.{and-no, waiting-start, is_of-start}
 
 pub popped_started : (s : FlowState) (w : Waiting) → slice_get s.backlog 0 ≡ Some w → (popped s).started ≡ s.started + 1
 popped_started s w e = by s.backlog e

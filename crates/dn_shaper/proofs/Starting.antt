@@ -1,27 +1,13 @@
 -- A link for which a packet waits can start one, and all parts agree with the start.
-use Rattle.std.proofs.Common.{◌≡◌, ◌∙◌, ◌≤◌, ◌<◌, ◌^◌, ℕ, zero, suc, ◌+◌, Bool, true, false, cond, List, [], ◌∷◌, set, get_or, refl, ap, sym, subst, length, arith}
-use Rattle.std.specs.Prelude.{Some, slice_get}
-use Rattle.dn_types.specs.Configuration.{Settings}
-use Rattle.dn_types.specs.Deliveries.{in_order, is_given_before}
-use Rattle.dn_types.specs.Links.{transmission_time, due_by}
-use Rattle.dn_types.specs.SharedLinks.{next_packet}
-use Rattle.dn_types.specs.Starts.{start_at}
-use Rattle.dn_types.specs.Trace.{Link, own, shared, Accepted, Event, started, pipe_of, backlog}
-use Rattle.dn_types.specs.declared.delivery.Delivery.{Delivery}
-use Rattle.dn_flows.specs.Table.{FlowState, flow_at, places, popped, popped_from}
-use Rattle.dn_flows.specs.declared.waiting.Waiting.{Waiting}
-use Rattle.dn_flows.proofs.Reservations.{places-same}
-use Rattle.dn_flows.proofs.Views.{popped_backlog}
-use Rattle.dn_wf2q.specs.Schedule.{room_at}
-use Rattle.dn_shaper.specs.declared.links.link_parts.LinkParts.{LinkParts}
-use Rattle.dn_shaper.specs.declared.links.parts.Parts.{Parts}
-use Rattle.dn_shaper.specs.Refinement.Views.{homes_of, LinkView, CanSend, IsAlone, IsNextToSend, home, next_start_of, next_starts, queue_lengths, view_of, views_of, as_queued, waits_in_all}
-use Rattle.dn_shaper.specs.Refinement.Agreement.{GivesRates, AgreesWith, Agrees, IsAt}
-use Rattle.dn_shaper.specs.Refinement.Starting.{HasFront, AreCountsWithin, Within, IsReady, CanStart, StartsAt}
+use Rattle.dn_shaper.proofs.Words.{Accepted, Agrees, AgreesWith, AreCountsWithin, Bool, CanSend, CanStart, Delivery, Event, FlowState, GivesRates, HasFront, IsAlone, IsAt, IsNextToSend, IsReady}
+use Rattle.dn_shaper.proofs.Words.{Link, LinkParts, LinkView, List, Parts, Settings, Some, StartsAt, Waiting, Within, [], ap, arith, as_queued, backlog, cond, due_by, false, flow_at, get-below}
+use Rattle.dn_shaper.proofs.Words.{get_or, home, homes_of, in_order, is_given_before, length, next_packet, next_start_of, next_starts, own, pipe_of, places, places-same, popped, popped_backlog}
+use Rattle.dn_shaper.proofs.Words.{popped_from, queue_lengths, refl, room_at, set, shared, slice_get, start_at, started, subst, suc, sum-le, sum-set, sym, transmission_time, true, view_of, viewed}
+use Rattle.dn_shaper.proofs.Words.{views_of, waits_in_all, zero, ℕ, ◌+◌, ◌<◌, ◌^◌, ◌∙◌, ◌∷◌, ◌≡◌, ◌≤◌}
 use Rattle.dn_shaper.proofs.Alone.{is-alone, own-slot}
 use Rattle.dn_shaper.proofs.Next.{can_send, taken, front}
 use Rattle.dn_shaper.proofs.OnePlace.{agrees-as, each-flow, each-set}
-use Rattle.dn_flows.proofs.Places.{viewed, sum-set, sum-le, get-below, map-set}
+use Rattle.dn_flows.proofs.Places.{map-set}
 use Rattle.dn_shaper.proofs.Started.{start-agrees, popped_started, popped_rest}
 use Rattle.dn_shaper.proofs.Taking.{drop-fewer}
 

@@ -1,31 +1,12 @@
 -- A packet of a known flow is lost, refused or accepted after a settling.
-use Rattle.std.proofs.Common.{◌≡◌, ◌∙◌, ◌<◌, ◌^◌, ℕ, zero, suc, ◌+◌, Bool, true, false, cond, List, [], ◌∷◌, map, set, refl, ap, sym, subst, length, arith}
-use Rattle.std.specs.Prelude.{Option, Some, None, slice_get}
-use Rattle.dn_heap.specs.Heap.{Heap}
-use Rattle.dn_types.specs.Calls.{Verdict, loses, refuses, takes, after_verdict, accept, join}
-use Rattle.dn_types.specs.Configuration.{Settings}
-use Rattle.dn_types.specs.Drops.{is_lost, is_full}
-use Rattle.dn_types.specs.Flows.{Treatment}
-use Rattle.dn_types.specs.Replies.{reply_to_verdict}
-use Rattle.dn_types.specs.SharedLinks.{opening}
-use Rattle.dn_types.specs.Starts.{settle, settled, first_start, waiting_all}
-use Rattle.dn_types.specs.Trace.{Link, Accepted, Event, lost, refused, started, Start, backlog, links, with_link}
-use Rattle.dn_types.specs.declared.flow_key.FlowKey.{FlowKey}
-use Rattle.dn_types.specs.declared.packet.Packet.{Packet}
+use Rattle.dn_shaper.proofs.Words.{Accepted, Accepts, AgreesWith, Answers, AreCountsWithin, Bool, CanAccept, CanSee, Event, FlowKey, FlowState, Heap, IsMade, Link, LinkView, List, NextStart, None}
+use Rattle.dn_shaper.proofs.Words.{OnlyStarts, Option, Packet, Parts, Sees, Settings, SettlesAll, Some, Start, Take, Treatment, Verdict, Within, [], accept, after_verdict, ap, arith, as_queued}
+use Rattle.dn_shaper.proofs.Words.{backlog, cond, false, first_start, flow_at, home, is_full, is_lost, join, length, lengths, links, loses, lost, map, opening, places, places-same, refl, refused}
+use Rattle.dn_shaper.proofs.Words.{refuses, reply_to_verdict, set, settle, settled, settled-ends, slice_get, started, subst, suc, sym, takes, true, verdict_of, verdict_on, views_of, waiting_all}
+use Rattle.dn_shaper.proofs.Words.{waits_in_all, with_link, zero, ℕ, ◌+◌, ◌<◌, ◌^◌, ◌∙◌, ◌∷◌, ◌≡◌}
 use Rattle.dn_types.specs.declared.reply.Reply.TheVariants.{Queued, Lost as ReplyLost, Full as ReplyFull}
-use Rattle.dn_flows.proofs.Reservations.{places-same}
-use Rattle.dn_flows.specs.Table.{FlowState, flow_at, lengths, places, verdict_of}
-use Rattle.dn_flows.specs.declared.verdict.Verdict.TheVariants.{Take, Lost, Full}
+use Rattle.dn_flows.specs.declared.verdict.Verdict.TheVariants.{Full, Lost}
 use Rattle.dn_shaper.proofs.OnePlace.{each-flow}
-use Rattle.dn_shaper.specs.declared.links.next_start.NextStart.{NextStart}
-use Rattle.dn_shaper.specs.declared.links.parts.Parts.{Parts}
-use Rattle.dn_shaper.specs.Refinement.Agreement.{AgreesWith}
-use Rattle.dn_shaper.specs.Refinement.Arriving.{Accepts, CanAccept}
-use Rattle.dn_shaper.specs.Refinement.Settling.{OnlyStarts, SettlesAll}
-use Rattle.dn_shaper.specs.Refinement.Starting.{AreCountsWithin, Within}
-use Rattle.dn_shaper.specs.Refinement.Submitting.{IsMade, CanSee, Sees, verdict_on, Answers}
-use Rattle.dn_shaper.specs.Refinement.Views.{LinkView, views_of, home, as_queued, waits_in_all}
-use Rattle.dn_types.proofs.Settled.{settled-ends}
 
 -- Starts leave the links as they are.
 links-settle : (most : ℕ) (settings : Settings) (at : ℕ) (trace : List Event) → links (settle most settings at trace) ≡ links trace

@@ -1,26 +1,10 @@
 -- A link takes the flow that it sends next.
-use Rattle.std.proofs.Common.{◌≡◌, ◌∙◌, ◌<◌, ◌+◌, ℕ, zero, suc, cond, List, [], ◌∷◌, map, get_or, slice_set, drop, length, refl, ap, sym, subst, arith, Box, Global}
-use Rattle.std.specs.Prelude.{◌*◌, Option, Some, None, IfSome, IsSome, slice_get}
-use Rattle.std.specs.Option.{option_map}
-use Rattle.dn_types.specs.Deliveries.{in_order}
-use Rattle.dn_types.specs.Links.{transmission_time, due_by}
-use Rattle.dn_types.specs.Trace.{Link, own, shared}
-use Rattle.dn_types.specs.Wf2q.{Stamped, pick}
-use Rattle.dn_types.specs.declared.delivery.Delivery.{Delivery}
-use Rattle.dn_types.specs.declared.rule.Rule.{Rule}
-use Rattle.dn_link.specs.LinkState.{LinkState}
-use Rattle.dn_flows.specs.Table.{FlowState, flow_at, popped}
-use Rattle.dn_flows.specs.declared.waiting.Waiting.{Waiting}
-use Rattle.dn_flows.proofs.Places.{eq-yes, get-below}
-use Rattle.dn_flows.proofs.Views.{backlog_after_pop}
-use Rattle.dn_wf2q.specs.Schedule.{KeepsRoom, Picks, Schedule, heads_of, next_of}
-use Rattle.dn_shaper.specs.declared.links.link_parts.Carries.{Carries}
-use Rattle.dn_shaper.specs.declared.links.link_parts.Carries.TheVariants.{Own, Shared}
-use Rattle.dn_shaper.specs.declared.links.link_parts.LinkParts.{LinkParts}
-use Rattle.dn_shaper.specs.declared.links.shared_link.SharedLink.{SharedLink}
-use Rattle.dn_shaper.specs.Refinement.Sending.{CanPick, HasQueues, HoldsQueues, PicksFlow, cost_of, stamped_cost_of}
-use Rattle.dn_shaper.specs.Refinement.Starting.{KeepsSchedule, StartsOn}
-use Rattle.dn_shaper.specs.Refinement.Views.{LinkView, TakesNext, IsNextToSend, CanSend, carried_link, carried_waits, queue_lengths, view_of}
+use Rattle.dn_shaper.proofs.Words.{Box, CanPick, CanSend, Carries, Delivery, FlowState, Global, HasQueues, HoldsQueues, IfSome, IsNextToSend, IsSome, KeepsSchedule, Link, LinkParts, LinkState}
+use Rattle.dn_shaper.proofs.Words.{LinkView, List, None, Option, Own, Picks, PicksFlow, Rule, Schedule, Shared, SharedLink, Some, Stamped, StartsOn, TakesNext, Waiting, [], ap, arith}
+use Rattle.dn_shaper.proofs.Words.{backlog_after_pop, carried_link, carried_waits, cond, cost_of, drop, due_by, eq-yes, flow_at, get-below, get_or, heads_of, in_order, length, map, next_of}
+use Rattle.dn_shaper.proofs.Words.{option_map, own, pick, popped, queue_lengths, refl, shared, slice_get, slice_set, stamped_cost_of, subst, suc, sym, transmission_time, view_of, zero, ℕ, ◌*◌}
+use Rattle.dn_shaper.proofs.Words.{◌+◌, ◌<◌, ◌∙◌, ◌∷◌, ◌≡◌}
+use Rattle.dn_wf2q.specs.Schedule.{KeepsRoom}
 
 pub some-is : {X : Type 0} (o : Option X) (x : X) → o ≡ Some x → IsSome o
 some-is None x e = absurd cc

@@ -1,10 +1,6 @@
 -- Links that are not among those seen.
-use Rattle.std.proofs.Common.{◌≡◌, ◌∙◌, Bool, true, false, cond, ◌||◌, List, [], ◌∷◌, ◌++◌, refl, ap, sym, ⊎_elim}
-use Rattle.std.specs.List.{list_any}
-use Rattle.std.proofs.lemmas.List.Folds.{list_any-append}
-use Rattle.std.proofs.lemmas.Bool.{or_parts}
-use Rattle.dn_types.specs.Trace.{Link, link_eq, with_link}
-use Rattle.dn_types.proofs.Settled.{link_eq-true, link_eq-refl, true_or_false}
+use Rattle.dn_shaper.proofs.Words.{Bool, Link, List, [], ap, cond, false, link_eq, link_eq-refl, link_eq-true, list_any, list_any-append, or_parts, refl, sym, true, true_or_false, with_link}
+use Rattle.dn_shaper.proofs.Words.{⊎_elim, ◌++◌, ◌||◌, ◌∙◌, ◌∷◌, ◌≡◌}
 
 pub not_eq : (l m : Link) → (l ≡ m → ⊥) → link_eq l m ≡ false
 not_eq l m h = ⊎_elim (λ same. absurd (h (link_eq-true l m same))) (λ other. other) (true_or_false (link_eq l m))

@@ -1,13 +1,7 @@
 -- How many packets wait for a link after one arrived, or after a flow's packets were discarded.
-use Rattle.std.proofs.Common.{◌≡◌, ◌∙◌, ◌≤◌, ◌<◌, ◌⊎◌, ℕ, zero, suc, ◌+◌, ◌-◌, max, true, false, cond, ◌&&◌, List, [], ◌∷◌, ◌++◌, refl, ap, sym, length, arith, ⊎_elim, inl, inr}
-use Rattle.std.specs.Prelude.{nat_eq}
-use Rattle.std.proofs.lemmas.Bool.{cases_eq, cases_lt, and_from}
-use Rattle.dn_types.specs.Wf2q.{total}
-use Rattle.dn_types.specs.Trace.{Link, link_eq, Accepted, Event, arrived, discarded, is_of, backlog, flow_bound}
-use Rattle.dn_types.specs.SharedLinks.{waiting}
-use Rattle.dn_types.proofs.Settled.{link_eq-refl}
-use Rattle.dn_flows.proofs.Places.{eq-no, eq-yes}
-use Rattle.dn_types.proofs.Settling.{backlog-above, and-no}
+use Rattle.dn_shaper.proofs.Words.{Accepted, Event, Link, List, [], and-no, and_from, ap, arith, arrived, backlog, backlog-above, cases_eq, cases_lt, cond, discarded, eq-no, eq-yes, false}
+use Rattle.dn_shaper.proofs.Words.{flow_bound, inl, inr, is_of, length, link_eq, link_eq-refl, max, nat_eq, refl, suc, sym, total, true, waiting, zero, ℕ, ⊎_elim, ◌&&◌, ◌++◌, ◌+◌, ◌-◌, ◌<◌, ◌∙◌}
+use Rattle.dn_shaper.proofs.Words.{◌∷◌, ◌≡◌, ◌≤◌, ◌⊎◌}
 
 module _ {X : Type 0} where
   pub total-same : (n : ℕ) (q r : ℕ → List X) → ((g : ℕ) → length (r g) ≡ length (q g)) → total n r ≡ total n q

@@ -1,25 +1,9 @@
 -- At the earliest moment a Collect gives a packet, unless one starts.
-use Rattle.std.proofs.Common.{◌≡◌, ◌∙◌, ◌<◌, ◌≤◌, ⊎_elim, ℕ, zero, suc, max, Bool, true, false, cond, List, [], ◌∷◌, map, filter, length, refl, ap, sym, subst, arith}
-use Rattle.std.specs.Prelude.{Option, Some, None, IfSome, nat_le, nat_lt, ◌^◌}
-use Rattle.std.proofs.lemmas.Bool.{cases_lt, ltb-true}
-use Rattle.std.proofs.lemmas.Bool.Decides.{nat_tests}
-use Rattle.dn_types.specs.Calls.{trace_of}
-use Rattle.dn_types.specs.Clock.{counted, effective_moment}
-use Rattle.dn_types.specs.Configuration.{settings}
-use Rattle.dn_types.specs.Deliveries.{given, undelivered}
-use Rattle.dn_types.specs.Links.{free}
-use Rattle.dn_types.specs.Replies.{reply, counted_reply}
-use Rattle.dn_types.specs.SharedLinks.{waiting}
-use Rattle.dn_types.specs.Starts.{settled}
-use Rattle.dn_types.specs.Trace.{Accepted, Event, Link, backlog, flow_bound, links}
-use Rattle.dn_types.specs.Wf2q.{total}
-use Rattle.dn_types.specs.declared.call.Call.{Call}
-use Rattle.dn_types.specs.declared.call.Call.TheVariants.{Advance, Collect}
-use Rattle.dn_types.specs.declared.delivery.Delivery.{Delivery}
-use Rattle.dn_types.specs.declared.rule.Rule.{Rule}
-use Rattle.dn_types.proofs.Conserving.{busy-link}
-use Rattle.dn_shaper.specs.Shaper.{items_in}
-use Rattle.dn_shaper.specs.Waking.{earlier, earliest, next_free, wake_of}
+use Rattle.dn_shaper.proofs.Words.{Accepted, Advance, Bool, Call, Collect, Delivery, Event, IfSome, Link, List, None, Option, Rule, Some, [], ap, arith, backlog, busy-link, cases_lt, cond}
+use Rattle.dn_shaper.proofs.Words.{counted, counted_reply, earliest, effective_moment, false, filter, flow_bound, free, given, items_in, length, links, ltb-true, map, max, nat_le, nat_lt}
+use Rattle.dn_shaper.proofs.Words.{nat_tests, next_free, refl, reply, settings, settled, subst, suc, sym, total, trace_of, true, undelivered, waiting, wake_of, zero, ℕ, ⊎_elim, ◌<◌, ◌^◌, ◌∙◌, ◌∷◌}
+use Rattle.dn_shaper.proofs.Words.{◌≡◌, ◌≤◌}
+use Rattle.dn_shaper.specs.Waking.{earlier}
 use Rattle.dn_shaper.proofs.Counting.{counts}
 
 abbrev IsAfter : ℕ → Option ℕ → Type 0

@@ -1,31 +1,10 @@
 -- The earliest moment of the heap and of the delay line is that of the trace, and before it a Collect gives nothing.
-use Rattle.std.proofs.Common.{◌≡◌, ◌∙◌, ◌≤◌, ◌<◌, ◌⊎◌, ⊎_elim, ℕ, zero, suc, min, max, false, true, cond, List, [], ◌∷◌, map, filter, length, refl, ap, sym, subst, arith, All, slice_index_or}
-use Rattle.std.specs.Prelude.{Contains, Option, Some, None, IfSome, nat_le, nat_lt, option_map, slice_get}
-use Rattle.std.proofs.lemmas.List.{append-nil}
-use Rattle.std.proofs.lemmas.List.Elements.{All-contains, All-head, All-tail}
-use Rattle.std.proofs.lemmas.Bool.Decides.{nat_tests}
-use Rattle.dn_heap.specs.Heap.{IsLeast}
-use Rattle.dn_types.specs.Calls.{trace_of}
-use Rattle.dn_types.specs.Clock.{counted, effective_moment}
-use Rattle.dn_types.specs.Configuration.{Settings, settings}
-use Rattle.dn_types.specs.Deliveries.{given, undelivered}
-use Rattle.dn_types.specs.Replies.{reply, counted_reply}
-use Rattle.dn_types.specs.Starts.{first_start, settled, waiting_all}
-use Rattle.dn_types.specs.Trace.{Event, links}
-use Rattle.dn_types.specs.declared.call.Call.{Call}
-use Rattle.dn_types.specs.declared.call.Call.TheVariants.{Collect}
-use Rattle.dn_types.specs.declared.delivery.Delivery.{Delivery}
-use Rattle.dn_types.specs.declared.rule.Rule.{Rule}
-use Rattle.dn_shaper.specs.declared.links.next_start.NextStart.{NextStart}
-use Rattle.dn_shaper.specs.declared.state.State.{State}
-use Rattle.dn_shaper.specs.Refinement.Agreement.{IsLinkAt}
-use Rattle.dn_shaper.specs.Refinement.NextStarts.{next_start_cmp, next_at, Holds}
-use Rattle.dn_shaper.specs.Refinement.Settings.{settings_of}
-use Rattle.dn_shaper.specs.Refinement.Sound.{IsSound}
-use Rattle.dn_shaper.specs.Refinement.Views.{LinkView, views_of, next_start_of, next_starts}
-use Rattle.dn_shaper.specs.Shaper.{items_in}
-use Rattle.dn_shaper.specs.Standing.{StandsAt}
-use Rattle.dn_shaper.specs.Waking.{earlier, earliest, next_free, wake_of}
+use Rattle.dn_shaper.proofs.Words.{All, All-contains, All-head, All-tail, Call, Collect, Contains, Delivery, Event, Holds, IfSome, IsLeast, IsLinkAt, IsSound, LinkView, List, NextStart, None}
+use Rattle.dn_shaper.proofs.Words.{Option, Rule, Settings, Some, StandsAt, State, [], ap, append-nil, arith, cond, counted, counted_reply, earliest, effective_moment, false, filter, first_start}
+use Rattle.dn_shaper.proofs.Words.{given, items_in, length, links, map, max, min, nat_le, nat_lt, nat_tests, next_at, next_free, next_start_cmp, next_start_of, next_starts, option_map, refl}
+use Rattle.dn_shaper.proofs.Words.{reply, settings, settings_of, settled, slice_get, slice_index_or, subst, suc, sym, trace_of, true, undelivered, views_of, waiting_all, wake_of, zero, ℕ, ⊎_elim}
+use Rattle.dn_shaper.proofs.Words.{◌<◌, ◌∙◌, ◌∷◌, ◌≡◌, ◌≤◌, ◌⊎◌}
+use Rattle.dn_shaper.specs.Waking.{earlier}
 use Rattle.dn_shaper.proofs.Counting.{counts}
 use Rattle.dn_shaper.proofs.FirstStart.{settle-none}
 use Rattle.dn_shaper.proofs.Next.{nexts-from}

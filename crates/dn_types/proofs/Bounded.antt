@@ -1,32 +1,11 @@
 -- The trace of calls in range is bounded: the lengths of packets, the bytes that a queue holds, and each start.
-use Rattle.std.proofs.Common.{map, ◌≡◌, ◌≤◌, ◌<◌, ◌^◌, ℕ, zero, suc, ◌+◌, ◌*◌, max, Bool, true, false, cond, ◌&&◌, List, [], ◌∷◌, ◌++◌, refl, subst, length, drop, arith}
-use Rattle.std.specs.Prelude.{Option, Some, None, sum, nat_le, nat_eq, slice_get, option_map, ⊤}
-use Rattle.std.specs.List.{All, sum_by}
-use Rattle.std.proofs.lemmas.Bool.{eqb-true}
-use Rattle.std.proofs.lemmas.Bool.Decides.{nat_tests}
-use Rattle.std.proofs.lemmas.List.{length-map}
-use Rattle.std.proofs.lemmas.List.Elements.{All-push, All-drop}
-use Rattle.std.proofs.lemmas.List.Sums.{sum-map, sum_by-le, sum_by_push, sum_by-take-drop}
-use Rattle.dn_types.specs.Bounds.{IsLimitInRange, IsInRange}
-use Rattle.dn_types.specs.Calls.{Verdict, no_target, loses, refuses, takes, link_of, verdict_by, verdict, accept, join, after_verdict, reaches, discard_reached, after_command, trace_of}
-use Rattle.dn_types.specs.Clock.{effective_moment}
-use Rattle.dn_types.specs.Configuration.{Settings, settings, reply_to_command}
-use Rattle.dn_types.specs.Drops.{is_lost, is_full}
-use Rattle.dn_types.specs.Flows.{Treatment, treatment, key_of, keys, flow_number}
-use Rattle.dn_types.specs.Links.{free}
-use Rattle.dn_types.specs.SharedLinks.{waiting, next_packet, opening}
-use Rattle.dn_types.specs.Starts.{bandwidth_of, start_at, next_start, first_start, settle, waiting_all, settled}
-use Rattle.dn_types.specs.Trace.{Link, pipe_of, Accepted, Start, Event, opened, arrived, started, discarded, is_of, backlog, links}
-use Rattle.dn_types.specs.declared.call.Call.{Call}
-use Rattle.dn_types.specs.declared.call.Call.TheVariants.{Configure, Submit, Advance, Collect, Show}
-use Rattle.dn_types.specs.declared.command.Command.{Command}
-use Rattle.dn_types.specs.declared.flow_key.FlowKey.{FlowKey}
-use Rattle.dn_types.specs.declared.limit.Limit.{Limit}
-use Rattle.dn_types.specs.declared.limit.Limit.TheVariants.{Slots, Kbytes}
-use Rattle.dn_types.specs.declared.packet.Packet.{Packet}
-use Rattle.dn_types.specs.declared.reply.Reply.{Reply}
-use Rattle.dn_types.specs.declared.reply.Reply.TheVariants.{Deleted}
-use Rattle.dn_types.specs.declared.target.Target.{Target}
+use Rattle.dn_types.proofs.Words.{Accepted, Advance, All, All-drop, All-push, Bool, Call, Collect, Command, Configure, Deleted, Event, FlowKey, IsInRange, IsLimitInRange, Kbytes, Limit, Link}
+use Rattle.dn_types.proofs.Words.{List, None, Option, Packet, Reply, Settings, Show, Slots, Some, Start, Submit, Target, Treatment, Verdict, [], accept, after_command, after_verdict, arith}
+use Rattle.dn_types.proofs.Words.{arrived, backlog, bandwidth_of, cond, discard_reached, discarded, drop, effective_moment, eqb-true, false, first_start, flow_number, free, is_full, is_lost}
+use Rattle.dn_types.proofs.Words.{is_of, join, key_of, keys, length, length-map, link_of, links, loses, map, max, nat_eq, nat_le, nat_tests, next_packet, next_start, no_target, opened, opening}
+use Rattle.dn_types.proofs.Words.{option_map, pipe_of, reaches, refl, refuses, reply_to_command, settings, settle, settled, slice_get, start_at, started, subst, suc, sum, sum-map, sum_by}
+use Rattle.dn_types.proofs.Words.{sum_by-le, sum_by-take-drop, sum_by_push, takes, trace_of, treatment, true, verdict, verdict_by, waiting, waiting_all, zero, ℕ, ⊤, ◌&&◌, ◌*◌, ◌++◌, ◌+◌, ◌<◌, ◌^◌}
+use Rattle.dn_types.proofs.Words.{◌∷◌, ◌≡◌, ◌≤◌}
 use Rattle.dn_types.specs.declared.target.Target.TheVariants.{Pipe as ToPipe}
 use Rattle.dn_types.proofs.Ranges.{all-first, all-rest, clock-in-range, AreInRange, settings-in-range, IsTreatmentInRange, treatment-in-range, delay-in-range, transmission-in-range}
 use Rattle.dn_types.proofs.Settled.{and-left, link_eq-true, first_start-of}

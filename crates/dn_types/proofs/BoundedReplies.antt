@@ -1,30 +1,10 @@
 -- The replies to calls in range have bounded moments and bytes.
-use Rattle.std.proofs.Common.{◌≤◌, ◌<◌, ◌^◌, ℕ, suc, ◌+◌, max, Bool, true, false, cond, List, [], ◌∷◌, length, arith}
-use Rattle.std.specs.Prelude.{nat_le, nat_lt, is_some}
-use Rattle.std.specs.List.{All}
-use Rattle.std.proofs.lemmas.List.Elements.{All-nil, All-cons, All-filter}
-use Rattle.std.proofs.lemmas.List.Sums.{sum-map}
-use Rattle.dn_types.specs.Bounds.{IsInRange, HasBoundedMoments, HasBoundedBytes}
-use Rattle.dn_types.specs.Calls.{Verdict, no_target, loses, refuses, takes, link_of, verdict, trace_of}
-use Rattle.dn_types.specs.Clock.{effective_moment, call_limit}
-use Rattle.dn_types.specs.Configuration.{Settings, has_queues, queue_numbers, command_reply, settings}
-use Rattle.dn_types.specs.Deliveries.{delivery_of, in_order, is_given_before, undelivered}
-use Rattle.dn_types.specs.Flows.{keys}
-use Rattle.dn_types.specs.Links.{arrival_time, due_by, last_due}
-use Rattle.dn_types.specs.Replies.{statuses_from, status_of, reply_to_verdict, counted_reply, reply}
-use Rattle.dn_types.specs.Starts.{settled}
-use Rattle.dn_types.specs.Trace.{Link, link_eq, Start, Event, arrived, started, collected, backlog}
-use Rattle.dn_types.specs.declared.call.Call.{Call}
-use Rattle.dn_types.specs.declared.call.Call.TheVariants.{Configure, Submit, Advance, Collect, Show}
-use Rattle.dn_types.specs.declared.command.Command.{Command}
-use Rattle.dn_types.specs.declared.command.Command.TheVariants.{Pipe, Queue, DeletePipe, DeleteQueue}
-use Rattle.dn_types.specs.declared.delivery.Delivery.{Delivery}
-use Rattle.dn_types.specs.declared.flow_key.FlowKey.{FlowKey}
-use Rattle.dn_types.specs.declared.flow_status.FlowStatus.{FlowStatus}
-use Rattle.dn_types.specs.declared.reply.Reply.{Reply}
-use Rattle.dn_types.specs.declared.reply.Reply.TheVariants.{Configured, NoSuchPipe, Deleted, PipeHasQueues, NoSuchQueue, Exhausted}
-use Rattle.dn_types.specs.declared.rule.Rule.{Rule}
-use Rattle.dn_types.specs.declared.rule.Rule.TheVariants.{Free, Ordered}
+use Rattle.dn_types.proofs.Words.{Advance, All, All-cons, All-filter, All-nil, Bool, Call, Collect, Command, Configure, Configured, DeletePipe, DeleteQueue, Deleted, Delivery, Event, Exhausted}
+use Rattle.dn_types.proofs.Words.{FlowKey, FlowStatus, Free, HasBoundedBytes, HasBoundedMoments, IsInRange, Link, List, NoSuchPipe, NoSuchQueue, Ordered, Pipe, PipeHasQueues, Queue, Reply, Rule}
+use Rattle.dn_types.proofs.Words.{Settings, Show, Start, Submit, Verdict, [], arith, arrival_time, arrived, backlog, call_limit, collected, command_reply, cond, counted_reply, delivery_of, due_by}
+use Rattle.dn_types.proofs.Words.{effective_moment, false, has_queues, in_order, is_given_before, is_some, keys, last_due, length, link_eq, link_of, loses, max, nat_le, nat_lt, no_target}
+use Rattle.dn_types.proofs.Words.{queue_numbers, refuses, reply, reply_to_verdict, settings, settled, started, status_of, statuses_from, suc, sum-map, takes, trace_of, true, undelivered, verdict}
+use Rattle.dn_types.proofs.Words.{ℕ, ◌+◌, ◌<◌, ◌^◌, ◌∷◌, ◌≤◌}
 use Rattle.dn_types.specs.declared.target.Target.TheVariants.{Pipe as ToPipe, Queue as ToQueue}
 use Rattle.dn_types.proofs.Bounded.{IsBounded, len_of, bytes-bounded, settled-bounded, later-in-range, trace-bounded}
 use Rattle.dn_types.proofs.Dues.{gives-what-is-due}

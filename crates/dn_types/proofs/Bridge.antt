@@ -1,33 +1,14 @@
 -- The standing after one call more is one step from the standing before it.
-use Rattle.std.proofs.Common.{◌≡◌, ◌∙◌, ℕ, zero, suc, ◌+◌, ◌-◌, max, Bool, true, false, cond, ◌&&◌, List, [], ◌∷◌, refl, ap, sym, length, drop, ◌≤◌, ◌<◌, arith, length-drop, ⊎_elim}
-use Rattle.std.specs.Prelude.{Option, Some, None, nat_le, nat_eq}
-use Rattle.std.specs.List.{filter}
-use Rattle.std.proofs.lemmas.Bool.{le-leb, lt-leb}
-use Rattle.std.proofs.lemmas.Bool.Decides.{leb_tells}
-use Rattle.dn_types.specs.Calls.{Verdict, no_target, loses, refuses, takes, verdict, verdict_by, accept, join, after_verdict, reaches, discard_reached, after_command, trace_of}
-use Rattle.dn_types.specs.Clock.{effective_moment, counted, call_limit}
-use Rattle.dn_types.specs.Configuration.{Settings, settings, queue_numbers, reply_to_command}
-use Rattle.dn_types.specs.Flows.{Treatment, treatment, keys}
-use Rattle.dn_types.specs.Links.{free}
-use Rattle.dn_types.specs.Replies.{reply, counted_reply, reply_to_verdict, statuses_from, status_of}
-use Rattle.dn_types.specs.SharedLinks.{waiting, opening}
-use Rattle.dn_types.specs.Standing.{Traffic, traffic, Standing, standing, standing_of_counted}
-use Rattle.dn_types.specs.Starts.{next_start, sooner, first_start, settle, waiting_all, settled, start_at}
-use Rattle.dn_types.specs.Trace.{Link, own, shared, Accepted, Event, opened, arrived, started, lost, refused, discarded, collected, Start, links, is_arrival, is_start_of, is_loss_of, is_refusal_of}
+use Rattle.dn_types.proofs.Words.{Accepted, Advance, Bool, Call, Collect, Command, Configure, DeletePipe, DeleteQueue, Deleted, Delivered, Event, Exhausted, FlowKey, FlowStatus, Link, List, None}
+use Rattle.dn_types.proofs.Words.{Option, Packet, Pipe, Queue, Reply, Rule, Settings, Show, Some, Standing, Start, Status, Submit, Target, Traffic, Treatment, Verdict, [], accept, after_command}
+use Rattle.dn_types.proofs.Words.{after_verdict, ap, arith, arrived, call_limit, collected, cond, counted, counted_reply, discard_reached, discarded, drop, effective_moment, false, filter}
+use Rattle.dn_types.proofs.Words.{first_start, free, is_arrival, is_loss_of, is_refusal_of, is_start_of, join, keys, le-leb, leb_tells, length, length-drop, links, loses, lost, lt-leb, max}
+use Rattle.dn_types.proofs.Words.{nat_eq, nat_le, next_start, no_target, opened, opening, own, queue_numbers, reaches, refl, refused, refuses, reply, reply_to_command, reply_to_verdict, settings}
+use Rattle.dn_types.proofs.Words.{settle, settled, shared, sooner, standing, standing_of_counted, start_at, started, status_of, statuses_from, suc, sym, takes, trace_of, traffic, treatment, true}
+use Rattle.dn_types.proofs.Words.{verdict, verdict_by, waiting, waiting_all, zero, ℕ, ⊎_elim, ◌&&◌, ◌+◌, ◌-◌, ◌<◌, ◌∙◌, ◌∷◌, ◌≡◌, ◌≤◌}
 use Rattle.dn_types.proofs.Giving.{count-event}
 use Rattle.dn_types.proofs.Step.{after_event, next_start_in, first_start_in, settle_most_in, settle_in, waiting_all_in, verdict_in, opening_in, accept_in, join_in}
 use Rattle.dn_types.proofs.Step.{after_verdict_in, discard_reached_in, after_command_in, queue_numbers_after, counted_step, step, statuses_in, verdict_reply_in, counted_step_reply, step_reply}
-use Rattle.dn_types.specs.declared.call.Call.{Call}
-use Rattle.dn_types.specs.declared.call.Call.TheVariants.{Configure, Submit, Advance, Collect, Show}
-use Rattle.dn_types.specs.declared.packet.Packet.{Packet}
-use Rattle.dn_types.specs.declared.target.Target.{Target}
-use Rattle.dn_types.specs.declared.command.Command.{Command}
-use Rattle.dn_types.specs.declared.command.Command.TheVariants.{Pipe, Queue, DeletePipe, DeleteQueue}
-use Rattle.dn_types.specs.declared.flow_key.FlowKey.{FlowKey}
-use Rattle.dn_types.specs.declared.flow_status.FlowStatus.{FlowStatus}
-use Rattle.dn_types.specs.declared.rule.Rule.{Rule}
-use Rattle.dn_types.specs.declared.reply.Reply.{Reply}
-use Rattle.dn_types.specs.declared.reply.Reply.TheVariants.{Delivered, Status, Exhausted, Deleted}
 
 -- ---- One event
 

@@ -1,22 +1,8 @@
 -- Of arrivals, losses and refusals a call makes one at most, so there are at most as many as calls.
-use Rattle.std.proofs.Common.{◌≡◌, ◌∙◌, ◌≤◌, ℕ, zero, suc, ◌+◌, max, Bool, true, false, cond, ◌&&◌, List, [], ◌∷◌, refl, ap, length, arith}
-use Rattle.std.specs.Prelude.{Option, Some, None, nat_le, nat_eq}
-use Rattle.std.specs.List.{count_by}
-use Rattle.dn_types.specs.Calls.{Verdict, no_target, loses, refuses, takes, verdict, accept, join, after_verdict, reaches, discard_reached, after_command, trace_of}
-use Rattle.dn_types.specs.Clock.{effective_moment}
-use Rattle.dn_types.specs.Configuration.{Settings, settings, reply_to_command}
-use Rattle.dn_types.specs.Flows.{keys}
-use Rattle.dn_types.specs.Links.{free}
-use Rattle.dn_types.specs.SharedLinks.{waiting, opening}
-use Rattle.dn_types.specs.Starts.{start_at, first_start, settle, waiting_all, settled}
-use Rattle.dn_types.specs.Trace.{Link, Accepted, Start, Event, opened, arrived, started, lost, refused, discarded, collected, links}
-use Rattle.dn_types.specs.declared.call.Call.{Call}
-use Rattle.dn_types.specs.declared.call.Call.TheVariants.{Configure, Submit, Advance, Collect, Show}
-use Rattle.dn_types.specs.declared.command.Command.{Command}
-use Rattle.dn_types.specs.declared.flow_key.FlowKey.{FlowKey}
-use Rattle.dn_types.specs.declared.packet.Packet.{Packet}
-use Rattle.dn_types.specs.declared.reply.Reply.{Reply}
-use Rattle.dn_types.specs.declared.reply.Reply.TheVariants.{Deleted}
+use Rattle.dn_types.proofs.Words.{Accepted, Advance, Bool, Call, Collect, Command, Configure, Deleted, Event, FlowKey, Link, List, None, Option, Packet, Reply, Settings, Show, Some, Start, Submit}
+use Rattle.dn_types.proofs.Words.{Verdict, [], accept, after_command, after_verdict, ap, arith, arrived, collected, cond, count_by, discard_reached, discarded, effective_moment, false}
+use Rattle.dn_types.proofs.Words.{first_start, free, join, keys, length, links, loses, lost, max, nat_eq, nat_le, no_target, opened, opening, reaches, refl, refused, refuses, reply_to_command}
+use Rattle.dn_types.proofs.Words.{settings, settle, settled, start_at, started, suc, takes, trace_of, true, verdict, waiting, waiting_all, zero, ℕ, ◌&&◌, ◌+◌, ◌∙◌, ◌∷◌, ◌≡◌, ◌≤◌}
 use Rattle.dn_types.proofs.Giving.{count-event}
 use Rattle.dn_types.proofs.StepFacts.{at-most-one}
 

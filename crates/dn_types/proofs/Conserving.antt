@@ -1,23 +1,8 @@
 -- While a packet waits for a link, the link is busy beyond the clock.
-use Rattle.std.proofs.Common.{◌≡◌, ◌≤◌, ◌<◌, ⊎_elim, ℕ, ◌+◌, max, Bool, true, false, cond, ◌&&◌, List, [], ◌∷◌, ◌++◌, refl, ap, subst, length, drop, arith}
-use Rattle.std.specs.Prelude.{nat_le, nat_eq}
-use Rattle.std.proofs.lemmas.Bool.Decides.{nat_tests, leb_tells}
-use Rattle.dn_types.specs.Calls.{link_of, Verdict, no_target, loses, refuses, takes, accept, join, after_verdict, verdict, reaches, discard_reached, after_command, trace_of}
-use Rattle.dn_types.specs.Clock.{effective_moment}
-use Rattle.dn_types.specs.Configuration.{Settings, settings, reply_to_command}
-use Rattle.dn_types.specs.Flows.{keys}
-use Rattle.dn_types.specs.Links.{free}
-use Rattle.dn_types.specs.SharedLinks.{waiting, opening}
-use Rattle.dn_types.specs.Starts.{settled, start_at}
-use Rattle.dn_types.specs.Trace.{Link, link_eq, Accepted, Event, opened, arrived, started, discarded, is_of, backlog}
-use Rattle.dn_types.specs.declared.call.Call.{Call}
-use Rattle.dn_types.specs.declared.call.Call.TheVariants.{Configure, Submit, Advance, Collect, Show}
-use Rattle.dn_types.specs.declared.command.Command.{Command}
-use Rattle.dn_types.specs.declared.flow_key.FlowKey.{FlowKey}
-use Rattle.dn_types.specs.declared.packet.Packet.{Packet}
-use Rattle.dn_types.specs.declared.reply.Reply.{Reply}
-use Rattle.dn_types.specs.declared.reply.Reply.TheVariants.{Deleted}
-use Rattle.dn_types.specs.declared.target.Target.{Target}
+use Rattle.dn_types.proofs.Words.{Accepted, Advance, Bool, Call, Collect, Command, Configure, Deleted, Event, FlowKey, Link, List, Packet, Reply, Settings, Show, Submit, Target, Verdict, []}
+use Rattle.dn_types.proofs.Words.{accept, after_command, after_verdict, ap, arith, arrived, backlog, cond, discard_reached, discarded, drop, effective_moment, false, free, is_of, join, keys}
+use Rattle.dn_types.proofs.Words.{leb_tells, length, link_eq, link_of, loses, max, nat_eq, nat_le, nat_tests, no_target, opened, opening, reaches, refl, refuses, reply_to_command, settings}
+use Rattle.dn_types.proofs.Words.{settled, start_at, started, subst, takes, trace_of, true, verdict, waiting, ℕ, ⊎_elim, ◌&&◌, ◌++◌, ◌+◌, ◌<◌, ◌∷◌, ◌≡◌, ◌≤◌}
 use Rattle.dn_types.proofs.Known.{all-known}
 use Rattle.dn_types.proofs.Ordered.{IsHome, link_of-home, empty-home}
 use Rattle.dn_types.proofs.Settled.{settled-ends, and-left, link_eq-true}

@@ -1,21 +1,7 @@
 -- What a Collect gives and leaves, and how the due moments of a link go on.
-use Rattle.std.proofs.Common.{◌≡◌, ◌≤◌, ◌<◌, ℕ, max, Bool, true, false, cond, List, [], ◌∷◌, ◌++◌, ap, sym, arith, get_or}
-use Rattle.std.specs.Prelude.{nat_le, nat_lt}
-use Rattle.std.specs.List.{All}
-use Rattle.std.proofs.lemmas.List.Elements.{filter_passes}
-use Rattle.std.proofs.lemmas.Bool.{leb-true, ltb-true}
-use Rattle.dn_types.specs.Calls.{trace_of}
-use Rattle.dn_types.specs.Clock.{effective_moment}
-use Rattle.dn_types.specs.Configuration.{settings}
-use Rattle.dn_types.specs.Deliveries.{delivery_of, given, undelivered}
-use Rattle.dn_types.specs.Given.{given_count}
-use Rattle.dn_types.specs.Links.{arrival_time, due_by, last_due}
-use Rattle.dn_types.specs.Starts.{settled}
-use Rattle.dn_types.specs.Trace.{Link, link_eq, Start, Event, started, collected}
-use Rattle.dn_types.specs.declared.call.Call.{Call}
-use Rattle.dn_types.specs.declared.call.Call.TheVariants.{Collect}
-use Rattle.dn_types.specs.declared.rule.Rule.{Rule}
-use Rattle.dn_types.specs.declared.rule.Rule.TheVariants.{Ordered}
+use Rattle.dn_types.proofs.Words.{All, Bool, Call, Collect, Event, Link, List, Ordered, Rule, Start, [], ap, arith, arrival_time, collected, cond, delivery_of, due_by, effective_moment, false}
+use Rattle.dn_types.proofs.Words.{filter_passes, get_or, given, given_count, last_due, leb-true, link_eq, ltb-true, max, nat_le, nat_lt, settings, settled, started, sym, trace_of, true}
+use Rattle.dn_types.proofs.Words.{undelivered, ℕ, ◌++◌, ◌<◌, ◌∷◌, ◌≡◌, ◌≤◌}
 use Rattle.dn_types.proofs.Giving.{gives-started}
 use Rattle.dn_types.proofs.Settled.{link_eq-refl}
 use Rattle.dn_types.proofs.Once.{starts-once}

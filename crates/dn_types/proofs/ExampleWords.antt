@@ -1,19 +1,6 @@
 -- The words of the examples: a list of calls, oldest first, each with the reply that it gets.
-use Rattle.std.specs.Prelude.{ℕ, ◌≡◌, ◌+◌, ◌*◌, List, map, None}
-use Rattle.dn_types.specs.Replies.{replies}
-use Rattle.dn_types.specs.declared.call.Call.{Call}
-use Rattle.dn_types.specs.declared.call.Call.TheVariants.{Configure, Submit}
-use Rattle.dn_types.specs.declared.command.Command.TheVariants.{Pipe, Queue}
-use Rattle.dn_types.specs.declared.delivery.Delivery.{Delivery}
-use Rattle.dn_types.specs.declared.five_tuple.FiveTuple.{FiveTuple}
-use Rattle.dn_types.specs.declared.flow_key.FlowKey.{FlowKey}
-use Rattle.dn_types.specs.declared.flow_status.FlowStatus.{FlowStatus}
-use Rattle.dn_types.specs.declared.limit.Limit.TheVariants.{Slots}
-use Rattle.dn_types.specs.declared.mask.Mask.{Mask}
-use Rattle.dn_types.specs.declared.packet.Packet.{Packet}
-use Rattle.dn_types.specs.declared.reply.Reply.{Reply}
-use Rattle.dn_types.specs.declared.rule.Rule.{Rule}
-use Rattle.dn_types.specs.declared.target.Target.{Target}
+use Rattle.dn_types.proofs.Words.{Call, Configure, Delivery, FiveTuple, FlowKey, FlowStatus, List, Mask, None, Packet, Pipe, Queue, Reply, Rule, Slots, Submit, Target, map, replies, ℕ, ◌*◌, ◌+◌}
+use Rattle.dn_types.proofs.Words.{◌≡◌}
 use Rattle.dn_types.specs.declared.target.Target.TheVariants.{Pipe as ToPipe, Queue as ToQueue}
 use mathlib.Core.List.{reverse}
 

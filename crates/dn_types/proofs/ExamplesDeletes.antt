@@ -1,15 +1,7 @@
 -- Worked examples: deletes. The prover computes the replies.
-use Rattle.std.specs.Prelude.{ℕ, ◌≡◌, List, [], ◌∷◌, ◌++◌, map, refl}
+use Rattle.dn_types.proofs.Words.{Advance, Advanced, Call, Collect, Configure, Configured, DeletePipe, DeleteQueue, Deleted, Delivered, FlowKey, List, NoSuchPipe, NoSuchQueue, NoTarget, Ordered}
+use Rattle.dn_types.proofs.Words.{PipeHasQueues, Queued, Show, Status, [], map, refl, shared, trace_of, virtual_time, ℕ, ◌++◌, ◌∷◌, ◌≡◌}
 use Rattle.dn_types.proofs.ExampleWords.{Answered, Answers, ◌⇒◌, call_of, delivery, key, no_mask, pipe, queue, status, to_pipe, to_queue, tuple}
-use Rattle.dn_types.specs.Calls.{trace_of}
-use Rattle.dn_types.specs.SharedLinks.{virtual_time}
-use Rattle.dn_types.specs.Trace.{shared}
-use Rattle.dn_types.specs.declared.call.Call.{Call}
-use Rattle.dn_types.specs.declared.call.Call.TheVariants.{Configure, Advance, Collect, Show}
-use Rattle.dn_types.specs.declared.command.Command.TheVariants.{DeletePipe, DeleteQueue}
-use Rattle.dn_types.specs.declared.flow_key.FlowKey.{FlowKey}
-use Rattle.dn_types.specs.declared.reply.Reply.TheVariants.{Configured, NoSuchPipe, Queued, NoTarget, Advanced, Delivered, Status, Deleted, PipeHasQueues, NoSuchQueue}
-use Rattle.dn_types.specs.declared.rule.Rule.TheVariants.{Ordered}
 use Rattle.dn_types.specs.declared.target.Target.TheVariants.{Queue as ToQueue}
 use mathlib.Core.List.{reverse}
 

@@ -1,13 +1,7 @@
 -- Worked examples: the clock, links, limits, loss, flows and due moments. The prover computes the replies.
-use Rattle.std.specs.Prelude.{ℕ, [], ◌∷◌, refl, None}
+use Rattle.dn_types.proofs.Words.{Advance, Advanced, Call, Collect, Configure, Configured, Delivered, Free, Full, Kbytes, Limit, Lost, None, Ordered, Pipe, Queued, Show, Slots, Status, Submit, []}
+use Rattle.dn_types.proofs.Words.{refl, ℕ, ◌∷◌}
 use Rattle.dn_types.proofs.ExampleWords.{Answers, ◌⇒◌, delivery, key, mask, no_mask, packet, pipe, sized, status, ten, to_pipe, tuple, worded}
-use Rattle.dn_types.specs.declared.call.Call.{Call}
-use Rattle.dn_types.specs.declared.call.Call.TheVariants.{Configure, Submit, Advance, Collect, Show}
-use Rattle.dn_types.specs.declared.command.Command.TheVariants.{Pipe}
-use Rattle.dn_types.specs.declared.limit.Limit.{Limit}
-use Rattle.dn_types.specs.declared.limit.Limit.TheVariants.{Slots, Kbytes}
-use Rattle.dn_types.specs.declared.reply.Reply.TheVariants.{Configured, Queued, Lost, Full, Advanced, Delivered, Status}
-use Rattle.dn_types.specs.declared.rule.Rule.TheVariants.{Free, Ordered}
 use Rattle.dn_types.specs.declared.target.Target.TheVariants.{Pipe as ToPipe}
 
 -- 8,000 bits at 300 Kbit/s take 26,666,667 ns, rounded up, and then come 50 ms of delay.

@@ -1,14 +1,7 @@
 -- Worked examples: queues that share a pipe of 8 Mbit/s, on which a packet of 1,000 bytes takes 1 ms. `a` is a packet to
 -- queue 1, of flow 0, and `b` one to queue 2, of flow 1. The prover computes the replies.
-use Rattle.std.specs.Prelude.{ℕ, ◌≡◌, List, [], ◌∷◌, ◌++◌, map, refl}
+use Rattle.dn_types.proofs.Words.{Advance, Call, Collect, Configured, Delivered, List, Ordered, Queued, [], map, refl, shared, trace_of, virtual_time, ℕ, ◌++◌, ◌∷◌, ◌≡◌}
 use Rattle.dn_types.proofs.ExampleWords.{Answered, Answers, ◌⇒◌, call_of, delivery, pipe, queue, to_queue}
-use Rattle.dn_types.specs.Calls.{trace_of}
-use Rattle.dn_types.specs.SharedLinks.{virtual_time}
-use Rattle.dn_types.specs.Trace.{shared}
-use Rattle.dn_types.specs.declared.call.Call.{Call}
-use Rattle.dn_types.specs.declared.call.Call.TheVariants.{Advance, Collect}
-use Rattle.dn_types.specs.declared.reply.Reply.TheVariants.{Configured, Queued, Delivered}
-use Rattle.dn_types.specs.declared.rule.Rule.TheVariants.{Ordered}
 use mathlib.Core.List.{reverse}
 
 abbrev a : ℕ → Call

@@ -1,12 +1,7 @@
 -- The packets of a flow start in the order of their arrival.
-use Rattle.std.proofs.Common.{◌≡◌, ◌∙◌, ◌≤◌, ℕ, Bool, true, false, cond, List, [], ◌∷◌, ◌++◌, refl, ap, sym, drop}
-use Rattle.std.specs.Prelude.{Some, nat_eq, slice_get, ⊤}
-use Rattle.dn_types.specs.Given.{accepted_since, started_since}
-use Rattle.dn_types.specs.Links.{free}
-use Rattle.dn_types.specs.Trace.{Link, Accepted, Event, arrived, started, discarded, Start, is_of, backlog, accepted_count}
+use Rattle.dn_types.proofs.Words.{Accepted, Bool, Event, Link, List, Some, Start, [], accepted_count, accepted_since, ap, append_assoc, arrived, backlog, cond, discarded, drop, eqb-true, false}
+use Rattle.dn_types.proofs.Words.{free, is_of, nat_eq, refl, slice_get, started, started_since, sym, true, ℕ, ⊤, ◌++◌, ◌∙◌, ◌∷◌, ◌≡◌, ◌≤◌}
 use Rattle.dn_types.proofs.Settled.{and-left, link_eq-true}
-use Rattle.std.proofs.lemmas.Bool.{eqb-true}
-use Rattle.std.proofs.lemmas.List.{append_assoc}
 use Rattle.dn_types.proofs.Settling.{and-right}
 
 -- Each accepted packet has the count of those before it as its number, and each start is of the first packet of its

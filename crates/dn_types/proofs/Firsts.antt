@@ -1,14 +1,7 @@
 -- What is picked is the first of its flow's backlog.
-use Rattle.std.proofs.Common.{◌≡◌, ◌∙◌, ◌<◌, ℕ, zero, suc, Bool, true, false, cond, List, [], ◌∷◌, ◌++◌, map, get_or, refl, ap, sym, subst, length, take, arith, ⊎_elim}
-use Rattle.std.specs.Prelude.{Option, Some, None, nat_le, nat_eq, slice_get, option_and_then, is_some}
-use Rattle.std.specs.List.{All, filter}
-use Rattle.std.proofs.lemmas.List.{take-map, map-append}
-use Rattle.std.proofs.lemmas.List.Elements.{All-append, All-filter}
-use Rattle.std.proofs.lemmas.Bool.{eqb-true}
-use Rattle.std.proofs.lemmas.Bool.Decides.{leb_tells}
-use Rattle.dn_types.specs.SharedLinks.{next_packet, virtual_time, link_heads}
-use Rattle.dn_types.specs.Trace.{Link, shared, link_eq, Accepted, Event, backlog, flow_bound}
-use Rattle.dn_types.specs.Wf2q.{Stamped, heads, pick, raised, first_to_go, earlier, goes_before}
+use Rattle.dn_types.proofs.Words.{Accepted, All, All-append, All-filter, Bool, Event, Link, List, None, Option, Some, Stamped, [], ap, arith, backlog, cond, earlier, eqb-true, false, filter}
+use Rattle.dn_types.proofs.Words.{first_to_go, flow_bound, get_or, goes_before, heads, is_some, leb_tells, length, link_eq, link_heads, map, map-append, nat_eq, nat_le, next_packet}
+use Rattle.dn_types.proofs.Words.{option_and_then, pick, raised, refl, shared, slice_get, subst, suc, sym, take, take-map, true, virtual_time, zero, ℕ, ⊎_elim, ◌++◌, ◌<◌, ◌∙◌, ◌∷◌, ◌≡◌}
 use Rattle.dn_types.proofs.Settling.{backlog-own, backlog-above, first-own, and-right}
 use Rattle.dn_types.proofs.Picks.{heads-none, pick-some}
 use Rattle.dn_types.proofs.Proper.{total-at}

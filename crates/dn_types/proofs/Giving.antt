@@ -1,15 +1,7 @@
 -- A packet was given or is still to be given as often as it started.
-use Rattle.std.proofs.Common.{◌≡◌, ℕ, ◌+◌, Bool, true, false, cond, List, [], ◌∷◌, refl, arith}
-use Rattle.std.specs.Prelude.{nat_le, nat_lt}
-use Rattle.std.specs.List.{count_by, filter}
-use Rattle.std.proofs.lemmas.List.Sums.{sum_by-cons}
-use Rattle.std.proofs.lemmas.Bool.Decides.{nat_tests}
-use Rattle.dn_types.specs.Deliveries.{undelivered, in_order, is_given_before}
-use Rattle.dn_types.specs.Given.{is_packet, is_start_with, given_count}
-use Rattle.dn_types.specs.Links.{due_by, arrival_time, last_due}
-use Rattle.dn_types.specs.Trace.{Event, opened, arrived, started, lost, refused, discarded, collected}
-use Rattle.dn_types.specs.declared.rule.Rule.{Rule}
-use Rattle.dn_types.specs.declared.delivery.Delivery.{Delivery}
+use Rattle.dn_types.proofs.Words.{Bool, Delivery, Event, List, Rule, [], arith, arrival_time, arrived, collected, cond, count_by, discarded, due_by, false, filter, given_count, in_order}
+use Rattle.dn_types.proofs.Words.{is_given_before, is_packet, is_start_with, last_due, lost, nat_le, nat_lt, nat_tests, opened, refl, refused, started, sum_by-cons, true, undelivered, ℕ, ◌+◌, ◌∷◌}
+use Rattle.dn_types.proofs.Words.{◌≡◌}
 
 pub count-delivery : (p : Delivery → Bool) (d : Delivery) (ds : List Delivery) → count_by p (d ∷ ds) ≡ cond (p d) 1 0 + count_by p ds
 count-delivery p d ds = sum_by-cons (λ x. cond (p x) 1 0) d ds

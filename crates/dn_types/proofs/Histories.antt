@@ -1,16 +1,7 @@
 -- Histories: the replies of a lawful one, own entries, and the calls that count.
-use Rattle.std.proofs.Common.{◌≡◌, ◌∙◌, ◌≤◌, ◌<◌, ℕ, suc, ◌-◌, Bool, true, false, cond, List, [], ◌∷◌, ◌++◌, map, refl, ap, sym, append_assoc, append-nil, length, drop, arith}
-use Rattle.std.specs.Prelude.{nat_eq, nat_le, reverse}
-use Rattle.std.proofs.lemmas.Bool.Decides.{nat_tests}
-use Rattle.std.proofs.lemmas.List.{map-append, reverse-append}
-use Rattle.std.proofs.lemmas.List.Elements.{filter-append}
-use Rattle.dn_types.specs.Clock.{call_limit, counted}
-use Rattle.dn_types.specs.History.{IsLawful, IsLawfulAfter, calls_of, own_entries}
-use Rattle.dn_types.specs.Replies.{replies, reply}
-use Rattle.dn_types.specs.declared.call.Call.{Call}
-use Rattle.dn_types.specs.declared.entry.Entry.{Entry}
-use Rattle.dn_types.specs.declared.reply.Reply.{Reply}
-use Rattle.dn_types.specs.declared.rule.Rule.{Rule}
+use Rattle.dn_types.proofs.Words.{Bool, Call, Entry, IsLawful, IsLawfulAfter, List, Reply, Rule, [], ap, append-nil, append_assoc, arith, call_limit, calls_of, cond, counted, drop, false}
+use Rattle.dn_types.proofs.Words.{filter-append, length, map, map-append, nat_eq, nat_le, nat_tests, own_entries, refl, replies, reply, reverse, reverse-append, suc, sym, true, ℕ, ◌++◌, ◌-◌, ◌<◌}
+use Rattle.dn_types.proofs.Words.{◌∙◌, ◌∷◌, ◌≡◌, ◌≤◌}
 
 reverse-cons : {X : Type 0} (x : X) (xs : List X) → reverse (x ∷ xs) ≡ reverse xs ++ x ∷ []
 reverse-cons x xs = reverse-append (x ∷ []) xs

@@ -1,16 +1,7 @@
 -- What is in force for a pipe or a queue is about it, and a configured queue names a configured pipe.
-use Rattle.std.proofs.Common.{◌≡◌, ◌∙◌, ℕ, Bool, true, false, cond, ◌||◌, List, [], ◌∷◌, refl, ap, sym, subst}
-use Rattle.std.specs.Prelude.{Option, Some, None, nat_eq, is_some, ⊤}
-use Rattle.std.specs.List.{list_any}
-use Rattle.std.proofs.lemmas.Bool.{eqb-true, eq-eqb, or_right}
-use Rattle.dn_types.specs.Configuration.{Settings, settings, target_eq, subject, is_queue_of, has_queues, queue_numbers, command_reply, setting_after}
-use Rattle.dn_types.specs.Flows.{Treatment, treatment}
-use Rattle.dn_types.specs.declared.call.Call.{Call}
-use Rattle.dn_types.specs.declared.call.Call.TheVariants.{Configure}
-use Rattle.dn_types.specs.declared.command.Command.{Command}
-use Rattle.dn_types.specs.declared.command.Command.TheVariants.{Pipe, Queue, DeletePipe, DeleteQueue}
-use Rattle.dn_types.specs.declared.reply.Reply.TheVariants.{Configured, Deleted, NoSuchPipe, PipeHasQueues, NoSuchQueue}
-use Rattle.dn_types.specs.declared.target.Target.{Target}
+use Rattle.dn_types.proofs.Words.{Bool, Call, Command, Configure, Configured, DeletePipe, DeleteQueue, Deleted, List, NoSuchPipe, NoSuchQueue, None, Option, Pipe, PipeHasQueues, Queue, Settings}
+use Rattle.dn_types.proofs.Words.{Some, Target, Treatment, [], ap, command_reply, cond, eq-eqb, eqb-true, false, has_queues, is_queue_of, is_some, list_any, nat_eq, or_right, queue_numbers, refl}
+use Rattle.dn_types.proofs.Words.{setting_after, settings, subject, subst, sym, target_eq, treatment, true, ℕ, ⊤, ◌||◌, ◌∙◌, ◌∷◌, ◌≡◌}
 use Rattle.dn_types.specs.declared.target.Target.TheVariants.{Pipe as ToPipe, Queue as ToQueue}
 
 -- ---- What is in force is of its target

@@ -1,17 +1,7 @@
 -- Deliveries come by due moment, and where two are equal by packet number.
-use Rattle.std.proofs.Common.{◌≡◌, ◌≤◌, ◌<◌, ℕ, Bool, true, false, cond, List, [], ◌∷◌, refl, get_or, arith}
-use Rattle.std.specs.Prelude.{nat_lt, nat_le}
-use Rattle.std.specs.List.{filter}
-use Rattle.std.specs.declared.cmp.Ordering.{Ordering}
-use Rattle.std.specs.declared.cmp.Ordering.TheVariants.{Less, Equal, Greater}
-use Rattle.std.specs.Cmp.{ranks}
-use Rattle.std.specs.Ordering.{is_lt, nat_cmp, ordering_then, MatchOrdering}
-use Rattle.std.proofs.lemmas.List.Elements.{All-filter, All-cons, All-nil}
-use Rattle.dn_types.specs.Deliveries.{is_given_before, in_order, delivery_of, undelivered, given, AreInOrder}
-use Rattle.dn_types.specs.Links.{last_due}
-use Rattle.dn_types.specs.Trace.{Event, started, collected}
-use Rattle.dn_types.specs.declared.delivery.Delivery.{Delivery}
-use Rattle.dn_types.specs.declared.rule.Rule.{Rule}
+use Rattle.dn_types.proofs.Words.{All-cons, All-filter, All-nil, AreInOrder, Bool, Delivery, Equal, Event, Greater, Less, List, MatchOrdering, Ordering, Rule, [], arith, collected, cond}
+use Rattle.dn_types.proofs.Words.{delivery_of, false, filter, get_or, given, in_order, is_given_before, is_lt, last_due, nat_cmp, nat_le, nat_lt, ordering_then, ranks, refl, started, true}
+use Rattle.dn_types.proofs.Words.{undelivered, ℕ, ◌<◌, ◌∷◌, ◌≡◌, ◌≤◌}
 use Rattle.dn_types.proofs.BoundedReplies.{in_order-all}
 
 abbrev IsNoLater : Delivery → Delivery → Type 0

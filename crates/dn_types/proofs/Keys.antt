@@ -1,17 +1,7 @@
 -- The keys of flows are told apart, so that each stands in one place.
-use Rattle.std.proofs.Common.{◌≡◌, ◌∙◌, ⊎_elim, ℕ, zero, suc, Bool, true, false, cond, ◌&&◌, ◌||◌, List, [], ◌∷◌, ◌++◌, refl, ap, sym, arith}
-use Rattle.std.specs.Prelude.{Option, Some, None, nat_eq, slice_get, ⊤}
-use Rattle.std.specs.List.{list_any}
-use Rattle.std.proofs.lemmas.Bool.{eqb-true, eq-eqb, and_from, and_parts}
-use Rattle.std.proofs.lemmas.Option.{slice_get_within}
-use Rattle.dn_types.specs.Configuration.{settings, target_eq}
-use Rattle.dn_types.specs.Flows.{Treatment, treatment, tuple_eq, mask_eq, key_eq, key_of, with_key, keys_with, keys}
-use Rattle.dn_types.specs.declared.call.Call.{Call}
-use Rattle.dn_types.specs.declared.call.Call.TheVariants.{Submit}
-use Rattle.dn_types.specs.declared.five_tuple.FiveTuple.{FiveTuple}
-use Rattle.dn_types.specs.declared.flow_key.FlowKey.{FlowKey}
-use Rattle.dn_types.specs.declared.mask.Mask.{Mask}
-use Rattle.dn_types.specs.declared.target.Target.{Target}
+use Rattle.dn_types.proofs.Words.{Bool, Call, FiveTuple, FlowKey, List, Mask, None, Option, Some, Submit, Target, Treatment, [], and_from, and_parts, ap, arith, cond, eq-eqb, eqb-true, false}
+use Rattle.dn_types.proofs.Words.{key_eq, key_of, keys, keys_with, list_any, mask_eq, nat_eq, refl, settings, slice_get, slice_get_within, suc, sym, target_eq, treatment, true, tuple_eq, with_key}
+use Rattle.dn_types.proofs.Words.{zero, ℕ, ⊎_elim, ⊤, ◌&&◌, ◌++◌, ◌||◌, ◌∙◌, ◌∷◌, ◌≡◌}
 use Rattle.dn_types.specs.declared.target.Target.TheVariants.{Pipe as ToPipe, Queue as ToQueue}
 use Rattle.dn_types.proofs.InForce.{target_eq-true}
 use Rattle.dn_types.proofs.Settled.{true_or_false}

@@ -1,27 +1,10 @@
 -- A packet that waits is of a known flow, on a configured pipe, and a delete empties every queue that it reaches.
-use Rattle.std.proofs.Common.{◌≡◌, ◌∙◌, ◌<◌, ℕ, zero, suc, ◌+◌, max, Bool, true, false, cond, ◌&&◌, ◌||◌, List, [], ◌∷◌, ◌++◌, map, refl, ap, sym, subst, length, drop, arith}
-use Rattle.std.specs.Prelude.{Option, Some, None, nat_le, nat_eq, is_some, ⊤}
-use Rattle.std.specs.List.{list_any}
-use Rattle.std.proofs.lemmas.Bool.{eqb-true, eq-eqb}
-use Rattle.std.proofs.lemmas.List.Recursion.{is_position_or_len}
-use Rattle.dn_types.specs.Calls.{link_of, Verdict, no_target, loses, refuses, takes, accept, join, after_verdict, verdict_by, verdict, reaches, discard_reached, after_command, trace_of}
-use Rattle.dn_types.specs.Clock.{effective_moment}
-use Rattle.dn_types.specs.Configuration.{Settings, settings, has_queues, queue_numbers, setting_after, reply_to_command}
-use Rattle.dn_types.specs.Drops.{is_lost, is_full}
-use Rattle.dn_types.specs.Flows.{Treatment, treatment, keys, key_of, key_eq, with_key, keys_with, flow_number}
-use Rattle.dn_types.specs.Links.{free}
-use Rattle.dn_types.specs.SharedLinks.{waiting, opening}
-use Rattle.dn_types.specs.Starts.{first_start, settle, settled, start_at, waiting_all}
-use Rattle.dn_types.specs.Trace.{Link, pipe_of, link_eq, Accepted, Start, Event, opened, arrived, started, discarded, is_of, backlog, links}
-use Rattle.dn_types.specs.declared.call.Call.{Call}
-use Rattle.dn_types.specs.declared.call.Call.TheVariants.{Configure, Submit, Advance, Collect, Show}
-use Rattle.dn_types.specs.declared.command.Command.{Command}
-use Rattle.dn_types.specs.declared.command.Command.TheVariants.{Pipe, Queue, DeletePipe, DeleteQueue}
-use Rattle.dn_types.specs.declared.flow_key.FlowKey.{FlowKey}
-use Rattle.dn_types.specs.declared.packet.Packet.{Packet}
-use Rattle.dn_types.specs.declared.reply.Reply.{Reply}
-use Rattle.dn_types.specs.declared.reply.Reply.TheVariants.{Deleted, NoSuchPipe, PipeHasQueues}
-use Rattle.dn_types.specs.declared.target.Target.{Target}
+use Rattle.dn_types.proofs.Words.{Accepted, Advance, Bool, Call, Collect, Command, Configure, DeletePipe, DeleteQueue, Deleted, Event, FlowKey, Link, List, NoSuchPipe, None, Option, Packet, Pipe}
+use Rattle.dn_types.proofs.Words.{PipeHasQueues, Queue, Reply, Settings, Show, Some, Start, Submit, Target, Treatment, Verdict, [], accept, after_command, after_verdict, ap, arith, arrived}
+use Rattle.dn_types.proofs.Words.{backlog, cond, discard_reached, discarded, drop, effective_moment, eq-eqb, eqb-true, false, first_start, flow_number, free, has_queues, is_full, is_lost, is_of}
+use Rattle.dn_types.proofs.Words.{is_position_or_len, is_some, join, key_eq, key_of, keys, keys_with, length, link_eq, link_of, links, list_any, loses, map, max, nat_eq, nat_le, no_target, opened}
+use Rattle.dn_types.proofs.Words.{opening, pipe_of, queue_numbers, reaches, refl, refuses, reply_to_command, setting_after, settings, settle, settled, start_at, started, subst, suc, sym, takes}
+use Rattle.dn_types.proofs.Words.{trace_of, treatment, true, verdict, verdict_by, waiting, waiting_all, with_key, zero, ℕ, ⊤, ◌&&◌, ◌++◌, ◌+◌, ◌<◌, ◌||◌, ◌∙◌, ◌∷◌, ◌≡◌}
 use Rattle.dn_types.specs.declared.target.Target.TheVariants.{Pipe as ToPipe, Queue as ToQueue}
 use Rattle.dn_types.proofs.Settled.{and-left, link_eq-true}
 use Rattle.dn_types.proofs.Settling.{and-right}

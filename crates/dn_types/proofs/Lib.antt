@@ -1,5 +1,4 @@
 pub mod CallCounts
-mod Cases
 pub mod Bounded
 pub mod BoundedReplies
 pub mod Bridge
@@ -30,3 +29,4 @@ mod ShortListsWf2q
 pub mod Step
 pub mod StepFacts
 pub mod TransmissionTime
+pub mod Words

@@ -1,14 +1,7 @@
 -- Over the trace of calls no packet starts twice.
-use Rattle.std.proofs.Common.{◌≡◌, ◌∙◌, ◌≤◌, ℕ, ◌+◌, Bool, true, false, cond, ◌&&◌, List, [], ◌∷◌, ◌++◌, refl, ap, sym, drop, arith}
-use Rattle.std.specs.Prelude.{Some, nat_eq, nat_lt, slice_get}
-use Rattle.std.specs.List.{count_by}
-use Rattle.std.proofs.lemmas.Bool.{eqb-true, eq-eqb, and_from}
-use Rattle.std.proofs.lemmas.Bool.Decides.{nat_tests}
-use Rattle.std.proofs.lemmas.List.Sums.{sum_by-cons, sum_by-append}
-use Rattle.dn_types.specs.Calls.{trace_of}
-use Rattle.dn_types.specs.Given.{is_start_with, start_count}
-use Rattle.dn_types.specs.Trace.{Link, shared, link_eq, Accepted, Start, Event, opened, arrived, started, lost, refused, discarded, collected, is_of, backlog, is_arrival, accepted_count}
-use Rattle.dn_types.specs.declared.call.Call.{Call}
+use Rattle.dn_types.proofs.Words.{Accepted, Bool, Call, Event, Link, List, Some, Start, [], accepted_count, and_from, ap, arith, arrived, backlog, collected, cond, count_by, discarded, drop}
+use Rattle.dn_types.proofs.Words.{eq-eqb, eqb-true, false, is_arrival, is_of, is_start_with, link_eq, lost, nat_eq, nat_lt, nat_tests, opened, refl, refused, shared, slice_get, start_count}
+use Rattle.dn_types.proofs.Words.{started, sum_by-append, sum_by-cons, sym, trace_of, true, ℕ, ◌&&◌, ◌++◌, ◌+◌, ◌∙◌, ◌∷◌, ◌≡◌, ◌≤◌}
 use Rattle.dn_types.proofs.Fifo.{IsProper, own-first}
 use Rattle.dn_types.proofs.Giving.{count-event}
 use Rattle.dn_types.proofs.Ordered.{trace-proper}

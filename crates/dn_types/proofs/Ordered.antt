@@ -1,27 +1,10 @@
 -- The trace of calls is proper.
-use Rattle.std.proofs.Common.{subst, map, ◌≡◌, ◌∙◌, ◌≤◌, ℕ, ◌+◌, max, Bool, true, false, cond, ◌&&◌, List, [], ◌∷◌, ◌++◌, refl, ap, sym, arith}
-use Rattle.std.specs.Prelude.{Option, Some, None, nat_le, nat_eq, slice_get, ⊤}
-use Rattle.std.proofs.lemmas.Bool.Decides.{nat_tests}
-use Rattle.std.proofs.lemmas.Bool.{and_from}
-use Rattle.dn_types.specs.Calls.{verdict_by, link_of, Verdict, no_target, loses, refuses, takes, accept, join, after_verdict, verdict, reaches, discard_reached, after_command, trace_of}
-use Rattle.dn_types.specs.Clock.{effective_moment}
-use Rattle.dn_types.specs.Configuration.{Settings, settings, reply_to_command}
-use Rattle.dn_types.specs.Flows.{Treatment, flow_number, key_of, treatment, keys}
-use Rattle.dn_types.specs.Given.{accepted_since, started_since}
-use Rattle.dn_types.specs.Drops.{is_lost, is_full}
-use Rattle.dn_types.specs.Links.{free}
-use Rattle.dn_types.specs.SharedLinks.{waiting, opening}
-use Rattle.dn_types.specs.Starts.{next_start, settled, waiting_all, start_at}
-use Rattle.dn_types.specs.Trace.{Start, Link, own, shared, Accepted, Event, opened, arrived, started, discarded, is_of, backlog, links, accepted_count}
-use Rattle.dn_types.specs.declared.call.Call.{Call}
-use Rattle.dn_types.specs.declared.call.Call.TheVariants.{Configure, Submit, Advance, Collect, Show}
-use Rattle.dn_types.specs.declared.packet.Packet.{Packet}
-use Rattle.dn_types.specs.declared.target.Target.{Target}
+use Rattle.dn_types.proofs.Words.{Accepted, Advance, Bool, Call, Collect, Command, Configure, Deleted, Event, FlowKey, Link, List, None, Option, Packet, Reply, Settings, Show, Some, Start, Submit}
+use Rattle.dn_types.proofs.Words.{Target, Treatment, Verdict, [], accept, accepted_count, accepted_since, after_command, after_verdict, and_from, ap, arith, arrived, backlog, cond}
+use Rattle.dn_types.proofs.Words.{discard_reached, discarded, effective_moment, false, flow_number, free, is_full, is_lost, is_of, join, key_of, keys, link_of, links, loses, map, max, nat_eq}
+use Rattle.dn_types.proofs.Words.{nat_le, nat_tests, next_start, no_target, opened, opening, own, reaches, refl, refuses, reply_to_command, settings, settled, shared, slice_get, start_at, started}
+use Rattle.dn_types.proofs.Words.{started_since, subst, sym, takes, trace_of, treatment, true, verdict, verdict_by, waiting, waiting_all, ℕ, ⊤, ◌&&◌, ◌++◌, ◌+◌, ◌∙◌, ◌∷◌, ◌≡◌, ◌≤◌}
 use Rattle.dn_types.specs.declared.target.Target.TheVariants.{Pipe as ToPipe, Queue as ToQueue}
-use Rattle.dn_types.specs.declared.command.Command.{Command}
-use Rattle.dn_types.specs.declared.flow_key.FlowKey.{FlowKey}
-use Rattle.dn_types.specs.declared.reply.Reply.{Reply}
-use Rattle.dn_types.specs.declared.reply.Reply.TheVariants.{Deleted}
 use Rattle.dn_types.proofs.Settled.{settled-ends, link_eq-refl}
 use Rattle.dn_types.proofs.Fifo.{IsProper, in-order-proper}
 use Rattle.dn_types.proofs.Proper.{settle-proper, no-next, none-first}

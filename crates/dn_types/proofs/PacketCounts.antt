@@ -1,15 +1,7 @@
 -- What waits in a queue, what a delete took out of it, and what started are at most as many packets as were accepted.
-use Rattle.std.proofs.Common.{◌≡◌, ◌≤◌, ◌<◌, ℕ, zero, suc, ◌+◌, Bool, true, false, cond, List, [], ◌∷◌, ◌++◌, refl, ap, length, drop, arith}
-use Rattle.std.specs.Prelude.{nat_eq, nat_lt}
-use Rattle.std.specs.List.{All, count_by}
-use Rattle.std.proofs.lemmas.Bool.Decides.{nat_tests}
-use Rattle.std.proofs.lemmas.List.Elements.{All-nil, All-push, All-drop, All-filter}
-use Rattle.dn_types.specs.Deliveries.{delivery_of, undelivered}
-use Rattle.dn_types.specs.Given.{start_count, is_start_with}
-use Rattle.dn_types.specs.Links.{last_due}
-use Rattle.dn_types.specs.Trace.{Link, Accepted, Start, Event, opened, arrived, started, lost, refused, discarded, collected, is_of, backlog, is_arrival, is_start_of, accepted_count, discarded_count}
-use Rattle.dn_types.specs.declared.delivery.Delivery.{Delivery}
-use Rattle.dn_types.specs.declared.rule.Rule.{Rule}
+use Rattle.dn_types.proofs.Words.{Accepted, All, All-drop, All-filter, All-nil, All-push, Bool, Delivery, Event, Link, List, Rule, Start, [], accepted_count, ap, arith, arrived, backlog}
+use Rattle.dn_types.proofs.Words.{collected, cond, count_by, delivery_of, discarded, discarded_count, drop, false, is_arrival, is_of, is_start_of, is_start_with, last_due, length, lost, nat_eq}
+use Rattle.dn_types.proofs.Words.{nat_lt, nat_tests, opened, refl, refused, start_count, started, suc, true, undelivered, zero, ℕ, ◌++◌, ◌+◌, ◌<◌, ◌∷◌, ◌≡◌, ◌≤◌}
 use Rattle.dn_types.proofs.Bounded.{first-all}
 use Rattle.dn_types.proofs.BoundedReplies.{in_order-all}
 use Rattle.dn_types.proofs.Fifo.{IsProper}

@@ -1,10 +1,6 @@
 -- A pick finds a packet wherever one waits, and a packet that waits alone is picked.
-use Rattle.std.proofs.Common.{◌≡◌, ◌∙◌, ◌≤◌, ◌<◌, ◌≢◌, ◌⊎◌, ℕ, zero, suc, Bool, true, false, cond, List, [], ◌∷◌, ◌++◌, refl, ap, sym, length, take, arith, length-append, ⊎_elim, inl, inr}
-use Rattle.std.specs.Prelude.{Option, Some, None, nat_le, is_some}
-use Rattle.std.specs.List.{filter}
-use Rattle.std.proofs.lemmas.Bool.{le-leb}
-use Rattle.std.proofs.lemmas.Bool.Decides.{eqb_tells, leb_tells}
-use Rattle.dn_types.specs.Wf2q.{Stamped, heads, total, pick, raised, least_start_tag, first_to_go, earlier}
+use Rattle.dn_types.proofs.Words.{Bool, List, None, Option, Some, Stamped, [], ap, arith, cond, earlier, eqb_tells, false, filter, first_to_go, heads, inl, inr, is_some, le-leb, least_start_tag}
+use Rattle.dn_types.proofs.Words.{leb_tells, length, length-append, nat_le, pick, raised, refl, suc, sym, take, total, true, zero, ℕ, ⊎_elim, ◌++◌, ◌<◌, ◌∙◌, ◌∷◌, ◌≡◌, ◌≢◌, ◌≤◌, ◌⊎◌}
 
 -- ---- One is eligible
 

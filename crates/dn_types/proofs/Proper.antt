@@ -1,13 +1,6 @@
 -- In the trace of calls each start is of the first packet of its backlog.
-use Rattle.std.proofs.Common.{◌≡◌, ◌∙◌, ◌≤◌, ◌<◌, ℕ, zero, suc, Bool, true, false, cond, List, [], ◌∷◌, refl, ap, sym, length, arith}
-use Rattle.std.specs.Prelude.{Option, Some, None, nat_le, nat_eq, slice_get, option_map}
-use Rattle.std.proofs.lemmas.Bool.Decides.{nat_tests}
-use Rattle.dn_types.specs.Configuration.{Settings, settings}
-use Rattle.dn_types.specs.Links.{free}
-use Rattle.dn_types.specs.SharedLinks.{next_packet}
-use Rattle.dn_types.specs.Starts.{next_start, first_start, settle, start_at}
-use Rattle.dn_types.specs.Trace.{Link, Accepted, Event, started, Start, backlog, links}
-use Rattle.dn_types.specs.Wf2q.{total}
+use Rattle.dn_types.proofs.Words.{Accepted, Bool, Event, Link, List, None, Option, Settings, Some, Start, [], ap, arith, backlog, cond, false, first_start, free, length, links, nat_eq, nat_le}
+use Rattle.dn_types.proofs.Words.{nat_tests, next_packet, next_start, option_map, refl, settings, settle, slice_get, start_at, started, suc, sym, total, true, zero, ℕ, ◌<◌, ◌∙◌, ◌∷◌, ◌≡◌, ◌≤◌}
 use Rattle.dn_types.proofs.Settling.{next_packet-first, next_start-packet, flow-start}
 use Rattle.dn_types.proofs.Settled.{next_start-link, first_start-of}
 use Rattle.dn_types.proofs.Fifo.{IsProper}

@@ -1,21 +1,8 @@
 -- What is in force and the clock keep to the ranges of the calls.
-use Rattle.std.proofs.Common.{◌≡◌, ◌≤◌, ℕ, zero, suc, ◌*◌, ◌^◌, Bool, true, false, cond, List, [], ◌∷◌, arith}
-use Rattle.std.specs.Prelude.{Option, Some, None, ⊤}
-use Rattle.std.specs.List.{All}
-use Rattle.std.proofs.Math.Nat.{le-mul_of_pos_right}
-use Rattle.dn_types.specs.Bounds.{IsLimitInRange, IsCommandInRange, IsInRange}
-use Rattle.dn_types.specs.Clock.{moment_of, effective_moment}
-use Rattle.dn_types.specs.Configuration.{Settings, target_eq, subject, command_reply, queue_numbers, setting_after, settings}
-use Rattle.dn_types.specs.Flows.{Treatment, treatment}
-use Rattle.dn_types.specs.Links.{transmission_time}
-use Rattle.dn_types.specs.Starts.{delay_of}
-use Rattle.dn_types.specs.declared.call.Call.{Call}
-use Rattle.dn_types.specs.declared.call.Call.TheVariants.{Configure, Submit, Advance, Collect, Show}
-use Rattle.dn_types.specs.declared.command.Command.{Command}
-use Rattle.dn_types.specs.declared.command.Command.TheVariants.{Pipe, Queue, DeletePipe, DeleteQueue}
-use Rattle.dn_types.specs.declared.reply.Reply.{Reply}
-use Rattle.dn_types.specs.declared.reply.Reply.TheVariants.{Configured, Deleted}
-use Rattle.dn_types.specs.declared.target.Target.{Target}
+use Rattle.dn_types.proofs.Words.{Advance, All, Bool, Call, Collect, Command, Configure, Configured, DeletePipe, DeleteQueue, Deleted, IsCommandInRange, IsInRange, IsLimitInRange, List, None}
+use Rattle.dn_types.proofs.Words.{Option, Pipe, Queue, Reply, Settings, Show, Some, Submit, Target, Treatment, [], arith, command_reply, cond, delay_of, effective_moment, false}
+use Rattle.dn_types.proofs.Words.{le-mul_of_pos_right, moment_of, queue_numbers, setting_after, settings, subject, suc, target_eq, transmission_time, treatment, true, zero, ℕ, ⊤, ◌*◌, ◌^◌, ◌∷◌}
+use Rattle.dn_types.proofs.Words.{◌≡◌, ◌≤◌}
 use Rattle.dn_types.proofs.TransmissionTime.{transmission-is-least}
 
 pub all-first : (c : Call) (calls : List Call) → All IsInRange (c ∷ calls) → IsInRange c

@@ -1,16 +1,8 @@
 -- After a settling no start is due on any link.
-use Rattle.std.proofs.Common.{◌≡◌, ◌∙◌, ◌≤◌, ◌<◌, ◌⊎◌, ℕ, zero, suc, ◌+◌, Bool, true, false, cond, ◌&&◌, ◌||◌, List, [], ◌∷◌, ◌++◌, refl, ap, sym, drop, arith, ⊎_elim, inl, inr}
-use Rattle.std.specs.Prelude.{Option, Some, None, nat_lt, nat_eq, slice_get}
-use Rattle.std.specs.List.{list_any}
-use Rattle.std.proofs.lemmas.Bool.{eqb-true, eq-eqb, and_from, or_parts}
-use Rattle.std.proofs.lemmas.List.Folds.{list_any-append}
-use Rattle.dn_types.specs.Configuration.{Settings}
-use Rattle.dn_types.specs.Links.{last_due, due_by, arrival_time, free}
-use Rattle.dn_types.specs.SharedLinks.{waiting, virtual_time, link_heads}
-use Rattle.dn_types.specs.Starts.{next_start, sooner, first_start, settle, waiting_all, settled}
-use Rattle.dn_types.specs.Trace.{Link, own, shared, link_eq, Accepted, Event, opened, arrived, started, lost, refused, discarded, collected, Start, is_of, backlog, flow_bound, with_link, links}
-use Rattle.dn_types.specs.Wf2q.{total, grown}
-use Rattle.dn_types.specs.declared.rule.Rule.{Rule}
+use Rattle.dn_types.proofs.Words.{Accepted, Bool, Event, Link, List, None, Option, Rule, Settings, Some, Start, [], and_from, ap, arith, arrival_time, arrived, backlog, collected, cond, discarded}
+use Rattle.dn_types.proofs.Words.{drop, due_by, eq-eqb, eqb-true, false, first_start, flow_bound, free, grown, inl, inr, is_of, last_due, link_eq, link_heads, links, list_any, list_any-append}
+use Rattle.dn_types.proofs.Words.{lost, nat_eq, nat_lt, next_start, opened, or_parts, own, refl, refused, settle, settled, shared, slice_get, sooner, started, suc, sym, total, true, virtual_time}
+use Rattle.dn_types.proofs.Words.{waiting, waiting_all, with_link, zero, ℕ, ⊎_elim, ◌&&◌, ◌++◌, ◌+◌, ◌<◌, ◌||◌, ◌∙◌, ◌∷◌, ◌≡◌, ◌≤◌, ◌⊎◌}
 use Rattle.dn_types.proofs.Settling.{backlog-own, first-own, and-right, next_packet-first, next_start-packet, waiting-next}
 use Rattle.dn_types.proofs.StepFacts.{drop-length, clear-none, sooner-left, sooner-right}
 

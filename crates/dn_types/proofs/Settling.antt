@@ -1,16 +1,8 @@
 -- A start takes one packet from those that wait on its link.
-use Rattle.std.proofs.Common.{◌≡◌, ◌∙◌, ◌≤◌, ◌<◌, ◌≢◌, ◌⊎◌, ℕ, zero, suc, ◌+◌, Bool, true, false, cond, ◌&&◌, List, [], ◌∷◌, ◌++◌, refl, ap, sym, subst, length, drop, arith, ⊎_elim, inl, inr}
-use Rattle.std.specs.Prelude.{Option, Some, None, nat_le, nat_eq, slice_get, option_and_then, option_map}
-use Rattle.std.specs.List.{All}
-use Rattle.std.proofs.lemmas.List.Elements.{All-push, All-drop}
-use Rattle.std.proofs.lemmas.Bool.{eqb-true, and_right}
-use Rattle.std.proofs.lemmas.Bool.Decides.{eqb_tells, leb_tells}
-use Rattle.dn_types.specs.Configuration.{Settings}
-use Rattle.dn_types.specs.Links.{free}
-use Rattle.dn_types.specs.SharedLinks.{waiting, next_packet, virtual_time, link_heads}
-use Rattle.dn_types.specs.Starts.{next_start, start_at}
-use Rattle.dn_types.specs.Trace.{Link, own, shared, link_eq, Accepted, Event, arrived, started, discarded, Start, is_of, backlog, flow_bound}
-use Rattle.dn_types.specs.Wf2q.{Stamped, total, pick}
+use Rattle.dn_types.proofs.Words.{Accepted, All, All-drop, All-push, Bool, Event, Link, List, None, Option, Settings, Some, Stamped, Start, [], and_right, ap, arith, arrived, backlog, cond}
+use Rattle.dn_types.proofs.Words.{discarded, drop, eqb-true, eqb_tells, false, flow_bound, free, inl, inr, is_of, leb_tells, length, link_eq, link_heads, nat_eq, nat_le, next_packet, next_start}
+use Rattle.dn_types.proofs.Words.{option_and_then, option_map, own, pick, refl, shared, slice_get, start_at, started, subst, suc, sym, total, true, virtual_time, waiting, zero, ℕ, ⊎_elim, ◌&&◌}
+use Rattle.dn_types.proofs.Words.{◌++◌, ◌+◌, ◌<◌, ◌∙◌, ◌∷◌, ◌≡◌, ◌≢◌, ◌≤◌, ◌⊎◌}
 
 -- ---- What a backlog holds
 

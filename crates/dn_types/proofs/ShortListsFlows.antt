@@ -1,12 +1,7 @@
 -- Short lists of calls, each for a slip in the rules of flows and deletes that no worked example shows. The prover
 -- computes the replies; those expected are of an independent reference.
-use Rattle.std.specs.Prelude.{[], ◌∷◌, refl, None}
+use Rattle.dn_types.proofs.Words.{Collect, Configure, Configured, DeleteQueue, Deleted, Delivered, Lost, None, Ordered, Pipe, Queue, Queued, Show, Slots, Status, Submit, [], refl, ◌∷◌}
 use Rattle.dn_types.proofs.ExampleWords.{Answers, ◌⇒◌, delivery, key, mask, no_mask, packet, pipe, queue, status, ten, to_pipe, to_queue, tuple, worded}
-use Rattle.dn_types.specs.declared.call.Call.TheVariants.{Configure, Submit, Collect, Show}
-use Rattle.dn_types.specs.declared.command.Command.TheVariants.{Pipe, Queue, DeleteQueue}
-use Rattle.dn_types.specs.declared.limit.Limit.TheVariants.{Slots}
-use Rattle.dn_types.specs.declared.reply.Reply.TheVariants.{Configured, Queued, Lost, Delivered, Status, Deleted}
-use Rattle.dn_types.specs.declared.rule.Rule.TheVariants.{Ordered}
 use Rattle.dn_types.specs.declared.target.Target.TheVariants.{Pipe as ToPipe, Queue as ToQueue}
 
 -- A packet that is lost and would find a full queue is lost.

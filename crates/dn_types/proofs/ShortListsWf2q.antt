@@ -1,10 +1,7 @@
 -- Short lists of calls, each for a slip in the rules of shared links that no worked example shows. The prover
 -- computes the replies; those expected are of an independent reference.
-use Rattle.std.specs.Prelude.{[], ◌∷◌, refl}
+use Rattle.dn_types.proofs.Words.{Collect, Configured, Delivered, Ordered, Queued, Submit, [], refl, ◌∷◌}
 use Rattle.dn_types.proofs.ExampleWords.{Answers, ◌⇒◌, delivery, pipe, queue, sized, to_queue}
-use Rattle.dn_types.specs.declared.call.Call.TheVariants.{Submit, Collect}
-use Rattle.dn_types.specs.declared.reply.Reply.TheVariants.{Configured, Queued, Delivered}
-use Rattle.dn_types.specs.declared.rule.Rule.TheVariants.{Ordered}
 use Rattle.dn_types.specs.declared.target.Target.TheVariants.{Queue as ToQueue}
 
 -- Virtual time stays raised after the pick that raised it.

@@ -1,30 +1,10 @@
 -- One call on a standing: its reply, and the standing after it. With it the law that all rests on the standing is proved.
-use Rattle.std.specs.Prelude.{ℕ, zero, suc, ◌+◌, max, cond, ◌&&◌, List, [], ◌∷◌, ◌++◌, map, sum, length, drop, nat_eq, nat_lt, nat_le, Option, Some, None, slice_get, option_and_then, option_map}
-use Rattle.std.specs.List.{filter}
-use Rattle.dn_types.specs.Calls.{link_of, Verdict, no_target, loses, refuses, takes, reaches}
-use Rattle.dn_types.specs.Clock.{call_limit}
-use Rattle.dn_types.specs.Configuration.{Settings, settings, target_eq, subject, setting_after, command_reply}
-use Rattle.dn_types.specs.Deliveries.{in_order, delivery_of}
-use Rattle.dn_types.specs.Drops.{is_lost, is_full}
-use Rattle.dn_types.specs.Flows.{Treatment, treatment, key_of, keys_with, flow_number}
-use Rattle.dn_types.specs.Links.{arrival_time, due_by}
-use Rattle.dn_types.specs.Standing.{Traffic, Standing}
-use Rattle.dn_types.specs.Starts.{start_at, sooner}
-use Rattle.dn_types.specs.Trace.{with_link, Link, own, shared, link_eq, Accepted, Start, Event, opened, arrived}
-use Rattle.dn_types.specs.Trace.{started, lost, refused, discarded, collected, is_of, is_arrival, is_start_of, is_loss_of, is_refusal_of}
-use Rattle.dn_types.specs.Wf2q.{Stamped, heads, total, pick, grown, scaled, start_tag_on_arrival}
-use Rattle.dn_types.specs.declared.call.Call.{Call}
-use Rattle.dn_types.specs.declared.call.Call.TheVariants.{Configure, Submit, Advance, Collect, Show}
-use Rattle.dn_types.specs.declared.packet.Packet.{Packet}
-use Rattle.dn_types.specs.declared.target.Target.{Target}
-use Rattle.dn_types.specs.declared.command.Command.{Command}
-use Rattle.dn_types.specs.declared.command.Command.TheVariants.{Queue}
-use Rattle.dn_types.specs.declared.flow_key.FlowKey.{FlowKey}
-use Rattle.dn_types.specs.declared.flow_status.FlowStatus.{FlowStatus}
-use Rattle.dn_types.specs.declared.rule.Rule.{Rule}
-use Rattle.dn_types.specs.declared.delivery.Delivery.{Delivery}
-use Rattle.dn_types.specs.declared.reply.Reply.{Reply}
-use Rattle.dn_types.specs.declared.reply.Reply.TheVariants.{Queued, Lost, Full, NoTarget, Advanced, Delivered, Status, Exhausted, Deleted}
+use Rattle.dn_types.proofs.Words.{Accepted, Advance, Advanced, Call, Collect, Command, Configure, Deleted, Delivered, Delivery, Event, Exhausted, FlowKey, FlowStatus, Full, Link, List, Lost}
+use Rattle.dn_types.proofs.Words.{NoTarget, None, Option, Packet, Queue, Queued, Reply, Rule, Settings, Show, Some, Stamped, Standing, Start, Status, Submit, Target, Traffic, Treatment, Verdict}
+use Rattle.dn_types.proofs.Words.{[], arrival_time, arrived, call_limit, collected, command_reply, cond, delivery_of, discarded, drop, due_by, filter, flow_number, grown, heads, in_order}
+use Rattle.dn_types.proofs.Words.{is_arrival, is_full, is_loss_of, is_lost, is_of, is_refusal_of, is_start_of, key_of, keys_with, length, link_eq, link_of, loses, lost, map, max, nat_eq, nat_le}
+use Rattle.dn_types.proofs.Words.{nat_lt, no_target, opened, option_and_then, option_map, own, pick, reaches, refused, refuses, scaled, setting_after, settings, shared, slice_get, sooner}
+use Rattle.dn_types.proofs.Words.{start_at, start_tag_on_arrival, started, subject, suc, sum, takes, target_eq, total, treatment, with_link, zero, ℕ, ◌&&◌, ◌++◌, ◌+◌, ◌∷◌}
 
 -- ---- One event
 

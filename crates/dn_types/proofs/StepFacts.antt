@@ -1,9 +1,6 @@
 -- Facts of one step that several proofs share: of a queue, of a count, and of the sooner of two starts.
-use Rattle.std.proofs.Common.{◌≡◌, ◌≤◌, ◌<◌, ℕ, ◌+◌, Bool, true, false, cond, List, [], ◌∷◌, ◌++◌, refl, length, drop, arith}
-use Rattle.std.specs.Prelude.{Option, Some, None}
-use Rattle.std.proofs.lemmas.List.{length-append}
-use Rattle.dn_types.specs.Trace.{Link, Accepted, Start, Event, opened, accepted_count}
-use Rattle.dn_types.specs.Starts.{sooner}
+use Rattle.dn_types.proofs.Words.{Accepted, Bool, Event, Link, List, None, Option, Some, Start, [], accepted_count, arith, cond, drop, false, length, length-append, opened, refl, sooner, true, ℕ}
+use Rattle.dn_types.proofs.Words.{◌++◌, ◌+◌, ◌<◌, ◌∷◌, ◌≡◌, ◌≤◌}
 
 -- ---- A queue: a packet joins it or leaves it, or all are discarded
 

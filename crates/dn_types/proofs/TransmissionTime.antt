@@ -1,9 +1,5 @@
 -- The transmission time is the least that is long enough, and none where the bandwidth is unlimited.
-use Rattle.std.proofs.Common.{◌≡◌, ◌≤◌, ◌<◌, ℕ, suc, ◌+◌, ◌*◌, ◌-◌, cond, false, ap, refl, arith}
-use Rattle.std.specs.Prelude.{◌/◌, ◌^◌, nat_eq}
-use Rattle.std.proofs.Math.Nat.{lt-div-mul-add, div-lt_iff_lt-mul, suc-mul}
-use Rattle.std.proofs.lemmas.Bool.Decides.{nat_tests}
-use Rattle.dn_types.specs.Links.{transmission_time}
+use Rattle.dn_types.proofs.Words.{ap, arith, cond, div-lt_iff_lt-mul, false, lt-div-mul-add, nat_eq, nat_tests, refl, suc, suc-mul, transmission_time, ℕ, ◌*◌, ◌+◌, ◌-◌, ◌/◌, ◌<◌, ◌^◌, ◌≡◌, ◌≤◌}
 
 module _ (bits b : ℕ) (h : 0 < b) where
   enough : bits ≤ (bits + (b - 1)) / b * b

@@ -1,23 +1,9 @@
 -- A packet arrives.
-use Rattle.std.proofs.Common.{◌≡◌, ℕ, ◌+◌, ◌^◌, ◌==◌, ◌<◌, ◌≤◌, cond, max, Bool, true, false, Some, None, List, [], ◌∷◌, ◌++◌, length, All, refl, sym, ap}
-use Rattle.std.proofs.Common.{◌∙◌, subst, arith, inl, inr, slice_index_or, get_or, set, sum_by, nat_lt}
-use Rattle.std.proofs.lemmas.List.{get_or-set_same, get_or-set_other, length-set, length-map, map-append, length_push}
-use Rattle.std.proofs.lemmas.List.Sums.{sum_by-set}
-use Rattle.std.proofs.lemmas.List.Elements.{All-weaker, All-set, All-push}
-use Rattle.std.proofs.lemmas.Bool.{cases_eq}
-use Rattle.std.proofs.lemmas.Bool.Decides.{nat_tests}
-use Rattle.std.specs.Vec.{with_item}
-use Rattle.dn_types.specs.Wf2q.{Stamped}
-use Rattle.dn_heap.specs.Heap.{Heap}
-use Rattle.dn_wf2q.specs.declared.tagged_packet.TaggedPacket.{TaggedPacket}
-use Rattle.dn_wf2q.specs.declared.tagged_queue.TaggedQueue.{TaggedQueue}
-use Rattle.dn_wf2q.specs.declared.sched_parts.SchedParts.{SchedParts}
-use Rattle.dn_wf2q.specs.Rank.{RankView}
-use Rattle.dn_wf2q.specs.Schedule.{Flow, flow_at, no_packets, stamped, joined_by, after_arrival}
-use Rattle.dn_wf2q.specs.Queue.{arriving, last_finish_tag_in, packets_of, IsQueueKept, last_tag}
-use Rattle.dn_wf2q.specs.Kept.{Kept, IsSchedKept, IsKeptWithout, IsEligible, IsWaiting, IsWithin, AreTagsWithin, flows_of, seen, tagged, by_slot, presence}
-use Rattle.dn_wf2q.specs.Kept.{behind, head_weight, bound, none_absent, only_absent}
-use Rattle.dn_wf2q.specs.Steps.{ArrivesAtSlot}
+use Rattle.dn_wf2q.proofs.Words.{All, All-push, All-set, All-weaker, AreTagsWithin, ArrivesAtSlot, Bool, Flow, Heap, IsEligible, IsKeptWithout, IsQueueKept, IsSchedKept, IsWaiting, IsWithin, Kept}
+use Rattle.dn_wf2q.proofs.Words.{List, None, RankView, SchedParts, Some, Stamped, TaggedPacket, TaggedQueue, [], after_arrival, ap, arith, arriving, behind, bound, by_slot, cases_eq, cond, false}
+use Rattle.dn_wf2q.proofs.Words.{flow_at, flows_of, get_or, get_or-set_other, get_or-set_same, head_weight, inl, inr, joined_by, last_finish_tag_in, last_tag, length, length-map, length-set}
+use Rattle.dn_wf2q.proofs.Words.{length_push, map-append, max, nat_lt, nat_tests, no_packets, none_absent, only_absent, packets_of, presence, refl, seen, set, slice_index_or, stamped, subst}
+use Rattle.dn_wf2q.proofs.Words.{sum_by, sum_by-set, sym, tagged, true, with_item, ℕ, ◌++◌, ◌+◌, ◌<◌, ◌==◌, ◌^◌, ◌∙◌, ◌∷◌, ◌≡◌, ◌≤◌}
 use Rattle.dn_wf2q.proofs.BySlot.{length-by_slot, by_slot-set}
 use Rattle.dn_wf2q.proofs.Heads.{head_stays, presence_grows, presence_begins, head_begins, flow_within, flow_within_more, cond-le, flow_at_seen}
 use Rattle.dn_wf2q.proofs.Counts.{waiting-set}

@@ -1,18 +1,7 @@
 -- A busy period begins.
-use Rattle.std.proofs.Common.{◌≡◌, ℕ, zero, suc, ◌+◌, ◌≤◌, List, [], ◌∷◌, length, All, refl, sym, ap, ◌∙◌, arith, nat_lt, false, get_or}
-use Rattle.std.specs.List.{sum_by}
-use Rattle.std.proofs.lemmas.List.{length-map}
-use Rattle.std.proofs.lemmas.List.Sums.{sum_by-cons, get_or-le-sum_by}
-use Rattle.std.proofs.lemmas.List.Elements.{All-nil, All-cons, All-head, All-tail}
-use Rattle.std.proofs.lemmas.Bool.Decides.{nat_tests}
-use Rattle.dn_types.specs.Wf2q.{Stamped}
-use Rattle.dn_heap.specs.Heap.{Heap}
-use Rattle.dn_wf2q.specs.declared.tagged_queue.TaggedQueue.{TaggedQueue}
-use Rattle.dn_wf2q.specs.declared.sched_parts.SchedParts.{SchedParts}
-use Rattle.dn_wf2q.specs.Rank.{RankView}
-use Rattle.dn_wf2q.specs.Schedule.{Flow, flow_at, no_packets, IsIdle, forgotten, without_tag}
-use Rattle.dn_wf2q.specs.Kept.{Kept, IsSchedKept, AreTagsWithin, flows_of, seen, tagged, by_slot, presence, behind, head_weight, bound, none_absent}
-use Rattle.dn_wf2q.specs.Queue.{packets_of, IsQueueKept}
+use Rattle.dn_wf2q.proofs.Words.{All, All-cons, All-head, All-nil, All-tail, AreTagsWithin, Flow, Heap, IsIdle, IsQueueKept, IsSchedKept, Kept, List, RankView, SchedParts, Stamped, TaggedQueue}
+use Rattle.dn_wf2q.proofs.Words.{[], ap, arith, behind, bound, by_slot, false, flow_at, flows_of, forgotten, get_or, get_or-le-sum_by, head_weight, length, length-map, nat_lt, nat_tests}
+use Rattle.dn_wf2q.proofs.Words.{no_packets, none_absent, packets_of, presence, refl, seen, suc, sum_by, sum_by-cons, sym, tagged, without_tag, zero, ℕ, ◌+◌, ◌∙◌, ◌∷◌, ◌≡◌, ◌≤◌}
 use Rattle.dn_wf2q.proofs.BySlot.{length-by_slot}
 use Rattle.dn_wf2q.proofs.Heads.{flow_at_seen}
 use Rattle.dn_wf2q.proofs.Counts.{idle_no_heads, waiting_is}

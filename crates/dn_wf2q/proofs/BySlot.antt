@@ -1,7 +1,5 @@
 -- A function of slot and element, at each element of a list.
-use Rattle.std.proofs.Common.{◌≡◌, ℕ, zero, suc, ◌<◌, List, [], ◌∷◌, ◌++◌, length, All, refl, ap, arith, get_or, set, replicate}
-use Rattle.std.proofs.lemmas.List.Elements.{All-head, All-tail}
-use Rattle.dn_wf2q.specs.Kept.{by_slot}
+use Rattle.dn_wf2q.proofs.Words.{All, All-head, All-tail, List, [], ap, arith, by_slot, get_or, length, refl, replicate, set, suc, zero, ℕ, ◌++◌, ◌<◌, ◌∷◌, ◌≡◌}
 
 pub length-by_slot : {X Y : Type 0} (f : ℕ → X → Y) (xs : List X) → length (by_slot f xs) ≡ length xs
 length-by_slot f [] = refl

@@ -1,14 +1,7 @@
 -- What holds between calls, and what a pick does beside sending a head.
-use Rattle.std.proofs.Common.{◌≡◌, ℕ, ◌+◌, ◌<◌, Option, Some, None, List, [], ◌∷◌, take, All, IfSome, IsPermutation, refl, ap, ◌∙◌, subst, arith}
-use Rattle.std.proofs.lemmas.List.Sorted.{All-permutation}
-use Rattle.std.proofs.lemmas.List.Elements.{All-cons, All-tail}
-use Rattle.dn_types.specs.Wf2q.{Stamped, first_to_go, is_eligible, scaled, weight_sum}
-use Rattle.std.specs.List.{filter}
-use Rattle.dn_wf2q.specs.declared.sched_parts.SchedParts.{SchedParts}
-use Rattle.dn_wf2q.specs.Rank.{RankView}
-use Rattle.dn_wf2q.specs.Schedule.{Flow, IsIdle, after_pick, flow_at, heads_of, one_each, waiting_of}
-use Rattle.dn_wf2q.specs.Kept.{IsSchedKept, flows_of, schedule_of}
-use Rattle.dn_wf2q.specs.Steps.{OnlyHeaps, SendsHead}
+use Rattle.dn_wf2q.proofs.Words.{All, All-cons, All-permutation, All-tail, Flow, IfSome, IsIdle, IsPermutation, IsSchedKept, List, None, OnlyHeaps, Option, RankView, SchedParts, SendsHead, Some}
+use Rattle.dn_wf2q.proofs.Words.{Stamped, [], after_pick, ap, arith, filter, first_to_go, flow_at, flows_of, heads_of, is_eligible, one_each, refl, scaled, schedule_of, subst, take, waiting_of}
+use Rattle.dn_wf2q.proofs.Words.{weight_sum, ℕ, ◌+◌, ◌<◌, ◌∙◌, ◌∷◌, ◌≡◌}
 use Rattle.dn_wf2q.proofs.Counts.{idle_no_heads}
 
 -- Where no packet waits, no head does.

@@ -1,11 +1,7 @@
 -- Sums over heads and backlogs, as sums over the flows.
-use Rattle.std.proofs.Common.{◌≡◌, ◌↔◌, ℕ, zero, suc, ◌+◌, ◌<◌, ◌≤◌, List, All, [], ◌∷◌, ◌++◌, length, take, refl, sym, ap, ◌∙◌, arith, set, sum_by}
-use Rattle.std.proofs.lemmas.List.{append_assoc, append-nil, length-append}
-use Rattle.std.proofs.lemmas.List.Sums.{sum_by-cons, sum_by-set}
-use Rattle.std.proofs.lemmas.List.Elements.{All-head, All-tail}
-use Rattle.dn_types.specs.Wf2q.{Stamped, heads, total, weight_sum}
-use Rattle.dn_wf2q.specs.Schedule.{Flow, flow_at, no_packets, heads_of, waiting_of, IsIdle}
-use Rattle.dn_wf2q.specs.Kept.{AreTagsWithin, IsWithin, presence, head_weight}
+use Rattle.dn_wf2q.proofs.Words.{All, All-head, All-tail, AreTagsWithin, Flow, IsIdle, IsWithin, List, Stamped, [], ap, append-nil, append_assoc, arith, flow_at, head_weight, heads, heads_of}
+use Rattle.dn_wf2q.proofs.Words.{length, length-append, no_packets, presence, refl, set, suc, sum_by, sum_by-cons, sum_by-set, sym, take, total, waiting_of, weight_sum, zero, ℕ, ◌++◌, ◌+◌, ◌<◌}
+use Rattle.dn_wf2q.proofs.Words.{◌↔◌, ◌∙◌, ◌∷◌, ◌≡◌, ◌≤◌}
 
 -- The first packets of a list of flows.
 abbrev pub first_packets : List Flow → List Stamped

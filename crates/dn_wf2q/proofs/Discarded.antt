@@ -1,23 +1,9 @@
 -- The packets of a slot are discarded.
-use Rattle.std.proofs.Common.{◌≡◌, ℕ, ◌+◌, ◌-◌, ◌<◌, ◌≤◌, List, [], ◌∷◌, length, Option, Some, None, IfSome, IfNone, All, Contains, IsPermutation, refl, sym}
-use Rattle.std.proofs.Common.{ap, ◌∙◌, subst, arith, inl, inr, slice_index_or, get_or, set, sum_by, nat_lt}
-use Rattle.std.proofs.lemmas.List.{get_or-set_same, get_or-set_other, length-set, get_or_past, set_past}
-use Rattle.std.proofs.lemmas.List.Sorted.{length_permutation, All-permutation}
-use Rattle.std.proofs.lemmas.List.Sums.{sum_by-set, get_or-le-sum_by}
-use Rattle.std.proofs.lemmas.List.Elements.{All-nil, All-tail, All-set, All-contains, Contains-get_or}
-use Rattle.std.proofs.lemmas.Bool.{cases_eq, cases_lt}
-use Rattle.std.specs.Vec.{with_item}
-use Rattle.dn_types.specs.Wf2q.{Stamped}
-use Rattle.dn_heap.specs.Heap.{Heap}
-use Rattle.dn_wf2q.specs.declared.tagged_packet.TaggedPacket.{TaggedPacket}
-use Rattle.dn_wf2q.specs.declared.tagged_queue.TaggedQueue.{TaggedQueue}
-use Rattle.dn_wf2q.specs.declared.sched_parts.SchedParts.{SchedParts}
-use Rattle.dn_wf2q.specs.Rank.{RankView}
-use Rattle.dn_wf2q.specs.Schedule.{Flow, flow_at, no_packets, after_discard}
-use Rattle.dn_wf2q.specs.Queue.{first_packet, packets_of, IsQueueKept, last_tag}
-use Rattle.dn_wf2q.specs.Kept.{Kept, IsSchedKept, NoneDue, HeadIs, IsEligible, IsWaiting, IsWithin, AreTagsWithin, presence, behind, head_weight, ranks_at}
-use Rattle.dn_wf2q.specs.Kept.{bound, flows_of, seen, tagged, by_slot, none_absent}
-use Rattle.dn_wf2q.specs.Steps.{DiscardsSlot}
+use Rattle.dn_wf2q.proofs.Words.{All, All-contains, All-nil, All-permutation, All-set, All-tail, AreTagsWithin, Contains, Contains-get_or, DiscardsSlot, Flow, HeadIs, Heap, IfNone, IfSome}
+use Rattle.dn_wf2q.proofs.Words.{IsEligible, IsPermutation, IsQueueKept, IsSchedKept, IsWaiting, IsWithin, Kept, List, None, NoneDue, Option, RankView, SchedParts, Some, Stamped, TaggedPacket}
+use Rattle.dn_wf2q.proofs.Words.{TaggedQueue, [], after_discard, ap, arith, behind, bound, by_slot, cases_eq, cases_lt, first_packet, flow_at, flows_of, get_or, get_or-le-sum_by, get_or-set_other}
+use Rattle.dn_wf2q.proofs.Words.{get_or-set_same, get_or_past, head_weight, inl, inr, last_tag, length, length-set, length_permutation, nat_lt, no_packets, none_absent, packets_of, presence}
+use Rattle.dn_wf2q.proofs.Words.{ranks_at, refl, seen, set, set_past, slice_index_or, subst, sum_by, sum_by-set, sym, tagged, with_item, ℕ, ◌+◌, ◌-◌, ◌<◌, ◌∙◌, ◌∷◌, ◌≡◌, ◌≤◌}
 use Rattle.dn_wf2q.proofs.BySlot.{length-by_slot, by_slot-set}
 use Rattle.dn_wf2q.proofs.Heads.{head_says, head_there, head_both, head_weighs, presence-le, flow_at_seen, cond_zero, next_is}
 use Rattle.dn_wf2q.proofs.Counts.{waiting-set}

@@ -1,13 +1,6 @@
 -- A head enters the heap in which it belongs.
-use Rattle.std.proofs.Common.{◌≡◌, ℕ, ◌+◌, ◌^◌, ◌<◌, ◌≤◌, List, [], ◌∷◌, length, All, IsPermutation, refl, sym, ◌∙◌, arith, inl, inr}
-use Rattle.std.proofs.lemmas.List.Sorted.{length_permutation, All-permutation}
-use Rattle.std.proofs.lemmas.List.Elements.{All-cons}
-use Rattle.std.proofs.lemmas.Bool.{cases_eq}
-use Rattle.dn_types.specs.Wf2q.{Stamped}
-use Rattle.dn_heap.specs.Heap.{Heap}
-use Rattle.dn_wf2q.specs.Rank.{RankView}
-use Rattle.dn_wf2q.specs.Schedule.{Flow, flow_at}
-use Rattle.dn_wf2q.specs.Kept.{Kept, HeadIs, IsEligible, IsWaiting, ranks_at, none_absent, only_absent}
+use Rattle.dn_wf2q.proofs.Words.{All, All-cons, All-permutation, Flow, HeadIs, Heap, IsEligible, IsPermutation, IsWaiting, Kept, List, RankView, Stamped, [], arith, cases_eq, flow_at, inl, inr}
+use Rattle.dn_wf2q.proofs.Words.{length, length_permutation, none_absent, only_absent, ranks_at, refl, sym, ℕ, ◌+◌, ◌<◌, ◌^◌, ◌∙◌, ◌∷◌, ◌≡◌, ◌≤◌}
 use Rattle.dn_wf2q.proofs.Heads.{head_listed, head_weaker, presence-le}
 use Rattle.dn_wf2q.proofs.Ranks.{ranks_at_pushed, rank_at_same, rank_at_other, absent_same, absent_other, no_rank_at}
 use Rattle.dn_wf2q.proofs.Steps.{ranks_at-le}

@@ -1,14 +1,7 @@
 -- Heads of flows.
-use Rattle.std.proofs.Common.{◌≡◌, ℕ, zero, suc, ◌+◌, ◌<◌, ◌≤◌, List, [], ◌∷◌, ◌++◌, length, refl, sym, ap, arith, inl, inr, All, get_or, set, map, take, Some, None, IfSome, Bool, true, false, cond}
-use Rattle.std.proofs.lemmas.List.{get_or-set_same, get_or-set_other, get_or_past, length_push}
-use Rattle.std.proofs.lemmas.List.Elements.{All-nil, All-weaker}
-use Rattle.std.proofs.lemmas.Bool.{cases_lt, cases_eq}
-use Rattle.dn_types.specs.Wf2q.{Stamped}
-use Rattle.dn_wf2q.specs.declared.tagged_packet.TaggedPacket.{TaggedPacket}
-use Rattle.dn_wf2q.specs.declared.tagged_queue.TaggedQueue.{TaggedQueue}
-use Rattle.dn_wf2q.specs.Schedule.{Flow, flow_at, no_packets}
-use Rattle.dn_wf2q.specs.Queue.{first_packet}
-use Rattle.dn_wf2q.specs.Kept.{HeadIs, seen, tagged, by_slot, IsWithin, AreTagsWithin, presence, behind, head_weight}
+use Rattle.dn_wf2q.proofs.Words.{All, All-nil, All-weaker, AreTagsWithin, Bool, Flow, HeadIs, IfSome, IsWithin, List, None, Some, Stamped, TaggedPacket, TaggedQueue, [], ap, arith, behind}
+use Rattle.dn_wf2q.proofs.Words.{by_slot, cases_eq, cases_lt, cond, false, first_packet, flow_at, get_or, get_or-set_other, get_or-set_same, get_or_past, head_weight, inl, inr, length}
+use Rattle.dn_wf2q.proofs.Words.{length_push, map, no_packets, presence, refl, seen, set, suc, sym, tagged, take, true, zero, ℕ, ◌++◌, ◌+◌, ◌<◌, ◌∷◌, ◌≡◌, ◌≤◌}
 use Rattle.dn_wf2q.proofs.BySlot.{by_slot_at}
 
 -- P holds of the head, if there is one

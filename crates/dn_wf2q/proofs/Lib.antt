@@ -19,3 +19,4 @@ pub mod Calm
 pub mod Discarded
 pub mod Sending
 pub mod Stored
+pub mod Words

@@ -1,13 +1,6 @@
 -- The packets of a flow carry its slot.
-use Rattle.std.proofs.Common.{◌≡◌, ℕ, zero, suc, List, [], ◌∷◌, map, All, refl}
-use Rattle.std.proofs.lemmas.List.Elements.{All-nil, All-cons}
-use Rattle.dn_types.specs.Wf2q.{Stamped}
-use Rattle.dn_wf2q.specs.declared.tagged_packet.TaggedPacket.{TaggedPacket}
-use Rattle.dn_wf2q.specs.declared.tagged_queue.TaggedQueue.{TaggedQueue}
-use Rattle.dn_wf2q.specs.declared.sched_parts.SchedParts.{SchedParts}
-use Rattle.dn_wf2q.specs.Schedule.{flow_at}
-use Rattle.dn_wf2q.specs.Queue.{packets_of}
-use Rattle.dn_wf2q.specs.Kept.{flows_of, seen, tagged, by_slot}
+use Rattle.dn_wf2q.proofs.Words.{All, All-cons, All-nil, List, SchedParts, Stamped, TaggedPacket, TaggedQueue, [], by_slot, flow_at, flows_of, map, packets_of, refl, seen, suc, tagged, zero, ℕ}
+use Rattle.dn_wf2q.proofs.Words.{◌∷◌, ◌≡◌}
 
 tagged_own : (slot : ℕ) (ps : List TaggedPacket) → All (λ (p : Stamped). p.flow ≡ slot) (map (tagged slot) ps)
 tagged_own slot [] = All-nil (λ (p : Stamped). p.flow ≡ slot)

@@ -1,22 +1,10 @@
 -- A packet comes where none waits, and is sent at once.
-use Rattle.std.proofs.Common.{◌≡◌, ◌∙◌, ℕ, zero, suc, ◌+◌, ◌^◌, ◌<◌, ◌≤◌, max, Some, None, List, [], ◌∷◌, ◌++◌, length, take, All}
-use Rattle.std.proofs.Common.{IsPermutation, refl, sym, ap, subst, arith, inl, inr, true, get_or, set, sum_by, nat_lt}
-use Rattle.std.proofs.lemmas.Bool.{cases_eq, cases_lt}
-use Rattle.std.proofs.lemmas.Bool.Decides.{nat_tests}
-use Rattle.std.proofs.lemmas.List.{append-nil, get_or-set_same, get_or-set_other, get_or_past, length-map, length-set}
-use Rattle.std.proofs.lemmas.List.Elements.{All-nil, All-set, All-weaker}
-use Rattle.std.proofs.lemmas.List.Sorted.{length_permutation}
-use Rattle.std.proofs.lemmas.List.Sums.{sum_by-cons, sum_by-set, get_or-le-sum_by}
-use Rattle.std.specs.Vec.{with_item}
-use Rattle.dn_types.specs.Wf2q.{Stamped, grown, pick, scaled}
-use Rattle.dn_heap.specs.Heap.{Heap}
-use Rattle.dn_wf2q.specs.declared.tagged_queue.TaggedQueue.{TaggedQueue}
-use Rattle.dn_wf2q.specs.declared.sched_parts.SchedParts.{SchedParts}
-use Rattle.dn_wf2q.specs.Rank.{RankView}
-use Rattle.dn_wf2q.specs.Schedule.{Flow, IsIdle, Passes, after_arrival, after_pick, flow_at, forgotten, heads_of, joined_by, no_packets, stamped, waiting_of, without_head, without_tag}
-use Rattle.dn_wf2q.specs.Queue.{packets_of, IsQueueKept}
-use Rattle.dn_wf2q.specs.Kept.{Kept, IsSchedKept, AreTagsWithin, IsWithin, by_slot, flows_of, seen, tagged, presence, behind, head_weight, bound, none_absent, ranks_at, schedule_of}
-use Rattle.dn_wf2q.specs.Steps.{PassesSlot}
+use Rattle.dn_wf2q.proofs.Words.{All, All-nil, All-set, All-weaker, AreTagsWithin, Flow, Heap, IsIdle, IsPermutation, IsQueueKept, IsSchedKept, IsWithin, Kept, List, None, Passes, PassesSlot}
+use Rattle.dn_wf2q.proofs.Words.{RankView, SchedParts, Some, Stamped, TaggedQueue, [], after_arrival, after_pick, ap, append-nil, arith, behind, bound, by_slot, cases_eq, cases_lt, flow_at}
+use Rattle.dn_wf2q.proofs.Words.{flows_of, forgotten, get_or, get_or-le-sum_by, get_or-set_other, get_or-set_same, get_or_past, grown, head_weight, heads_of, inl, inr, joined_by, length}
+use Rattle.dn_wf2q.proofs.Words.{length-map, length-set, length_permutation, max, nat_lt, nat_tests, no_packets, none_absent, packets_of, pick, presence, ranks_at, refl, scaled, schedule_of, seen}
+use Rattle.dn_wf2q.proofs.Words.{set, stamped, subst, suc, sum_by, sum_by-cons, sum_by-set, sym, tagged, take, true, waiting_of, with_item, without_head, without_tag, zero, ℕ, ◌++◌, ◌+◌, ◌<◌, ◌^◌}
+use Rattle.dn_wf2q.proofs.Words.{◌∙◌, ◌∷◌, ◌≡◌, ◌≤◌}
 use Rattle.dn_wf2q.proofs.BySlot.{length-by_slot, by_slot-set}
 use Rattle.dn_wf2q.proofs.Heads.{flow_at_seen, flow_within_more}
 use Rattle.dn_wf2q.proofs.Counts.{first_packets, heads_are, heads_of_idle, idle_no_heads, no_heads_idle, waiting_is, waiting-set}

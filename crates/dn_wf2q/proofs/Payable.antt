@@ -1,13 +1,6 @@
 -- The packets of each queue have weights, and tags that fit.
-use Rattle.std.proofs.Common.{◌≡◌, ℕ, ◌^◌, ◌<◌, List, [], ◌∷◌, length, map, All, IfSome, sym, ap, subst, ◌≤◌, ◌∙◌, arith, get_or}
-use Rattle.std.proofs.lemmas.List.Elements.{All-nil, All-cons, All-head, All-tail}
-use Rattle.dn_types.specs.Wf2q.{Stamped}
-use Rattle.dn_wf2q.specs.declared.tagged_packet.TaggedPacket.{TaggedPacket}
-use Rattle.dn_wf2q.specs.declared.tagged_queue.TaggedQueue.{TaggedQueue}
-use Rattle.dn_wf2q.specs.declared.sched_parts.SchedParts.{SchedParts}
-use Rattle.dn_wf2q.specs.Schedule.{flow_at}
-use Rattle.dn_wf2q.specs.Queue.{first_packet, packets_of, IsPayable}
-use Rattle.dn_wf2q.specs.Kept.{HeadIs, IsKeptBut, IsKeptWithout, IsSchedKept, IsWithin, bound, flows_of, seen, tagged}
+use Rattle.dn_wf2q.proofs.Words.{All, All-cons, All-head, All-nil, All-tail, HeadIs, IfSome, IsKeptBut, IsKeptWithout, IsPayable, IsSchedKept, IsWithin, List, SchedParts, Stamped, TaggedPacket}
+use Rattle.dn_wf2q.proofs.Words.{TaggedQueue, [], ap, arith, bound, first_packet, flow_at, flows_of, get_or, length, map, packets_of, seen, subst, sym, tagged, ℕ, ◌<◌, ◌^◌, ◌∙◌, ◌∷◌, ◌≡◌, ◌≤◌}
 use Rattle.dn_wf2q.proofs.BySlot.{length-by_slot}
 use Rattle.dn_wf2q.proofs.Heads.{flow_at_seen, flow_within, head_listed}
 

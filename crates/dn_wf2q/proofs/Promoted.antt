@@ -1,13 +1,6 @@
 -- A flow moves from the waiting heap to the eligible one.
-use Rattle.std.proofs.Common.{◌≡◌, ℕ, ◌+◌, ◌<◌, ◌≤◌, ◌^◌, ◌∷◌, length, map, All, IfSome, IsPermutation, sym, ap, ◌∙◌, arith, get_or}
-use Rattle.std.proofs.lemmas.List.Sorted.{length_permutation}
-use Rattle.dn_heap.specs.Heap.{Heap}
-use Rattle.dn_wf2q.specs.declared.tagged_queue.TaggedQueue.{TaggedQueue}
-use Rattle.dn_wf2q.specs.declared.sched_parts.SchedParts.{SchedParts}
-use Rattle.dn_wf2q.specs.Rank.{RankView}
-use Rattle.dn_wf2q.specs.Schedule.{flow_at}
-use Rattle.dn_wf2q.specs.Queue.{first_packet, packets_of}
-use Rattle.dn_wf2q.specs.Kept.{IsSchedKept, HeadIs, bound, flows_of, seen, tagged}
+use Rattle.dn_wf2q.proofs.Words.{All, HeadIs, Heap, IfSome, IsPermutation, IsSchedKept, RankView, SchedParts, TaggedQueue, ap, arith, bound, first_packet, flow_at, flows_of, get_or, length}
+use Rattle.dn_wf2q.proofs.Words.{length_permutation, map, packets_of, seen, sym, tagged, ℕ, ◌+◌, ◌<◌, ◌^◌, ◌∙◌, ◌∷◌, ◌≡◌, ◌≤◌}
 use Rattle.dn_wf2q.proofs.BySlot.{length-by_slot}
 use Rattle.dn_wf2q.proofs.Heads.{head_listed, presence-le, flow_at_seen, flow_within, some_packets, head_weaker, first_finishes}
 use Rattle.dn_wf2q.proofs.Payable.{bound_fits, first_within}

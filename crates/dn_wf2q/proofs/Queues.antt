@@ -1,10 +1,7 @@
 -- The packets of a queue, by the head's finish tag and those behind it.
-use Rattle.std.proofs.Common.{◌≡◌, ℕ, ◌+◌, ◌^◌, ◌==◌, ◌<◌, drop, slice_get, cond, true, false, is_some, Some, None, IfNone, Option, List, [], ◌∷◌, ◌++◌, length, All, refl, ap, ◌∙◌, arith, nat_lt, option_to_list}
-use Rattle.std.proofs.lemmas.List.Elements.{All-head, All-tail}
-use Rattle.std.proofs.lemmas.Bool.Decides.{nat_tests}
-use Rattle.dn_types.specs.Wf2q.{scaled, start_tag_on_arrival}
-use Rattle.dn_wf2q.specs.declared.queued_packet.QueuedPacket.{QueuedPacket}
-use Rattle.dn_wf2q.specs.Queue.{finishing, starting, stamped_behind, stamped_from, last_behind, IsChained, IsPayable}
+use Rattle.dn_wf2q.proofs.Words.{All, All-head, All-tail, IfNone, IsChained, IsPayable, List, None, Option, QueuedPacket, Some, [], ap, arith, cond, drop, false, finishing, is_some, last_behind}
+use Rattle.dn_wf2q.proofs.Words.{length, nat_lt, nat_tests, option_to_list, refl, scaled, slice_get, stamped_behind, stamped_from, start_tag_on_arrival, starting, true, ℕ, ◌++◌, ◌+◌, ◌<◌, ◌==◌}
+use Rattle.dn_wf2q.proofs.Words.{◌^◌, ◌∙◌, ◌∷◌, ◌≡◌}
 
 stamped_behind-push : (f : ℕ) (ps : List QueuedPacket) (p : QueuedPacket) → stamped_behind f (ps ++ p ∷ []) ≡ stamped_behind f ps ++ starting (last_behind f ps) p ∷ []
 stamped_behind-push f [] p = refl

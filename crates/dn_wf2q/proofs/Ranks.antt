@@ -1,13 +1,6 @@
 -- How often a flow stands among keys.
-use Rattle.std.proofs.Common.{◌≡◌, ◌==◌, cond, ℕ, suc, ◌+◌, ◌/◌, ◌%◌, ◌<◌, ◌≤◌, slice_index_or, true, false, List, [], ◌∷◌, length, All, IsPermutation, arith, inl, inr}
-use Rattle.std.proofs.lemmas.List.Sums.{sum_by-cons}
-use Rattle.std.proofs.lemmas.List.Sorted.{sum_by_pushed, sum_by_popped}
-use Rattle.std.proofs.lemmas.List.Elements.{All-nil, All-cons}
-use Rattle.std.proofs.lemmas.Bool.{cases_eq, cases_order, cases_lt}
-use Rattle.std.specs.Ordering.{is_lt, nat_cmp, ordering_then}
-use Rattle.std.proofs.lemmas.Bool.Decides.{nat_tests}
-use Rattle.dn_wf2q.specs.Rank.{RankView, rank_cmp}
-use Rattle.dn_wf2q.specs.Kept.{rank_at, ranks_at}
+use Rattle.dn_wf2q.proofs.Words.{All, All-cons, All-nil, IsPermutation, List, RankView, [], arith, cases_eq, cases_lt, cases_order, cond, false, inl, inr, is_lt, length, nat_cmp, nat_tests}
+use Rattle.dn_wf2q.proofs.Words.{ordering_then, rank_at, rank_cmp, ranks_at, slice_index_or, suc, sum_by-cons, sum_by_popped, sum_by_pushed, true, ℕ, ◌%◌, ◌+◌, ◌/◌, ◌<◌, ◌==◌, ◌∷◌, ◌≡◌, ◌≤◌}
 
 pub rank_at_same : (f : ℕ) (k : RankView) → k.slot ≡ f → rank_at f k ≡ 1
 rank_at_same f k e = grind (arith, nat_tests)

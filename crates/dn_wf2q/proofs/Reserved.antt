@@ -1,18 +1,8 @@
 -- Room is made, for a queue that is there or by adding queues without a packet.
-use Rattle.std.proofs.Common.{◌^◌, ◌≡◌, ℕ, zero, suc, ◌+◌, ◌-◌, ◌<◌, ◌≤◌, List, [], ◌∷◌, ◌++◌, length, All, refl, sym, ap, ◌∙◌, arith, max}
-use Rattle.std.proofs.Common.{slice_index_or, sum_by, replicate, nat_lt, Result, Ok, Err, OnErr}
-use Rattle.std.proofs.lemmas.List.{append_assoc, append-nil, length-append, length-replicate}
-use Rattle.std.proofs.lemmas.List.Sums.{sum_by-append}
-use Rattle.std.proofs.lemmas.List.Folds.{sum_by-replicate}
-use Rattle.std.proofs.lemmas.List.Elements.{All-nil, All-append, All-replicate, All-weaker, All-push}
-use Rattle.dn_heap.specs.Heap.{Heap}
-use Rattle.dn_wf2q.specs.declared.tagged_queue.TaggedQueue.{TaggedQueue}
-use Rattle.dn_wf2q.specs.declared.sched_parts.SchedParts.{SchedParts}
-use Rattle.dn_wf2q.specs.Rank.{RankView}
-use Rattle.dn_wf2q.specs.Schedule.{Flow, flow_at, no_packets, padded}
-use Rattle.dn_wf2q.specs.Queue.{IsQueueKept}
-use Rattle.dn_wf2q.specs.Kept.{Kept, IsSchedKept, IsWithin, AreTagsWithin, flows_of, seen, by_slot, presence, behind, head_weight, bound, none_absent}
-use Rattle.dn_wf2q.specs.Steps.{IsBlank, IsExtended}
+use Rattle.dn_wf2q.proofs.Words.{All, All-append, All-nil, All-push, All-replicate, All-weaker, AreTagsWithin, Err, Flow, Heap, IsBlank, IsExtended, IsQueueKept, IsSchedKept, IsWithin, Kept, List}
+use Rattle.dn_wf2q.proofs.Words.{Ok, OnErr, RankView, Result, SchedParts, TaggedQueue, [], ap, append-nil, append_assoc, arith, behind, bound, by_slot, flow_at, flows_of, head_weight, length}
+use Rattle.dn_wf2q.proofs.Words.{length-append, length-replicate, max, nat_lt, no_packets, none_absent, padded, presence, refl, replicate, seen, slice_index_or, suc, sum_by, sum_by-append}
+use Rattle.dn_wf2q.proofs.Words.{sum_by-replicate, sym, zero, ℕ, ◌++◌, ◌+◌, ◌-◌, ◌<◌, ◌^◌, ◌∙◌, ◌∷◌, ◌≡◌, ◌≤◌}
 use Rattle.dn_wf2q.proofs.BySlot.{length-by_slot, by_slot-append}
 use Rattle.dn_wf2q.proofs.Heads.{cond_zero}
 

@@ -1,6 +1,6 @@
 -- The room at a slot.
-use Rattle.std.proofs.Common.{◌≡◌, ℕ, zero, suc, ◌-◌, ◌<◌, ◌≤◌, List, [], ◌∷◌, ◌++◌, length, map, replicate, arith, refl, ap, get_or, set, Result, Ok, Err, OnOk, OnErr}
-use Rattle.dn_wf2q.specs.Schedule.{Flow, forgotten, no_packets, one_each, padded, room_at}
+use Rattle.dn_wf2q.proofs.Words.{Err, Flow, List, Ok, OnErr, OnOk, Result, [], ap, arith, forgotten, get_or, length, map, no_packets, one_each, padded, refl, replicate, room_at, set, suc, zero, ℕ}
+use Rattle.dn_wf2q.proofs.Words.{◌++◌, ◌-◌, ◌<◌, ◌∷◌, ◌≡◌, ◌≤◌}
 
 module _ {X : Type 0} (spare : X → ℕ) where
   pub room_listed : (qs : List X) (slot : ℕ) → 0 < room_at (map spare qs) slot → slot < length qs

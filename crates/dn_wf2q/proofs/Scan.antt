@@ -1,13 +1,8 @@
 -- What the definition's scan over the heads finds, from what holds of each head: this is where the two heaps and the
 -- definition of the pick meet.
-use Rattle.std.proofs.Common.{◌≡◌, ℕ, zero, suc, ◌<◌, ◌≤◌, max, min, Bool, true, false, Some, None, List, [], ◌∷◌, ◌++◌, take, refl, sym, ap, ◌∙◌, subst, arith, inl, inr, leb-true, All}
-use Rattle.std.specs.List.{filter}
-use Rattle.std.proofs.lemmas.Bool.{cases_Bool, cases_lt}
-use Rattle.std.proofs.lemmas.Bool.Decides.{nat_tests}
-use Rattle.std.proofs.lemmas.List.Elements.{All-nil, All-cons, All-head, All-tail, All-filter, All-append, All-weaker, filter_passes}
-use Rattle.dn_types.specs.Wf2q.{Stamped, least_start_tag, raised, goes_before, first_to_go, is_eligible, pick}
-use Rattle.dn_wf2q.specs.Schedule.{Flow, flow_at, heads_of}
-use Rattle.dn_wf2q.specs.Kept.{HeadIs}
+use Rattle.dn_wf2q.proofs.Words.{All, All-append, All-cons, All-filter, All-head, All-nil, All-tail, All-weaker, Bool, Flow, HeadIs, List, None, Some, Stamped, [], ap, arith, cases_Bool, cases_lt}
+use Rattle.dn_wf2q.proofs.Words.{false, filter, filter_passes, first_to_go, flow_at, goes_before, heads_of, inl, inr, is_eligible, least_start_tag, leb-true, max, min, nat_tests, pick, raised}
+use Rattle.dn_wf2q.proofs.Words.{refl, subst, suc, sym, take, true, zero, ℕ, ◌++◌, ◌<◌, ◌∙◌, ◌∷◌, ◌≡◌, ◌≤◌}
 use Rattle.dn_wf2q.proofs.Heads.{IfHead}
 use Rattle.dn_wf2q.proofs.Counts.{first_packets, heads_are}
 

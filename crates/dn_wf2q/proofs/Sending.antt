@@ -1,9 +1,6 @@
 -- A schedule's pick in two calls: `first` raises virtual time, and then `send` sends.
-use Rattle.std.proofs.Common.{◌≡◌, ℕ, ◌+◌, ◌≤◌, Option, Some, None, List, [], ◌∷◌, take, IfSome, refl, sym, ap, ◌∙◌, subst, arith}
-use Rattle.std.specs.List.{filter}
-use Rattle.std.specs.Option.{option_map}
-use Rattle.dn_types.specs.Wf2q.{Stamped, first_to_go, grown, is_eligible, pick, raised, scaled, weight_sum}
-use Rattle.dn_wf2q.specs.Schedule.{Flow, KeepsRoom, Picks, Schedule, SendsFirst, after_pick, flow_at, heads_of, room_at, waiting_of}
+use Rattle.dn_wf2q.proofs.Words.{Flow, IfSome, KeepsRoom, List, None, Option, Picks, Schedule, SendsFirst, Some, Stamped, [], after_pick, ap, arith, filter, first_to_go, flow_at, grown, heads_of}
+use Rattle.dn_wf2q.proofs.Words.{is_eligible, option_map, pick, raised, refl, room_at, scaled, subst, sym, take, waiting_of, weight_sum, ℕ, ◌+◌, ◌∙◌, ◌∷◌, ◌≡◌, ◌≤◌}
 use Rattle.dn_wf2q.proofs.Calm.{if_some}
 
 -- Raising virtual time twice is raising it once.

@@ -1,26 +1,11 @@
 -- The head of a flow is sent.
-use Rattle.std.proofs.Common.{◌^◌, ◌≡◌, ℕ, ◌+◌, ◌-◌, ◌*◌, ◌==◌, ◌<◌, ◌≤◌, cond, Option, Some, None, IfSome, List, [], ◌∷◌, length, map, take, drop, slice_get, All, IsPermutation, refl, sym, ap, ◌∙◌}
-use Rattle.std.proofs.Common.{subst, arith, inl, inr, slice_index_or, get_or, set, sum_by}
-use Rattle.std.proofs.lemmas.List.{get_or-set_same, get_or-set_other, length-set}
-use Rattle.std.proofs.lemmas.List.Elements.{All-set, All-head, All-tail, All-weaker}
-use Rattle.std.proofs.lemmas.List.Sorted.{All-permutation, length_permutation}
-use Rattle.std.proofs.lemmas.List.Sums.{sum_by-set, get_or-le-sum_by}
-use Rattle.std.proofs.lemmas.Bool.{cases_eq}
-use Rattle.std.proofs.Math.Nat.{div-le_self}
-use Rattle.std.specs.Option.{option_map}
-use Rattle.std.specs.Vec.{with_item}
-use Rattle.dn_types.specs.Wf2q.{Stamped, scaled, weight_sum}
-use Rattle.dn_heap.specs.Heap.{Heap}
-use Rattle.dn_wf2q.specs.declared.tagged_packet.TaggedPacket.{TaggedPacket}
-use Rattle.dn_wf2q.specs.declared.queued_packet.QueuedPacket.{QueuedPacket}
-use Rattle.dn_wf2q.specs.declared.tagged_queue.TaggedQueue.{TaggedQueue}
-use Rattle.dn_wf2q.specs.declared.sched_parts.SchedParts.{SchedParts}
-use Rattle.dn_wf2q.specs.Rank.{RankView}
-use Rattle.dn_wf2q.specs.Schedule.{Flow, next_of, flow_at, no_packets, heads_of, after_pick, without_head}
-use Rattle.dn_wf2q.specs.Queue.{first_packet, next_behind, packets_of, stamped_behind, stamped_from, untagged, IsFirst, IsQueueKept, last_tag}
-use Rattle.dn_wf2q.specs.Kept.{Kept, IsSchedKept, IsKeptBut, IsKeptWithout, HeadIs, IsEligible, IsWaiting, IsWithin, AreTagsWithin, flows_of, seen, tagged}
-use Rattle.dn_wf2q.specs.Kept.{presence, behind, head_weight, ranks_at, bound, none_absent, only_absent}
-use Rattle.dn_wf2q.specs.Steps.{SendsHead}
+use Rattle.dn_wf2q.proofs.Words.{All, All-head, All-permutation, All-set, All-tail, All-weaker, AreTagsWithin, Flow, HeadIs, Heap, IfSome, IsEligible, IsFirst, IsKeptBut, IsKeptWithout}
+use Rattle.dn_wf2q.proofs.Words.{IsPermutation, IsQueueKept, IsSchedKept, IsWaiting, IsWithin, Kept, List, None, Option, QueuedPacket, RankView, SchedParts, SendsHead, Some, Stamped, TaggedPacket}
+use Rattle.dn_wf2q.proofs.Words.{TaggedQueue, [], after_pick, ap, arith, behind, bound, cases_eq, cond, div-le_self, drop, first_packet, flow_at, flows_of, get_or, get_or-le-sum_by}
+use Rattle.dn_wf2q.proofs.Words.{get_or-set_other, get_or-set_same, head_weight, heads_of, inl, inr, last_tag, length, length-set, length_permutation, map, next_behind, next_of, no_packets}
+use Rattle.dn_wf2q.proofs.Words.{none_absent, only_absent, option_map, packets_of, presence, ranks_at, refl, scaled, seen, set, slice_get, slice_index_or, stamped_behind, stamped_from, subst}
+use Rattle.dn_wf2q.proofs.Words.{sum_by, sum_by-set, sym, tagged, take, weight_sum, with_item, without_head, ℕ, ◌*◌, ◌+◌, ◌-◌, ◌<◌, ◌==◌, ◌^◌, ◌∙◌, ◌∷◌, ◌≡◌, ◌≤◌}
+use Rattle.dn_wf2q.specs.Queue.{untagged}
 use Rattle.dn_wf2q.proofs.BySlot.{length-by_slot, by_slot-set}
 use Rattle.dn_wf2q.proofs.Heads.{head_listed, head_weaker, flow_at_seen, some_packets, flow_within, within_more, flow_within_more, length-split, first_facts, cond_zero}
 use Rattle.dn_wf2q.proofs.Counts.{length_of_first, weight_of_first, weights_are, waiting-set}

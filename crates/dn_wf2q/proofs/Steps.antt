@@ -1,16 +1,8 @@
 -- What raising virtual time and moving a flow between the heaps keep, and what the heaps say of the scan.
-use Rattle.std.proofs.Common.{◌≡◌, ℕ, ◌+◌, ◌*◌, ◌<◌, ◌≤◌, max, List, [], ◌∷◌, length, All, IsPermutation, refl, sym, ap, subst, arith, inl, inr, slice_index_or, Some, None}
-use Rattle.std.proofs.lemmas.List.Sorted.{length_permutation, All-permutation}
-use Rattle.std.proofs.lemmas.List.Sums.{sum_by-le}
-use Rattle.std.proofs.lemmas.List.Elements.{All-cons, All-head, All-tail, All-weaker, All-contains}
-use Rattle.std.proofs.lemmas.Bool.{cases_lt}
-use Rattle.std.specs.List.{Contains, filter}
-use Rattle.std.specs.Option.{option_map}
-use Rattle.dn_types.specs.Wf2q.{Stamped, raised, first_to_go, is_eligible, weight_sum}
-use Rattle.dn_heap.specs.Heap.{Heap, IsLeast}
-use Rattle.dn_wf2q.specs.Rank.{RankView, rank_cmp}
-use Rattle.dn_wf2q.specs.Schedule.{Flow, flow_at, heads_of}
-use Rattle.dn_wf2q.specs.Kept.{Kept, HeadIs, IsEligible, IsWaiting, IsWithin, presence, head_weight, ranks_at, rank_at, bound, none_absent}
+use Rattle.dn_wf2q.proofs.Words.{All, All-cons, All-contains, All-head, All-permutation, All-tail, All-weaker, Contains, Flow, HeadIs, Heap, IsEligible, IsLeast, IsPermutation, IsWaiting}
+use Rattle.dn_wf2q.proofs.Words.{IsWithin, Kept, List, None, RankView, Some, Stamped, [], ap, arith, bound, cases_lt, filter, first_to_go, flow_at, head_weight, heads_of, inl, inr, is_eligible}
+use Rattle.dn_wf2q.proofs.Words.{length, length_permutation, max, none_absent, option_map, presence, raised, rank_at, rank_cmp, ranks_at, refl, slice_index_or, subst, sum_by-le, sym, weight_sum}
+use Rattle.dn_wf2q.proofs.Words.{ℕ, ◌*◌, ◌+◌, ◌<◌, ◌∷◌, ◌≡◌, ◌≤◌}
 use Rattle.dn_wf2q.proofs.Heads.{IfHead, head_weaker, head_both, head_if, if_none, presence-le, head_within, head_says, head_of_all, head_weight-le}
 use Rattle.dn_wf2q.proofs.Ranks.{ranks_at_pushed, ranks_at_popped, some_rank_at, not_before}
 use Rattle.dn_wf2q.proofs.Scan.{raised_is, raised_stays, first_is, first_none, YieldsTo}

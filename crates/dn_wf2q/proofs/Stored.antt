@@ -1,12 +1,9 @@
 -- The packets that a `Sched` keeps stay those of its schedule.
-use Rattle.std.proofs.Common.{◌≡◌, ℕ, zero, suc, ◌+◌, ◌-◌, ◌<◌, ◌≤◌, List, [], ◌∷◌, ◌++◌, length, map, drop, All, refl, sym, ap, ◌∙◌, subst, arith, get_or, set, replicate, Option}
-use Rattle.std.specs.Prelude.{slice_get}
-use Rattle.std.specs.VecDeque.{deque_capacity, deque_items, deque_len}
-use Rattle.std.proofs.lemmas.List.{append_assoc, length-map, length-append, map_push, map-append, drop-map, get_or-map, get_or-set_same, length-set, set-get_or, set-set}
-use Rattle.std.proofs.lemmas.List.Elements.{All-head, All-tail, All-push}
-use Rattle.dn_types.specs.Wf2q.{Stamped}
-use Rattle.dn_wf2q.specs.Schedule.{Flow, IsNext, Passes, Picks, Schedule, SendsFirst, room_at, after_arrival, after_discard, after_pick, flow_at, forgotten, joined_by, next_of, no_packets, padded, stamped, without_head}
-use Rattle.dn_wf2q.specs.Stored.{AreStored, IsMore, IsStored, Queue, spare, untagged, untagged_of}
+use Rattle.dn_wf2q.proofs.Words.{All, All-head, All-push, All-tail, AreStored, Flow, IsMore, IsNext, IsStored, List, Option, Passes, Picks, Queue, Schedule, SendsFirst, Stamped, [], after_arrival}
+use Rattle.dn_wf2q.proofs.Words.{after_discard, after_pick, ap, append_assoc, arith, deque_capacity, deque_items, deque_len, drop, drop-map, flow_at, forgotten, get_or, get_or-map}
+use Rattle.dn_wf2q.proofs.Words.{get_or-set_same, joined_by, length, length-append, length-map, length-set, map, map-append, map_push, next_of, no_packets, padded, refl, replicate, room_at, set}
+use Rattle.dn_wf2q.proofs.Words.{set-get_or, set-set, slice_get, spare, stamped, subst, suc, sym, untagged_of, without_head, zero, ℕ, ◌++◌, ◌+◌, ◌-◌, ◌<◌, ◌∙◌, ◌∷◌, ◌≡◌, ◌≤◌}
+use Rattle.dn_wf2q.specs.Stored.{untagged}
 use Rattle.dn_wf2q.proofs.Rooms.{known, room_listed}
 
 map-set : {X Y : Type 0} (f : X → Y) (xs : List X) (k : ℕ) (y : X) → map f (set xs k y) ≡ set (map f xs) k (f y)

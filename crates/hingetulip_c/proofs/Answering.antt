@@ -1,12 +1,5 @@
 -- A call on the shaper that a handle holds is a call on the handle.
-use Rattle.std.proofs.Common.{◌≡◌, ◌≤◌, ℕ, List, [], ◌∷◌, sym, subst, length, take, arith}
-use Rattle.dn_types.specs.Replies.{reply}
-use Rattle.dn_types.specs.declared.call.Call.{Call}
-use Rattle.dn_types.specs.declared.reply.Reply.{Reply}
-use Rattle.dn_types.specs.declared.rule.Rule.{Rule}
-use Rattle.dn_shaper.specs.Shaper.{items_in}
-use Rattle.dn_shaper.specs.declared.state.State.{State}
-use Rattle.hingetulip_c.specs.Handles.{HeldAfter, AnswersHeld}
+use Rattle.hingetulip_c.proofs.Words.{AnswersHeld, Call, HeldAfter, List, Reply, Rule, State, [], arith, items_in, length, reply, subst, sym, take, ℕ, ◌∷◌, ◌≡◌, ◌≤◌}
 
 pub answers_held : (s s' : State) (xs ys : List State) (call : Call) (r : Reply) → xs ≡ s ∷ [] → ys ≡ s' ∷ []
     → AnswersHeld call (s ∷ []) (s' ∷ []) r → AnswersHeld call xs ys r

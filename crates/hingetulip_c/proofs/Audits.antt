@@ -1,13 +1,7 @@
 -- What comes to the audit that a handle holds, and what that finds.
-use Rattle.std.proofs.Common.{◌≡◌, ◌≢◌, ◌∙◌, ◌≤◌, ◌<◌, ℕ, List, [], ◌∷◌, ◌++◌, Err, length, subst, sym, arith}
-use Rattle.dn_history.specs.FileAudit.{HasCome, HasVerdict, IsUnfed}
-use Rattle.dn_history.specs.declared.file_audit.file_audit.FileAudit.{FileAudit}
+use Rattle.hingetulip_c.proofs.Words.{BadRecord, CVerdict, Err, FileAudit, HasCome, HasVerdict, HoldsText, IsFound, IsUnfed, List, OutOfMemory, ReplayFault, TooLong, [], arith, c_verdict}
+use Rattle.hingetulip_c.proofs.Words.{history_in, length, subst, sym, unfed_status, ℕ, ◌++◌, ◌<◌, ◌∙◌, ◌∷◌, ◌≡◌, ◌≢◌, ◌≤◌}
 use Rattle.dn_history.specs.declared.verdict.Verdict.{Verdict}
-use Rattle.dn_files.specs.declared.replay_fault.ReplayFault.{ReplayFault}
-use Rattle.dn_files.specs.declared.replay_fault.ReplayFault.TheVariants.{BadRecord, OutOfMemory, TooLong}
-use Rattle.dn_history.specs.HistoryFile.{history_in}
-use Rattle.hingetulip_c.specs.Audits.{HoldsText, IsFound, c_verdict, unfed_status}
-use Rattle.hingetulip_c.specs.declared.records.c_verdict.CVerdict.{CVerdict}
 
 pub holds_text : (a : FileAudit) (limit : ℕ) (xs : List FileAudit) → xs ≡ a ∷ [] → a.limit ≡ limit → HasCome a [] → HoldsText limit xs []
 holds_text a limit xs e most come = subst (λ (l : List FileAudit). HoldsText limit l []) (sym e) (most, come)

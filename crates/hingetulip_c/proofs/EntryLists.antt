@@ -1,17 +1,6 @@
 -- The entries of a history are told one after the other.
-use Rattle.std.proofs.Common.{◌≡◌, ◌∙◌, ℕ, true≢false, refl, sym, ap, List, [], Result, Ok, Err, length, take}
-use Rattle.std.specs.Result.{is_ok}
-use Rattle.dn_types.specs.declared.entry.Entry.{Entry}
-use Rattle.dn_types.specs.declared.rule.Rule.{Rule}
-use Rattle.dn_history.specs.HistoryFile.{history_in}
-use Rattle.dn_files.specs.Reading.{◌>>=◌, IsFaultOf}
-use Rattle.dn_files.specs.declared.replay_fault.ReplayFault.{ReplayFault}
-use Rattle.dn_files.proofs.Inputs.{carried}
-use Rattle.hingetulip_c.specs.Entries.{IsHistory, Lists, nothing, sizes, with_entries}
-use Rattle.hingetulip_c.specs.declared.records.c_delivery.CDelivery.{CDelivery}
-use Rattle.hingetulip_c.specs.declared.records.c_entry.CEntry.{CEntry}
-use Rattle.hingetulip_c.specs.declared.records.c_flow.CFlow.{CFlow}
-use Rattle.hingetulip_c.specs.declared.records.c_history.CHistory.{CHistory}
+use Rattle.hingetulip_c.proofs.Words.{CDelivery, CEntry, CFlow, CHistory, Entry, Err, IsFaultOf, IsHistory, List, Lists, Ok, ReplayFault, Result, Rule, [], ap, carried, history_in, is_ok, length}
+use Rattle.hingetulip_c.proofs.Words.{nothing, refl, sizes, sym, take, true≢false, with_entries, ℕ, ◌>>=◌, ◌∙◌, ◌≡◌}
 
 -- The lists with the entries that are left, or their fault.
 abbrev pub lists_after : Lists → Result (List Entry) ReplayFault → Result Lists ReplayFault

@@ -2,6 +2,7 @@
 --     of_code, closed_code, into_code            what each is compiled to
 --     of_ended, of_clauses and so on             its contract
 --     of_meets, closed_meets, into_meets         the code meets the contract
+use Rattle.hingetulip_c.proofs.Words.{MatchOption, freed, ℕ}
 use mir.Raw.{raw as bare}
 use mir.Syntax.{Callee, Fn, Body, Local, local, value_local, Opd, Rv, rv_opd, copy, place, field, assign, aggregate, seq, cond, return, int, w8, w64, opd_true, opd_false, ty_ptr, ty_bool}
 use contract.Running.{Running, MachineTables}
@@ -9,7 +10,6 @@ use denote.Triple.Clauses.{Ended, Clauses, closing}
 use denote.Triple.Spec.{Meets}
 use prog.Model.{Model}
 use prog.Wp.{Closed}
-use Rattle.std.specs.Prelude.{ℕ, MatchOption}
 use Rattle.std.specs.contracts.alloc.Global as heap
 use Rattle.std.specs.contracts.option.Option as option
 use Rattle.std.proofs.alloc.Global.TheLaws as heap_laws
@@ -18,7 +18,6 @@ use Rattle.hingetulip_c.proofs.Walks.{◌⊛◌, at_ret, ◌$◌, ◌∵◌, !, 
 use Rattle.hingetulip_c.proofs.Walks.{branches, exec, returns, enter, alloc_all, pass_all, free_all, look_at, get, get_in, sets, sets_last, env, agg, sub, whole, live, fact, fact_i, tables, yes}
 use Rattle.hingetulip_c.proofs.Walks.{RattleType, Ura, Logic, owns, Ptr, block_ptr, null_ptr, ptr_val, in_a_block, lone, layout, types_at, plain, nothing, alive, Stays, stay_dropped, walk_of}
 use Rattle.hingetulip_c.proofs.Walks.{Goes-dropped, None, Some, ghosts, handle_tells, after, Good, Some-of, none_of, and_tt, box_owns, proved_at, leaves}
-use Rattle.hingetulip_c.specs.Handles.{freed}
 use Rattle.hingetulip_c.proofs.RawBoxes.{Row, two, ptr_good, handle_good, two_cases, allocator, typed, opened, made}
 use Rattle.hingetulip_c.proofs.Handles.{Handle, HandleRow, holds, handle_in, handle_out}
 

@@ -5,6 +5,7 @@
 --     holds         a handle that is made of a list holds it
 --     handle_out    a handle's machine value has two fields, and it owns what it holds
 --     handle_in     and the other way round
+use Rattle.hingetulip_c.proofs.Words.{freed, owned_by}
 use mir.Syntax.{Sym}
 use base.Fml.{fsep}
 use denote.Exit.{unseen}
@@ -19,7 +20,6 @@ use Rattle.hingetulip_c.specs.contracts.ledger.Ledger as ledger
 use Rattle.hingetulip_c.specs.contracts.service_handle.ServiceHandle as c_service
 use Rattle.hingetulip_c.proofs.Walks.{◌≡◌, List, [], ◌∷◌, ◌++◌, refl, ap, subst, Bool, Ura, Val, vbool, vstruct, of_list, Fml, Logic, Item, Goal, Seq, Step, step, ‵, ◌$◌, drop, fsplit, fjoin, fpick}
 use Rattle.hingetulip_c.proofs.Walks.{fpack, feq_i, feq_l, within, RattleType, Valss, RawPtr, bool, Ptr, ptr_val, nothing, box_owns}
-use Rattle.hingetulip_c.specs.Handles.{freed, owned_by}
 use Rattle.hingetulip_c.proofs.RawBoxes.{two}
 
 pub record Handle (R Hd : RattleType) : Type 0 where

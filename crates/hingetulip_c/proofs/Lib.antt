@@ -11,3 +11,4 @@ pub mod RawBoxes
 pub mod Rooms
 pub mod Serving
 pub mod Walks
+pub mod Words

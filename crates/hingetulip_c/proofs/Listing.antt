@@ -1,19 +1,7 @@
 -- The reply to a Collect has deliveries and that to a Show has flows, if it has a list, so that both are told by one function.
-use Rattle.std.proofs.Common.{◌≡◌, ℕ, Bool, true, false, cond, List, [], ◌∷◌, ◌++◌, length, nat_le, refl, sym, subst}
-use Rattle.dn_types.specs.Clock.{call_limit}
-use Rattle.dn_types.specs.History.{IsLawful, IsLawfulAfter}
-use Rattle.dn_types.specs.Replies.{counted_reply, reply}
-use Rattle.dn_types.specs.declared.call.Call.{Call}
-use Rattle.dn_types.specs.declared.call.Call.TheVariants.{Collect, Show}
-use Rattle.dn_types.specs.declared.entry.Entry.{Entry}
-use Rattle.dn_types.specs.declared.reply.Reply.{Reply}
-use Rattle.dn_types.specs.declared.reply.Reply.TheVariants.{Exhausted}
-use Rattle.dn_types.specs.declared.rule.Rule.{Rule}
-use Rattle.dn_types.specs.declared.rule.Rule.TheVariants.{Ordered}
-use Rattle.dn_service.specs.Histories.{entry_of}
-use Rattle.hingetulip_c.specs.Clients.{IsAnswered, AnsweredBy, last_reply}
-use Rattle.hingetulip_c.specs.Statuses.{list_status, list_count, collect_status, collect_count, show_status, show_count}
-use Rattle.hingetulip_c.specs.declared.client.Client.{Client}
+use Rattle.hingetulip_c.proofs.Words.{AnsweredBy, Bool, Call, Client, Collect, Entry, Exhausted, IsAnswered, IsLawful, IsLawfulAfter, List, Ordered, Reply, Rule, Show, [], call_limit}
+use Rattle.hingetulip_c.proofs.Words.{collect_count, collect_status, cond, counted_reply, entry_of, false, last_reply, length, list_count, list_status, nat_le, refl, reply, show_count}
+use Rattle.hingetulip_c.proofs.Words.{show_status, subst, sym, true, ℕ, ◌++◌, ◌∷◌, ◌≡◌}
 
 -- The reply of the last entry is the one to its call after those before it.
 last_of : (rule : Rule) (calls : List Call) (history : List Entry) (e : Entry) → IsLawfulAfter rule calls (history ++ e ∷ [])

@@ -1,22 +1,9 @@
 -- Each turn of the loop over packets tells the fate of one packet more.
-use Rattle.std.proofs.Common.{◌≡◌, ◌≢◌, ◌∙◌, ◌<◌, ◌+◌, ⊎_elim, ℕ, Bool, cond, nat_le, refl, true, false, true≢false, List, [], ◌∷◌, ◌++◌, get_or, map, reverse}
-use Rattle.std.proofs.Common.{take, drop, set, length, ap, sym, subst, arith}
-use Rattle.std.proofs.lemmas.Bool.{cases_eq}
-use Rattle.std.proofs.lemmas.Bool.Decides.{nat_tests}
-use Rattle.std.proofs.lemmas.List.{reverse-append, take_more, map-append, get_or_default, get_or-set_same, get_or-set_other, get_or-drop, drop-drop, drop-set-lt}
-use Rattle.dn_types.specs.Calls.{Verdict, no_target, loses, refuses, takes}
-use Rattle.dn_types.specs.Clock.{call_limit}
-use Rattle.dn_types.specs.Replies.{counted_reply, reply, reply_to_verdict}
-use Rattle.dn_types.specs.Trace.{Event}
-use Rattle.dn_types.specs.declared.call.Call.{Call}
-use Rattle.dn_types.specs.declared.reply.Reply.{Reply}
-use Rattle.dn_types.specs.declared.reply.Reply.TheVariants.{Exhausted}
-use Rattle.dn_types.specs.declared.rule.Rule.{Rule}
-use Rattle.hingetulip_c.specs.Many.{AreTold, reply_at, sent}
-use Rattle.hingetulip_c.specs.Statuses.{answered}
-use Rattle.hingetulip_c.specs.Submits.{submit_of, fate_status, fate_of}
-use Rattle.hingetulip_c.specs.declared.records.c_fate.CFate.{CFate}
-use Rattle.hingetulip_c.specs.declared.records.c_packet.CPacket.{CPacket}
+use Rattle.hingetulip_c.proofs.Words.{AreTold, Bool, CFate, CPacket, Call, Event, Exhausted, List, Reply, Rule, [], answered, ap, arith, call_limit, cases_eq, cond, counted_reply, drop, drop-drop}
+use Rattle.hingetulip_c.proofs.Words.{drop-set-lt, false, fate_of, fate_status, get_or, get_or-drop, get_or-set_other, get_or-set_same, get_or_default, length, loses, map, map-append, nat_le}
+use Rattle.hingetulip_c.proofs.Words.{nat_tests, no_target, refl, refuses, reply, reply_at, reply_to_verdict, reverse, reverse-append, sent, set, submit_of, subst, sym, take, take_more, takes}
+use Rattle.hingetulip_c.proofs.Words.{true, true≢false, ℕ, ⊎_elim, ◌++◌, ◌+◌, ◌<◌, ◌∙◌, ◌∷◌, ◌≡◌, ◌≢◌}
+use Rattle.dn_types.specs.Calls.{Verdict}
 
 pub sent-more : (packets : List CPacket) (i : ℕ) (p : CPacket) (calls : List Call) → i < length packets
     → sent (take (i + 1) packets) calls ≡ submit_of (get_or packets i p) ∷ sent (take i packets) calls

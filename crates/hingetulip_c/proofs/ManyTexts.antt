@@ -1,11 +1,6 @@
 -- The texts of entries one after the other: of one entry more, and of a first one that has no room.
-use Rattle.std.proofs.Common.{◌≡◌, ◌∙◌, ◌⊎◌, inl, inr, ℕ, ◌+◌, ◌<◌, ◌≤◌, ◌==◌, false, List, [], ◌++◌, get_or, take, drop, length, ap, sym, subst, arith}
-use Rattle.std.proofs.lemmas.List.{length-take-le}
-use Rattle.dn_types.specs.declared.entry.Entry.{Entry}
-use Rattle.dn_records.specs.Records.{text_of}
-use Rattle.dn_records.proofs.TextSteps.{texts-more}
-use Rattle.dn_history.specs.HistoryText.{entry_records, part_text}
-use Rattle.hingetulip_c.specs.Services.{next_text}
+use Rattle.hingetulip_c.proofs.Words.{Entry, List, [], ap, arith, drop, entry_records, false, get_or, inl, inr, length, length-take-le, next_text, part_text, subst, sym, take, text_of, texts-more}
+use Rattle.hingetulip_c.proofs.Words.{ℕ, ◌++◌, ◌+◌, ◌<◌, ◌==◌, ◌∙◌, ◌≡◌, ◌≤◌, ◌⊎◌}
 
 -- The text of one entry more.
 pub one_more : (entries : List Entry) (i : ℕ) (d : Entry) (before after : List ℕ) → i < length entries → before ≡ part_text (take i entries)

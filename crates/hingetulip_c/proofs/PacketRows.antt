@@ -1,16 +1,6 @@
 -- Packets that were read are the first rows of a text.
-use Rattle.std.proofs.Common.{◌≡◌, ◌∙◌, ◌⊎◌, ◌<◌, refl, sym, ap, ℕ, List, [], Option, Some, None, Ok, inl, inr, arith, length, map, take, drop}
-use Rattle.std.proofs.lemmas.List.{drop_all}
-use Rattle.std.proofs.Math.Seq.{take-length}
-use Rattle.dn_files.specs.InChunks.{BeginsWith}
-use Rattle.dn_files.specs.PacketParts.{rows_left}
-use Rattle.dn_files.specs.QuotedRow.{row_at_front}
-use Rattle.dn_files.specs.declared.row.Row.{Row}
-use Rattle.dn_files.proofs.ChunkRows.{left_behind, left_whole, none_used, told}
-use Rattle.dn_files.proofs.PacketParts.{begins_shorter}
-use Rattle.dn_files.proofs.QuotedRows.{row_reads}
-use Rattle.hingetulip_c.specs.Rows.{c_packet, HasCount, HasRead}
-use Rattle.hingetulip_c.specs.declared.records.c_packet.CPacket.{CPacket}
+use Rattle.hingetulip_c.proofs.Words.{BeginsWith, CPacket, HasCount, HasRead, List, None, Ok, Option, Row, Some, [], ap, arith, begins_shorter, c_packet, drop, drop_all, inl, inr, left_behind}
+use Rattle.hingetulip_c.proofs.Words.{left_whole, length, map, none_used, refl, row_at_front, row_reads, rows_left, sym, take, take-length, told, ℕ, ◌<◌, ◌∙◌, ◌≡◌, ◌⊎◌}
 
 pub front_read : (text : List ℕ) (used : ℕ) (rows : List Row) (packets : List CPacket) → BeginsWith text used rows → packets ≡ map c_packet rows → HasRead text used packets
 front_read text used rows packets begins are = record {

@@ -6,7 +6,7 @@
 --     typed       a pointer into a block beside an allocator's value is of the struct's type
 --     opened      what a `RawBox` owns is what a box owns at its pointer, and its allocator
 --     made        and the other way round
-use Rattle.std.proofs.Common.{◌≡◌, ◌∙◌, ℕ, List, [], ◌∷◌, ◌++◌, refl, ap, lit<}
+use Rattle.hingetulip_c.proofs.Words.{Al, Ghosts, Good, List, [], and_tt, ap, box_owns, freed, handle_tells, lit<, owned_by, refl, ℕ, ◌++◌, ◌∙◌, ◌∷◌, ◌≡◌}
 use mathlib.Core.Bool.{Bool, ◌&&◌, true, false}
 use lib.Dec.{T}
 use seplogic.Ra.Ura.{Ura}
@@ -26,12 +26,6 @@ use denote.RawPtr.{Ptr, block_ptr, null_ptr, ptr_val, in_a_block}
 use denote.Steps.{nothing}
 use denote.Struct.Owning.{shape}
 use denote.Struct.Struct.{within}
-use Rattle.std.specs.declared.alloc.Allocator.{Ghosts}
-use Rattle.std.proofs.alloc.Calls.{Al, handle_tells}
-use Rattle.std.proofs.cell.Inside.{Good}
-use Rattle.std_alloc.specs.Box.Ownership.{box_owns}
-use Rattle.std_alloc.proofs.ResultValues.{and_tt}
-use Rattle.hingetulip_c.specs.Handles.{freed, owned_by}
 use Rattle.hingetulip_c.specs.contracts.raw_box.RawBox as raw_box
 
 abbrev pub two : Val → Val → Val

@@ -1,17 +1,6 @@
 -- Room for a packet is room for each one like it, and stays where the shaper keeps it.
-use Rattle.std.proofs.Common.{◌≡◌, ◌⊎◌, inl, inr, ℕ, true, false, IsOk, Result, Option, Some, None, List, [], ◌∷◌, cond, nat_eq, subst, sym}
-use Rattle.dn_types.specs.Flows.{Treatment, key_of, treatment}
-use Rattle.dn_types.specs.declared.call.Call.{Call}
-use Rattle.dn_types.specs.declared.call.Call.TheVariants.{Advance, Show}
-use Rattle.dn_types.specs.declared.five_tuple.FiveTuple.{FiveTuple}
-use Rattle.dn_types.specs.declared.target.Target.{Target}
-use Rattle.dn_types.specs.declared.target.Target.TheVariants.{Pipe, Queue}
-use Rattle.dn_shaper.specs.Refinement.Settings.{settings_of}
-use Rattle.dn_shaper.specs.Room.{HasRoomBy, HasRoomFor, KeepsRoom, LeavesRoom}
-use Rattle.dn_shaper.specs.declared.state.State.{State}
-use Rattle.hingetulip_c.specs.Room.{AreAlike, HoldsRoomFor, StillRoomy}
-use Rattle.hingetulip_c.specs.Submits.{submit_of}
-use Rattle.hingetulip_c.specs.declared.records.c_packet.CPacket.{CPacket}
+use Rattle.hingetulip_c.proofs.Words.{Advance, AreAlike, CPacket, Call, FiveTuple, HasRoomBy, HasRoomFor, HoldsRoomFor, IsOk, KeepsRoom, LeavesRoom, List, None, Option, Pipe, Queue, Result, Show}
+use Rattle.hingetulip_c.proofs.Words.{Some, State, StillRoomy, Target, Treatment, [], cond, false, inl, inr, key_of, nat_eq, settings_of, submit_of, subst, sym, treatment, true, ℕ, ◌∷◌, ◌≡◌, ◌⊎◌}
 
 abbrev target_of : CPacket → Target
 target_of p = cond (nat_eq p.kind 0) (Pipe p.number) (Queue p.number)

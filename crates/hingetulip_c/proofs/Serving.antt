@@ -1,16 +1,8 @@
 -- What is so of the value that a handle holds is so of the handle, and each turn of the loops over handles does one more.
-use Rattle.std.proofs.Common.{◌≡◌, ◌∙◌, ◌<◌, ◌+◌, ℕ, zero, suc, List, [], ◌∷◌, ◌++◌, get_or, map, min, replicate, take, drop, set, length, refl, ap, sym, subst, arith}
-use Rattle.std.proofs.lemmas.List.{take_more, take_more_set, take_at, drop_at, length_push, map-append, length-take, take_min, drop_min, take-map, drop-map}
-use Rattle.std.proofs.lemmas.Grind.{replicate_next}
-use Rattle.dn_service.specs.Callers.{ServiceView, CallerView, having_lost, having_faced, new_caller, new_callers}
-use Rattle.dn_service.specs.Lasting.{LastingView}
-use Rattle.dn_service.proofs.Handing.{one_more_caller}
-use Rattle.hingetulip_c.specs.Clients.{RefusedBy}
-use Rattle.hingetulip_c.specs.Handles.{Holds, HoldsBoth}
-use Rattle.hingetulip_c.specs.Services.{all_held, held_new, waiting, NotTaken, Opened}
-use Rattle.hingetulip_c.specs.declared.caller_handle.CallerHandle.{CallerHandle}
-use Rattle.hingetulip_c.specs.declared.client.Client.{Client}
-use Rattle.hingetulip_c.specs.declared.ledger.Ledger.{Ledger}
+use Rattle.hingetulip_c.proofs.Words.{CallerHandle, CallerView, Client, Holds, HoldsBoth, LastingView, Ledger, List, NotTaken, Opened, RefusedBy, ServiceView, [], all_held, ap, arith, drop}
+use Rattle.hingetulip_c.proofs.Words.{drop-map, drop_at, drop_min, get_or, having_faced, having_lost, held_new, length, length-take, length_push, map, map-append, min, new_caller, new_callers}
+use Rattle.hingetulip_c.proofs.Words.{one_more_caller, refl, replicate, replicate_next, set, subst, suc, sym, take, take-map, take_at, take_min, take_more, take_more_set, waiting, zero, ℕ, ◌++◌}
+use Rattle.hingetulip_c.proofs.Words.{◌+◌, ◌<◌, ◌∙◌, ◌∷◌, ◌≡◌}
 
 pub holds : {A : Type 0} (is : A → Type 0) (x : A) (xs : List A) → xs ≡ x ∷ [] → is x → Holds is xs
 holds {A} is x xs e so = subst (λ (l : List A). Holds is l) (sym e) so

@@ -14,8 +14,6 @@ mod example;
 #[cfg(test)]
 mod flow;
 #[cfg(test)]
-mod flows;
-#[cfg(test)]
 mod key;
 #[cfg(test)]
 mod lent;
@@ -29,12 +27,6 @@ mod reply_room;
 mod reserve;
 #[cfg(test)]
 mod sent;
-#[cfg(test)]
-mod shared_links;
-#[cfg(test)]
-mod short_lists_flows;
-#[cfg(test)]
-mod short_lists_wf2q;
 #[cfg(test)]
 mod shown_step;
 #[cfg(test)]

@@ -1,6 +1,4 @@
-use Rattle.std.proofs.Common.{arith}
-use Rattle.std.proofs.lemmas.Result.{err_from_is_err_and}
-use Rattle.dn_config.specs.Tokens.Numbers.{number_of}
+use Rattle.dn_config.proofs.Vocabulary.{arith, err_from_is_err_and, number_of}
 use Rattle.dn_config.proofs.Ranges.{units_fault, units_made}
 use Rattle.dn_config.proofs.bandwidth.scaled.Goals as goal
 

@@ -1,7 +1,5 @@
-use Rattle.std.proofs.Common.{arith}
-use Rattle.dn_config.specs.Words.{is_hash}
+use Rattle.dn_config.proofs.Vocabulary.{arith, common_steps, is_hash}
 use Rattle.dn_config.proofs.Prefixes.{no_position}
-use Rattle.std.proofs.lemmas.Grind.{common_steps}
 use Rattle.dn_config.proofs.line.before_comment.Goals as goal
 
 pub returns-clause-value : goal.returns-clause-value

@@ -1,5 +1,4 @@
-use Rattle.std.proofs.Common.{◌≡◌, ℕ, ◌<◌, get_or, false}
-use Rattle.dn_config.specs.Words.{is_hash}
+use Rattle.dn_config.proofs.Vocabulary.{false, get_or, is_hash, ℕ, ◌<◌, ◌≡◌}
 use Rattle.dn_config.proofs.line.before_comment.Given as goal
 
 abbrev pub invariant-loop-i : goal.invariant-loop-i

@@ -1,6 +1,5 @@
-use Rattle.std.proofs.Common.{◌∙◌}
+use Rattle.dn_config.proofs.Vocabulary.{left, ◌∙◌}
 use Rattle.dn_config.proofs.Config.{config_ok, config_err}
-use Rattle.dn_config.specs.Reading.{left}
 use Rattle.dn_config.proofs.line.config.Goals as goal
 
 pub returns-in-Ok : goal.returns-in-Ok

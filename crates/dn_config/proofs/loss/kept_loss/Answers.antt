@@ -1,4 +1,4 @@
-use Rattle.std.proofs.Common.{arith}
+use Rattle.dn_config.proofs.Vocabulary.{arith}
 use Rattle.dn_config.proofs.Ranges.{kept_none, kept_high, kept_in}
 use Rattle.dn_config.proofs.loss.kept_loss.Goals as goal
 

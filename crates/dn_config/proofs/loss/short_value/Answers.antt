@@ -1,4 +1,4 @@
-use Rattle.std.proofs.Common.{arith, ◌∙◌}
+use Rattle.dn_config.proofs.Vocabulary.{arith, ◌∙◌}
 use Rattle.dn_config.proofs.Ranges.{short_ok, short_err, short_bound}
 use Rattle.dn_config.proofs.loss.short_value.Goals as goal
 

@@ -1,6 +1,4 @@
-use Rattle.std.proofs.Common.{◌∙◌, arith, sym}
-use Rattle.std.proofs.lemmas.Result.{err_from_is_err_and}
-use Rattle.dn_config.specs.Reading.{left}
+use Rattle.dn_config.proofs.Vocabulary.{arith, err_from_is_err_and, left, sym, ◌∙◌}
 use Rattle.dn_config.proofs.MaskSteps.{fields_ok, fields_err, fields_stop, fields_left, fields_done}
 use Rattle.dn_config.proofs.mask.fields.Goals as goal
 

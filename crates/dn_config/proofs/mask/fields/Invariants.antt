@@ -1,6 +1,4 @@
-use Rattle.std.proofs.Common.{◌≡◌, ◌<◌, ◌+◌, ◌^◌, length}
-use Rattle.dn_config.specs.Masks.{no_bits}
-use Rattle.dn_config.specs.Reading.{GoesOn, read_fields, left}
+use Rattle.dn_config.proofs.Vocabulary.{GoesOn, left, length, no_bits, read_fields, ◌+◌, ◌<◌, ◌^◌, ◌≡◌}
 use Rattle.dn_config.proofs.mask.fields.Given as goal
 
 abbrev pub invariant-loop-word : goal.invariant-loop-word

@@ -1,5 +1,4 @@
-use Rattle.std.proofs.Common.{◌∙◌, ap, sym}
-use Rattle.dn_config.specs.Reading.{read_mask, left}
+use Rattle.dn_config.proofs.Vocabulary.{ap, left, read_mask, sym, ◌∙◌}
 use Rattle.dn_config.proofs.MaskSteps.{mask_nil, mask_goes, mask_stops}
 use Rattle.dn_config.proofs.mask.read_mask.Goals as goal
 

@@ -1,6 +1,4 @@
-use Rattle.std.proofs.Common.{◌+◌, ◌∙◌, ap, sym}
-use Rattle.std.specs.Prelude.{Some}
-use Rattle.std.proofs.lemmas.Result.{err_from_is_err_and}
+use Rattle.dn_config.proofs.Vocabulary.{Some, ap, err_from_is_err_and, sym, ◌+◌, ◌∙◌}
 use Rattle.dn_config.proofs.OptionSteps.{option_unknown, option_left, option_foreign, option_missing, option_valued, option_bad, option_mask_ok, option_mask_err}
 use Rattle.dn_config.proofs.option_group.option.Goals as goal
 

@@ -1,4 +1,4 @@
-use Rattle.std.proofs.Common.{arith, sym}
+use Rattle.dn_config.proofs.Vocabulary.{arith, sym}
 use Rattle.dn_config.proofs.OptionSteps.{options_ok, options_err, options_done}
 use Rattle.dn_config.proofs.options.read_options.Goals as goal
 

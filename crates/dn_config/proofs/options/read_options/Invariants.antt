@@ -1,6 +1,4 @@
-use Rattle.std.proofs.Common.{◌≡◌, ◌<◌, ◌+◌, ◌^◌, length}
-use Rattle.dn_config.specs.Settings.{defaults}
-use Rattle.dn_config.specs.Reading.{read_options, left}
+use Rattle.dn_config.proofs.Vocabulary.{defaults, left, length, read_options, ◌+◌, ◌<◌, ◌^◌, ◌≡◌}
 use Rattle.dn_config.proofs.options.read_options.Given as goal
 
 abbrev pub invariant-loop-word : goal.invariant-loop-word

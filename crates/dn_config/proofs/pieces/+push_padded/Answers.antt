@@ -1,8 +1,5 @@
 -- The last digit stands behind the others.
-use Rattle.std.proofs.Common.{◌≡◌, ◌≢◌, ◌-◌, ◌/◌, ◌%◌, ◌++◌, ◌∷◌, [], ℕ, zero, suc, refl, arith}
-use Rattle.std.proofs.lemmas.Grind.{common_steps}
-use Rattle.std.specs.Char.{digit_char}
-use Rattle.dn_config.specs.Text.{zero_padded}
+use Rattle.dn_config.proofs.Vocabulary.{[], arith, common_steps, digit_char, refl, suc, zero, zero_padded, ℕ, ◌%◌, ◌++◌, ◌-◌, ◌/◌, ◌∷◌, ◌≡◌, ◌≢◌}
 use Rattle.dn_config.proofs.pieces.+push_padded.Goals as goal
 
 padded-none : (radix width number : ℕ) → width ≡ 0 → zero_padded radix width number ≡ []

@@ -1,5 +1,4 @@
-use Rattle.std.proofs.Common.{◌∙◌, sym, ap, Ok, Err}
-use Rattle.dn_config.specs.Line.{answer}
+use Rattle.dn_files.proofs.Words.{Err, Ok, answer, ap, sym, ◌∙◌}
 use Rattle.dn_files.proofs.Commands.{no_text, said}
 use Rattle.dn_files.proofs.config.command_at.Goals as goal
 

@@ -1,6 +1,4 @@
-use Rattle.std.proofs.Common.{sym, arith}
-use Rattle.dn_config.specs.Tokens.Lines.{lines_of}
-use Rattle.dn_files.specs.ConfigFile.{commands_in}
+use Rattle.dn_files.proofs.Words.{arith, commands_in, lines_of, sym}
 use Rattle.dn_files.proofs.Commands.{no_more, one_more, own_fault}
 use Rattle.dn_files.proofs.config.commands_of_text.Goals as goal
 

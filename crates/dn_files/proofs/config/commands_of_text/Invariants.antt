@@ -1,6 +1,4 @@
-use Rattle.std.proofs.Common.{◌≡◌, ◌+◌, ◌≤◌, length}
-use Rattle.dn_config.specs.Tokens.Lines.{lines_of}
-use Rattle.dn_files.specs.ConfigFile.{commands_from, commands_in}
+use Rattle.dn_files.proofs.Words.{commands_from, commands_in, length, lines_of, ◌+◌, ◌≡◌, ◌≤◌}
 use Rattle.dn_files.proofs.Commands.{with_front}
 use Rattle.dn_files.proofs.config.commands_of_text.Given as goal
 

@@ -1,5 +1,4 @@
-use Rattle.std.proofs.lemmas.Result.{IfErr-weaker, IfOk-weaker}
-use Rattle.dn_files.specs.ConfigFile.{commands_in, config_limit}
+use Rattle.dn_files.proofs.Words.{IfErr-weaker, IfOk-weaker, commands_in, config_limit}
 use Rattle.dn_files.specs.declared.source.Source.TheVariants.{Config}
 use Rattle.dn_files.proofs.Inputs.{refused}
 use Rattle.dn_files.proofs.config.read_config.Goals as goal

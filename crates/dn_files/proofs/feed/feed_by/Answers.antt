@@ -1,5 +1,4 @@
-use Rattle.std.proofs.Common.{◌∙◌, ◌++◌, arith, length-take, refl, rules, take}
-use Rattle.std.proofs.KnownBytes.{Consumes-trans}
+use Rattle.dn_files.proofs.Words.{Consumes-trans, arith, length-take, refl, rules, take, ◌++◌, ◌∙◌}
 use Rattle.dn_files.proofs.Inputs.{refused_behind}
 use Rattle.dn_files.proofs.feed.feed_by.Goals as goal
 

@@ -1,5 +1,4 @@
-use Rattle.std.proofs.Common.{◌≡◌, ℕ, List, [], false}
-use Rattle.std.specs.Io.KnownBytes.{Consumes}
+use Rattle.dn_files.proofs.Words.{Consumes, List, [], false, ℕ, ◌≡◌}
 use Rattle.dn_files.proofs.feed.feed_by.Given as goal
 
 -- No read has failed, and what came is what the inlet gave.

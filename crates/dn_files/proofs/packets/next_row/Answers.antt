@@ -1,5 +1,4 @@
-use Rattle.std.proofs.Common.{◌∙◌, sym}
-use Rattle.csv.specs.Records.{fields_of}
+use Rattle.dn_files.proofs.Words.{fields_of, sym, ◌∙◌}
 use Rattle.dn_files.proofs.Rows.{bad_row}
 use Rattle.dn_files.proofs.packets.next_row.Goals as goal
 

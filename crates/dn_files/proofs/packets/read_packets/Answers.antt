@@ -1,6 +1,4 @@
-use Rattle.std.proofs.lemmas.Result.{IfErr-weaker, IfOk-weaker}
-use Rattle.dn_files.specs.PacketFile.{packet_limit, rows_of}
-use Rattle.dn_files.specs.declared.source.Source.TheVariants.{Packets}
+use Rattle.dn_files.proofs.Words.{IfErr-weaker, IfOk-weaker, Packets, packet_limit, rows_of}
 use Rattle.dn_files.proofs.Inputs.{refused}
 use Rattle.dn_files.proofs.packets.read_packets.Goals as goal
 

@@ -1,6 +1,4 @@
-use Rattle.std.proofs.Common.{◌≡◌, ◌∙◌, sym, ◌+◌, add-zero, length, true, rules, vec_len}
-use Rattle.std.specs.Result.{is_ok}
-use Rattle.dn_files.specs.PacketFile.{rows_from}
+use Rattle.dn_files.proofs.Words.{add-zero, is_ok, length, rows_from, rules, sym, true, vec_len, ◌+◌, ◌∙◌, ◌≡◌}
 use Rattle.dn_files.proofs.Rows.{faulty, fewer, next, no_more, starts}
 use Rattle.dn_files.proofs.packets.rows_below.Goals as goal
 

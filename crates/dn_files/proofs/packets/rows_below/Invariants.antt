@@ -1,5 +1,4 @@
-use Rattle.std.proofs.Common.{◌≡◌, ◌+◌, length}
-use Rattle.dn_files.specs.PacketFile.{rows_from}
+use Rattle.dn_files.proofs.Words.{length, rows_from, ◌+◌, ◌≡◌}
 use Rattle.dn_files.proofs.Rows.{with_front}
 use Rattle.dn_files.proofs.packets.rows_below.Given as goal
 

@@ -1,6 +1,4 @@
-use Rattle.std.proofs.Common.{◌∙◌, sym}
-use Rattle.csv.specs.Records.{fields_of}
-use Rattle.dn_records.specs.Records.{records_of}
+use Rattle.dn_files.proofs.Words.{fields_of, records_of, sym, ◌∙◌}
 use Rattle.dn_files.proofs.Rows.{no_record, other_header, under_header}
 use Rattle.dn_files.proofs.packets.rows_of_text.Goals as goal
 

@@ -1,5 +1,5 @@
 -- A row more is read off what is left of the text.
-use Rattle.std.proofs.Common.{◌≡◌, ◌∷◌, [], sym, length, length-append, vec_len, arith, rules}
+use Rattle.dn_files.proofs.Words.{[], arith, length, length-append, rules, sym, vec_len, ◌∷◌, ◌≡◌}
 use Rattle.dn_files.proofs.ChunkRows.{row_more}
 use Rattle.dn_files.proofs.PacketParts.{begins_shorter}
 use Rattle.dn_files.proofs.QuotedRows.{row_reads}

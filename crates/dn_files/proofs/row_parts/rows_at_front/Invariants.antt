@@ -1,5 +1,5 @@
 -- What was read off the text, and what is left of it.
-use Rattle.std.proofs.Common.{◌≤◌, length}
+use Rattle.dn_files.proofs.Words.{length, ◌≤◌}
 use Rattle.dn_files.proofs.ChunkRows.{GoesOn}
 use Rattle.dn_files.proofs.row_parts.rows_at_front.Given as goal
 

@@ -1,14 +1,5 @@
 -- The text is read behind a line feed.
-use Rattle.std.proofs.Common.{◌≡◌, ◌∙◌, List, Result, true, ap, sym, subst, arith}
-use Rattle.std.specs.Result.{is_ok}
-use Rattle.std.proofs.lemmas.Result.{IfErr-weaker, IfOk-weaker}
-use Rattle.dn_records.specs.Records.{records_of}
-use Rattle.dn_records.proofs.FirstLine.{behind-feed}
-use Rattle.dn_files.specs.PacketFile.{rows_from}
-use Rattle.dn_files.specs.PacketParts.{rows_left}
-use Rattle.dn_files.specs.Reading.{IsFaultOf}
-use Rattle.dn_files.specs.declared.replay_fault.ReplayFault.{ReplayFault}
-use Rattle.dn_files.specs.declared.row.Row.{Row}
+use Rattle.dn_files.proofs.Words.{IfErr-weaker, IfOk-weaker, IsFaultOf, List, ReplayFault, Result, Row, ap, arith, behind-feed, is_ok, records_of, rows_from, rows_left, subst, sym, true, ◌∙◌, ◌≡◌}
 use Rattle.dn_files.proofs.PacketParts.{later}
 use Rattle.dn_files.proofs.row_parts.rows_below_header.Goals as goal
 use Rattle.dn_files.proofs.row_parts.rows_below_header.Goals.{After-as_slice}

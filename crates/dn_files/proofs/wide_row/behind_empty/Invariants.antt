@@ -1,6 +1,5 @@
-use Rattle.std.proofs.Common.{◌≡◌, length}
+use Rattle.dn_files.proofs.Words.{length, records_after, ◌≡◌}
 use Rattle.csv.specs.declared.parser.State.TheVariants as st
-use Rattle.dn_records.specs.Reading.{records_after}
 use Rattle.dn_files.proofs.wide_row.behind_empty.Given as goal
 
 abbrev pub invariant-loop-left : goal.invariant-loop-left

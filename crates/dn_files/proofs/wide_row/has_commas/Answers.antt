@@ -1,5 +1,4 @@
-use Rattle.std.proofs.Common.{◌∙◌, sym}
-use Rattle.dn_files.specs.WideRows.{has_commas}
+use Rattle.dn_files.proofs.Words.{has_commas, sym, ◌∙◌}
 use Rattle.dn_files.proofs.WideRows.{mark_met, none_missing, text_ended}
 use Rattle.dn_files.proofs.wide_row.has_commas.Goals as goal
 

@@ -1,5 +1,4 @@
-use Rattle.std.proofs.Common.{◌≡◌, length}
-use Rattle.dn_files.specs.WideRows.{has_commas}
+use Rattle.dn_files.proofs.Words.{has_commas, length, ◌≡◌}
 use Rattle.dn_files.proofs.wide_row.has_commas.Given as goal
 
 abbrev pub invariant-loop-missing : goal.invariant-loop-missing

@@ -1,6 +1,4 @@
-use Rattle.std.proofs.Common.{◌≡◌, ◌<◌, ◌+◌, ◌-◌, ℕ, map, vec_capacity, vec_len}
-use Rattle.std.specs.Prelude.{vec_items}
-use Rattle.dn_flows.specs.Members.{list_at}
+use Rattle.dn_flows.proofs.Words.{list_at, map, vec_capacity, vec_items, vec_len, ℕ, ◌+◌, ◌-◌, ◌<◌, ◌≡◌}
 use Rattle.dn_flows.proofs.by_number.add_lists.Given as goal
 
 abbrev pub invariant-empty : goal.invariant-empty

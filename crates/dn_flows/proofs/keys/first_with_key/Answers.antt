@@ -1,4 +1,4 @@
-use Rattle.std.proofs.Common.{◌∙◌, sym}
+use Rattle.dn_flows.proofs.Words.{sym, ◌∙◌}
 use Rattle.dn_flows.proofs.Found.{found}
 use Rattle.dn_flows.proofs.keys.first_with_key.Goals as goal
 

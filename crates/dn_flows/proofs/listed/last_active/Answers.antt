@@ -1,12 +1,7 @@
 -- What isn't active is taken out of the list, until a flow is or none is left.
-use Rattle.std.proofs.Common.{◌≡◌, ◌∙◌, List, ap, refl, subst, sym, arith}
-use Rattle.std.specs.Prelude.{Some, slice_get}
-use Rattle.dn_flows.specs.declared.flow_queue.FlowQueue.{FlowQueue}
-use Rattle.dn_flows.proofs.Entries.{keep-let, keep-more, keep-none, lets-go, none-active}
+use Rattle.dn_flows.proofs.Words.{FlowQueue, List, ap, arith, slice_get, sym, ◌∙◌}
+use Rattle.dn_flows.proofs.Entries.{keep-let, keep-more, lets-go, none-active}
 use Rattle.dn_flows.proofs.listed.last_active.Goals as goal
-
-pub entries-init : goal.entries-init
-entries-init c = record { listed = c.requires.listed; counted = c.requires.counted; fewer = omega arith; keeps = keep-none c.args.queues.now.items }
 
 pub entries-preserved : goal.entries-preserved
 entries-preserved c =
@@ -18,17 +13,9 @@ entries-preserved c =
           c.take_out.ensures.others go (λ q key there. c.is_active_at.ensures.no c.if-is_active_at.false q key
           (ap (λ (qs : List FlowQueue). slice_get qs c.in-Some.flow) c.deref.ensures.value ∙ there));
       counted = c.let_go.ensures.counted;
-      fewer = let a = before.fewer in let b = c.let_go.ensures.fewer in omega arith;
+      fewer = omega arith;
       keeps = keep-more c.args.queues.now.items queues c.let_go.new.queues.items before.keeps (keep-let c.args.target.now c.in-Some.flow queues c.let_go.new.queues.items go);
     }
-
-pub entries-smaller : goal.entries-smaller
-entries-smaller c = let fewer = c.take_out.ensures.fewer (sym c.last.ensures ∙ c.in-Some.is) in omega arith
-
-pub returns-then-is_active_at-clause-some : goal.returns-then-is_active_at-clause-some
-returns-then-is_active_at-clause-some c =
-    let yes = c.is_active_at.ensures.yes c.if-is_active_at.true in
-    (yes.0, sym (ap (λ (qs : List FlowQueue). slice_get qs c.in-Some.flow) c.deref.ensures.value) ∙ yes.1, yes.2, yes.3)
 
 pub returns-clause-none : goal.returns-clause-none
 returns-clause-none c =

@@ -1,6 +1,4 @@
-use Rattle.std.proofs.Common.{◌≡◌, ◌≤◌, length}
-use Rattle.dn_flows.specs.Members.{AreListed, KeepQueues, list_of}
-use Rattle.dn_flows.specs.Store.{reservations}
+use Rattle.dn_flows.proofs.Words.{AreListed, KeepQueues, length, list_of, reservations, ◌≡◌, ◌≤◌}
 use Rattle.dn_flows.proofs.listed.last_active.Given as goal
 
 abbrev pub invariant-entries : goal.invariant-entries

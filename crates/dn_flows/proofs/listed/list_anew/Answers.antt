@@ -1,8 +1,5 @@
 -- The flow joins one list and then the other.
-use Rattle.std.proofs.Common.{◌≡◌, Some, List, rules, set, subst}
-use Rattle.std.specs.Prelude.{slice_get}
-use Rattle.dn_flows.specs.declared.flow_queue.FlowQueue.{FlowQueue}
-use Rattle.dn_flows.specs.Members.{AreListed}
+use Rattle.dn_flows.proofs.Words.{AreListed, FlowQueue, List, Some, rules, set, slice_get, subst, ◌≡◌}
 use Rattle.dn_flows.proofs.Entries.{set-twice}
 use Rattle.dn_flows.proofs.Places.{get-set}
 use Rattle.dn_flows.proofs.listed.list_anew.Goals as goal

@@ -1,8 +1,5 @@
 -- The flow joins its queue's list, unless it is there or is of none.
-use Rattle.std.proofs.Common.{refl, subst}
-use Rattle.std.specs.Prelude.{true}
-use Rattle.dn_types.specs.declared.target.Target.{Target}
-use Rattle.dn_flows.specs.Members.{IsMember}
+use Rattle.dn_flows.proofs.Words.{IsMember, Target, refl, subst, true}
 use Rattle.dn_flows.proofs.Entries.{joins-no-more, joins-none, joins-queue}
 use Rattle.dn_flows.proofs.listed.list_of_queue.Goals as goal
 

@@ -1,6 +1,5 @@
 -- The flow joins its pipe's list, unless it is there.
-use Rattle.std.proofs.Common.{refl}
-use Rattle.std.specs.Prelude.{true}
+use Rattle.dn_flows.proofs.Words.{refl, true}
 use Rattle.dn_flows.proofs.Entries.{joins-no-more, joins-pipe}
 use Rattle.dn_flows.proofs.listed.list_on_pipe.Goals as goal
 

@@ -1,5 +1,4 @@
-use Rattle.std.proofs.Common.{rules, sym}
-use Rattle.std.proofs.lemmas.Fn.{filter_same}
+use Rattle.dn_heap.proofs.Words.{filter_same, rules, sym}
 use Rattle.dn_heap.proofs.keep.keep_where.Goals as goal
 
 pub returns-clause-kept : goal.returns-clause-kept

@@ -1,6 +1,4 @@
-use Rattle.std.proofs.Common.{◌≡◌, refl, rules, arith}
-use Rattle.std.specs.Ordering.{is_eq}
-use Rattle.std.proofs.lemmas.List.Sorted.{IsPermutation-trans, IsPermutation-cons, length_permutation}
+use Rattle.dn_heap.proofs.Words.{IsPermutation-cons, IsPermutation-trans, arith, is_eq, length_permutation, refl, rules, ◌≡◌}
 use Rattle.dn_heap.proofs.TakenOnce.{taken_once}
 use Rattle.dn_heap.proofs.remove.remove_one.Goals as goal
 

@@ -1,5 +1,4 @@
-use Rattle.std.proofs.Common.{arith, refl, sym, ap, ◌∙◌}
-use Rattle.std.specs.Ordering.{is_lt}
+use Rattle.dn_heap.proofs.Words.{ap, arith, is_lt, refl, sym, ◌∙◌}
 use Rattle.dn_heap.proofs.Runs.{at_least, none_greater}
 use Rattle.dn_heap.proofs.run.can_join.Goals as goal
 

@@ -1,5 +1,4 @@
-use Rattle.std.proofs.Common.{rules}
-use Rattle.std.proofs.lemmas.Fn.{filter_same}
+use Rattle.dn_heap.proofs.Words.{filter_same, rules}
 use Rattle.dn_heap.proofs.Runs.{thinned}
 use Rattle.dn_heap.proofs.run.keep_in_run.Goals as goal
 

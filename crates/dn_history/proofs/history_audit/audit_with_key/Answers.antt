@@ -1,4 +1,4 @@
-use Rattle.std.proofs.Common.{[], refl}
+use Rattle.dn_history.proofs.Words.{[], refl}
 use Rattle.dn_history.proofs.Found.{found-lawful}
 use Rattle.dn_history.proofs.history_audit.audit_with_key.Goals as goal
 

@@ -1,7 +1,5 @@
 -- Each law is a lemma over the definitions.
-use Rattle.dn_types.proofs.Dues.{gives-once, gives-what-is-due, leaves-what-is-not-due}
-use Rattle.dn_types.proofs.Giving.{gives-started}
-use Rattle.dn_types.specs.Calls.{trace_of}
+use Rattle.dn_laws.proofs.Words.{gives-once, gives-started, gives-what-is-due, leaves-what-is-not-due, trace_of}
 use Rattle.dn_laws.proofs.Readings.{packets-are-counted}
 use Rattle.dn_laws.proofs.laws.laws_of_collecting.Goals as goal
 

@@ -1,6 +1,5 @@
 -- Each law is a lemma over the definitions.
-use Rattle.dn_types.proofs.Dues.{due-is-last, due-moments-never-fall}
-use Rattle.dn_types.proofs.TransmissionTime.{transmission-is-least}
+use Rattle.dn_laws.proofs.Words.{due-is-last, due-moments-never-fall, transmission-is-least}
 use Rattle.dn_laws.proofs.laws.laws_of_due_moments.Goals as goal
 
 pub returns : goal.returns

@@ -1,6 +1,5 @@
 -- Each law is a lemma over the definitions.
-use Rattle.dn_types.proofs.Bridge.{exhausted-changes-nothing, replies-by-standing}
-use Rattle.dn_types.proofs.Histories.{lawful-replies, lawful-more, own-entries-begin, own-entries-grow, counts-up-to-the-limit}
+use Rattle.dn_laws.proofs.Words.{counts-up-to-the-limit, exhausted-changes-nothing, lawful-more, lawful-replies, own-entries-begin, own-entries-grow, replies-by-standing}
 use Rattle.dn_laws.proofs.laws.laws_of_histories.Goals as goal
 
 pub returns : goal.returns

@@ -1,5 +1,5 @@
 -- Each law is a lemma over the definitions.
-use Rattle.std.proofs.Common.{refl}
+use Rattle.dn_laws.proofs.Words.{refl}
 use Rattle.dn_laws.proofs.Elsewhere.{other-pipes-change-nothing}
 use Rattle.dn_laws.proofs.Isolation.{pipe-delete-empties, queue-delete-empties, queue-delete-spares, pipe-delete-spares, commands-move-nothing}
 use Rattle.dn_laws.proofs.Isolation.{commands-count, only-commands-count, packets-keep-apart, queues-have-pipes}

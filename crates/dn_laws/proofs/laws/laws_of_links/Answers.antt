@@ -1,7 +1,7 @@
 -- Each law is a lemma over the definitions.
+use Rattle.dn_laws.proofs.Words.{conserves-work}
 use Rattle.dn_laws.proofs.{ConfiguredRate.keeps-the-configured-rate, Delays.delays-are-explained, Rates.starts-apart, Rates.keeps-the-rate, StartLaws.starts-at-once, StartLaws.starts-the-next}
 use Rattle.dn_laws.proofs.{StartLaws.starts-as-configured, Kept.links-are-kept, Kept.virtual-time-is-kept}
-use Rattle.dn_types.proofs.Conserving.{conserves-work}
 use Rattle.dn_laws.proofs.laws.laws_of_links.Goals as goal
 
 pub returns : goal.returns

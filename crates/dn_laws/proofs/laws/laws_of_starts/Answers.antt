@@ -1,7 +1,5 @@
 -- Each law is a lemma over the definitions.
-use Rattle.dn_types.proofs.Once.{starts-once}
-use Rattle.dn_types.proofs.Ordered.{sends-one-at-a-time, starts-in-order}
-use Rattle.dn_types.proofs.Settled.{settled-ends}
+use Rattle.dn_laws.proofs.Words.{sends-one-at-a-time, settled-ends, starts-in-order, starts-once}
 use Rattle.dn_laws.proofs.Readings.{starts-are-due, links-are-told-apart, queues-are-read}
 use Rattle.dn_laws.proofs.laws.laws_of_starts.Goals as goal
 

@@ -1,7 +1,7 @@
 -- Each law is a lemma over the definitions.
+use Rattle.dn_laws.proofs.Words.{pick-some}
 use Rattle.dn_laws.proofs.Heads.{heads-are-first}
 use Rattle.dn_laws.proofs.PickLaws.{pick-is-first}
-use Rattle.dn_types.proofs.Picks.{pick-some}
 use Rattle.dn_laws.proofs.StartLaws.{starts-the-pick}
 use Rattle.dn_laws.proofs.laws.laws_of_the_pick.Goals as goal
 

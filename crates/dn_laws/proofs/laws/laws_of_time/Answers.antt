@@ -1,8 +1,7 @@
 -- Each law is a lemma over the definitions.
-use Rattle.dn_types.proofs.InTurn.{gives-in-order}
+use Rattle.dn_laws.proofs.Words.{gives-in-order, unlimited-takes-no-time}
 use Rattle.dn_laws.proofs.Sums.{delays-add-up, delivered-delays-add-up}
 use Rattle.dn_laws.proofs.Timely.{events-stay, starts-in-time, none-starts-early}
-use Rattle.dn_types.proofs.TransmissionTime.{unlimited-takes-no-time}
 use Rattle.dn_laws.proofs.Exactly.{waits-for-its-link, starts-behind}
 use Rattle.dn_laws.proofs.laws.laws_of_time.Goals as goal
 

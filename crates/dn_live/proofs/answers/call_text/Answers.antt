@@ -1,9 +1,4 @@
-use Rattle.std.proofs.Common.{◌∙◌, ap, subst}
-use Rattle.dn_types.specs.declared.reply.Reply.{Reply}
-use Rattle.dn_types.specs.declared.rule.Rule.TheVariants.{Ordered}
-use Rattle.dn_records.specs.Records.{text_of}
-use Rattle.dn_history.specs.HistoryText.{entry_records}
-use Rattle.dn_history.specs.Ranges.{IsEntry}
+use Rattle.dn_live.proofs.Words.{IsEntry, Ordered, Reply, ap, entry_records, subst, text_of, ◌∙◌}
 use Rattle.dn_live.proofs.answers.call_text.Goals as goal
 
 pub returns : goal.returns

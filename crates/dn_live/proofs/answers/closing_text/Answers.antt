@@ -1,7 +1,4 @@
-use Rattle.std.proofs.Common.{◌∙◌, sym}
-use Rattle.dn_history.specs.HistoryText.{end_record}
-use Rattle.dn_live.specs.Session.{tail_answer}
-use Rattle.dn_records.proofs.TextSteps.{text-push}
+use Rattle.dn_live.proofs.Words.{end_record, sym, tail_answer, text-push, ◌∙◌}
 use Rattle.dn_live.proofs.answers.closing_text.Goals as goal
 
 pub returns : goal.returns

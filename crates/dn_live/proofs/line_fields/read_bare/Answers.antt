@@ -1,7 +1,4 @@
-use Rattle.std.proofs.Common.{◌∷◌, [], Some}
-use Rattle.std.proofs.lemmas.Bool.Decides.{Decides-eqb}
-use Rattle.std.proofs.lemmas.Result.{IfOk-weaker}
-use Rattle.std.proofs.lemmas.Slice.Eq.{strip_suffix_is}
+use Rattle.dn_live.proofs.Words.{Decides-eqb, IfOk-weaker, Some, [], strip_suffix_is, ◌∷◌}
 use Rattle.dn_live.proofs.LineReturns.{returned}
 use Rattle.dn_live.proofs.line_fields.read_bare.Goals as goal
 

@@ -1,5 +1,4 @@
-use Rattle.std.proofs.Common.{◌∙◌, sym}
-use Rattle.csv.specs.Records.{fields_of}
+use Rattle.dn_live.proofs.Words.{fields_of, sym, ◌∙◌}
 use Rattle.dn_live.proofs.LineReturns.{bare-read, empty-read, no-feed}
 use Rattle.dn_live.proofs.line_fields.read_before_return.Goals as goal
 

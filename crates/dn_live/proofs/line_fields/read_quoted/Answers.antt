@@ -1,6 +1,4 @@
-use Rattle.std.proofs.lemmas.Result.{IfOk-weaker}
-use Rattle.csv.specs.Records.{fields_of}
-use Rattle.dn_records.specs.Records.{records_of}
+use Rattle.dn_live.proofs.Words.{IfOk-weaker, fields_of, records_of}
 use Rattle.dn_live.proofs.FieldSteps.{first_read}
 use Rattle.dn_live.proofs.line_fields.read_quoted.Goals as goal
 

@@ -1,4 +1,4 @@
-use Rattle.std.proofs.Common.{◌∙◌, sym, ap, Ok, Err}
+use Rattle.dn_live.proofs.Words.{Err, Ok, ap, sym, ◌∙◌}
 use Rattle.dn_config.specs.Line.{answer}
 use Rattle.dn_live.proofs.Commands.{no_text, said_is}
 use Rattle.dn_live.proofs.read_line.read_command.Goals as goal

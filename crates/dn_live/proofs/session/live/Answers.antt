@@ -1,4 +1,4 @@
-use Rattle.std.proofs.lemmas.Result.{IfOk-weaker}
+use Rattle.dn_live.proofs.Words.{IfOk-weaker}
 use Rattle.dn_live.proofs.Transcripts.{transcript, untyped}
 use Rattle.dn_live.proofs.session.live.Goals as goal
 

@@ -1,10 +1,4 @@
-use Rattle.std.proofs.Common.{refl, ap, arith, inr, []}
-use Rattle.std.proofs.lemmas.List.Elements.{All-nil}
-use Rattle.std.proofs.lemmas.Result.{IfErr-weaker, IfOk-weaker}
-use Rattle.dn_live.specs.Asked.{asked}
-use Rattle.dn_live.specs.LinesTaken.{IsLine}
-use Rattle.dn_live.specs.Session.{calls_of, lines_text}
-use Rattle.dn_live.specs.declared.served.Served.{Served}
+use Rattle.dn_live.proofs.Words.{All-nil, IfErr-weaker, IfOk-weaker, IsLine, Served, [], ap, arith, asked, calls_of, inr, lines_text, refl}
 use Rattle.dn_live.proofs.LineSteps.{front}
 use Rattle.dn_live.proofs.SessionSteps.{bad-first, count-first, head-broken, line-more, next-broken, one-at-most, one-bad-at-most, served-typed, stands-first}
 use Rattle.dn_live.proofs.SessionSteps.{taken-none, typed-first, unanswered, unended}

@@ -1,11 +1,4 @@
-use Rattle.std.proofs.Common.{◌≡◌, ◌+◌, ◌≤◌, false, length, List, ℕ}
-use Rattle.std.specs.List.{All}
-use Rattle.std.specs.Io.KnownBytes.{Appends, Consumes, prepend_known}
-use Rattle.dn_types.specs.declared.rule.Rule.TheVariants.{Ordered}
-use Rattle.dn_shaper.specs.Shaper.{StandsAfter}
-use Rattle.dn_live.specs.LinesTaken.{IsLine}
-use Rattle.dn_live.specs.Session.{bad_lines, begun, calls_of, lines_text}
-use Rattle.dn_live.specs.Transcripts.{AreTyped}
+use Rattle.dn_live.proofs.Words.{All, Appends, AreTyped, Consumes, IsLine, List, Ordered, StandsAfter, bad_lines, begun, calls_of, false, length, lines_text, prepend_known, ℕ, ◌+◌, ◌≡◌, ◌≤◌}
 use Rattle.dn_live.proofs.session.serve.Given as goal
 
 -- The lines that were taken so far, newest first: they were answered, the shaper stands after their calls, and their

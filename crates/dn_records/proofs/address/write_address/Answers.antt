@@ -1,5 +1,4 @@
-use Rattle.std.proofs.Common.{◌/◌, arith, refl, append_assoc}
-use Rattle.std.proofs.lemmas.Fmt.{length-decimal-le, decimal_nonempty}
+use Rattle.dn_records.proofs.Words.{append_assoc, arith, decimal_nonempty, length-decimal-le, refl, ◌/◌}
 use Rattle.dn_records.proofs.address.write_address.Goals as goal
 
 pub write_digits-requires : goal.write_digits-requires

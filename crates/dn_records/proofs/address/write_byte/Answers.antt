@@ -1,6 +1,4 @@
-use Rattle.std.proofs.Common.{◌≡◌, ◌+◌, ◌-◌, arith, refl}
-use Rattle.std.proofs.lemmas.Fmt.{length-decimal-le, decimal_nonempty}
-use Rattle.std.proofs.lemmas.List.{drop-set}
+use Rattle.dn_records.proofs.Words.{arith, decimal_nonempty, drop-set, length-decimal-le, refl, ◌+◌, ◌-◌, ◌≡◌}
 use Rattle.dn_records.proofs.address.write_byte.Goals as goal
 
 pub write_digits-start-requires : goal.write_digits-start-requires

@@ -1,6 +1,4 @@
-use Rattle.std.proofs.Common.{◌≡◌, ◌≤◌, ◌++◌, ◌∷◌, take}
-use Rattle.std.specs.Vec.{vec_capacity}
-use Rattle.csv.specs.Writing.{default_writer, escaped}
+use Rattle.dn_records.proofs.Words.{default_writer, escaped, take, vec_capacity, ◌++◌, ◌∷◌, ◌≡◌, ◌≤◌}
 use Rattle.dn_records.proofs.append.append_quoted.Given as goal
 
 -- the text is what it was, a quote and the bytes so far

@@ -1,17 +1,7 @@
 -- The fields, and what ends the line behind them.
-use Rattle.std.proofs.Common.{◌≡◌, ◌∙◌, ℕ, ◌<◌, ◌+◌, ◌==◌, ◌++◌, ap, length, length-append, arith}
-use Rattle.std.specs.Vec.{vec_capacity}
-use Rattle.std.proofs.lemmas.Result.{on_err_weaker, on_ok_weaker}
-use Rattle.dn_records.specs.Records.{line_of}
-use Rattle.dn_records.specs.Writing.{record_of}
-use Rattle.dn_records.proofs.Lines.{line-is, line_end, on_err, starts-through}
+use Rattle.dn_records.proofs.Words.{ap, arith, length, length-append, line_of, on_err_weaker, on_ok_weaker, record_of, vec_capacity, ℕ, ◌++◌, ◌+◌, ◌<◌, ◌==◌, ◌∙◌, ◌≡◌}
+use Rattle.dn_records.proofs.Lines.{line-is, line_end}
 use Rattle.dn_records.proofs.append.append_record.Goals as goal
-
-pub returns-in_err-append_fields-clause-full : goal.returns-in_err-append_fields-clause-full
-returns-in_err-append_fields-clause-full c =
-    let refused : vec_capacity c.args.text.now < length c.args.text.now.items + length (line_of (record_of c.args.fields.now)) =
-    omega (arith, c.in_err-append_fields.ensures.full, length-append {A = ℕ}) in
-    on_err _ refused
 
 pub returns-clause-ok : goal.returns-clause-ok
 returns-clause-ok c =
@@ -32,7 +22,3 @@ returns-clause-full c =
     let whole = length-append old.items (line_of (record_of c.args.fields.now)) in
     let capacity = c.in_ok-append_fields.ensures.capacity in
     on_err_weaker _ (λ (less : vec_capacity text < length text.items + length end). omega (arith, less, line, longer, whole, capacity)) c.end_line.ensures.full
-
-pub returns-clause-starts : goal.returns-clause-starts
-returns-clause-starts c =
-    starts-through c.end_line.new.text.items c.append_fields.new.text.items c.args.text.now.items c.end_line.ensures.starts c.in_ok-append_fields.ensures.starts

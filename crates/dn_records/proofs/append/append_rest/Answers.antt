@@ -1,10 +1,6 @@
-use Rattle.std.proofs.Common.{◌≡◌, ◌∙◌, ℕ, List, ◌∷◌, ◌++◌, ◌+◌, ◌<◌, [], length, take, get_or, arith, sym, ap, append_assoc, length-append, take_all}
-use Rattle.std.specs.Vec.{vec_capacity}
-use Rattle.csv.specs.Writing.{default_writer, field_text, fields_text}
-use Rattle.dn_records.specs.Writing.{bytes_of, record_of}
-use Rattle.dn_records.specs.declared.field.Field.{Field}
-use Rattle.dn_records.specs.declared.field.Field.TheVariants.{Empty}
-use Rattle.dn_records.proofs.Lines.{fields-fit, fields-more, on_err, starts-shorter, starts-with}
+use Rattle.dn_records.proofs.Words.{Empty, List, [], ap, append_assoc, arith, bytes_of, default_writer, field_text, fields_text, get_or, length, length-append, record_of, sym, take, vec_capacity}
+use Rattle.dn_records.proofs.Words.{ℕ, ◌++◌, ◌+◌, ◌<◌, ◌∙◌, ◌∷◌, ◌≡◌}
+use Rattle.dn_records.proofs.Lines.{fields-fit, fields-more, on_err, starts-shorter}
 use Rattle.dn_records.proofs.append.append_rest.Goals as goal
 
 pub returns-in_err-push-clause-full : goal.returns-in_err-push-clause-full
@@ -68,17 +64,3 @@ loop-field-preserved c =
           ∙ ap (λ (t : List ℕ). before ++ t) (sym (fields-more fields i Empty c.loop-field-test.true));
       capacity = omega (arith, c.loop-field.invariant.capacity, c.in_ok-push.ensures.capacity, c.in_ok-append_field.ensures.capacity);
     }
-
-pub returns-in_err-push-clause-starts : goal.returns-in_err-push-clause-starts
-returns-in_err-push-clause-starts c =
-    starts-with c.push.new.self.items c.args.text.now.items (fields_text default_writer (record_of (take c.loop-field.field-index c.args.fields.now)))
-    (c.in_err-push.ensures.items ∙ c.loop-field.invariant.text)
-
-pub returns-clause-ok : goal.returns-clause-ok
-returns-clause-ok c =
-    c.loop-field.invariant.text
-    ∙ ap (λ (fs : List Field). c.args.text.now.items ++ fields_text default_writer (record_of fs)) (take_all c.loop-field.field-index c.args.fields.now c.loop-field-test.false)
-
-pub returns-clause-starts : goal.returns-clause-starts
-returns-clause-starts c =
-    starts-with c.loop-field.text.items c.args.text.now.items (fields_text default_writer (record_of c.args.fields.now)) (returns-clause-ok c)

@@ -1,7 +1,4 @@
-use Rattle.std.proofs.Common.{◌≡◌, ◌≤◌, ◌++◌, take}
-use Rattle.std.specs.Vec.{vec_capacity}
-use Rattle.csv.specs.Writing.{default_writer, fields_text}
-use Rattle.dn_records.specs.Writing.{record_of}
+use Rattle.dn_records.proofs.Words.{default_writer, fields_text, record_of, take, vec_capacity, ◌++◌, ◌≡◌, ◌≤◌}
 use Rattle.dn_records.proofs.append.append_rest.Given as goal
 
 -- the text is what it was and the fields so far

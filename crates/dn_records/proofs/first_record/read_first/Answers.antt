@@ -1,4 +1,4 @@
-use Rattle.std.proofs.Common.{◌∙◌, sym, get_or}
+use Rattle.dn_records.proofs.Words.{get_or, sym, ◌∙◌}
 use Rattle.dn_records.proofs.FirstRecord.{at-start, byte-read, last-read, none-read, record-read}
 use Rattle.dn_records.proofs.first_record.read_first.Goals as goal
 

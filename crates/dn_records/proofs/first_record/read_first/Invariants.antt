@@ -1,4 +1,4 @@
-use Rattle.std.proofs.Common.{length}
+use Rattle.dn_records.proofs.Words.{length}
 use Rattle.dn_records.proofs.FirstRecord.{IsReading}
 use Rattle.dn_records.proofs.first_record.read_first.Given as goal
 

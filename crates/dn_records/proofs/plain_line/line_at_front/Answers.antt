@@ -1,7 +1,4 @@
-use Rattle.std.proofs.Common.{◌+◌, ◌∷◌, [], Some, refl}
-use Rattle.std.proofs.lemmas.Bool.Decides.{Decides-eqb}
-use Rattle.std.proofs.lemmas.List.{take_rest}
-use Rattle.std.proofs.lemmas.Slice.Eq.{strip_suffix_is}
+use Rattle.dn_records.proofs.Words.{Decides-eqb, Some, [], refl, strip_suffix_is, take_rest, ◌+◌, ◌∷◌}
 use Rattle.dn_records.proofs.PlainLines.{feed-ends, return-ends}
 use Rattle.dn_records.proofs.plain_line.line_at_front.Goals as goal
 

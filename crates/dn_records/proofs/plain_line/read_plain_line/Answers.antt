@@ -1,4 +1,4 @@
-use Rattle.csv.specs.Records.{fields_of}
+use Rattle.dn_records.proofs.Words.{fields_of}
 use Rattle.dn_records.proofs.PlainLines.{all-pieces}
 use Rattle.dn_records.proofs.plain_line.read_plain_line.Goals as goal
 

@@ -1,6 +1,4 @@
-use Rattle.std.proofs.Common.{◌∙◌, ◌<◌, ◌==◌, sym, arith, length}
-use Rattle.std.proofs.lemmas.Bool.Decides.{nat_tests}
-use Rattle.std.specs.List.{slice_split}
+use Rattle.dn_records.proofs.Words.{arith, length, nat_tests, slice_split, sym, ◌<◌, ◌==◌, ◌∙◌}
 use Rattle.dn_records.proofs.PlainLines.{bare-line}
 use Rattle.dn_records.proofs.plain_line.record_at_front.Goals as goal
 

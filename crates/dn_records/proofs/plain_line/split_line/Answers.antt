@@ -1,7 +1,4 @@
-use Rattle.std.proofs.Common.{◌+◌, ap, arith, length, length-append, length-drop, ℕ, List}
-use Rattle.std.proofs.lemmas.List.{take_rest}
-use Rattle.std.proofs.lemmas.Result.{on_ok_weaker}
-use Rattle.csv.specs.Records.{fields_of, partial_of}
+use Rattle.dn_records.proofs.Words.{List, ap, arith, fields_of, length, length-append, length-drop, on_ok_weaker, partial_of, take_rest, ℕ, ◌+◌}
 use Rattle.dn_records.proofs.PlainLines.{field-last, field-more, front-whole}
 use Rattle.dn_records.proofs.plain_line.split_line.Goals as goal
 

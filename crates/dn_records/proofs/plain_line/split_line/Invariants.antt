@@ -1,6 +1,4 @@
-use Rattle.std.proofs.Common.{◌≡◌, ◌≤◌, ◌==◌, ◌++◌, [], length}
-use Rattle.std.specs.List.{slice_split}
-use Rattle.csv.specs.Records.{fields_of, partial_of}
+use Rattle.dn_records.proofs.Words.{[], fields_of, length, partial_of, slice_split, ◌++◌, ◌==◌, ◌≡◌, ◌≤◌}
 use Rattle.dn_records.proofs.plain_line.split_line.Given as goal
 
 abbrev pub invariant-loop-left : goal.invariant-loop-left

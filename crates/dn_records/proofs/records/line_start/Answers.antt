@@ -1,6 +1,4 @@
-use Rattle.std.proofs.Common.{◌∙◌, sym, None, Some, [], ◌∷◌}
-use Rattle.std.proofs.lemmas.Bool.Decides.{Decides-eqb}
-use Rattle.std.proofs.lemmas.Slice.Eq.{strip_prefix_is}
+use Rattle.dn_records.proofs.Words.{Decides-eqb, None, Some, [], strip_prefix_is, sym, ◌∙◌, ◌∷◌}
 use Rattle.dn_records.proofs.PlainLines.{at-end, at-front, at-mark, behind-front}
 use Rattle.dn_records.proofs.records.line_start.Goals as goal
 

@@ -1,5 +1,4 @@
-use Rattle.std.proofs.Common.{◌-◌, ◌+◌, ◌≡◌, false, vec_len}
-use Rattle.std.specs.Io.KnownBytes.{Consumes}
+use Rattle.dn_records.proofs.Words.{Consumes, false, vec_len, ◌+◌, ◌-◌, ◌≡◌}
 use Rattle.dn_records.proofs.whole.read_whole.Given as goal
 
 -- no read has failed, and the text is what the inlet gave

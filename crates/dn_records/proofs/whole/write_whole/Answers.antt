@@ -1,9 +1,4 @@
-use Rattle.std.proofs.Common.{arith, ℕ, List, ◌≡◌, ◌∙◌, refl, ◌<◌, false, suc, zero, drop, length-drop}
-use Rattle.std.proofs.KnownBytes.{Appends-trans}
-use Rattle.std.proofs.Math.Seq.{take-add}
-use Rattle.std.proofs.lemmas.List.{take_rest}
-use Rattle.std.specs.Prelude.{Some}
-use Rattle.dn_records.specs.Devices.{write_fails}
+use Rattle.dn_records.proofs.Words.{Appends-trans, List, Some, arith, drop, false, length-drop, refl, suc, take-add, take_rest, write_fails, zero, ℕ, ◌<◌, ◌∙◌, ◌≡◌}
 use Rattle.dn_records.proofs.whole.write_whole.Goals as goal
 
 took : (n : ℕ) (buf : List ℕ) → 0 < n → write_fails (Some n) buf ≡ false

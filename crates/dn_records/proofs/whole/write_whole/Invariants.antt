@@ -1,5 +1,4 @@
-use Rattle.std.proofs.Common.{length, take, ◌-◌, ◌≡◌, ◌≤◌, false}
-use Rattle.std.specs.Io.KnownBytes.{Appends}
+use Rattle.dn_records.proofs.Words.{Appends, false, length, take, ◌-◌, ◌≡◌, ◌≤◌}
 use Rattle.dn_records.proofs.whole.write_whole.Given as goal
 
 abbrev pub invariant-loop-at : goal.invariant-loop-at

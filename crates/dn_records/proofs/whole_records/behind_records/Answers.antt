@@ -1,5 +1,4 @@
-use Rattle.std.proofs.Common.{◌∙◌, sym}
-use Rattle.std.proofs.lemmas.Bool.{false≢true}
+use Rattle.dn_records.proofs.Words.{false≢true, sym, ◌∙◌}
 use Rattle.dn_records.proofs.LastFeed.{cut-last, no-feed, no-quote}
 use Rattle.dn_records.proofs.WholeRecords.{none-whole, up-to-feed}
 use Rattle.dn_records.proofs.whole_records.behind_records.Goals as goal

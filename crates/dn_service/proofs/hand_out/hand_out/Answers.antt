@@ -1,6 +1,4 @@
-use Rattle.std.proofs.Common.{rules, ◌≡◌, ◌++◌, [], ◌∷◌, sym, ap, ◌∙◌}
-use Rattle.dn_service.specs.Callers.{ServiceView, new_caller}
-use Rattle.dn_service.specs.Seats.{sitting}
+use Rattle.dn_service.proofs.Words.{ServiceView, [], ap, new_caller, rules, sitting, sym, ◌++◌, ◌∙◌, ◌∷◌, ◌≡◌}
 use Rattle.dn_service.proofs.Handing.{hands_out, left_over, handed, one_more_caller}
 use Rattle.dn_service.proofs.hand_out.hand_out.Goals as goal
 

@@ -1,7 +1,4 @@
-use Rattle.std.proofs.Common.{◌≡◌, ◌-◌, ◌≤◌, [], vec_len, vec_capacity}
-use Rattle.dn_service.specs.Callers.{new_callers}
-use Rattle.dn_service.specs.Accounts.{new_accounts}
-use Rattle.dn_service.specs.Seats.{keeping}
+use Rattle.dn_service.proofs.Words.{[], keeping, new_accounts, new_callers, vec_capacity, vec_len, ◌-◌, ◌≡◌, ◌≤◌}
 use Rattle.dn_service.proofs.hand_out.hand_out.Given as goal
 
 abbrev pub invariant-loop-number : goal.invariant-loop-number

@@ -1,11 +1,4 @@
-use Rattle.std.proofs.Common.{◌≡◌, ◌++◌, [], sym, refl, inl, ap, ◌∙◌, subst, append-nil}
-use Rattle.dn_types.specs.History.{IsLawful, calls_of}
-use Rattle.dn_types.specs.declared.rule.Rule.TheVariants.{Ordered}
-use Rattle.dn_shaper.specs.Shaper.{StandsAfter}
-use Rattle.dn_service.specs.Histories.{AreBelow}
-use Rattle.dn_service.specs.Rule.{Follows}
-use Rattle.dn_service.specs.Accounts.{Each, Has}
-use Rattle.dn_service.specs.Seats.{with_shed, shed_in}
+use Rattle.dn_service.proofs.Words.{AreBelow, Each, Follows, Has, IsLawful, Ordered, StandsAfter, [], ap, append-nil, calls_of, inl, refl, shed_in, subst, sym, with_shed, ◌++◌, ◌∙◌, ◌≡◌}
 use Rattle.dn_service.proofs.Lastings.{empties_keeper, loses_keeper, gone_all}
 use Rattle.dn_service.proofs.lasting.empty.Goals as goal
 

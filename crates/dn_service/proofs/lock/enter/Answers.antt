@@ -1,5 +1,4 @@
-use Rattle.std.proofs.Common.{rules, arith, ◌≡◌, ◌≢◌, [], ◌∷◌, Some, ap, ◌∙◌, subst}
-use Rattle.dn_service.specs.Pasts.{Keeps}
+use Rattle.dn_service.proofs.Words.{Keeps, Some, [], ap, arith, rules, subst, ◌∙◌, ◌∷◌, ◌≡◌, ◌≢◌}
 use Rattle.dn_service.proofs.Calling.{same_book}
 use Rattle.dn_service.proofs.Taking.{tries}
 use Rattle.dn_service.proofs.lock.enter.Goals as goal

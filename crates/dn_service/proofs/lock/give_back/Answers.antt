@@ -1,6 +1,4 @@
-use Rattle.std.proofs.Common.{rules, ap, ◌∙◌}
-use Rattle.atomic_table.specs.Table.{rest}
-use Rattle.dn_service.specs.Seats.{with_faced}
+use Rattle.dn_service.proofs.Words.{ap, rest, rules, with_faced, ◌∙◌}
 use Rattle.dn_service.proofs.Taking.{gives_back}
 use Rattle.dn_service.proofs.lock.give_back.Goals as goal
 

@@ -1,6 +1,4 @@
-use Rattle.std.proofs.Common.{rules, ap, ◌∙◌}
-use Rattle.atomic_table.specs.Table.{rest}
-use Rattle.dn_service.specs.Seats.{with_history}
+use Rattle.dn_service.proofs.Words.{ap, rest, rules, with_history, ◌∙◌}
 use Rattle.dn_service.proofs.Waking.{reads}
 use Rattle.dn_service.proofs.lock.give_back_read.Goals as goal
 

@@ -1,5 +1,4 @@
-use Rattle.std.proofs.Common.{rules, ap, ◌∙◌, []}
-use Rattle.dn_service.specs.Seats.{with_shed}
+use Rattle.dn_service.proofs.Words.{[], ap, rules, with_shed, ◌∙◌}
 use Rattle.dn_service.proofs.Taking.{empties}
 use Rattle.dn_service.proofs.lock.give_empty.Goals as goal
 

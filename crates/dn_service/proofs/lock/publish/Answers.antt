@@ -1,6 +1,4 @@
-use Rattle.std.proofs.Common.{rules, sym, ap, ◌∙◌, subst, ◌++◌, []}
-use Rattle.dn_service.specs.Accounts.{Has}
-use Rattle.dn_service.specs.Seats.{SeatView, with_history}
+use Rattle.dn_service.proofs.Words.{Has, SeatView, [], ap, rules, subst, sym, with_history, ◌++◌, ◌∙◌}
 use Rattle.dn_service.proofs.Taking.{publishes}
 use Rattle.dn_service.proofs.lock.publish.Goals as goal
 

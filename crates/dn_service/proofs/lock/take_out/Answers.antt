@@ -1,5 +1,4 @@
-use Rattle.std.proofs.Common.{rules, ◌∷◌, Some, ap, sym, ◌∙◌}
-use Rattle.atomic_table.specs.Table.{rest}
+use Rattle.dn_service.proofs.Words.{Some, ap, rest, rules, sym, ◌∙◌, ◌∷◌}
 use Rattle.dn_service.proofs.lock.take_out.Goals as goal
 
 pub exchange-requires : goal.exchange-requires

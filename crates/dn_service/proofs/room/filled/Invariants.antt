@@ -1,4 +1,4 @@
-use Rattle.std.proofs.Common.{◌≡◌, ◌≤◌, length, take, vec_len, vec_capacity}
+use Rattle.dn_service.proofs.Words.{length, take, vec_capacity, vec_len, ◌≡◌, ◌≤◌}
 use Rattle.dn_service.proofs.room.filled.Given as goal
 
 abbrev pub invariant-loop-item : goal.invariant-loop-item

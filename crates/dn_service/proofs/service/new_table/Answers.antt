@@ -1,7 +1,4 @@
-use Rattle.std.proofs.Common.{rules, ◌≡◌, List, [], ◌∷◌, Some, sym, subst}
-use Rattle.atomic_table.specs.Table.{opening}
-use Rattle.dn_service.specs.Rule.{SeatRule}
-use Rattle.dn_service.specs.Seats.{Slot, first_seat}
+use Rattle.dn_service.proofs.Words.{List, SeatRule, Slot, Some, [], first_seat, opening, rules, subst, sym, ◌∷◌, ◌≡◌}
 use Rattle.dn_service.proofs.Splitting.{opens}
 use Rattle.dn_service.proofs.service.new_table.Goals as goal
 

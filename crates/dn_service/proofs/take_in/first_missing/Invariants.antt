@@ -1,5 +1,4 @@
-use Rattle.std.proofs.Common.{◌≡◌, ℕ, ◌<◌, true}
-use Rattle.dn_service.specs.Callers.{has_number}
+use Rattle.dn_service.proofs.Words.{has_number, true, ℕ, ◌<◌, ◌≡◌}
 use Rattle.dn_service.proofs.take_in.first_missing.Given as goal
 
 abbrev pub invariant-loop-number : goal.invariant-loop-number

@@ -1,10 +1,4 @@
-use Rattle.std.proofs.Common.{arith, ◌≡◌, ◌<◌, ◌++◌, true, sym, ap, ◌∙◌, subst}
-use Rattle.dn_service.specs.Callers.{has_number, accounts_of, Closes}
-use Rattle.dn_service.specs.Histories.{AreBelow}
-use Rattle.dn_service.specs.Rule.{Follows}
-use Rattle.dn_service.specs.Accounts.{Has, Each}
-use Rattle.dn_service.specs.Seats.{keeping, shed_in}
-use Rattle.dn_service.specs.Steps.{Knows}
+use Rattle.dn_service.proofs.Words.{AreBelow, Closes, Each, Follows, Has, Knows, accounts_of, ap, arith, has_number, keeping, shed_in, subst, sym, true, ◌++◌, ◌<◌, ◌∙◌, ◌≡◌}
 use Rattle.dn_service.proofs.Handing.{account_there, accounted, faced_all}
 use Rattle.dn_service.proofs.take_in.leave.Goals as goal
 

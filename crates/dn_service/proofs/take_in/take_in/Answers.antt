@@ -1,6 +1,4 @@
-use Rattle.std.proofs.Common.{rules, [], ◌∷◌, ◌++◌, sym, ap, ◌∙◌, append_assoc}
-use Rattle.dn_service.specs.Callers.{IsOf, accounts_of}
-use Rattle.dn_service.specs.Seats.{keeping, shed_in}
+use Rattle.dn_service.proofs.Words.{IsOf, [], accounts_of, ap, append_assoc, keeping, rules, shed_in, sym, ◌++◌, ◌∙◌, ◌∷◌}
 use Rattle.dn_service.proofs.Handing.{takes_in, taken_in, between}
 use Rattle.dn_service.proofs.take_in.take_in.Goals as goal
 

@@ -1,6 +1,4 @@
-use Rattle.std.proofs.Common.{◌≡◌, ◌++◌, []}
-use Rattle.dn_service.specs.Callers.{accounts_of}
-use Rattle.dn_service.specs.Seats.{keeping, shed_in}
+use Rattle.dn_service.proofs.Words.{[], accounts_of, keeping, shed_in, ◌++◌, ◌≡◌}
 use Rattle.dn_service.proofs.take_in.take_in.Given as goal
 
 abbrev pub invariant-loop-caller : goal.invariant-loop-caller

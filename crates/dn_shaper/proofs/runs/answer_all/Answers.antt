@@ -1,7 +1,5 @@
 -- Each turn of the loop answers one call more.
-use Rattle.std.proofs.Common.{List, ap, length, arith}
-use Rattle.dn_types.specs.declared.reply.Reply.{Reply}
-use Rattle.dn_flows.proofs.Places.{length-more}
+use Rattle.dn_shaper.proofs.Words.{List, Reply, ap, arith, length, length-more}
 use Rattle.dn_shaper.proofs.Replying.{stands-next, told-next}
 use Rattle.dn_shaper.proofs.runs.answer_all.Goals as goal
 

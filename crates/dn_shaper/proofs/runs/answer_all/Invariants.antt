@@ -1,8 +1,4 @@
-use Rattle.std.proofs.Common.{◌≡◌, ◌≤◌, [], length, reverse, take}
-use Rattle.std.specs.Vec.{vec_capacity}
-use Rattle.dn_types.specs.Replies.{replies}
-use Rattle.dn_types.specs.declared.rule.Rule.TheVariants.{Ordered}
-use Rattle.dn_shaper.specs.Shaper.{StandsAfter}
+use Rattle.dn_shaper.proofs.Words.{Ordered, StandsAfter, [], length, replies, reverse, take, vec_capacity, ◌≡◌, ◌≤◌}
 use Rattle.dn_shaper.proofs.runs.answer_all.Given as goal
 
 abbrev pub invariant-loop-call : goal.invariant-loop-call

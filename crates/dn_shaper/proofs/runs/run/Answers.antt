@@ -1,5 +1,5 @@
 -- What is answered of a shaper before its first call is answered of the new one.
-use Rattle.std.proofs.lemmas.Result.{IfOk-weaker}
+use Rattle.dn_shaper.proofs.Words.{IfOk-weaker}
 use Rattle.dn_shaper.proofs.runs.run.Goals as goal
 
 pub returns : goal.returns

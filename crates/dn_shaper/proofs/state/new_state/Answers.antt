@@ -1,5 +1,5 @@
 -- All parts are empty.
-use Rattle.std.proofs.Common.{refl}
+use Rattle.dn_shaper.proofs.Words.{refl}
 use Rattle.dn_shaper.proofs.Beginning.{begins, begins-sound}
 use Rattle.dn_shaper.proofs.state.new_state.Goals as goal
 

@@ -1,4 +1,4 @@
-use Rattle.std.proofs.Common.{arith}
+use Rattle.dn_wf2q.proofs.Words.{arith}
 use Rattle.dn_wf2q.proofs.Stored.{one_more}
 use Rattle.dn_wf2q.proofs.packet_queues.add_queues.Goals as goal
 

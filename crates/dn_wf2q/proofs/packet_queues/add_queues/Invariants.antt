@@ -1,6 +1,4 @@
-use Rattle.std.proofs.Common.{◌-◌, ◌≤◌, ◌<◌, vec_len}
-use Rattle.std.specs.Vec.{vec_capacity}
-use Rattle.dn_wf2q.specs.Stored.{IsMore}
+use Rattle.dn_wf2q.proofs.Words.{IsMore, vec_capacity, vec_len, ◌-◌, ◌<◌, ◌≤◌}
 use Rattle.dn_wf2q.proofs.packet_queues.add_queues.Given as goal
 
 abbrev pub invariant-blanks : goal.invariant-blanks

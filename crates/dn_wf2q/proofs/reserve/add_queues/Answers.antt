@@ -1,4 +1,4 @@
-use Rattle.std.proofs.Common.{arith}
+use Rattle.dn_wf2q.proofs.Words.{arith}
 use Rattle.dn_wf2q.proofs.Reserved.{one_added}
 use Rattle.dn_wf2q.proofs.reserve.add_queues.Goals as goal
 

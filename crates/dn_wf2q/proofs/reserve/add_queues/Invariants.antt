@@ -1,6 +1,4 @@
-use Rattle.std.proofs.Common.{◌-◌, ◌≤◌, ◌<◌, vec_len}
-use Rattle.std.specs.Vec.{vec_capacity}
-use Rattle.dn_wf2q.specs.Steps.{IsExtended}
+use Rattle.dn_wf2q.proofs.Words.{IsExtended, vec_capacity, vec_len, ◌-◌, ◌<◌, ◌≤◌}
 use Rattle.dn_wf2q.proofs.reserve.add_queues.Given as goal
 
 abbrev pub invariant-blanks : goal.invariant-blanks

@@ -1,5 +1,4 @@
-use Rattle.std.proofs.Common.{refl}
-use Rattle.hingetulip_c.specs.Entries.{lists_in}
+use Rattle.hingetulip_c.proofs.Words.{lists_in, refl}
 use Rattle.hingetulip_c.proofs.EntryLists.{all_told, bad_entry}
 use Rattle.hingetulip_c.proofs.entry_lists.lists_left.Goals as goal
 

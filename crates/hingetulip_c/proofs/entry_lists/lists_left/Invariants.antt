@@ -1,6 +1,5 @@
 -- The lists so far go on to those of all entries.
-use Rattle.std.proofs.Common.{◌≡◌}
-use Rattle.hingetulip_c.specs.Entries.{lists_in, nothing}
+use Rattle.hingetulip_c.proofs.Words.{lists_in, nothing, ◌≡◌}
 use Rattle.hingetulip_c.proofs.EntryLists.{lists_after}
 use Rattle.hingetulip_c.proofs.entry_lists.lists_left.Given as goal
 

@@ -1,8 +1,4 @@
-use Rattle.std.proofs.Common.{◌∙◌, ℕ, [], ◌++◌, ap, sym, arith, length}
-use Rattle.dn_types.specs.declared.entry.Entry.{Entry}
-use Rattle.dn_records.specs.Records.{text_of}
-use Rattle.dn_history.specs.HistoryText.{entry_records}
-use Rattle.dn_records.proofs.TextSteps.{text-none}
+use Rattle.hingetulip_c.proofs.Words.{Entry, [], ap, arith, entry_records, length, sym, text-none, text_of, ℕ, ◌++◌, ◌∙◌}
 use Rattle.hingetulip_c.proofs.ManyTexts.{one_more}
 use Rattle.hingetulip_c.proofs.history_lines.texts_within.Goals as goal
 

@@ -1,6 +1,5 @@
 -- The texts of the entries so far fit.
-use Rattle.std.proofs.Common.{◌≡◌, ◌≤◌, length, take}
-use Rattle.dn_history.specs.HistoryText.{part_text}
+use Rattle.hingetulip_c.proofs.Words.{length, part_text, take, ◌≡◌, ◌≤◌}
 use Rattle.hingetulip_c.proofs.history_lines.texts_within.Given as goal
 
 abbrev pub invariant-loop-count : goal.invariant-loop-count

@@ -1,6 +1,5 @@
 -- What was written so far, and what stands behind it.
-use Rattle.std.proofs.Common.{◌≡◌, take, drop, map}
-use Rattle.hingetulip_c.specs.Rows.{c_packet}
+use Rattle.hingetulip_c.proofs.Words.{c_packet, drop, map, take, ◌≡◌}
 use Rattle.hingetulip_c.proofs.rows.copy_rows.Given as goal
 
 abbrev pub invariant-loop-i : goal.invariant-loop-i

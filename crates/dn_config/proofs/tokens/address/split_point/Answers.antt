@@ -1,5 +1,4 @@
-use Rattle.std.proofs.Common.{◌∙◌, ◌+◌, refl}
-use Rattle.std.proofs.lemmas.List.{take_rest}
+use Rattle.dn_config.proofs.Vocabulary.{refl, take_rest, ◌+◌, ◌∙◌}
 use Rattle.dn_config.proofs.Points.{here, later, not_point, nowhere}
 use Rattle.dn_config.proofs.tokens.address.split_point.Goals as goal
 

@@ -1,6 +1,4 @@
-use Rattle.std.proofs.Common.{◌≡◌, ◌++◌, take, drop}
-use Rattle.std.specs.Prelude.{option_map}
-use Rattle.dn_config.specs.Tokens.Addresses.{at_point}
+use Rattle.dn_config.proofs.Vocabulary.{at_point, drop, option_map, take, ◌++◌, ◌≡◌}
 use Rattle.dn_config.proofs.tokens.address.split_point.Given as goal
 
 abbrev pub invariant-loop-i : goal.invariant-loop-i

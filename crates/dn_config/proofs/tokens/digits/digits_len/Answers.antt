@@ -1,4 +1,4 @@
-use Rattle.std.specs.Char.{is_ascii_digit}
+use Rattle.dn_config.proofs.Vocabulary.{is_ascii_digit}
 use Rattle.dn_config.proofs.Prefixes.{whole_prefix}
 use Rattle.dn_config.proofs.tokens.digits.digits_len.Goals as goal
 

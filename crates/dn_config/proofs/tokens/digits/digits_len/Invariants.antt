@@ -1,5 +1,4 @@
-use Rattle.std.proofs.Common.{◌≡◌, ℕ, ◌<◌, get_or, true}
-use Rattle.std.specs.Char.{is_ascii_digit}
+use Rattle.dn_config.proofs.Vocabulary.{get_or, is_ascii_digit, true, ℕ, ◌<◌, ◌≡◌}
 use Rattle.dn_config.proofs.tokens.digits.digits_len.Given as goal
 
 abbrev pub invariant-loop-i : goal.invariant-loop-i

@@ -1,7 +1,5 @@
-use Rattle.std.proofs.Common.{◌∙◌, sym, refl, ap, ℕ, List}
-use Rattle.std.proofs.lemmas.List.{take_rest, append-nil}
+use Rattle.dn_config.proofs.Vocabulary.{List, ap, append-nil, joined_parts, refl, sym, take_rest, ℕ, ◌∙◌}
 use Rattle.std.proofs.lemmas.List as L
-use Rattle.dn_config.specs.Tokens.Joined.{joined_parts}
 use Rattle.dn_config.proofs.Marks.{found, no_mark, steps, unmarked}
 use Rattle.dn_config.proofs.tokens.joined.split_joined.Goals as goal
 use Rattle.dn_config.proofs.tokens.joined.split_joined.Goals.{then-starts_line+in-None, else-starts_line}

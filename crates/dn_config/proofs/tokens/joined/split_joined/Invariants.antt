@@ -1,5 +1,4 @@
-use Rattle.std.proofs.Common.{◌≡◌, take, drop}
-use Rattle.dn_config.specs.Tokens.Joined.{joined_parts, parts_from}
+use Rattle.dn_config.proofs.Vocabulary.{drop, joined_parts, parts_from, take, ◌≡◌}
 use Rattle.dn_config.proofs.Marks.{behind}
 use Rattle.dn_config.proofs.tokens.joined.split_joined.Given as goal
 

@@ -1,4 +1,4 @@
-use Rattle.dn_config.specs.Tokens.Lines.{is_line_feed}
+use Rattle.dn_config.proofs.Vocabulary.{is_line_feed}
 use Rattle.dn_config.proofs.Prefixes.{no_position}
 use Rattle.dn_config.proofs.tokens.lines.line_len.Goals as goal
 

@@ -1,5 +1,4 @@
-use Rattle.std.proofs.Common.{◌≡◌, ℕ, ◌<◌, get_or, false}
-use Rattle.dn_config.specs.Tokens.Lines.{is_line_feed}
+use Rattle.dn_config.proofs.Vocabulary.{false, get_or, is_line_feed, ℕ, ◌<◌, ◌≡◌}
 use Rattle.dn_config.proofs.tokens.lines.line_len.Given as goal
 
 abbrev pub invariant-loop-i : goal.invariant-loop-i

@@ -1,6 +1,4 @@
-use Rattle.std.proofs.Common.{◌+◌, arith, below_more, ap, ◌∙◌, sym}
-use Rattle.std.specs.Char.{digit_value}
-use Rattle.std.proofs.lemmas.Bool.{eqb-false}
+use Rattle.dn_config.proofs.Vocabulary.{ap, arith, below_more, digit_value, eqb-false, sym, ◌+◌, ◌∙◌}
 use Rattle.dn_config.proofs.Capping.{value_more, whole_above, whole_in, step_fits}
 use Rattle.dn_config.proofs.tokens.numbers.read_numeral.Goals as goal
 

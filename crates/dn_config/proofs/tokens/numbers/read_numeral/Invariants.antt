@@ -1,7 +1,4 @@
-use Rattle.std.proofs.Common.{◌≡◌, ℕ, ◌<◌, get_or, take}
-use Rattle.std.specs.Prelude.{min}
-use Rattle.std.specs.Char.{digit_value}
-use Rattle.std.specs.Str.Parse.{digits_value}
+use Rattle.dn_config.proofs.Vocabulary.{digit_value, digits_value, get_or, min, take, ℕ, ◌<◌, ◌≡◌}
 use Rattle.dn_config.proofs.tokens.numbers.read_numeral.Given as goal
 
 abbrev pub invariant-loop-byte : goal.invariant-loop-byte

@@ -1,7 +1,4 @@
-use Rattle.std.proofs.Common.{arith, length-take, take}
-use Rattle.std.specs.List.{prefix_len}
-use Rattle.std.specs.Char.{is_ascii_digit}
-use Rattle.std.proofs.lemmas.Bool.{ltb-true}
+use Rattle.dn_config.proofs.Vocabulary.{arith, is_ascii_digit, length-take, ltb-true, prefix_len, take}
 use Rattle.dn_config.proofs.LongDigits.{prefix-part}
 use Rattle.dn_config.proofs.tokens.until.has_too_many_digits.Goals as goal
 

@@ -1,4 +1,4 @@
-use Rattle.std.proofs.Common.{sym, arith}
+use Rattle.dn_config.proofs.Vocabulary.{arith, sym}
 use Rattle.dn_config.proofs.LongDigits.{none-until}
 use Rattle.dn_config.proofs.tokens.until.long_number_until.Goals as goal
 

@@ -1,6 +1,4 @@
-use Rattle.std.proofs.Common.{arith, below_more, sym, ◌∙◌, ap, length-take, take, get_or}
-use Rattle.std.specs.Char.{is_ascii_digit}
-use Rattle.std.proofs.lemmas.List.{get_or-take}
+use Rattle.dn_config.proofs.Vocabulary.{ap, arith, below_more, get_or, get_or-take, is_ascii_digit, length-take, sym, take, ◌∙◌}
 use Rattle.dn_config.proofs.Shorts.{below_power, counted, digit_small, step_is_small, value_grows, valued}
 use Rattle.dn_config.proofs.tokens.until.short_digits.Goals as goal
 

@@ -1,6 +1,4 @@
-use Rattle.std.proofs.Common.{◌≡◌, ℕ, ◌<◌, ◌^◌, true, get_or, take}
-use Rattle.std.specs.Char.{is_ascii_digit}
-use Rattle.std.specs.Str.Parse.{digits_value}
+use Rattle.dn_config.proofs.Vocabulary.{digits_value, get_or, is_ascii_digit, take, true, ℕ, ◌<◌, ◌^◌, ◌≡◌}
 use Rattle.dn_config.proofs.tokens.until.short_digits.Given as goal
 
 abbrev pub invariant-loop-i : goal.invariant-loop-i

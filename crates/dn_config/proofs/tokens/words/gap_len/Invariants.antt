@@ -1,5 +1,4 @@
-use Rattle.std.proofs.Common.{◌≡◌, ℕ, ◌<◌, get_or, true}
-use Rattle.dn_config.specs.Tokens.Words.{is_separator}
+use Rattle.dn_config.proofs.Vocabulary.{get_or, is_separator, true, ℕ, ◌<◌, ◌≡◌}
 use Rattle.dn_config.proofs.tokens.words.gap_len.Given as goal
 
 abbrev pub invariant-loop-i : goal.invariant-loop-i

@@ -1,5 +1,4 @@
-use Rattle.std.proofs.Common.{drop, arith, ap, ◌∙◌, sym}
-use Rattle.std.proofs.lemmas.Bool.{eqb-true, eqb-false}
+use Rattle.dn_config.proofs.Vocabulary.{ap, arith, drop, eqb-false, eqb-true, sym, ◌∙◌}
 use Rattle.dn_config.proofs.WordCuts.{next_words, no_words, word_nonempty}
 use Rattle.dn_config.proofs.tokens.words.next_word.Goals as goal
 

@@ -1,4 +1,4 @@
-use Rattle.dn_config.specs.Tokens.Words.{is_separator}
+use Rattle.dn_config.proofs.Vocabulary.{is_separator}
 use Rattle.dn_config.proofs.Prefixes.{no_position}
 use Rattle.dn_config.proofs.tokens.words.word_len.Goals as goal
 

@@ -1,5 +1,4 @@
-use Rattle.std.proofs.Common.{◌≡◌, ℕ, ◌<◌, get_or, false}
-use Rattle.dn_config.specs.Tokens.Words.{is_separator}
+use Rattle.dn_config.proofs.Vocabulary.{false, get_or, is_separator, ℕ, ◌<◌, ◌≡◌}
 use Rattle.dn_config.proofs.tokens.words.word_len.Given as goal
 
 abbrev pub invariant-loop-i : goal.invariant-loop-i

@@ -1,6 +1,4 @@
-use Rattle.std.proofs.Common.{◌≡◌, true}
-use Rattle.std.specs.Result.{is_ok}
-use Rattle.std.proofs.lemmas.Result.{err_from_is_err_and}
+use Rattle.dn_files.proofs.Words.{err_from_is_err_and, is_ok, true, ◌≡◌}
 use Rattle.dn_files.proofs.packet_reader.PacketReader.all_rows.Goals as goal
 
 pub loop-row-preserved : goal.loop-row-preserved

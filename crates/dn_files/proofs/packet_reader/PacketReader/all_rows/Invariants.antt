@@ -1,5 +1,4 @@
-use Rattle.std.proofs.Common.{ℕ, List, [], length}
-use Rattle.dn_files.specs.PacketParts.{HasRead}
+use Rattle.dn_files.proofs.Words.{HasRead, List, [], length, ℕ}
 use Rattle.dn_files.proofs.packet_reader.PacketReader.all_rows.Given as goal
 
 abbrev pub invariant-loop-row : goal.invariant-loop-row

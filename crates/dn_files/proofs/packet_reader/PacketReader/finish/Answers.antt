@@ -1,8 +1,4 @@
-use Rattle.std.proofs.Common.{◌<◌, ◌-◌, ◌∙◌, Ok, arith, drop}
-use Rattle.std.proofs.lemmas.List.{take_rest}
-use Rattle.std.proofs.lemmas.Result.{IfErr-weaker, IfOk-weaker}
-use Rattle.dn_records.specs.Records.{records_of}
-use Rattle.dn_files.specs.PacketFile.{rows_from, rows_of}
+use Rattle.dn_files.proofs.Words.{IfErr-weaker, IfOk-weaker, Ok, arith, drop, records_of, rows_from, rows_of, take_rest, ◌-◌, ◌<◌, ◌∙◌}
 use Rattle.dn_files.proofs.PacketParts.{at_header, behind_line, finished, finished_fault}
 use Rattle.dn_files.proofs.packet_reader.PacketReader.finish.Goals as goal
 

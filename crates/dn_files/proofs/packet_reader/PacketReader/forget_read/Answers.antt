@@ -1,5 +1,4 @@
-use Rattle.std.proofs.Common.{◌<◌, ◌∙◌, ap, List, ℕ, arith, drop}
-use Rattle.dn_files.specs.Unread.{Unread}
+use Rattle.dn_files.proofs.Words.{List, Unread, ap, arith, drop, ℕ, ◌<◌, ◌∙◌}
 use Rattle.dn_files.proofs.PacketParts.{forgotten}
 use Rattle.dn_files.proofs.packet_reader.PacketReader.forget_read.Goals as goal
 

@@ -1,5 +1,4 @@
-use Rattle.std.proofs.Common.{◌≡◌, ◌∙◌, length, vec_len, rules, arith, drop, sym}
-use Rattle.std.proofs.lemmas.List.{take_rest}
+use Rattle.dn_files.proofs.Words.{arith, drop, length, rules, sym, take_rest, vec_len, ◌∙◌, ◌≡◌}
 use Rattle.dn_files.proofs.Headers.{header_read}
 use Rattle.dn_files.proofs.PacketNext.{header_given, header_left, header_withheld}
 use Rattle.dn_files.proofs.PacketParts.{header_shorter, header_taken}

@@ -1,5 +1,4 @@
-use Rattle.std.proofs.Common.{◌≡◌, ◌<◌, ◌∙◌, length, vec_len, rules, arith, drop, sym}
-use Rattle.std.proofs.lemmas.List.{take_rest}
+use Rattle.dn_files.proofs.Words.{arith, drop, length, rules, sym, take_rest, vec_len, ◌<◌, ◌∙◌, ◌≡◌}
 use Rattle.dn_files.proofs.PacketNext.{row_given, row_left, row_withheld}
 use Rattle.dn_files.proofs.PacketParts.{row_shorter, row_taken}
 use Rattle.dn_files.proofs.QuotedRows.{row_reads}

@@ -1,7 +1,4 @@
-use Rattle.std.proofs.Common.{◌≡◌, ◌∙◌, ◌-◌, ◌<◌, ℕ, List, ap, length, map, nat_eq, sym, take, arith, []}
-use Rattle.std.specs.Prelude.{vec_items, vec_len}
-use Rattle.std.proofs.lemmas.List.{get_or-map, length-map, map-set}
-use Rattle.dn_flows.specs.Members.{list_at}
+use Rattle.dn_flows.proofs.Words.{List, [], ap, arith, get_or-map, length, length-map, list_at, map, map-set, nat_eq, sym, take, vec_items, vec_len, ℕ, ◌-◌, ◌<◌, ◌∙◌, ◌≡◌}
 use Rattle.dn_flows.proofs.Lists.{less_last, popped_at}
 use Rattle.dn_flows.proofs.by_number.ByNumber.pop.Goals as goal
 
@@ -11,10 +8,6 @@ returns c = λ other.
     let place = c.get-place.result in
     let old = c.index_mut-list.result.now in
     let new = c.pop.new.self in
-    let lists_ok = c.self.inside.lists.ok.0 in
-    let old_ok = old.ok.0 in
-    let count = c.len.ensures in
-    let beyond = c.if-len-place.false in
     let within : place < length lists = omega arith in
     let same = length-map lists vec_items in
     let within_all : place < length (map vec_items lists) = omega arith in

@@ -1,7 +1,4 @@
-use Rattle.std.proofs.Common.{◌≡◌, ◌∙◌, ◌<◌, ◌++◌, ◌∷◌, [], ℕ, List, Result, Ok, Err, OnErr, ap, cond, length, map, nat_eq, sym, arith}
-use Rattle.std.specs.Prelude.{vec_items}
-use Rattle.std.proofs.lemmas.List.{get_or-map, length-map, map-set}
-use Rattle.dn_flows.specs.Members.{list_at}
+use Rattle.dn_flows.proofs.Words.{Err, List, Ok, OnErr, Result, [], ap, arith, cond, get_or-map, length, length-map, list_at, map, map-set, nat_eq, sym, vec_items, ℕ, ◌++◌, ◌<◌, ◌∙◌, ◌∷◌, ◌≡◌}
 use Rattle.dn_flows.proofs.Lists.{pushed_at, same_at}
 use Rattle.dn_flows.proofs.by_number.ByNumber.push.Goals.{After-index_mut-list}
 use Rattle.dn_flows.proofs.by_number.ByNumber.push.Goals as goal

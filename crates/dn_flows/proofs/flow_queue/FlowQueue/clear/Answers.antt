@@ -1,8 +1,6 @@
 -- The loop takes the packets out one by one, until none is left.
-use Rattle.std.proofs.Common.{◌≡◌, ◌<◌, ℕ, Option, Some, None, arith}
-use Rattle.std.specs.Prelude.{IfSome, IfNone, OnSome}
-use Rattle.dn_flows.specs.declared.waiting.Waiting.{Waiting}
-use Rattle.dn_flows.proofs.Chains.{held-first, short-first, shortens-none, shortens-more, lies-taken}
+use Rattle.dn_flows.proofs.Words.{IfNone, IfSome, None, OnSome, Option, Some, Waiting, arith, ℕ, ◌<◌, ◌≡◌}
+use Rattle.dn_flows.proofs.Chains.{shortens-more, lies-taken}
 use Rattle.dn_flows.proofs.flow_queue.FlowQueue.clear.Goals as goal
 
 -- a packet is answered where one waits
@@ -13,15 +11,6 @@ of-some (Some first) len P some none holds = (first, holds)
 on-some : (r : Option Waiting) (len : ℕ) (P : Type 0) → 0 < len → IfNone r (len ≡ 0) → OnSome r P → P
 on-some None len P some none holds = absurd (omega arith)
 on-some (Some first) len P some none holds = holds
-
-pub pop_front-requires-clause-held : goal.pop_front-requires-clause-held
-pop_front-requires-clause-held c = let l = c.loop-self.invariant.lies in held-first l.owner l.behind c.loop-self.store l.flow c.loop-self.self l.is
-
-pub pop_front-requires-clause-bytes : goal.pop_front-requires-clause-bytes
-pop_front-requires-clause-bytes c = let l = c.loop-self.invariant.lies in short-first l.owner l.behind c.loop-self.store l.flow c.loop-self.self l.is
-
-pub loop-self-init : goal.loop-self-init
-loop-self-init c = record { lies = c.requires; shortens = shortens-none c.args.store.now c.args.self.now }
 
 pub loop-self-preserved : goal.loop-self-preserved
 loop-self-preserved c =

@@ -1,4 +1,4 @@
-use Rattle.dn_flows.specs.Store.{Lies, Shortens}
+use Rattle.dn_flows.proofs.Words.{Lies, Shortens}
 use Rattle.dn_flows.proofs.flow_queue.FlowQueue.clear.Given as goal
 
 abbrev pub invariant-loop-self : goal.invariant-loop-self

@@ -1,8 +1,4 @@
-use Rattle.std.proofs.Common.{◌≡◌, ◌∙◌, ◌<◌, ◌+◌, true, false, sym, ap, cond, arith, inl, inr}
-use Rattle.std.specs.Prelude.{Some, is_some}
-use Rattle.std.specs.Option.{option_map}
-use Rattle.dn_flows.specs.Packets.{Packets, get, with_next}
-use Rattle.dn_flows.specs.declared.flow_queue.FlowQueue.{FlowQueue}
+use Rattle.dn_flows.proofs.Words.{FlowQueue, Packets, Some, ap, arith, cond, false, get, inl, inr, is_some, option_map, sym, true, with_next, ◌+◌, ◌<◌, ◌∙◌, ◌≡◌}
 use Rattle.dn_flows.proofs.Places.{eq-yes, eq-no}
 use Rattle.dn_flows.proofs.flow_queue.FlowQueue.push_back.Goals as goal
 use Rattle.dn_flows.proofs.flow_queue.FlowQueue.push_back.Goals.{then-self-eq0, else-self-eq0}

@@ -1,6 +1,5 @@
 -- The flows that were let go keep all but their places.
-use Rattle.std.proofs.Common.{◌∙◌, Option, Some, None, sym, arith}
-use Rattle.std.specs.Prelude.{IfSome, IfNone}
+use Rattle.dn_flows.proofs.Words.{IfNone, IfSome, None, Option, Some, arith, sym, ◌∙◌}
 use Rattle.dn_flows.proofs.Places.{get-below, get-some}
 use Rattle.dn_flows.proofs.Reservations.{places-are}
 use Rattle.dn_flows.proofs.Tables.{as-many-flows}
@@ -15,17 +14,9 @@ if-none : {X : Type 0} (r : Option X) (P Q : Type 0) → (P → Q) → IfNone r 
 if-none None P Q f h = f h
 if-none (Some x) P Q f h = tt
 
-pub last_active-requires-clause-listed : goal.last_active-requires-clause-listed
-last_active-requires-clause-listed c = c.self.invariant.4
-
-pub last_active-requires-clause-counted : goal.last_active-requires-clause-counted
-last_active-requires-clause-counted c = c.self.invariant.1.0
-
 pub invariant_of-self : goal.invariant_of-self
 invariant_of-self c =
-    let e = c.last_active.ensures in
-    let room = c.self.invariant.1.1 in
-    let fewer = e.fewer in (
+    let e = c.last_active.ensures in (
       c.self.invariant.0 ∙ sym e.keeps.many,
       (e.counted, omega arith),
       still-stored c.self.inside.packets c.self.inside.queues.items c.last_active.new.queues.items e.keeps c.self.invariant.2,
@@ -37,7 +28,6 @@ pub returns-clause-many : goal.returns-clause-many
 returns-clause-many c =
     let before = as-many-flows c.self.inside.packets c.self.inside.queues.items c.self.inside.unsent.items in
     let after = as-many-flows c.self.inside.packets c.last_active.new.queues.items c.self.inside.unsent.items in
-    let many = c.last_active.ensures.keeps.many in
     rw (← c.self.view_is) (omega arith)
 
 pub returns-clause-flows : goal.returns-clause-flows
@@ -62,13 +52,8 @@ pub returns-clause-active : goal.returns-clause-active
 returns-clause-active c =
     if-some c.last_active.result _ _ (λ flow some. active-read c.self.inside.packets c.last_active.new.queues.items c.self.inside.unsent.items flow some.0 some.1 ∙ some.2) c.last_active.ensures.some
 
-pub returns-clause-reached : goal.returns-clause-reached
-returns-clause-reached c = if-some c.last_active.result _ _ (λ flow some. some.3) c.last_active.ensures.some
-
 pub returns-clause-none : goal.returns-clause-none
 returns-clause-none c =
-    let as-many = c.self.invariant.0 in
-    let many = c.last_active.ensures.keeps.many in
     if-none c.last_active.result _ _ (λ none flow key its at.
     let lt = get-below c.self.inside.keys.keys flow key its in
     let q = get-some c.last_active.new.queues.items flow (omega arith) in

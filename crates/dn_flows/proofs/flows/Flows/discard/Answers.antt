@@ -1,11 +1,5 @@
-use Rattle.std.proofs.Common.{◌≡◌, ◌∙◌, ◌+◌, List, map, set, false, refl, sym, ap, length, length-set, arith}
-use Rattle.std.proofs.lemmas.Grind.{common_steps}
-use Rattle.std.proofs.lemmas.List.{length-map}
-use Rattle.dn_flows.specs.declared.flow_queue.FlowQueue.{FlowQueue}
-use Rattle.dn_flows.specs.declared.unsent.Unsent.{Unsent}
-use Rattle.dn_flows.specs.declared.waiting.Waiting.{Waiting}
-use Rattle.dn_flows.specs.Store.{AreStored, all_with_unsent, state_of}
-use Rattle.dn_flows.specs.Table.{FlowState, emptied, flow_at}
+use Rattle.dn_flows.proofs.Words.{AreStored, FlowQueue, FlowState, List, Unsent, Waiting, all_with_unsent, ap, arith, common_steps, emptied, false, flow_at, length, length-map, length-set, map}
+use Rattle.dn_flows.proofs.Words.{refl, set, state_of, sym, ◌+◌, ◌∙◌, ◌≡◌}
 use Rattle.dn_flows.proofs.Counted.{within-unsent, read-counts}
 use Rattle.dn_flows.proofs.Entries.{listed-q, listed-set}
 use Rattle.dn_flows.proofs.Tables.{IsAt, as-many-flows, queue-is, reads, same-reserved, emptying, lies-here, seen, there}
@@ -83,5 +77,4 @@ returns-clause-flows c =
 pub index_mut-queue-requires : goal.index_mut-queue-requires
 index_mut-queue-requires c =
     let many = as-many-flows c.self.inside.packets c.self.inside.queues.items c.self.inside.unsent.items in
-    let within = rw (← c.self.view_is) at c.requires.within in
     grind (arith, common_steps)

@@ -1,13 +1,5 @@
-use Rattle.std.proofs.Common.{◌≡◌, ◌∙◌, ◌++◌, ◌∷◌, ◌+◌, ◌-◌, [], ℕ, List, cond, length, map, length-take, take, ap, subst, sym, rules, arith}
-use Rattle.std.specs.Prelude.{slice_get}
-use Rattle.dn_types.specs.declared.flow_key.FlowKey.{FlowKey}
-use Rattle.dn_flows.specs.declared.members.Members.{Members}
-use Rattle.dn_flows.specs.Members.{AreListed, KeepsOthers}
-use Rattle.std.specs.Vec.{vec_len}
-use Rattle.dn_flows.specs.declared.flow_queue.FlowQueue.{FlowQueue}
-use Rattle.dn_flows.specs.declared.unsent.Unsent.{Unsent}
-use Rattle.dn_flows.specs.Store.{AreStored, all_with_unsent, reserved_one, reservations, state_of}
-use Rattle.dn_flows.specs.Table.{Table}
+use Rattle.dn_flows.proofs.Words.{AreListed, AreStored, FlowKey, FlowQueue, KeepsOthers, List, Members, Table, Unsent, [], all_with_unsent, ap, arith, cond, length, length-take, map, reservations}
+use Rattle.dn_flows.proofs.Words.{reserved_one, rules, slice_get, state_of, subst, sym, take, vec_len, ℕ, ◌++◌, ◌+◌, ◌-◌, ◌∙◌, ◌∷◌, ◌≡◌}
 use Rattle.dn_flows.proofs.Entries.{listed-less}
 use Rattle.dn_flows.proofs.Places.{get-kept, length-more, sum-more}
 use Rattle.dn_flows.proofs.Tables.{last-out, without-last}
@@ -34,8 +26,6 @@ module _ (c : In-Some) where
   stays =
       let items = c.in-Some.ensures.items in
       let fewer-counts = ap (λ (us : List Unsent). length us) c.pop.ensures.rest ∙ length-take _ c.self.inside.unsent.items in
-      let fewer-queues = ap (λ (qs : List FlowQueue). length qs) c.pop-2.ensures.rest ∙ length-take _ c.self.inside.queues.items in
-      let counts-ok = c.self.inside.unsent.ok.0 in
       let queues-ok = c.self.inside.queues.ok.0 in
       let before = c.self.invariant.3 in
       let longer = ap (λ (qs : List FlowQueue). length qs) items ∙ length-more c.pop-2.new.self.items c.in-Some.queue in
@@ -74,8 +64,6 @@ invariant_of-self-2 c =
 out : (c : After-pop-2) → let seen = all_with_unsent (map (state_of c.self.inside.packets) c.self.inside.queues.items) c.self.inside.unsent.items in
     all_with_unsent (map (state_of c.self.inside.packets) c.pop-2.new.self.items) c.pop.new.self.items ≡ take (length seen - 1) seen
 out c =
-    let queues-ok = c.self.inside.queues.ok.0 in
-    let counts-ok = c.self.inside.unsent.ok.0 in
     let queues : vec_len c.self.inside.queues ≡ length c.self.inside.queues.items = omega arith in
     let counts : vec_len c.self.inside.unsent ≡ length c.self.inside.unsent.items = omega arith in
     last-out c.self.inside.packets c.self.inside.queues.items c.pop-2.new.self.items c.self.inside.unsent.items c.pop.new.self.items

@@ -1,11 +1,5 @@
 -- The queue counts the packets that wait.
-use Rattle.std.proofs.Common.{◌≡◌, ◌∙◌, ℕ, List, map, length, slice_index_or, ap, sym, arith}
-use Rattle.std.specs.Prelude.{nat_lt}
-use Rattle.std.proofs.lemmas.List.{get_or_past}
-use Rattle.dn_flows.specs.declared.flow_queue.FlowQueue.{FlowQueue}
-use Rattle.dn_flows.specs.declared.waiting.Waiting.{Waiting}
-use Rattle.dn_flows.specs.Store.{all_with_unsent, state_of}
-use Rattle.dn_flows.specs.Table.{FlowState, new_flow}
+use Rattle.dn_flows.proofs.Words.{FlowQueue, FlowState, List, Waiting, all_with_unsent, ap, arith, get_or_past, length, map, nat_lt, new_flow, slice_index_or, state_of, sym, ℕ, ◌∙◌, ◌≡◌}
 use Rattle.dn_flows.proofs.Tables.{IsAt, as-many-flows, queue-is, reads}
 use Rattle.dn_flows.proofs.flows.Flows.has_backlog.Goals.{After-get}
 use Rattle.dn_flows.proofs.flows.Flows.has_backlog.Goals as goal
@@ -17,7 +11,6 @@ as-long c = as-many-flows c.self.inside.packets c.self.inside.queues.items c.sel
 pub returns-in-Some : goal.returns-in-Some
 returns-in-Some c =
     let found = c.in-Some.ensures.lookup in
-    let below = found.3.0 in
     let long = as-long (goal.at.returns-in-Some c).After-get in
     let at : IsAt c.self.inside.packets c.self.inside.queues.items c.self.inside.unsent.items c.args.flow c.in-Some.queue.now = record {
       are = c.self.invariant.2;

@@ -1,12 +1,10 @@
-use Rattle.std.proofs.Common.{sym, arith}
-use Rattle.std.proofs.lemmas.Grind.{common_steps}
+use Rattle.dn_flows.proofs.Words.{arith, common_steps, sym}
 use Rattle.dn_flows.proofs.Tables.{IsAt, as-many-flows, reads}
 use Rattle.dn_flows.proofs.flows.Flows.home.Goals as goal
 
 pub index-requires : goal.index-requires
 index-requires c =
     let many = as-many-flows c.self.inside.packets c.self.inside.queues.items c.self.inside.unsent.items in
-    let within = rw (← c.self.view_is) at c.requires in
     grind (arith, common_steps)
 
 -- The queue that was read is the flow's.

@@ -1,13 +1,5 @@
-use Rattle.std.proofs.Common.{◌≡◌, ◌∙◌, ◌++◌, ◌∷◌, [], sym, ap, subst, arith}
-use Rattle.std.proofs.Common.{List, map, cond, false, length, rules}
-use Rattle.std.proofs.lemmas.List.{length-map}
-use Rattle.dn_types.specs.Flows.{with_key}
-use Rattle.dn_types.specs.declared.flow_key.FlowKey.{FlowKey}
-use Rattle.dn_flows.specs.declared.flow_queue.FlowQueue.{FlowQueue}
-use Rattle.dn_flows.specs.declared.unsent.Unsent.{Unsent}
-use Rattle.dn_flows.specs.Members.{AreListed}
-use Rattle.dn_flows.specs.Store.{AreStored, all_with_unsent, new_queue, reserved_one, reservations, state_of}
-use Rattle.dn_flows.specs.Table.{is_known, new_flow}
+use Rattle.dn_flows.proofs.Words.{AreListed, AreStored, FlowKey, FlowQueue, List, Unsent, [], all_with_unsent, ap, arith, cond, false, is_known, length, length-map, map, new_flow, new_queue}
+use Rattle.dn_flows.proofs.Words.{reservations, reserved_one, rules, state_of, subst, sym, with_key, ◌++◌, ◌∙◌, ◌∷◌, ◌≡◌}
 use Rattle.dn_flows.proofs.Counted.{both-more}
 use Rattle.dn_flows.proofs.Entries.{listed-more}
 use Rattle.dn_flows.proofs.Found.{next-number}
@@ -67,8 +59,6 @@ returns-clause-flows c =
 pub returns-clause-within : goal.returns-clause-within
 returns-clause-within c =
     let many = as-many-flows c.self.inside.packets c.push_reserved.new.self.items c.push_reserved-2.new.self.items in
-    let more = ap (λ (qs : List FlowQueue). length qs) (queues-then (goal.at.returns-clause-within c).After-push_reserved) ∙ length-more c.self.inside.queues.items new_queue in
-    let last : c.len-flow.result ≡ length c.self.inside.queues.items = omega (arith, c.len-flow.ensures, c.in_ok-reserve.ensures.len, c.self.inside.queues.ok.0) in
     omega arith
 
 pub returns-clause-number : goal.returns-clause-number

@@ -1,6 +1,4 @@
-use Rattle.std.proofs.Common.{◌+◌, refl, ap, arith}
-use Rattle.std.proofs.lemmas.Grind.{common_steps}
-use Rattle.dn_flows.specs.Table.{FlowState, one_full}
+use Rattle.dn_flows.proofs.Words.{FlowState, ap, arith, common_steps, one_full, refl, ◌+◌}
 use Rattle.dn_flows.proofs.Noted.{counts-there, counts-read, counts-noted}
 use Rattle.dn_flows.proofs.flows.Flows.note_full.Goals as goal
 

@@ -1,12 +1,7 @@
-use Rattle.std.proofs.Common.{◌≡◌, ◌∙◌, ◌+◌, ℕ, List, [], ◌∷◌, map, length, set, true, false, refl, sym, ap, length-set, arith, inl}
-use Rattle.std.specs.Prelude.{slice_set}
-use Rattle.dn_flows.specs.Store.{all_with_unsent, reservations, state_of}
-use Rattle.dn_flows.specs.Table.{FlowState, flow_at, popped, pushed}
-use Rattle.dn_flows.specs.declared.flow_queue.FlowQueue.{FlowQueue}
-use Rattle.dn_flows.specs.declared.waiting.Waiting.{Waiting}
+use Rattle.dn_flows.proofs.Words.{FlowQueue, FlowState, List, Waiting, [], all_with_unsent, ap, arith, common_steps, false, flow_at, inl, length, length-set, map, popped, pushed, refl}
+use Rattle.dn_flows.proofs.Words.{reservations, set, slice_set, state_of, sym, true, ℕ, ◌+◌, ◌∙◌, ◌∷◌, ◌≡◌}
 use Rattle.dn_flows.proofs.Entries.{listed-q, listed-set}
 use Rattle.dn_flows.proofs.Tables.{After, IsAt, as-many-flows, counting, one-less, reads, seen, there}
-use Rattle.std.proofs.lemmas.Grind.{common_steps}
 use Rattle.dn_flows.proofs.flows.Flows.pass.Goals.{After-index_mut-queue}
 use Rattle.dn_flows.proofs.flows.Flows.pass.Goals as goal
 
@@ -32,7 +27,6 @@ passing flows flow w after is none = is ∙ ap (λ (s : FlowState). slice_set fl
 pub index_mut-queue-requires : goal.index_mut-queue-requires
 index_mut-queue-requires c =
     let many = as-many-flows c.self.inside.packets c.self.inside.queues.items c.self.inside.unsent.items in
-    let within = rw (← c.self.view_is) at c.requires.within in
     grind (arith, common_steps)
 
 -- The queue that was read is the flow's.
@@ -70,8 +64,7 @@ invariant_of-self c =
     let t = c.self.inside in
     let q = c.index_mut-queue.result.now in
     let fewer = less w in
-    let at = there (here w) in
-    let room = c.self.invariant.1.1 in (
+    let at = there (here w) in (
       c.self.invariant.0 ∙ sym (length-set t.queues.items c.args.flow _),
       (omega arith, omega arith),
       (counted w).stored,

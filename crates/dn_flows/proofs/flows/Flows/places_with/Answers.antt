@@ -1,7 +1,5 @@
 -- The table counts the reserved places, and the flow's is one of them or one more.
-use Rattle.std.proofs.Common.{◌≡◌, ◌∙◌, ◌+◌, set, ap, cond, arith}
-use Rattle.std.proofs.lemmas.Grind.{common_steps}
-use Rattle.dn_flows.specs.Table.{flow_at, place_of, places, with_place}
+use Rattle.dn_flows.proofs.Words.{ap, arith, common_steps, cond, flow_at, place_of, places, set, with_place, ◌+◌, ◌∙◌, ◌≡◌}
 use Rattle.dn_flows.proofs.Reservations.{places-are, places-set}
 use Rattle.dn_flows.proofs.Tables.{IsAt, as-many-flows, at-most-one-each, few-reserved, reads, seen}
 use Rattle.dn_flows.proofs.flows.Flows.places_with.Goals.{After-index}
@@ -10,7 +8,6 @@ use Rattle.dn_flows.proofs.flows.Flows.places_with.Goals as goal
 pub index-requires : goal.index-requires
 index-requires c =
     let many = as-many-flows c.self.inside.packets c.self.inside.queues.items c.self.inside.unsent.items in
-    let within = rw (← c.self.view_is) at c.requires in
     grind (arith, common_steps)
 
 module _ (c : After-index) where
@@ -57,6 +54,4 @@ returns-else-index-clause-value c =
 pub returns-else-index-clause-bound : goal.returns-else-index-clause-bound
 returns-else-index-clause-bound c =
     let fewer = few-reserved (here (goal.at.returns-else-index-clause-bound c).After-index) c.if-index.false in
-    let count = c.self.invariant.1.0 in
-    let ok = c.self.inside.queues.ok.0 in
     omega arith

@@ -1,13 +1,6 @@
-use Rattle.std.proofs.Common.{◌≡◌, ◌∙◌, ◌+◌, refl, sym, ap, length-set, arith, rules}
-use Rattle.std.specs.Prelude.{None}
-use Rattle.dn_flows.specs.Packets.{Packets}
-use Rattle.dn_flows.specs.declared.flow_queue.FlowQueue.{FlowQueue}
-use Rattle.dn_flows.specs.declared.waiting.Waiting.{Waiting}
-use Rattle.dn_flows.specs.Store.{TakesFront}
-use Rattle.dn_flows.specs.Table.{flow_at, popped}
+use Rattle.dn_flows.proofs.Words.{FlowQueue, None, Packets, TakesFront, Waiting, ap, arith, common_steps, flow_at, length-set, popped, refl, rules, sym, ◌+◌, ◌∙◌, ◌≡◌}
 use Rattle.dn_flows.proofs.Entries.{SameFlags, listed-after}
 use Rattle.dn_flows.proofs.Tables.{After, IsAt, as-many-flows, first-held, first-short, popping, front, none-waits, reads, resting, same-reserved, seen, there}
-use Rattle.std.proofs.lemmas.Grind.{common_steps}
 use Rattle.dn_flows.proofs.flows.Flows.pop_front.Goals.{After-index_mut-queue, In_ok-first}
 use Rattle.dn_flows.proofs.flows.Flows.pop_front.Goals as goal
 
@@ -70,7 +63,6 @@ returns-clause-flows c =
 pub index_mut-queue-requires : goal.index_mut-queue-requires
 index_mut-queue-requires c =
     let many = as-many-flows c.self.inside.packets c.self.inside.queues.items c.self.inside.unsent.items in
-    let within = rw (← c.self.view_is) at c.requires.within in
     grind (arith, common_steps)
 
 pub overflow_add-queue : goal.overflow_add-queue

@@ -1,10 +1,6 @@
-use Rattle.std.proofs.Common.{◌≡◌, ◌∙◌, ◌+◌, set, true, false, refl, sym, ap, length-set, arith, inl}
-use Rattle.dn_flows.specs.declared.flow_queue.FlowQueue.{FlowQueue}
-use Rattle.dn_flows.specs.Store.{reservations}
-use Rattle.dn_flows.specs.Table.{flow_at, pushed}
+use Rattle.dn_flows.proofs.Words.{FlowQueue, ap, arith, common_steps, false, flow_at, inl, length-set, pushed, refl, reservations, set, sym, true, ◌+◌, ◌∙◌, ◌≡◌}
 use Rattle.dn_flows.proofs.Entries.{listed-q, listed-set}
 use Rattle.dn_flows.proofs.Tables.{After, IsAt, as-many-flows, few, fits, last-held, reads, one-less, pushing, seen, there}
-use Rattle.std.proofs.lemmas.Grind.{common_steps}
 use Rattle.dn_flows.proofs.flows.Flows.push_reserved.Goals.{After-index_mut-queue, After-push_back}
 use Rattle.dn_flows.proofs.flows.Flows.push_reserved.Goals as goal
 
@@ -22,7 +18,6 @@ less c q' has = one-less (here c) q' (had c) has ∙ sym c.self.invariant.1.0
 pub push_back-requires-clause-room : goal.push_back-requires-clause-room
 push_back-requires-clause-room c =
     let fewer = less (goal.at.push_back-requires-clause-room c).After-index_mut-queue (record c.index_mut-queue.result.now { reserved = false }) refl in
-    let room = c.self.invariant.1.1 in
     omega arith
 
 -- A packet has at least one byte, so there are fewer packets than bytes.
@@ -52,8 +47,6 @@ invariant_of-self c =
     let at = here w.After-index_mut-queue in
     let is = c.push_back.ensures.appends.queue_is in
     let fewer = less w.After-index_mut-queue c.push_back.new.self (ap (λ (x : FlowQueue). x.reserved) is) in
-    let room = c.self.invariant.1.1 in
-    let len = c.push_back.ensures.len in
     let capacity = c.push_back.ensures.capacity in
     let t = c.self.inside in
     let q = c.index_mut-queue.result.now in
@@ -75,5 +68,4 @@ returns-clause-flows c =
 pub index_mut-queue-requires : goal.index_mut-queue-requires
 index_mut-queue-requires c =
     let many = as-many-flows c.self.inside.packets c.self.inside.queues.items c.self.inside.unsent.items in
-    let within = rw (← c.self.view_is) at c.requires.within in
     grind (arith, common_steps)

@@ -1,13 +1,8 @@
-use Rattle.std.proofs.Common.{◌≡◌, ◌∙◌, ◌+◌, ◌≤◌, ℕ, List, true, false, length, set, refl, sym, ap, subst, length-set, arith, Result, Ok, Err, OnErr}
-use Rattle.dn_flows.specs.declared.flow_queue.FlowQueue.{FlowQueue}
-use Rattle.dn_flows.specs.Members.{AreListed}
-use Rattle.dn_flows.specs.Packets.{Packets, get}
-use Rattle.dn_flows.specs.Store.{AreStored, HasReserved, waiting_from}
-use Rattle.dn_flows.specs.Table.{flow_at, with_place}
+use Rattle.dn_flows.proofs.Words.{AreListed, AreStored, Err, FlowQueue, HasReserved, List, Ok, OnErr, Packets, Result, ap, arith, common_steps, false, flow_at, get, length, length-set, refl, set}
+use Rattle.dn_flows.proofs.Words.{subst, sym, true, waiting_from, with_place, ℕ, ◌+◌, ◌∙◌, ◌≡◌, ◌≤◌}
 use Rattle.dn_flows.proofs.Entries.{listed-set, set-twice}
 use Rattle.dn_flows.proofs.Places.{get-set}
 use Rattle.dn_flows.proofs.Tables.{IsAt, as-many-flows, counting, listing, placing, same-reserved, one-more, few-reserved, reads, seen, there}
-use Rattle.std.proofs.lemmas.Grind.{common_steps}
 use Rattle.dn_flows.proofs.flows.Flows.reserve_place.Goals.{After-index_mut-queue, After-list, After-reserve}
 use Rattle.dn_flows.proofs.flows.Flows.reserve_place.Goals as goal
 
@@ -29,20 +24,17 @@ few c none =
 pub overflow_add-self-inside : goal.overflow_add-self-inside
 overflow_add-self-inside c =
     let fewer = few (goal.at.overflow_add-self-inside c).After-index_mut-queue c.if-queue.false in
-    let ok = c.self.inside.queues.ok.0 in
     omega arith
 
 pub overflow_add-self : goal.overflow_add-self
 overflow_add-self c =
     let fewer = few (goal.at.overflow_add-self c).After-index_mut-queue c.if-queue.false in
-    let ok = c.self.inside.queues.ok.0 in
     omega arith
 
 pub list-requires-clause-within : goal.list-requires-clause-within
 list-requires-clause-within c =
     let many = as-many-flows c.self.inside.packets c.self.inside.queues.items c.self.inside.unsent.items in
     let within = rw (← c.self.view_is) at c.requires in
-    let keys = c.self.invariant.0 in
     omega arith
 
 pub list-requires-clause-is_listed : goal.list-requires-clause-is_listed
@@ -134,7 +126,6 @@ returns-clause-reserved c =
 pub index_mut-queue-requires : goal.index_mut-queue-requires
 index_mut-queue-requires c =
     let many = as-many-flows c.self.inside.packets c.self.inside.queues.items c.self.inside.unsent.items in
-    let within = rw (← c.self.view_is) at c.requires in
     grind (arith, common_steps)
 
 -- The flow had a place.

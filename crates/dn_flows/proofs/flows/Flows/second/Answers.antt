@@ -1,13 +1,6 @@
 -- The queue that is read is the flow's.
-use Rattle.std.proofs.Common.{◌≡◌, ◌∙◌, ℕ, List, map, length, slice_index_or, ap, sym, arith}
-use Rattle.std.specs.Prelude.{slice_get}
-use Rattle.std.proofs.lemmas.List.{get_or_past}
-use Rattle.dn_flows.specs.declared.flow_queue.FlowQueue.{FlowQueue}
-use Rattle.dn_flows.specs.declared.unsent.Unsent.{Unsent}
-use Rattle.dn_flows.specs.declared.waiting.Waiting.{Waiting}
-use Rattle.dn_flows.specs.Packets.{Packets}
-use Rattle.dn_flows.specs.Store.{all_with_unsent, state_of}
-use Rattle.dn_flows.specs.Table.{FlowState, new_flow}
+use Rattle.dn_flows.proofs.Words.{FlowQueue, FlowState, List, Packets, Unsent, Waiting, all_with_unsent, ap, arith, get_or_past, length, map, new_flow, slice_get, slice_index_or, state_of, sym, ℕ}
+use Rattle.dn_flows.proofs.Words.{◌∙◌, ◌≡◌}
 use Rattle.dn_flows.proofs.Tables.{IsAt, as-many-flows, lies-here, reads}
 use Rattle.dn_flows.proofs.flows.Flows.second.Goals.{In-Some}
 use Rattle.dn_flows.proofs.flows.Flows.second.Goals as goal
@@ -19,7 +12,6 @@ as-long store queues unsent slice same = as-many-flows store queues unsent ∙ s
 here : (c : In-Some) → IsAt c.self.inside.packets c.self.inside.queues.items c.self.inside.unsent.items c.args.flow c.in-Some.queue.now
 here c =
     let found = c.in-Some.ensures.lookup in
-    let below = found.3.0 in
     let long = as-long c.self.inside.packets c.self.inside.queues.items c.self.inside.unsent.items c.deref.result.now c.deref.ensures.value in
     record {
       are = c.self.invariant.2;

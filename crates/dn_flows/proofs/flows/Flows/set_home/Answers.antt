@@ -1,7 +1,4 @@
-use Rattle.std.proofs.Common.{◌∙◌, refl, sym, length-set, arith}
-use Rattle.std.proofs.lemmas.Grind.{common_steps}
-use Rattle.dn_flows.specs.declared.flow_queue.FlowQueue.{FlowQueue}
-use Rattle.dn_flows.specs.Table.{flow_at, with_home}
+use Rattle.dn_flows.proofs.Words.{FlowQueue, arith, common_steps, flow_at, length-set, refl, sym, with_home, ◌∙◌}
 use Rattle.dn_flows.proofs.Entries.{listed-after}
 use Rattle.dn_flows.proofs.Tables.{After, IsAt, as-many-flows, counting, same-reserved, seen, there}
 use Rattle.dn_flows.proofs.flows.Flows.set_home.Goals.{After-index_mut-queue}
@@ -10,7 +7,6 @@ use Rattle.dn_flows.proofs.flows.Flows.set_home.Goals as goal
 pub index_mut-queue-requires : goal.index_mut-queue-requires
 index_mut-queue-requires c =
     let many = as-many-flows c.self.inside.packets c.self.inside.queues.items c.self.inside.unsent.items in
-    let within = rw (← c.self.view_is) at c.requires in
     grind (arith, common_steps)
 
 module _ (c : After-index_mut-queue) where

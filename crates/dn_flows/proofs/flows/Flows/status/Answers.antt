@@ -1,8 +1,4 @@
-use Rattle.std.proofs.Common.{◌≡◌, ◌∙◌, length, map, sym, ap, arith}
-use Rattle.std.proofs.lemmas.Grind.{common_steps}
-use Rattle.std.proofs.lemmas.List.{length-map}
-use Rattle.dn_flows.specs.Store.{state_of, with_unsent}
-use Rattle.dn_flows.specs.Table.{FlowState, status_of}
+use Rattle.dn_flows.proofs.Words.{FlowState, ap, arith, common_steps, length, length-map, map, state_of, status_of, sym, with_unsent, ◌∙◌, ◌≡◌}
 use Rattle.dn_flows.proofs.Counted.{within-unsent, read-counts}
 use Rattle.dn_flows.proofs.Tables.{IsAt, as-many-flows, read-state, queue-is}
 use Rattle.dn_flows.proofs.flows.Flows.status.Goals.{After-index-queue}
@@ -41,14 +37,7 @@ returns-clause-value c =
     }) ∙ ap (status_of c.args.flow c.key-key.result) (sym (read-counts states c.self.inside.unsent.items c.args.flow u (as-many w) (here w).within c.index-unsent.ensures
     ∙ ap (λ (s : FlowState). with_unsent u s) (read-state (here w)))))
 
-pub returns-clause-bytes : goal.returns-clause-bytes
-returns-clause-bytes c =
-    let bounded = (queue-is (here (goal.at.returns-clause-bytes c).After-index-queue)).counts.bounded in
-    let same = c.from.ensures in
-    omega arith
-
 pub index-queue-requires : goal.index-queue-requires
 index-queue-requires c =
     let many = as-many-flows c.self.inside.packets c.self.inside.queues.items c.self.inside.unsent.items in
-    let within = rw (← c.self.view_is) at c.requires in
     grind (arith, common_steps)

@@ -1,9 +1,5 @@
-use Rattle.std.proofs.Common.{◌∙◌, List, sym, ap, arith}
+use Rattle.dn_flows.proofs.Words.{List, Waiting, ap, arith, common_steps, lengths, sum, sym, verdict_of, ◌∙◌}
 use Rattle.dn_flows.proofs.Tables.{IsAt, as-many-flows, reads, queue-is}
-use Rattle.dn_flows.specs.declared.waiting.Waiting.{Waiting}
-use Rattle.dn_flows.specs.Table.{lengths, verdict_of}
-use Rattle.std.specs.Prelude.{sum}
-use Rattle.std.proofs.lemmas.Grind.{common_steps}
 use Rattle.dn_flows.proofs.flows.Flows.verdict.Goals.{After-index}
 use Rattle.dn_flows.proofs.flows.Flows.verdict.Goals as goal
 
@@ -27,5 +23,4 @@ returns-clause-fits c = λ taken.
 pub index-requires : goal.index-requires
 index-requires c =
     let many = as-many-flows c.self.inside.packets c.self.inside.queues.items c.self.inside.unsent.items in
-    let within = rw (← c.self.view_is) at c.requires in
     grind (arith, common_steps)

@@ -1,8 +1,4 @@
-use Rattle.std.proofs.Common.{List, rules, subst}
-use Rattle.dn_types.specs.declared.flow_key.FlowKey.{FlowKey}
-use Rattle.dn_flows.specs.declared.flow_queue.FlowQueue.{FlowQueue}
-use Rattle.dn_flows.specs.Members.{AreListed}
-use Rattle.dn_flows.specs.Store.{AreStored}
+use Rattle.dn_flows.proofs.Words.{AreListed, AreStored, FlowKey, FlowQueue, List, rules, subst}
 use Rattle.dn_flows.proofs.Entries.{none-are-listed}
 use Rattle.dn_flows.proofs.Tables.{none-stored}
 use Rattle.dn_flows.proofs.flows.Flows.with_key.Goals as goal

@@ -1,10 +1,5 @@
 -- The flow joins one list, and all lists keep what they had.
-use Rattle.std.proofs.Common.{◌≡◌, ◌∙◌, ◌++◌, ◌∷◌, [], ℕ, List, Bool, true, false, Result, Ok, Err, OnOk, OnErr, ap, cond, refl, sym, subst}
-use Rattle.std.specs.Prelude.{nat_eq}
-use Rattle.std.specs.List.{list_any}
-use Rattle.dn_types.specs.declared.target.Target.{Target}
-use Rattle.dn_types.specs.declared.target.Target.TheVariants.{Pipe, Queue}
-use Rattle.dn_flows.specs.Members.{IsMember, list_at}
+use Rattle.dn_flows.proofs.Words.{Bool, Err, List, Ok, OnErr, OnOk, Result, [], ap, cond, false, list_any, list_at, nat_eq, refl, true, ℕ, ◌++◌, ◌∙◌, ◌∷◌, ◌≡◌}
 use Rattle.dn_flows.proofs.Lists.{in-last, in-more}
 use Rattle.dn_flows.proofs.Places.{eq-yes}
 use Rattle.dn_flows.proofs.members.Members.push.Goals as goal
@@ -28,29 +23,3 @@ joins : {T E : Type 0} (r : Result T E) (old new : List (List ℕ)) (number flow
 joins (Ok x) old new number flow ok =
     ap (λ (l : List ℕ). list_any (nat_eq flow) l) (ok number ∙ ap (λ b. cond b (list_at old number ++ flow ∷ []) (list_at old number)) (eq-yes number number refl)) ∙ in-last flow (list_at old number)
 joins (Err e) old new number flow ok = tt
-
-pub returns-in-Pipe-clause-joins : goal.returns-in-Pipe-clause-joins
-returns-in-Pipe-clause-joins c =
-    let e = c.push.ensures in
-    rw c.in-Pipe.is (joins c.push.result c.args.self.now.on_pipes c.push.new.self c.in-Pipe.pipe c.args.flow e.ok)
-
-pub returns-in-Pipe-clause-keeps : goal.returns-in-Pipe-clause-keeps
-returns-in-Pipe-clause-keeps c =
-    let e = c.push.ensures in
-    λ target g. by target g
-  where
-    by : (target : Target) (g : ℕ) → IsMember target g c.args.self.now → IsMember target g (record c.args.self.now { on_pipes = c.push.new.self })
-    by (Pipe n) g h = keeps c.push.result c.args.self.now.on_pipes c.push.new.self c.in-Pipe.pipe c.args.flow c.push.ensures.ok c.push.ensures.err n g h
-    by (Queue n) g h = h
-
-pub returns-in-Queue-clause-joins : goal.returns-in-Queue-clause-joins
-returns-in-Queue-clause-joins c =
-    let e = c.push-in-Queue.ensures in
-    rw c.in-Queue.is (joins c.push-in-Queue.result c.args.self.now.of_queues c.push-in-Queue.new.self c.in-Queue.queue c.args.flow e.ok)
-
-pub returns-in-Queue-clause-keeps : goal.returns-in-Queue-clause-keeps
-returns-in-Queue-clause-keeps c = λ target g. by target g
-  where
-    by : (target : Target) (g : ℕ) → IsMember target g c.args.self.now → IsMember target g (record c.args.self.now { of_queues = c.push-in-Queue.new.self })
-    by (Pipe n) g h = h
-    by (Queue n) g h = keeps c.push-in-Queue.result c.args.self.now.of_queues c.push-in-Queue.new.self c.in-Queue.queue c.args.flow c.push-in-Queue.ensures.ok c.push-in-Queue.ensures.err n g h

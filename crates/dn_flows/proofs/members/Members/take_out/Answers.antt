@@ -1,13 +1,6 @@
 -- The target's list loses its last flow, if it is the one.
-use Rattle.std.proofs.Common.{◌≡◌, ◌≢◌, ◌∙◌, ◌+◌, ◌-◌, ℕ, Bool, true, false, cond, List, length, take, refl, ap, sym, arith}
-use Rattle.std.specs.Prelude.{Some, nat_eq}
-use Rattle.std.specs.List.{list_any}
-use Rattle.dn_types.specs.Configuration.{target_eq}
-use Rattle.dn_types.specs.declared.target.Target.{Target}
-use Rattle.dn_types.proofs.InForce.{target_eq-true}
-use Rattle.dn_types.proofs.Keys.{target_eq-refl}
-use Rattle.dn_flows.specs.declared.members.Members.{Members}
-use Rattle.dn_flows.specs.Members.{KeepsOthers, last_of, list_of}
+use Rattle.dn_flows.proofs.Words.{Bool, KeepsOthers, List, Members, Some, Target, ap, arith, false, last_of, length, list_any, list_of, nat_eq, refl, sym, target_eq, target_eq-refl}
+use Rattle.dn_flows.proofs.Words.{target_eq-true, true, ℕ, ◌+◌, ◌∙◌, ◌≡◌}
 use Rattle.dn_flows.proofs.Lists.{in-rest, less_last, one-fewer}
 use Rattle.dn_flows.proofs.members.Members.take_out.Goals as goal
 

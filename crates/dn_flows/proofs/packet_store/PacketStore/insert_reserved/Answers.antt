@@ -1,6 +1,4 @@
-use Rattle.std.proofs.Common.{◌≡◌, ◌∙◌, ℕ, List, [], length, length-set, ap, sym, subst, arith}
-use Rattle.std.specs.Prelude.{slice_get}
-use Rattle.dn_flows.specs.Packets.{AreFree, StoredPacket}
+use Rattle.dn_flows.proofs.Words.{AreFree, List, StoredPacket, [], ap, arith, length, length-set, slice_get, subst, sym, ℕ, ◌∙◌, ◌≡◌}
 use Rattle.dn_flows.proofs.Free.{under, same-but, under-all, there, not-free-now, still-free, put-here, put-elsewhere, none-at-end, none-left, other-than-last}
 use Rattle.dn_flows.proofs.Places.{get-last}
 use Rattle.dn_flows.proofs.packet_store.PacketStore.insert_reserved.Goals.{After-len-key}
@@ -12,7 +10,6 @@ index_mut-requires c =
     let below =
     there c.pop.new.self.items c.in-Some.key (length c.self.inside.places.items)
     (subst (λ (l : List ℕ). AreFree l (length c.self.inside.places.items)) c.in-Some.ensures.items c.self.invariant.0) in
-    let ok = c.self.inside.places.ok.0 in
     omega arith
 
 pub invariant_of-self : goal.invariant_of-self
@@ -21,11 +18,6 @@ invariant_of-self c =
     still-free c.pop.new.self.items c.in-Some.key (length c.self.inside.places.items)
     (subst (λ (l : List ℕ). AreFree l (length c.self.inside.places.items)) c.in-Some.ensures.items c.self.invariant.0) in
     let same = length-set c.self.inside.places.items c.in-Some.key c.args.stored in
-    let fewer = c.in-Some.ensures.len in
-    let ok = c.self.inside.free.ok.0 in
-    let ok' = c.pop.new.self.ok.0 in
-    let capacity = c.pop.ensures.capacity in
-    let invariant = c.self.invariant in
     (subst (AreFree c.pop.new.self.items) (sym same) are, omega arith, omega arith, omega arith, omega arith, omega arith)
 
 pub returns-in-Some-clause-updates : goal.returns-in-Some-clause-updates

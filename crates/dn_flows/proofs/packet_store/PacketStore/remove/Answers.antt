@@ -1,7 +1,5 @@
-use Rattle.std.proofs.Common.{◌≡◌, ◌∙◌, ◌-◌, ℕ, List, length, ap, sym, subst, arith}
-use Rattle.dn_flows.specs.Packets.{AreFree, Packets}
+use Rattle.dn_flows.proofs.Words.{AreFree, List, Packets, ap, arith, length, subst, sym, ℕ, ◌-◌, ◌≡◌}
 use Rattle.dn_flows.proofs.Free.{IsUsed, fewer-than-places, is-used, no-more-than-places, one-more-free, read-used}
-use Rattle.dn_flows.proofs.Places.{length-more}
 use Rattle.dn_flows.proofs.packet_store.PacketStore.remove.Goals.{After-push_reserved}
 use Rattle.dn_flows.proofs.packet_store.PacketStore.remove.Goals as goal
 
@@ -10,8 +8,6 @@ pub push_reserved-requires : goal.push_reserved-requires
 push_reserved-requires c =
     let here = is-used c.self.inside.free.items c.self.inside.places.items c.args.key (rw (← c.self.view_is) at c.requires) in
     let fewer = fewer-than-places c.self.inside.free.items c.args.key (length c.self.inside.places.items) c.self.invariant.0 here.within here.used in
-    let ok = c.self.inside.free.ok.0 in
-    let invariant = c.self.invariant in
     omega arith
 
 -- A packet lies under the key.
@@ -21,7 +17,6 @@ here c = is-used c.self.inside.free.items c.self.inside.places.items c.args.key 
 pub index-requires : goal.index-requires
 index-requires c =
     let within = (here (goal.at.index-requires c).After-push_reserved).within in
-    let ok = c.self.inside.places.ok.0 in
     omega arith
 
 pub invariant_of-self : goal.invariant_of-self
@@ -31,8 +26,6 @@ invariant_of-self c =
     subst (λ (l : List ℕ). AreFree l (length c.self.inside.places.items)) (sym c.push_reserved.ensures.items)
     (one-more-free c.self.inside.free.items c.args.key (length c.self.inside.places.items) c.self.invariant.0 used.within used.used) in
     let fewer = no-more-than-places c.push_reserved.new.self.items (length c.self.inside.places.items) are in
-    let capacity = c.push_reserved.ensures.capacity in
-    let invariant = c.self.invariant in
     (are, fewer, omega arith, omega arith, omega arith, omega arith)
 
 pub returns-clause-value : goal.returns-clause-value
@@ -44,6 +37,5 @@ pub returns-clause-len : goal.returns-clause-len
 returns-clause-len c =
     let used = here (goal.at.returns-clause-len c).After-push_reserved in
     let fewer = fewer-than-places c.self.inside.free.items c.args.key (length c.self.inside.places.items) c.self.invariant.0 used.within used.used in
-    let more = ap (λ (l : List ℕ). length l) c.push_reserved.ensures.items ∙ length-more c.self.inside.free.items c.args.key in
     let len : c.args.self.now.len ≡ length c.self.inside.places.items - length c.self.inside.free.items = ap (λ (s : Packets). s.len) (sym c.self.view_is) in
     omega arith

@@ -1,6 +1,4 @@
-use Rattle.std.proofs.Common.{◌≡◌, arith}
-use Rattle.std.proofs.lemmas.List.Elements.{All-tail}
-use Rattle.std.proofs.lemmas.List.Sorted.{All-permutation, length_permutation}
+use Rattle.dn_heap.proofs.Words.{All-permutation, All-tail, arith, length_permutation, ◌≡◌}
 use Rattle.dn_heap.proofs.Parted.{exchanged}
 use Rattle.dn_heap.proofs.placed_heap.PlacedHeap.exchange.Goals as goal
 

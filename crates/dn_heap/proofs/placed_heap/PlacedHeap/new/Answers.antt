@@ -1,6 +1,4 @@
-use Rattle.std.proofs.Common.{length, ap, arith}
-use Rattle.core.specs.Cmp.{back_total}
-use Rattle.std_alloc.proofs.HeapSift.{empty}
+use Rattle.dn_heap.proofs.Words.{ap, arith, back_total, empty, length}
 use Rattle.dn_heap.proofs.placed_heap.PlacedHeap.new.Goals as goal
 
 pub invariant_of-result : goal.invariant_of-result

@@ -1,5 +1,4 @@
-use Rattle.std.proofs.Common.{◌≡◌, IfSome, get_or, subst}
-use Rattle.std.proofs.lemmas.Option.{IfSome_then}
+use Rattle.dn_heap.proofs.Words.{IfSome, IfSome_then, get_or, subst, ◌≡◌}
 use Rattle.dn_heap.proofs.Falls.{first_is_least}
 use Rattle.dn_heap.proofs.placed_heap.PlacedHeap.peek.Goals as goal
 

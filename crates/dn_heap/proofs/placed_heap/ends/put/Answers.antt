@@ -1,13 +1,7 @@
-use Rattle.std.proofs.Common.{[], ◌∷◌, ◌++◌, ◌∙◌, sym, subst, vec_len, IsPermutation, arith}
-use Rattle.std.proofs.lemmas.Grind.{common_steps}
-use Rattle.std.proofs.lemmas.List.Sorted.{IsPermutation-sym, IsPermutation-to_front, IsPermutation-trans}
-use Rattle.dn_heap.specs.Placed.{back}
+use Rattle.dn_heap.proofs.Words.{IsPermutation, IsPermutation-sym, IsPermutation-to_front, IsPermutation-trans, [], arith, back, subst, sym, vec_len, ◌++◌, ◌∙◌, ◌∷◌}
 use Rattle.dn_heap.proofs.Falls.{followed}
 use Rattle.dn_heap.proofs.Places.{all_of}
 use Rattle.dn_heap.proofs.placed_heap.ends.put.Goals as goal
-
-pub lift-requires-clause-placed : goal.lift-requires-clause-placed
-lift-requires-clause-placed g c = grind (arith, common_steps)
 
 pub lift-requires-clause-heap : goal.lift-requires-clause-heap
 lift-requires-clause-heap g c =
@@ -26,9 +20,3 @@ returns-clause-keys g c =
     let long = c.lift.ensures.ordered.len ∙ c.as_mut_slice.ensures.len in
     subst (IsPermutation (key ∷ keys)) (sym (all_of g.K.Numbered.number new pushed.items (vec_len pushed) long (omega (arith, pushed.ok.0))))
     (IsPermutation-trans (key ∷ keys) pushed.items new came moved)
-
-pub returns-clause-placed : goal.returns-clause-placed
-returns-clause-placed g c = grind (arith, common_steps)
-
-pub returns-clause-heap : goal.returns-clause-heap
-returns-clause-heap g c = grind (arith, common_steps)

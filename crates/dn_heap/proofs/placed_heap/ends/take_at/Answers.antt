@@ -1,8 +1,4 @@
-use Rattle.std.proofs.Common.{◌<◌, ◌∷◌, length, sym, subst, IsPermutation, arith}
-use Rattle.std.proofs.lemmas.List.Sorted.{IsPermutation-cons, IsPermutation-swap_remove, IsPermutation-trans}
-use Rattle.core.specs.Cmp.{back_total}
-use Rattle.std.specs.Vec.{vec_len}
-use Rattle.dn_heap.specs.Placed.{back}
+use Rattle.dn_heap.proofs.Words.{IsPermutation, IsPermutation-cons, IsPermutation-swap_remove, IsPermutation-trans, arith, back, back_total, length, subst, sym, vec_len, ◌<◌, ◌∷◌}
 use Rattle.dn_heap.proofs.Falls.{cut, left_out}
 use Rattle.dn_heap.proofs.placed_heap.ends.take_at.Goals as goal
 

@@ -1,15 +1,7 @@
-use Rattle.std.proofs.Common.{◌≡◌, ◌∙◌, arith, length, length-set, set, subst, sym, refl}
-use Rattle.std_alloc.specs.BinaryHeap.{lt_by_cmp}
-use Rattle.std_alloc.specs.BinaryHeap.Sift.{IsHeapWithHole}
-use Rattle.dn_heap.specs.Placed.{IsMoved, back}
+use Rattle.dn_heap.proofs.Words.{IsHeapWithHole, IsMoved, arith, back, length, length-set, lt_by_cmp, set, subst, sym, ◌∙◌, ◌≡◌}
 use Rattle.dn_heap.proofs.Falls.{beside_hole, falls}
-use Rattle.dn_heap.proofs.Places.{moved_again, unmoved}
+use Rattle.dn_heap.proofs.Places.{moved_again}
 use Rattle.dn_heap.proofs.placed_heap.sift.fall.Goals as goal
-
-pub loop-at-init : goal.loop-at-init
-loop-at-init g c =
-    let was = set c.args.keys.now c.args.at c.args.key in
-    (refl, unmoved g.K.Numbered.number was c.args.places.now c.args.at (omega (arith, c.requires.at, length-set c.args.keys.now c.args.at c.args.key)) c.requires.placed, c.requires.hole)
 
 pub loop-at-preserved : goal.loop-at-preserved
 loop-at-preserved g c =

@@ -1,7 +1,4 @@
-use Rattle.dn_heap.specs.Placed.{IsMoved, back}
-use Rattle.std_alloc.specs.BinaryHeap.{lt_by_cmp}
-use Rattle.std_alloc.specs.BinaryHeap.Sift.{IsHeapWithHole}
-use Rattle.std.proofs.Common.{◌≡◌, ◌-◌, length, set}
+use Rattle.dn_heap.proofs.Words.{IsHeapWithHole, IsMoved, back, length, lt_by_cmp, set, ◌-◌, ◌≡◌}
 use Rattle.dn_heap.proofs.placed_heap.sift.fall.Given as goal
 
 abbrev pub invariant-loop-at : goal.invariant-loop-at

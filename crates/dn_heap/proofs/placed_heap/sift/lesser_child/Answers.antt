@@ -1,7 +1,5 @@
-use Rattle.std.proofs.Common.{◌+◌, ◌*◌, arith}
-use Rattle.core.specs.Cmp.{back_total}
+use Rattle.dn_heap.proofs.Words.{arith, back, back_total, ◌*◌, ◌+◌}
 use Rattle.std_alloc.proofs.HeapSift as sifts
-use Rattle.dn_heap.specs.Placed.{back}
 use Rattle.dn_heap.proofs.placed_heap.sift.lesser_child.Goals as goal
 
 pub returns-then-len-left-clause-least : goal.returns-then-len-left-clause-least

@@ -1,9 +1,5 @@
-use Rattle.std.proofs.Common.{◌≡◌, ◌-◌, ◌/◌, ◌≤◌, ◌<◌, ◌∙◌, arith, length, length-set, refl, set, subst, sym}
-use Rattle.core.specs.Cmp.{back_total}
-use Rattle.std_alloc.specs.BinaryHeap.{lt_by_cmp}
+use Rattle.dn_heap.proofs.Words.{IsMoved, arith, as_swapped, back, back_total, length, length-set, lt_by_cmp, refl, set, subst, sym, ◌-◌, ◌/◌, ◌<◌, ◌∙◌, ◌≡◌, ◌≤◌}
 use Rattle.std_alloc.proofs.HeapSift as sifts
-use Rattle.std_alloc.proofs.Permutation.{as_swapped}
-use Rattle.dn_heap.specs.Placed.{IsMoved, back}
 use Rattle.dn_heap.proofs.Places.{compared, moved_again, unmoved}
 use Rattle.dn_heap.proofs.placed_heap.sift.rise.Goals as goal
 

@@ -1,7 +1,5 @@
-use Rattle.dn_heap.specs.Placed.{IsMoved, back}
+use Rattle.dn_heap.proofs.Words.{IsMoved, back, back_total, length, set, ◌≡◌, ◌≤◌}
 use Rattle.std_alloc.proofs.HeapSift as sifts
-use Rattle.core.specs.Cmp.{back_total}
-use Rattle.std.proofs.Common.{◌≡◌, ◌≤◌, length, set}
 use Rattle.dn_heap.proofs.placed_heap.sift.rise.Given as goal
 
 abbrev pub invariant-loop-at : goal.invariant-loop-at

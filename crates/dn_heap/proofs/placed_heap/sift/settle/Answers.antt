@@ -1,18 +1,7 @@
-use Rattle.std.proofs.Common.{arith, length, length-set, set, subst, sym}
-use Rattle.std_alloc.specs.BinaryHeap.{IsHeap, lt_by_cmp}
-use Rattle.std_alloc.specs.BinaryHeap.Sift.{IsHeapWithHole}
-use Rattle.dn_heap.specs.Placed.{ArePlacedBut, IsMoved, back}
+use Rattle.dn_heap.proofs.Words.{IsHeap, IsMoved, arith, back, length, length-set, set, subst, sym}
 use Rattle.dn_heap.proofs.Falls.{lands}
 use Rattle.dn_heap.proofs.Places.{as_it_is, moved_again, ordered}
 use Rattle.dn_heap.proofs.placed_heap.sift.settle.Goals as goal
-
-pub fall-leaf-requires-clause-placed : goal.fall-leaf-requires-clause-placed
-fall-leaf-requires-clause-placed g c = subst (λ l. ArePlacedBut g.K.Numbered.number l c.args.places.now c.args.from)
-    (sym (as_it_is g.K.Numbered.number c.args.keys.now c.args.from c.index-keys-from.result c.index-keys-from.is)) c.requires.placed
-
-pub fall-leaf-requires-clause-hole : goal.fall-leaf-requires-clause-hole
-fall-leaf-requires-clause-hole g c = subst (λ l. IsHeapWithHole (lt_by_cmp (back g.K.Ord.cmp)) l c.args.from (length c.args.keys.now))
-    (sym (as_it_is g.K.Numbered.number c.args.keys.now c.args.from c.index-keys-from.result c.index-keys-from.is)) c.requires.hole
 
 pub returns-clause-ordered : goal.returns-clause-ordered
 returns-clause-ordered g c =

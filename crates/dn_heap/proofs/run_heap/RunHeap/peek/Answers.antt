@@ -1,6 +1,4 @@
-use Rattle.std.proofs.Common.{refl, sym}
-use Rattle.std.proofs.lemmas.List.Elements.{Contains-append_left, Contains-append_right}
-use Rattle.std.proofs.lemmas.Option.{IfSome_then}
+use Rattle.dn_heap.proofs.Words.{Contains-append_left, Contains-append_right, IfSome_then, refl, sym}
 use Rattle.dn_heap.proofs.Runs.{first_of_all, top_of_all}
 use Rattle.dn_heap.proofs.run_heap.RunHeap.peek.Goals as goal
 

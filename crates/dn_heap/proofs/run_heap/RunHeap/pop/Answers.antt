@@ -1,13 +1,7 @@
-use Rattle.std.proofs.Common.{arith, refl}
-use Rattle.std.proofs.lemmas.Grind.{common_steps}
-use Rattle.std.proofs.lemmas.List.Sorted.{length_permutation}
-use Rattle.std.proofs.lemmas.Option.{IfSome_then}
+use Rattle.dn_heap.proofs.Words.{IfSome_then, arith, length_permutation, refl}
 use Rattle.dn_heap.proofs.Parted.{leaves_heap, popped}
 use Rattle.dn_heap.proofs.Runs.{first_of_all, top_of_all}
 use Rattle.dn_heap.proofs.run_heap.RunHeap.pop.Goals as goal
-
-pub returns-then-leads-clause-some : goal.returns-then-leads-clause-some
-returns-then-leads-clause-some g c = grind (arith, common_steps)
 
 pub returns-then-leads-clause-least : goal.returns-then-leads-clause-least
 returns-then-leads-clause-least g c =
@@ -16,9 +10,6 @@ returns-then-leads-clause-least g c =
 
 pub returns-then-leads-clause-keys : goal.returns-then-leads-clause-keys
 returns-then-leads-clause-keys g c = rw (← c.self.view_is) (popped _ _ _ _ c.pop_front.ensures.items)
-
-pub returns-in_err-first-clause-some : goal.returns-in_err-first-clause-some
-returns-in_err-first-clause-some g c = grind (arith, common_steps)
 
 pub invariant_of-self-2 : goal.invariant_of-self-2
 invariant_of-self-2 g c =
@@ -29,9 +20,6 @@ invariant_of-self-2 g c =
       omega (arith, before.2, popped.keeps_moves),
       before.3,
     )
-
-pub returns-clause-some : goal.returns-clause-some
-returns-clause-some g c = grind (arith, common_steps)
 
 pub returns-clause-least : goal.returns-clause-least
 returns-clause-least g c =

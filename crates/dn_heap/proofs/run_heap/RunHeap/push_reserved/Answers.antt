@@ -1,6 +1,4 @@
-use Rattle.std.proofs.Common.{arith, refl, sym, subst}
-use Rattle.std.proofs.lemmas.List.Sorted.{length_permutation}
-use Rattle.dn_heap.specs.Run.{IsAscending}
+use Rattle.dn_heap.proofs.Words.{IsAscending, arith, length_permutation, refl, subst, sym}
 use Rattle.dn_heap.proofs.Parted.{joins_heap, joins_run}
 use Rattle.dn_heap.proofs.Runs.{joined}
 use Rattle.dn_heap.proofs.run_heap.RunHeap.push_reserved.Goals as goal

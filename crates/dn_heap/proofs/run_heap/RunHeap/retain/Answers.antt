@@ -1,4 +1,4 @@
-use Rattle.std.proofs.Common.{rules}
+use Rattle.dn_heap.proofs.Words.{rules}
 use Rattle.dn_heap.proofs.Parted.{kept}
 use Rattle.dn_heap.proofs.run_heap.RunHeap.retain.Goals as goal
 

@@ -1,4 +1,4 @@
-use Rattle.std.proofs.Common.{◌∙◌, [], ◌∷◌, ◌++◌, arith, refl}
+use Rattle.dn_history.proofs.Words.{[], arith, refl, ◌++◌, ◌∙◌, ◌∷◌}
 use Rattle.dn_history.proofs.HistoryReading.{bad_entry, begins, entry_read}
 use Rattle.dn_history.proofs.AuditSteps.{when_ok}
 use Rattle.dn_history.proofs.FileAuditSteps.{all-audited, counted-behind, counted-more, one-behind, none-behind}

@@ -1,8 +1,5 @@
-use Rattle.std.proofs.Common.{◌≡◌, ◌+◌, ◌++◌, List, length}
-use Rattle.dn_types.specs.declared.entry.Entry.{Entry}
-use Rattle.dn_types.specs.declared.rule.Rule.{Rule}
+use Rattle.dn_history.proofs.Words.{Entry, HasAudited, List, Rule, length, ◌++◌, ◌+◌, ◌≡◌}
 use Rattle.dn_history.proofs.HistoryReading.{after_front}
-use Rattle.dn_history.specs.Audit.{HasAudited}
 use Rattle.dn_history.proofs.file_audit.entries.audit_entries.Given as goal
 
 -- A front of the entries that were left was audited behind those before.

@@ -1,4 +1,4 @@
-use Rattle.std.proofs.Common.{[]}
+use Rattle.dn_history.proofs.Words.{[]}
 use Rattle.dn_history.proofs.FileAuditSteps.{of_history}
 use Rattle.dn_history.proofs.file_audit.entries.audit_text.Goals as goal
 

@@ -1,10 +1,5 @@
-use Rattle.std.proofs.Common.{◌≡◌, ◌-◌, ◌∙◌, ap, sym, refl, arith, true, drop, length, take, List}
-use Rattle.std.proofs.lemmas.List.{take_rest}
-use Rattle.std.specs.Result.{is_ok}
+use Rattle.dn_history.proofs.Words.{Fields, List, ap, arith, behind-feed, drop, is_ok, length, records_after, records_of, refl, sym, take, take_rest, true, ◌-◌, ◌∙◌, ◌≡◌}
 use Rattle.csv.specs.declared.parser.State.TheVariants as st
-use Rattle.dn_records.specs.Reading.{records_after}
-use Rattle.dn_records.specs.Records.{Fields, records_of}
-use Rattle.dn_records.proofs.FirstLine.{behind-feed}
 use Rattle.dn_history.proofs.PartsRead.{none-read, one-read}
 use Rattle.dn_history.proofs.read.batch.read_batch.Goals as goal
 

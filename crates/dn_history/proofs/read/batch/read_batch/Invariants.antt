@@ -1,8 +1,5 @@
-use Rattle.std.proofs.Common.{◌≡◌, ◌<◌, ◌^◌, length}
+use Rattle.dn_history.proofs.Words.{AreRead, length, records_after, records_of, ◌<◌, ◌^◌, ◌≡◌}
 use Rattle.csv.specs.declared.parser.State.TheVariants as st
-use Rattle.dn_records.specs.Reading.{records_after}
-use Rattle.dn_records.specs.Records.{records_of}
-use Rattle.dn_history.specs.HistoryParts.{AreRead}
 use Rattle.dn_history.proofs.read.batch.read_batch.Given as goal
 
 abbrev pub invariant-loop-entry : goal.invariant-loop-entry

@@ -1,5 +1,4 @@
-use Rattle.std.proofs.Common.{◌∙◌}
-use Rattle.std.proofs.lemmas.Result.{IfErr-weaker, IfOk-weaker}
+use Rattle.dn_history.proofs.Words.{IfErr-weaker, IfOk-weaker, ◌∙◌}
 use Rattle.dn_history.proofs.read.entries.next_entry.Goals as goal
 
 pub returns-in-Some-clause-ok : goal.returns-in-Some-clause-ok

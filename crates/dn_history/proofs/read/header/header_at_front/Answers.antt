@@ -1,4 +1,4 @@
-use Rattle.std.proofs.Common.{sym}
+use Rattle.dn_history.proofs.Words.{sym}
 use Rattle.dn_history.proofs.VersionLines.{none-begins}
 use Rattle.dn_history.proofs.read.header.header_at_front.Goals as goal
 

@@ -1,5 +1,4 @@
-use Rattle.std.proofs.Common.{◌≡◌, ◌∙◌, true, refl}
-use Rattle.std.specs.Result.{is_ok}
+use Rattle.dn_history.proofs.Words.{is_ok, refl, true, ◌∙◌, ◌≡◌}
 use Rattle.dn_history.proofs.HistoryReading.{bad_entry, begins, end_read, entry_read}
 use Rattle.dn_history.proofs.read.history.entries_left.Goals as goal
 

@@ -1,4 +1,4 @@
-use Rattle.std.proofs.Common.{◌≡◌}
+use Rattle.dn_history.proofs.Words.{◌≡◌}
 use Rattle.dn_history.proofs.HistoryReading.{after_front}
 use Rattle.dn_history.proofs.read.history.entries_left.Given as goal
 

@@ -1,8 +1,5 @@
-use Rattle.std.proofs.lemmas.Result.{err_from_is_err_and, IfErr-weaker, IfOk-weaker}
-use Rattle.dn_history.specs.HistoryFile.{history_in, history_limit}
-use Rattle.dn_files.specs.declared.source.Source.TheVariants.{History}
+use Rattle.dn_history.proofs.Words.{History, IfErr-weaker, IfOk-weaker, err_from_is_err_and, history_in, history_limit, passed_on, refused}
 use Rattle.dn_history.proofs.HistoryFaults.{of_reading}
-use Rattle.dn_files.proofs.Inputs.{passed_on, refused}
 use Rattle.dn_history.proofs.read.history.read_history.Goals as goal
 
 pub returns-clause-ok : goal.returns-clause-ok

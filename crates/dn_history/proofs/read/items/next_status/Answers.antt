@@ -1,4 +1,4 @@
-use Rattle.dn_history.specs.HistoryItems.{status_item}
+use Rattle.dn_history.proofs.Words.{status_item}
 use Rattle.dn_history.proofs.NarrowRecords.{narrow-item, wide-status}
 use Rattle.dn_history.proofs.read.items.next_status.Goals as goal
 

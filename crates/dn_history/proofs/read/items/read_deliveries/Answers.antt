@@ -1,7 +1,4 @@
-use Rattle.std.proofs.Common.{◌≡◌, true, arith}
-use Rattle.std.specs.Result.{is_ok}
-use Rattle.dn_history.specs.RecordsLeft.{items_from}
-use Rattle.dn_history.specs.HistoryItems.{delivery_item}
+use Rattle.dn_history.proofs.Words.{arith, delivery_item, is_ok, items_from, true, ◌≡◌}
 use Rattle.dn_history.proofs.HistoryReading.{all_read, bad_item, one_more}
 use Rattle.dn_history.proofs.read.items.read_deliveries.Goals as goal
 

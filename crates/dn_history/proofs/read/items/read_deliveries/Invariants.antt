@@ -1,6 +1,4 @@
-use Rattle.std.proofs.Common.{◌≡◌, ◌≤◌, length}
-use Rattle.dn_history.specs.RecordsLeft.{items_from}
-use Rattle.dn_history.specs.HistoryItems.{delivery_item}
+use Rattle.dn_history.proofs.Words.{delivery_item, items_from, length, ◌≡◌, ◌≤◌}
 use Rattle.dn_history.proofs.HistoryReading.{with_front}
 use Rattle.dn_history.proofs.read.items.read_deliveries.Given as goal
 

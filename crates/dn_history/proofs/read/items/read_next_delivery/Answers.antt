@@ -1,4 +1,4 @@
-use Rattle.dn_history.specs.HistoryItems.{delivery_item}
+use Rattle.dn_history.proofs.Words.{delivery_item}
 use Rattle.dn_history.proofs.NarrowRecords.{narrow-item, wide-delivery}
 use Rattle.dn_history.proofs.read.items.read_next_delivery.Goals as goal
 

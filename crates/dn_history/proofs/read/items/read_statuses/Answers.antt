@@ -1,7 +1,4 @@
-use Rattle.std.proofs.Common.{◌≡◌, true, arith}
-use Rattle.std.specs.Result.{is_ok}
-use Rattle.dn_history.specs.RecordsLeft.{items_from}
-use Rattle.dn_history.specs.HistoryItems.{status_item}
+use Rattle.dn_history.proofs.Words.{arith, is_ok, items_from, status_item, true, ◌≡◌}
 use Rattle.dn_history.proofs.HistoryReading.{all_read, bad_item, one_more}
 use Rattle.dn_history.proofs.read.items.read_statuses.Goals as goal
 

@@ -1,6 +1,4 @@
-use Rattle.std.proofs.Common.{◌≡◌, ◌≤◌, length}
-use Rattle.dn_history.specs.RecordsLeft.{items_from}
-use Rattle.dn_history.specs.HistoryItems.{status_item}
+use Rattle.dn_history.proofs.Words.{items_from, length, status_item, ◌≡◌, ◌≤◌}
 use Rattle.dn_history.proofs.HistoryReading.{with_front}
 use Rattle.dn_history.proofs.read.items.read_statuses.Given as goal
 

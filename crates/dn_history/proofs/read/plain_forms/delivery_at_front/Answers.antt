@@ -1,7 +1,4 @@
-use Rattle.std.proofs.Common.{sym, Some}
-use Rattle.std.specs.Prelude.{codes}
-use Rattle.std.proofs.lemmas.Bool.Decides.{Decides-eqb}
-use Rattle.std.proofs.lemmas.Slice.Eq.{strip_prefix_is}
+use Rattle.dn_history.proofs.Words.{Decides-eqb, Some, codes, strip_prefix_is, sym}
 use Rattle.dn_history.proofs.PlainForms.{delivery_begins}
 use Rattle.dn_history.proofs.read.plain_forms.delivery_at_front.Goals as goal
 

@@ -1,8 +1,4 @@
-use Rattle.std.proofs.Common.{sym, Some}
-use Rattle.std.specs.Prelude.{codes}
-use Rattle.std.proofs.lemmas.Bool.Decides.{Decides-eqb}
-use Rattle.std.proofs.lemmas.Slice.Eq.{strip_prefix_is}
-use Rattle.dn_files.proofs.PlainRows.{target_read, tuple_read}
+use Rattle.dn_history.proofs.Words.{Decides-eqb, Some, codes, strip_prefix_is, sym, target_read, tuple_read}
 use Rattle.dn_history.proofs.PlainForms.{submit_begins}
 use Rattle.dn_history.proofs.read.plain_forms.submit_at_front.Goals as goal
 

@@ -1,6 +1,4 @@
-use Rattle.std.proofs.Common.{◌≡◌, ◌≤◌, length}
-use Rattle.dn_history.specs.HistoryRecords.{has_remarks}
-use Rattle.dn_history.specs.Remarks.{ahead}
+use Rattle.dn_history.proofs.Words.{ahead, has_remarks, length, ◌≡◌, ◌≤◌}
 use Rattle.dn_history.proofs.read.remarks.read_past_remarks.Given as goal
 
 abbrev pub invariant-loop-fields : goal.invariant-loop-fields

@@ -1,6 +1,4 @@
-use Rattle.std.proofs.Common.{◌∙◌, [], ◌∷◌, sym}
-use Rattle.dn_types.specs.History.{calls_of}
-use Rattle.dn_records.proofs.Lines.{on_err}
+use Rattle.dn_history.proofs.Words.{[], calls_of, on_err, sym, ◌∙◌, ◌∷◌}
 use Rattle.dn_history.proofs.AuditSteps.{after-difference, alike, differing, is-lawful, wants}
 use Rattle.dn_history.proofs.SameReplies.{other-reply, same-reply}
 use Rattle.dn_history.proofs.running_audit.RunningAudit.compare.Goals as goal

@@ -1,7 +1,4 @@
-use Rattle.std.proofs.Common.{append-nil, subst, sym, List}
-use Rattle.dn_types.specs.declared.entry.Entry.{Entry}
-use Rattle.dn_history.specs.Audit.{HasAudited}
-use Rattle.dn_records.proofs.Lines.{on_err}
+use Rattle.dn_history.proofs.Words.{Entry, HasAudited, List, append-nil, on_err, subst, sym}
 use Rattle.dn_history.proofs.AuditSteps.{all-audited, counted-on, next-audited, wants-later}
 use Rattle.dn_history.proofs.running_audit.RunningAudit.compare_all.Goals as goal
 

@@ -1,4 +1,4 @@
-use Rattle.std.proofs.Common.{◌∙◌}
+use Rattle.dn_history.proofs.Words.{◌∙◌}
 use Rattle.dn_history.proofs.write.calls.write_configure.Goals as goal
 
 pub returns : goal.returns

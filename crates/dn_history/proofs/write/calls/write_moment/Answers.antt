@@ -1,4 +1,4 @@
-use Rattle.std.proofs.Common.{arith}
+use Rattle.dn_history.proofs.Words.{arith}
 use Rattle.dn_history.proofs.LineBytes.{moment_line}
 use Rattle.dn_history.proofs.write.calls.write_moment.Goals as goal
 

@@ -1,4 +1,4 @@
-use Rattle.std.proofs.Common.{◌∙◌}
+use Rattle.dn_history.proofs.Words.{◌∙◌}
 use Rattle.dn_history.proofs.HistorySteps.{history_is}
 use Rattle.dn_history.proofs.write.history.history_text.Goals as goal
 

@@ -1,9 +1,4 @@
-use Rattle.std.proofs.Common.{◌∙◌, ◌++◌, ap, take}
-use Rattle.std.specs.Prelude.{flat_map}
-use Rattle.dn_types.specs.declared.entry.Entry.{Entry}
-use Rattle.dn_records.specs.Records.{text_of}
-use Rattle.dn_history.specs.HistoryText.{entry_records}
-use Rattle.dn_records.proofs.TextSteps.{texts-more, text-none}
+use Rattle.dn_history.proofs.Words.{Entry, ap, entry_records, flat_map, take, text-none, text_of, texts-more, ◌++◌, ◌∙◌}
 use Rattle.dn_history.proofs.write.history.write_entries.Goals as goal
 
 pub loop-entry-init : goal.loop-entry-init

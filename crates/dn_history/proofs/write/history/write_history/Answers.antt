@@ -1,4 +1,4 @@
-use Rattle.std.proofs.Common.{◌∙◌}
+use Rattle.dn_history.proofs.Words.{◌∙◌}
 use Rattle.dn_history.proofs.EntriesBack.{reads_back}
 use Rattle.dn_history.proofs.write.history.write_history.Goals as goal
 

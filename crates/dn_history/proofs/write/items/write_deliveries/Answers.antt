@@ -1,6 +1,4 @@
-use Rattle.std.proofs.Common.{◌∙◌}
-use Rattle.dn_history.specs.EntryRecords.{delivery_record}
-use Rattle.dn_records.proofs.TextSteps.{text-more, text-none}
+use Rattle.dn_history.proofs.Words.{delivery_record, text-more, text-none, ◌∙◌}
 use Rattle.dn_history.proofs.write.items.write_deliveries.Goals as goal
 
 pub loop-delivery-init : goal.loop-delivery-init

@@ -1,6 +1,4 @@
-use Rattle.std.proofs.Common.{◌≡◌, ◌++◌, take, map}
-use Rattle.dn_records.specs.Records.{text_of}
-use Rattle.dn_history.specs.EntryRecords.{delivery_record}
+use Rattle.dn_history.proofs.Words.{delivery_record, map, take, text_of, ◌++◌, ◌≡◌}
 use Rattle.dn_history.proofs.write.items.write_deliveries.Given as goal
 
 abbrev pub invariant-loop-delivery : goal.invariant-loop-delivery

@@ -1,8 +1,4 @@
-use Rattle.std.proofs.Common.{◌∙◌, ◌++◌, ap, take, map}
-use Rattle.dn_types.specs.declared.flow_status.FlowStatus.{FlowStatus}
-use Rattle.dn_records.specs.Records.{line_of, text_of}
-use Rattle.dn_history.specs.EntryRecords.{status_record}
-use Rattle.dn_records.proofs.TextSteps.{text-more, text-none}
+use Rattle.dn_history.proofs.Words.{FlowStatus, ap, line_of, map, status_record, take, text-more, text-none, text_of, ◌++◌, ◌∙◌}
 use Rattle.dn_history.proofs.write.items.write_statuses.Goals as goal
 
 pub loop-status-init : goal.loop-status-init

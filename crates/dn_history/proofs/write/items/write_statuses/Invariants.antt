@@ -1,6 +1,4 @@
-use Rattle.std.proofs.Common.{◌≡◌, ◌++◌, take, map}
-use Rattle.dn_records.specs.Records.{text_of}
-use Rattle.dn_history.specs.EntryRecords.{status_record}
+use Rattle.dn_history.proofs.Words.{map, status_record, take, text_of, ◌++◌, ◌≡◌}
 use Rattle.dn_history.proofs.write.items.write_statuses.Given as goal
 
 abbrev pub invariant-loop-status : goal.invariant-loop-status

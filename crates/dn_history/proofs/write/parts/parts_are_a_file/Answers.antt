@@ -1,9 +1,4 @@
-use Rattle.std.proofs.Common.{◌∙◌, sym, ap}
-use Rattle.std.specs.Prelude.{flat_map}
-use Rattle.std.proofs.lemmas.List.Concat.{flat_map-append}
-use Rattle.dn_records.specs.Records.{text_of}
-use Rattle.dn_records.proofs.TextSteps.{text-append}
-use Rattle.dn_history.specs.HistoryText.{entry_records}
+use Rattle.dn_history.proofs.Words.{ap, entry_records, flat_map, flat_map-append, sym, text-append, text_of, ◌∙◌}
 use Rattle.dn_history.proofs.HistorySteps.{history_is}
 use Rattle.dn_history.proofs.write.parts.parts_are_a_file.Goals as goal
 

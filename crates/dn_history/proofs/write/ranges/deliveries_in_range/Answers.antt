@@ -1,7 +1,4 @@
-use Rattle.std.proofs.Common.{sym}
-use Rattle.std.proofs.lemmas.List.Elements.{All-more, All-same}
-use Rattle.std.proofs.lemmas.List.{take_all}
-use Rattle.dn_history.specs.Ranges.{IsDelivery}
+use Rattle.dn_history.proofs.Words.{All-more, All-same, IsDelivery, sym, take_all}
 use Rattle.dn_history.proofs.write.ranges.deliveries_in_range.Goals as goal
 
 pub loop-delivery-preserved : goal.loop-delivery-preserved

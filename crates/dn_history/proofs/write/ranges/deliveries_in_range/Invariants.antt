@@ -1,6 +1,4 @@
-use Rattle.std.proofs.Common.{take}
-use Rattle.std.specs.List.{All}
-use Rattle.dn_history.specs.Ranges.{IsDelivery}
+use Rattle.dn_history.proofs.Words.{All, IsDelivery, take}
 use Rattle.dn_history.proofs.write.ranges.deliveries_in_range.Given as goal
 
 abbrev pub invariant-loop-delivery : goal.invariant-loop-delivery

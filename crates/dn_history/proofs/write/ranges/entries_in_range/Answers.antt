@@ -1,7 +1,4 @@
-use Rattle.std.proofs.Common.{arith, subst, sym}
-use Rattle.std.proofs.lemmas.List.Elements.{All-more, All-same}
-use Rattle.std.proofs.lemmas.List.{take_all}
-use Rattle.dn_history.specs.Ranges.{IsEntry}
+use Rattle.dn_history.proofs.Words.{All-more, All-same, IsEntry, arith, subst, sym, take_all}
 use Rattle.dn_history.proofs.write.ranges.entries_in_range.Goals as goal
 
 pub loop-entry-preserved : goal.loop-entry-preserved

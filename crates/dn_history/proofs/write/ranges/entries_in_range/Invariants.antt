@@ -1,6 +1,4 @@
-use Rattle.std.proofs.Common.{take}
-use Rattle.std.specs.List.{All}
-use Rattle.dn_history.specs.Ranges.{IsEntry}
+use Rattle.dn_history.proofs.Words.{All, IsEntry, take}
 use Rattle.dn_history.proofs.write.ranges.entries_in_range.Given as goal
 
 abbrev pub invariant-loop-entry : goal.invariant-loop-entry

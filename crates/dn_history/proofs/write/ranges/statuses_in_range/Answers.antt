@@ -1,7 +1,4 @@
-use Rattle.std.proofs.Common.{subst, sym}
-use Rattle.std.proofs.lemmas.List.Elements.{All-more, All-same}
-use Rattle.std.proofs.lemmas.List.{take_all}
-use Rattle.dn_history.specs.Ranges.{IsStatus}
+use Rattle.dn_history.proofs.Words.{All-more, All-same, IsStatus, subst, sym, take_all}
 use Rattle.dn_history.proofs.write.ranges.statuses_in_range.Goals as goal
 
 pub loop-status-preserved : goal.loop-status-preserved

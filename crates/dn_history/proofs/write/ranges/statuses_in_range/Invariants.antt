@@ -1,6 +1,4 @@
-use Rattle.std.proofs.Common.{take}
-use Rattle.std.specs.List.{All}
-use Rattle.dn_history.specs.Ranges.{IsStatus}
+use Rattle.dn_history.proofs.Words.{All, IsStatus, take}
 use Rattle.dn_history.proofs.write.ranges.statuses_in_range.Given as goal
 
 abbrev pub invariant-loop-status : goal.invariant-loop-status

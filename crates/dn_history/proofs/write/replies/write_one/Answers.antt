@@ -1,4 +1,4 @@
-use Rattle.std.proofs.Common.{arith}
+use Rattle.dn_history.proofs.Words.{arith}
 use Rattle.dn_history.proofs.LineBytes.{one_line}
 use Rattle.dn_history.proofs.write.replies.write_one.Goals as goal
 

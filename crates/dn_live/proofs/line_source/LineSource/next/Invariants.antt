@@ -1,6 +1,4 @@
-use Rattle.std.proofs.Common.{◌-◌, ◌≡◌, ◌≤◌, false, vec_len}
-use Rattle.std.specs.Io.KnownBytes.{Consumes, prepend_known}
-use Rattle.dn_live.specs.LinesTaken.{IsOneLine}
+use Rattle.dn_live.proofs.Words.{Consumes, IsOneLine, false, prepend_known, vec_len, ◌-◌, ◌≡◌, ◌≤◌}
 use Rattle.dn_live.proofs.line_source.LineSource.next.Given as goal
 
 abbrev pub invariant-loop-fault : goal.invariant-loop-fault

@@ -1,6 +1,4 @@
-use Rattle.std.proofs.Common.{◌≡◌, ◌≤◌, ◌+◌, ◌-◌, decimal, length, ℕ, ap, arith, refl, length-drop, length-append}
-use Rattle.std.proofs.lemmas.Fmt.{length-decimal-le, decimal_nonempty}
-use Rattle.std.proofs.lemmas.List.{drop-set}
+use Rattle.dn_records.proofs.Words.{ap, arith, decimal, decimal_nonempty, drop-set, length, length-append, length-decimal-le, length-drop, refl, ℕ, ◌+◌, ◌-◌, ◌≡◌, ◌≤◌}
 use Rattle.dn_records.proofs.line.Line.put_number.Goals as goal
 
 pub write_digits-start-requires : goal.write_digits-start-requires

@@ -1,5 +1,4 @@
-use Rattle.std.proofs.Common.{refl}
-use Rattle.dn_records.specs.Reading.{records_left}
+use Rattle.dn_records.proofs.Words.{records_left, refl}
 use Rattle.dn_records.proofs.ReadBack.{read-back}
 use Rattle.dn_records.proofs.record_reader.RecordReader.new.Goals as goal
 

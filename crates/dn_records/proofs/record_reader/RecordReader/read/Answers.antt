@@ -1,6 +1,4 @@
-use Rattle.std.proofs.Common.{refl}
-use Rattle.csv.specs.Records.{fields_of}
-use Rattle.dn_records.specs.Reading.{records_left}
+use Rattle.dn_records.proofs.Words.{fields_of, records_left, refl}
 use Rattle.dn_records.proofs.RecordSteps.{reads, shorter}
 use Rattle.dn_records.proofs.record_reader.RecordReader.read.Goals as goal
 

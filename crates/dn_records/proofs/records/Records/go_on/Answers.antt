@@ -1,6 +1,4 @@
-use Rattle.std.proofs.Common.{◌∙◌, ◌-◌, ap, length}
-use Rattle.std.proofs.lemmas.List.{take_rest}
-use Rattle.dn_records.specs.Records.{records_of}
+use Rattle.dn_records.proofs.Words.{ap, length, records_of, take_rest, ◌-◌, ◌∙◌}
 use Rattle.dn_records.proofs.FirstLine.{behind-feed}
 use Rattle.dn_records.proofs.PlainLines.{rest-is}
 use Rattle.dn_records.proofs.records.Records.go_on.Goals as goal

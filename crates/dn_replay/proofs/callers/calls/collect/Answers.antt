@@ -1,5 +1,4 @@
-use Rattle.std.proofs.Common.{◌≡◌, ◌^◌}
-use Rattle.std.proofs.lemmas.Option.{MatchOption-at_some}
+use Rattle.dn_replay.proofs.Words.{MatchOption-at_some, ◌^◌, ◌≡◌}
 use Rattle.dn_replay.proofs.CallerRows.{called}
 use Rattle.dn_replay.proofs.callers.calls.collect.Goals as goal
 

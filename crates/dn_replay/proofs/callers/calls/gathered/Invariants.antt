@@ -1,4 +1,4 @@
-use Rattle.std.proofs.Common.{◌≡◌, ◌++◌, map, Ok}
+use Rattle.dn_replay.proofs.Words.{Ok, map, ◌++◌, ◌≡◌}
 use Rattle.dn_replay.proofs.callers.calls.gathered.Given as goal
 
 abbrev pub invariant-loop-caller : goal.invariant-loop-caller

@@ -1,4 +1,4 @@
-use Rattle.std.proofs.Common.{◌∙◌}
+use Rattle.dn_replay.proofs.Words.{◌∙◌}
 use Rattle.dn_replay.proofs.CallerRows.{repeated}
 use Rattle.dn_replay.proofs.callers.calls.repeat.Goals as goal
 

@@ -1,7 +1,4 @@
-use Rattle.std.proofs.Common.{◌≡◌, ◌++◌, take}
-use Rattle.dn_types.specs.History.{calls_of}
-use Rattle.dn_service.specs.Callers.{IsSameCaller}
-use Rattle.dn_replay.specs.Callers.{calls_by}
+use Rattle.dn_replay.proofs.Words.{IsSameCaller, calls_by, calls_of, take, ◌++◌, ◌≡◌}
 use Rattle.dn_replay.proofs.callers.calls.repeat.Given as goal
 
 abbrev pub invariant-loop-entry : goal.invariant-loop-entry

@@ -1,5 +1,4 @@
-use Rattle.std.proofs.Common.{◌<◌, ◌≡◌, arith, length, length-set, rules, set}
-use Rattle.dn_types.specs.History.{calls_of}
+use Rattle.dn_replay.proofs.Words.{arith, calls_of, length, length-set, rules, set, ◌<◌, ◌≡◌}
 use Rattle.dn_replay.proofs.EachCaller.{all_length, callers_done}
 use Rattle.dn_replay.proofs.callers.calls.run_callers.Goals as goal
 

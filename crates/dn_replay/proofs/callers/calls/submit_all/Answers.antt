@@ -1,5 +1,4 @@
-use Rattle.std.proofs.Common.{◌≡◌, length, rules}
-use Rattle.std.proofs.lemmas.Result.{IfOk-weaker}
+use Rattle.dn_replay.proofs.Words.{IfOk-weaker, length, rules, ◌≡◌}
 use Rattle.dn_replay.proofs.EachCaller.{all_back}
 use Rattle.dn_replay.proofs.callers.calls.submit_all.Goals as goal
 

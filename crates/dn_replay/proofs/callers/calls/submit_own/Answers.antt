@@ -1,5 +1,4 @@
-use Rattle.std.proofs.Common.{arith, ◌∙◌, ◌+◌, subst, sym, take}
-use Rattle.dn_replay.specs.Callers.{HasSubmitted}
+use Rattle.dn_replay.proofs.Words.{HasSubmitted, arith, subst, sym, take, ◌+◌, ◌∙◌}
 use Rattle.dn_replay.proofs.CallerRows.{nothing_submitted, submitted_other, submitted_own}
 use Rattle.dn_replay.proofs.callers.calls.submit_own.Goals.{then-place-n+in_ok-call, else-place-n}
 use Rattle.dn_replay.proofs.callers.calls.submit_own.Goals as goal

@@ -1,5 +1,4 @@
-use Rattle.std.proofs.Common.{◌≤◌, take}
-use Rattle.dn_replay.specs.Callers.{HasSubmitted}
+use Rattle.dn_replay.proofs.Words.{HasSubmitted, take, ◌≤◌}
 use Rattle.dn_replay.proofs.callers.calls.submit_own.Given as goal
 
 abbrev pub invariant-loop-place : goal.invariant-loop-place

@@ -1,7 +1,4 @@
-use Rattle.std.proofs.lemmas.Result.{err_from_is_err_and, IfErr-weaker, IfOk-weaker}
-use Rattle.dn_files.specs.PacketFile.{packet_file, packet_limit}
-use Rattle.dn_files.specs.declared.source.Source.TheVariants.{Config, Packets}
-use Rattle.dn_replay.specs.Replays.{AskFor, config_calls, EitherFailed}
+use Rattle.dn_replay.proofs.Words.{AskFor, Config, EitherFailed, IfErr-weaker, IfOk-weaker, Packets, config_calls, err_from_is_err_and, packet_file, packet_limit}
 use Rattle.dn_replay.proofs.ReplaySteps.{config_fault, packet_fault, unread_input}
 use Rattle.dn_replay.proofs.callers.inputs.read_inputs.Goals as goal
 

@@ -1,7 +1,4 @@
-use Rattle.std.proofs.Common.{arith, rules, ◌≡◌, ◌<◌, [], All, length, sym, ap, ◌∙◌, subst}
-use Rattle.dn_types.specs.History.{calls_of}
-use Rattle.dn_types.specs.declared.entry.Entry.{Entry}
-use Rattle.dn_replay.specs.Callers.{calls_given, AreCallersOf}
+use Rattle.dn_replay.proofs.Words.{All, AreCallersOf, Entry, [], ap, arith, calls_given, calls_of, length, rules, subst, sym, ◌<◌, ◌∙◌, ◌≡◌}
 use Rattle.dn_replay.proofs.EachCaller.{callers_calls, callers_new, callers_of, new_length, nobody_absent}
 use Rattle.dn_replay.proofs.callers.replay.history.Goals as goal
 

@@ -1,8 +1,4 @@
-use Rattle.std.proofs.Common.{refl, subst, sym}
-use Rattle.std.proofs.KnownBytes.{Keeps-refl}
-use Rattle.std.proofs.lemmas.Result.{err_from_is_err_and}
-use Rattle.dn_replay.specs.Replays.{AskFor, EitherFailed}
-use Rattle.dn_replay.specs.Report.{report}
+use Rattle.dn_replay.proofs.Words.{AskFor, EitherFailed, Keeps-refl, err_from_is_err_and, refl, report, subst, sym}
 use Rattle.dn_replay.proofs.CallerSteps.{callers_replay, callers_unread, callers_unreported, no_bad_count, unopened, unopened_sound, unwritten_count, unwritten_sound}
 use Rattle.dn_replay.proofs.ReplaySteps.{read_failed}
 use Rattle.dn_replay.proofs.callers.replay.replay_callers_with_key.Goals as goal

@@ -1,8 +1,4 @@
-use Rattle.std.proofs.Common.{◌≡◌, refl, subst, sym}
-use Rattle.std.proofs.lemmas.Result.{IfErr-weaker, IfOk-weaker}
-use Rattle.dn_replay.specs.InParts.{calls_asked, IsAskedBehind, source_of}
-use Rattle.dn_replay.specs.OnePass.{NoneFailed}
-use Rattle.dn_replay.specs.Replays.{TextFailed}
+use Rattle.dn_replay.proofs.Words.{IfErr-weaker, IfOk-weaker, IsAskedBehind, NoneFailed, TextFailed, calls_asked, refl, source_of, subst, sym, ◌≡◌}
 use Rattle.dn_replay.proofs.InputSteps.{unanswered_through}
 use Rattle.dn_replay.proofs.ReplaySteps.{unread_input, unreplayed}
 use Rattle.dn_replay.proofs.replays.inlets.answer.Goals as goal

@@ -1,11 +1,5 @@
-use Rattle.std.proofs.Common.{◌≡◌, None, Some}
-use Rattle.std.proofs.lemmas.Result.{err_from_is_err_and, IfErr-weaker, IfOk-weaker}
-use Rattle.dn_files.specs.ConfigFile.{config_limit}
-use Rattle.dn_files.specs.declared.source.Source.TheVariants.{Config, Packets}
-use Rattle.dn_files.proofs.Inputs.{passed_on, refused_for}
-use Rattle.dn_replay.specs.Configuring.{configured_by}
-use Rattle.dn_replay.specs.InParts.{calls_asked, IsAskedBehind}
-use Rattle.dn_replay.specs.Replays.{AskForWithin, config_calls, EitherFailed, failed_read, TextFailed}
+use Rattle.dn_replay.proofs.Words.{AskForWithin, Config, EitherFailed, IfErr-weaker, IfOk-weaker, IsAskedBehind, None, Packets, Some, TextFailed, calls_asked, config_calls, config_limit}
+use Rattle.dn_replay.proofs.Words.{configured_by, err_from_is_err_and, failed_read, passed_on, refused_for, ◌≡◌}
 use Rattle.dn_replay.proofs.InputSteps.{answered_through, asked_by_both, by_one, either_failed, read_known, unanswered_through}
 use Rattle.dn_replay.proofs.ReplaySteps.{config_unread}
 use Rattle.dn_replay.proofs.replays.inlets.replay_files.Goals as goal

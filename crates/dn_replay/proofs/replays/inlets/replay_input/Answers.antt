@@ -1,7 +1,4 @@
-use Rattle.std.proofs.Common.{◌≡◌, None}
-use Rattle.std.proofs.lemmas.Result.{IfErr-weaker, IfOk-weaker}
-use Rattle.dn_replay.specs.InParts.{calls_asked}
-use Rattle.dn_replay.specs.Replays.{AsksForWithin, InputFailed}
+use Rattle.dn_replay.proofs.Words.{AsksForWithin, IfErr-weaker, IfOk-weaker, InputFailed, None, calls_asked, ◌≡◌}
 use Rattle.dn_replay.proofs.InputSteps.{answered_through, by_one, read_known}
 use Rattle.dn_replay.proofs.replays.inlets.replay_input.Goals as goal
 

@@ -1,8 +1,5 @@
-use Rattle.std.proofs.Common.{◌∙◌, List, refl, subst, take}
+use Rattle.dn_replay.proofs.Words.{HasAnswered, List, Row, refl, submitted, subst, take, ◌∙◌}
 use Rattle.std.proofs.lemmas.List as L
-use Rattle.dn_files.specs.declared.row.Row.{Row}
-use Rattle.dn_replay.specs.Rows.{submitted}
-use Rattle.dn_replay.specs.Held.{HasAnswered}
 use Rattle.dn_replay.proofs.Runs.{no-row, row-more}
 use Rattle.dn_replay.proofs.replays.pass.submit_rows.Goals as goal
 

@@ -1,5 +1,4 @@
-use Rattle.std.proofs.Common.{take}
-use Rattle.dn_replay.specs.Feeding.{Submits}
+use Rattle.dn_replay.proofs.Words.{Submits, take}
 use Rattle.dn_replay.proofs.replays.pass.submit_rows.Given as goal
 
 abbrev pub invariant-loop-row : goal.invariant-loop-row

@@ -1,7 +1,4 @@
-use Rattle.std.proofs.Common.{◌∙◌, ◌++◌, List, ap}
-use Rattle.dn_types.specs.declared.delivery.Delivery.{Delivery}
-use Rattle.dn_types.specs.declared.rule.Rule.TheVariants.{Ordered}
-use Rattle.dn_replay.specs.Report.{delivered}
+use Rattle.dn_replay.proofs.Words.{Delivery, List, Ordered, ap, delivered, ◌++◌, ◌∙◌}
 use Rattle.dn_replay.proofs.replays.passing.collect.Goals as goal
 
 pub returns : goal.returns

@@ -1,6 +1,4 @@
-use Rattle.std.proofs.Common.{◌≡◌}
-use Rattle.std.proofs.lemmas.Option.{MatchOption-at_some}
-use Rattle.std.proofs.lemmas.Result.{on_ok_weaker}
+use Rattle.dn_replay.proofs.Words.{MatchOption-at_some, on_ok_weaker, ◌≡◌}
 use Rattle.dn_replay.proofs.Past.{passes}
 use Rattle.dn_replay.proofs.replays.passing.collect_in_passing.Goals as goal
 

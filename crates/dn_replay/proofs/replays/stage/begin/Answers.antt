@@ -1,5 +1,4 @@
-use Rattle.std.proofs.Common.{[]}
-use Rattle.dn_replay.specs.Held.{has_entries}
+use Rattle.dn_replay.proofs.Words.{[], has_entries}
 use Rattle.dn_replay.proofs.InputSteps.{begun, not_begun}
 use Rattle.dn_replay.proofs.replays.stage.begin.Goals as goal
 

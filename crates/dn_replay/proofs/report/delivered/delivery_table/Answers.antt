@@ -1,6 +1,4 @@
-use Rattle.std.proofs.Common.{◌∙◌, ap, rules, None, List, take_all}
-use Rattle.dn_types.specs.declared.entry.Entry.{Entry}
-use Rattle.dn_replay.specs.Report.{deliveries, delivery_of_packet}
+use Rattle.dn_replay.proofs.Words.{Entry, List, None, ap, deliveries, delivery_of_packet, rules, take_all, ◌∙◌}
 use Rattle.dn_replay.proofs.Deliveries.{empty_table, further, nothing-yet}
 use Rattle.dn_replay.proofs.report.delivered.delivery_table.Goals as goal
 

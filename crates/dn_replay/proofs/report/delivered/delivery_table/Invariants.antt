@@ -1,5 +1,4 @@
-use Rattle.std.proofs.Common.{◌≡◌, ℕ, ◌<◌, length, get_or, take, None}
-use Rattle.dn_replay.specs.Report.{deliveries, delivery_of_packet}
+use Rattle.dn_replay.proofs.Words.{None, deliveries, delivery_of_packet, get_or, length, take, ℕ, ◌<◌, ◌≡◌}
 use Rattle.dn_replay.proofs.report.delivered.delivery_table.Given as goal
 
 abbrev pub invariant-loop-entry : goal.invariant-loop-entry

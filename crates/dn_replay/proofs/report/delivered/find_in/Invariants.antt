@@ -1,5 +1,4 @@
-use Rattle.std.proofs.Common.{◌≡◌, take, None}
-use Rattle.dn_replay.specs.Report.{delivery_of_packet}
+use Rattle.dn_replay.proofs.Words.{None, delivery_of_packet, take, ◌≡◌}
 use Rattle.dn_replay.proofs.report.delivered.find_in.Given as goal
 
 abbrev pub invariant-loop-delivery : goal.invariant-loop-delivery

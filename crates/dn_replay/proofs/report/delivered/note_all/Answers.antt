@@ -1,4 +1,4 @@
-use Rattle.std.proofs.Common.{◌∙◌}
+use Rattle.dn_replay.proofs.Words.{◌∙◌}
 use Rattle.dn_replay.proofs.Deliveries.{more}
 use Rattle.dn_replay.proofs.report.delivered.note_all.Goals as goal
 

@@ -1,6 +1,4 @@
-use Rattle.std.proofs.Common.{◌≡◌, ℕ, ◌<◌, length, get_or, take, None}
-use Rattle.std.specs.Option.{option_or}
-use Rattle.dn_replay.specs.Report.{delivery_of_packet}
+use Rattle.dn_replay.proofs.Words.{None, delivery_of_packet, get_or, length, option_or, take, ℕ, ◌<◌, ◌≡◌}
 use Rattle.dn_replay.proofs.report.delivered.note_all.Given as goal
 
 abbrev pub invariant-loop-delivery : goal.invariant-loop-delivery

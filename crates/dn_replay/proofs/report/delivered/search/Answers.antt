@@ -1,5 +1,4 @@
-use Rattle.std.proofs.Common.{◌∙◌, sym, ap}
-use Rattle.dn_replay.specs.Report.{delivery_of_packet}
+use Rattle.dn_replay.proofs.Words.{ap, delivery_of_packet, sym, ◌∙◌}
 use Rattle.dn_replay.proofs.Deliveries.{found_here, not_here, nothing-yet}
 use Rattle.dn_replay.proofs.report.delivered.search.Goals as goal
 

@@ -1,5 +1,4 @@
-use Rattle.std.proofs.Common.{◌≡◌, take, None}
-use Rattle.dn_replay.specs.Report.{deliveries, delivery_of_packet}
+use Rattle.dn_replay.proofs.Words.{None, deliveries, delivery_of_packet, take, ◌≡◌}
 use Rattle.dn_replay.proofs.report.delivered.search.Given as goal
 
 abbrev pub invariant-loop-entry : goal.invariant-loop-entry

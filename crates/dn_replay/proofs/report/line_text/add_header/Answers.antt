@@ -1,4 +1,4 @@
-use Rattle.csv.specs.Writing.{fields_text, is_blank}
+use Rattle.dn_replay.proofs.Words.{fields_text, is_blank}
 use Rattle.dn_replay.proofs.report.line_text.add_header.Goals as goal
 
 pub returns-clause-items : goal.returns-clause-items

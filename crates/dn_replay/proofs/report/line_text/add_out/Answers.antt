@@ -1,4 +1,4 @@
-use Rattle.std.proofs.Common.{◌∙◌, sym, ap, ℕ, List, ◌++◌, arith}
+use Rattle.dn_replay.proofs.Words.{List, ap, arith, sym, ℕ, ◌++◌, ◌∙◌}
 use Rattle.dn_replay.proofs.LineBytes.{out-line}
 use Rattle.dn_replay.proofs.report.line_text.add_out.Goals as goal
 

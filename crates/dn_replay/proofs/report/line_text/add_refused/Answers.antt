@@ -1,4 +1,4 @@
-use Rattle.std.proofs.Common.{◌∙◌, ap, refl, ℕ, List, ◌++◌}
+use Rattle.dn_replay.proofs.Words.{List, ap, refl, ℕ, ◌++◌, ◌∙◌}
 use Rattle.dn_replay.proofs.report.line_text.add_refused.Goals as goal
 
 pub returns-clause-items : goal.returns-clause-items

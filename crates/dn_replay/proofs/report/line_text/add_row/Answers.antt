@@ -1,4 +1,4 @@
-use Rattle.std.proofs.Common.{◌∙◌, ap, ℕ, List, ◌++◌, append_assoc, drop}
+use Rattle.dn_replay.proofs.Words.{List, ap, append_assoc, drop, ℕ, ◌++◌, ◌∙◌}
 use Rattle.dn_replay.proofs.report.line_text.add_row.Goals as goal
 
 pub returns-clause-items : goal.returns-clause-items

@@ -1,5 +1,4 @@
-use Rattle.std.proofs.Common.{◌∙◌, ap, ℕ, List, ◌++◌}
-use Rattle.std.proofs.lemmas.List.{take_rest}
+use Rattle.dn_replay.proofs.Words.{List, ap, take_rest, ℕ, ◌++◌, ◌∙◌}
 use Rattle.dn_replay.proofs.report.line_text.append_from.Goals as goal
 
 pub returns-clause-items : goal.returns-clause-items

@@ -1,5 +1,4 @@
-use Rattle.std.proofs.Common.{◌∙◌, ap, ℕ, List, ◌∷◌, arith, ◌≤◌, length}
-use Rattle.std.proofs.lemmas.List.{drop_all}
+use Rattle.dn_replay.proofs.Words.{List, ap, arith, drop_all, length, ℕ, ◌∙◌, ◌∷◌, ◌≤◌}
 use Rattle.dn_replay.proofs.report.line_text.put_line_feed.Goals as goal
 
 pub returns-clause-written : goal.returns-clause-written

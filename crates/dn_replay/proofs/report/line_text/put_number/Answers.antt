@@ -1,5 +1,4 @@
-use Rattle.std.proofs.Common.{◌≤◌, length, decimal, arith}
-use Rattle.std.proofs.lemmas.Fmt.{length-decimal-le}
+use Rattle.dn_replay.proofs.Words.{arith, decimal, length, length-decimal-le, ◌≤◌}
 use Rattle.dn_replay.proofs.report.line_text.put_number.Goals as goal
 
 pub write_digits-digits-requires : goal.write_digits-digits-requires

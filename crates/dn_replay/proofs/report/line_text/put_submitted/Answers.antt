@@ -1,4 +1,4 @@
-use Rattle.std.proofs.Common.{refl}
+use Rattle.dn_replay.proofs.Words.{refl}
 use Rattle.dn_replay.proofs.report.line_text.put_submitted.Goals as goal
 
 pub returns-clause-written : goal.returns-clause-written

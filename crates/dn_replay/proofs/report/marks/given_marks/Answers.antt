@@ -1,4 +1,4 @@
-use Rattle.std.proofs.Common.{◌≡◌, arith, length, rules, take_all}
+use Rattle.dn_replay.proofs.Words.{arith, length, rules, take_all, ◌≡◌}
 use Rattle.dn_replay.proofs.AllGiven.{all-given}
 use Rattle.dn_replay.proofs.KeptReport.{are-given}
 use Rattle.dn_replay.proofs.MarkSteps.{mark-more, no-marks}

@@ -1,4 +1,4 @@
-use Rattle.std.proofs.Common.{length, take}
+use Rattle.dn_replay.proofs.Words.{length, take}
 use Rattle.dn_replay.proofs.MarkSteps.{IsMarked}
 use Rattle.dn_replay.proofs.report.marks.given_marks.Given as goal
 

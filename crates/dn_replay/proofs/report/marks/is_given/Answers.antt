@@ -1,5 +1,4 @@
-use Rattle.std.proofs.Common.{◌≤◌, sym, arith, length, true}
-use Rattle.std.proofs.lemmas.List.{get_or_past}
+use Rattle.dn_replay.proofs.Words.{arith, get_or_past, length, sym, true, ◌≤◌}
 use Rattle.dn_replay.proofs.report.marks.is_given.Goals as goal
 
 pub returns-then-packet-marks : goal.returns-then-packet-marks

@@ -1,4 +1,4 @@
-use Rattle.std.proofs.Common.{arith, refl, ◌≤◌, ◌<◌, length}
+use Rattle.dn_replay.proofs.Words.{arith, length, refl, ◌<◌, ◌≤◌}
 use Rattle.dn_replay.proofs.MarkSteps.{mark-far, mark-set}
 use Rattle.dn_replay.proofs.report.marks.mark.Goals as goal
 

@@ -1,5 +1,4 @@
-use Rattle.std.proofs.Common.{◌∙◌, rules, ◌<◌}
-use Rattle.dn_replay.specs.Report.{deliveries, is_other, is_out}
+use Rattle.dn_replay.proofs.Words.{deliveries, is_other, is_out, rules, ◌<◌, ◌∙◌}
 use Rattle.dn_replay.proofs.LineSteps.{all, counts-step, passed}
 use Rattle.dn_replay.proofs.report.order.lines_of_history.Goals as goal
 

@@ -1,6 +1,4 @@
-use Rattle.std.proofs.Common.{◌≡◌, ◌<◌, ℕ, ◌++◌, take, drop, length, get_or}
-use Rattle.std.specs.Prelude.{filter}
-use Rattle.dn_replay.specs.Report.{deliveries, is_other, is_out, lines_after, submit_lines, submits_by}
+use Rattle.dn_replay.proofs.Words.{deliveries, drop, filter, get_or, is_other, is_out, length, lines_after, submit_lines, submits_by, take, ℕ, ◌++◌, ◌<◌, ◌≡◌}
 use Rattle.dn_replay.proofs.report.order.lines_of_history.Given as goal
 
 abbrev pub invariant-loop-entry : goal.invariant-loop-entry

@@ -1,5 +1,4 @@
-use Rattle.std.proofs.Common.{◌∙◌, sym, ap, ℕ, List, ◌++◌, get_or}
-use Rattle.dn_replay.specs.Kept.{no_row}
+use Rattle.dn_replay.proofs.Words.{List, ap, get_or, no_row, sym, ℕ, ◌++◌, ◌∙◌}
 use Rattle.dn_replay.proofs.OtherSteps.{given-one, held-one}
 use Rattle.dn_replay.proofs.report.others.add_accepted.Goals as goal
 

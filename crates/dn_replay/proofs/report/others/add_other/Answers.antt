@@ -1,6 +1,4 @@
-use Rattle.std.proofs.Common.{◌∙◌, sym, ap, Option, ◌++◌}
-use Rattle.dn_replay.specs.Kept.{other_text}
-use Rattle.dn_replay.specs.declared.report.line.ReportLine.{ReportLine}
+use Rattle.dn_replay.proofs.Words.{Option, ReportLine, ap, other_text, sym, ◌++◌, ◌∙◌}
 use Rattle.dn_replay.proofs.OtherSteps.{next-accepted, refused-line}
 use Rattle.dn_replay.proofs.report.others.add_other.Goals as goal
 

@@ -1,4 +1,4 @@
-use Rattle.std.proofs.Common.{◌∙◌, sym, ap, ℕ, List, ◌++◌, arith}
+use Rattle.dn_replay.proofs.Words.{List, ap, arith, sym, ℕ, ◌++◌, ◌∙◌}
 use Rattle.dn_replay.proofs.LineBytes.{full-line, lost-line}
 use Rattle.dn_replay.proofs.OtherSteps.{full-one, lost-one, no_target-one, unanswered-one}
 use Rattle.dn_replay.proofs.report.others.add_refusal.Goals as goal

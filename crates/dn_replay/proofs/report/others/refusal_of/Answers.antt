@@ -1,5 +1,4 @@
-use Rattle.std.proofs.Common.{◌≤◌, ◌<◌, arith, length}
-use Rattle.dn_replay.specs.Kept.{no_refusal}
+use Rattle.dn_replay.proofs.Words.{arith, length, no_refusal, ◌<◌, ◌≤◌}
 use Rattle.dn_replay.proofs.OtherSteps.{later-refused, none-refused, this-refused}
 use Rattle.dn_replay.proofs.report.others.refusal_of.Goals as goal
 

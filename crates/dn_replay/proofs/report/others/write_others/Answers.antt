@@ -1,11 +1,6 @@
-use Rattle.std.proofs.Common.{◌≡◌, ◌∙◌, refl, sym, ap, subst, ◌+◌, ◌∷◌, ◌++◌, ◌<◌, ◌≤◌, ℕ, Bool, true, false, List, cond, drop, get_or, length, arith}
-use Rattle.std.specs.Prelude.{Option, is_none, is_some, not}
-use Rattle.dn_records.proofs.Lines.{on_err}
-use Rattle.dn_replay.specs.Kept.{fate_line, IsKeptOf, is_accepted, other_text}
-use Rattle.dn_replay.specs.declared.report.fate.Fate.{Fate}
+use Rattle.dn_replay.proofs.Words.{Bool, Fate, IsKeptOf, Kept, List, Option, Refusal, ap, arith, cond, drop, false, fate_line, get_or, is_accepted, is_none, is_some, length, not, on_err}
+use Rattle.dn_replay.proofs.Words.{other_text, refl, subst, sym, true, ℕ, ◌++◌, ◌+◌, ◌<◌, ◌∙◌, ◌∷◌, ◌≡◌, ◌≤◌}
 use Rattle.dn_replay.specs.declared.report.fate.Fate.TheVariants.{Accepted}
-use Rattle.dn_replay.specs.declared.report.kept.Kept.{Kept}
-use Rattle.dn_replay.specs.declared.report.refusal.Refusal.{Refusal}
 use Rattle.dn_replay.proofs.OtherSteps.{AreLeft, all-left, fewer-left, next-accepted, next-fate, no-more-fates, number-of, row-more, rows-end, text_from}
 use Rattle.dn_replay.proofs.PartSteps.{line-added, same-text}
 use Rattle.dn_replay.proofs.report.others.write_others.Goals as goal

@@ -1,10 +1,4 @@
-use Rattle.std.proofs.Common.{◌≡◌, ◌<◌, ◌≤◌, ◌+◌, ◌++◌, ℕ, List, Option, false, length, drop}
-use Rattle.std.specs.Vec.{vec_capacity}
-use Rattle.dn_types.specs.declared.delivery.Delivery.{Delivery}
-use Rattle.dn_replay.specs.Kept.{AreMarksOf, IsKeptOf}
-use Rattle.dn_replay.specs.Parts.{IsUnderWay}
-use Rattle.dn_replay.specs.declared.report.fate.Fate.{Fate}
-use Rattle.dn_replay.specs.declared.report.line_text.TheConstants.{LINE}
+use Rattle.dn_replay.proofs.Words.{AreMarksOf, Delivery, Fate, IsKeptOf, IsUnderWay, LINE, List, Option, drop, false, length, vec_capacity, ℕ, ◌++◌, ◌+◌, ◌<◌, ◌≡◌, ◌≤◌}
 use Rattle.dn_replay.proofs.OtherSteps.{AreLeft, text_from}
 use Rattle.dn_replay.proofs.report.others.write_others.Given as goal
 

@@ -1,10 +1,4 @@
-use Rattle.std.proofs.Common.{ap, ◌+◌, ◌++◌, List, get_or, map, take, drop, arith, take_all}
-use Rattle.dn_records.proofs.Lines.{on_err}
-use Rattle.dn_records.proofs.TextSteps.{text-none}
-use Rattle.dn_records.specs.Records.{line_of, text_of}
-use Rattle.dn_types.specs.declared.delivery.Delivery.{Delivery}
-use Rattle.dn_replay.specs.Kept.{delivery_line}
-use Rattle.dn_replay.specs.Report.{line_fields}
+use Rattle.dn_replay.proofs.Words.{Delivery, List, ap, arith, delivery_line, drop, get_or, line_fields, line_of, map, on_err, take, take_all, text-none, text_of, ◌++◌, ◌+◌}
 use Rattle.dn_replay.proofs.PartSteps.{line-added, outs-more, outs-rest, same-text}
 use Rattle.dn_replay.proofs.report.outs.write_outs.Goals as goal
 

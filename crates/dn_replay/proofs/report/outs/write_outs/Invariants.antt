@@ -1,10 +1,4 @@
-use Rattle.std.proofs.Common.{◌≡◌, ◌<◌, ◌≤◌, ◌+◌, ◌++◌, ℕ, List, Option, false, length, map, take}
-use Rattle.std.specs.Vec.{vec_capacity}
-use Rattle.dn_records.specs.Records.{text_of}
-use Rattle.dn_replay.specs.Kept.{delivery_line}
-use Rattle.dn_replay.specs.Parts.{IsUnderWay}
-use Rattle.dn_replay.specs.Report.{line_fields}
-use Rattle.dn_replay.specs.declared.report.line_text.TheConstants.{LINE}
+use Rattle.dn_replay.proofs.Words.{IsUnderWay, LINE, List, Option, delivery_line, false, length, line_fields, map, take, text_of, vec_capacity, ℕ, ◌++◌, ◌+◌, ◌<◌, ◌≡◌, ◌≤◌}
 use Rattle.dn_replay.proofs.report.outs.write_outs.Given as goal
 
 -- The lines so far were written, or are in the buffer.

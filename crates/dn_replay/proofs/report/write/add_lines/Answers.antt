@@ -1,6 +1,4 @@
-use Rattle.std.proofs.Common.{◌∙◌}
-use Rattle.dn_replay.specs.Report.{line_fields}
-use Rattle.dn_records.proofs.TextSteps.{text-more, text-none}
+use Rattle.dn_replay.proofs.Words.{line_fields, text-more, text-none, ◌∙◌}
 use Rattle.dn_replay.proofs.report.write.add_lines.Goals as goal
 
 pub loop-line-init : goal.loop-line-init

@@ -1,6 +1,4 @@
-use Rattle.std.proofs.Common.{◌≡◌, ◌++◌, take, map}
-use Rattle.dn_records.specs.Records.{text_of}
-use Rattle.dn_replay.specs.Report.{line_fields}
+use Rattle.dn_replay.proofs.Words.{line_fields, map, take, text_of, ◌++◌, ◌≡◌}
 use Rattle.dn_replay.proofs.report.write.add_lines.Given as goal
 
 abbrev pub invariant-loop-line : goal.invariant-loop-line

@@ -1,5 +1,4 @@
-use Rattle.std.proofs.Common.{◌∙◌, ap}
-use Rattle.dn_replay.specs.Report.{sorted_by, outs_in_order, row_number}
+use Rattle.dn_replay.proofs.Words.{ap, outs_in_order, row_number, sorted_by, ◌∙◌}
 use Rattle.dn_replay.proofs.LineSteps.{report_is}
 use Rattle.dn_replay.proofs.report.write.report_text.Goals as goal
 

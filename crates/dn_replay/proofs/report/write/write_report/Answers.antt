@@ -1,4 +1,4 @@
-use Rattle.std.proofs.Common.{◌∙◌}
+use Rattle.dn_replay.proofs.Words.{◌∙◌}
 use Rattle.dn_replay.proofs.report.write.write_report.Goals as goal
 
 pub returns-in-Ok-clause-err : goal.returns-in-Ok-clause-err

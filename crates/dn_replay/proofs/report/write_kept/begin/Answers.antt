@@ -1,6 +1,4 @@
-use Rattle.std.proofs.Common.{◌∙◌, ap, ℕ, List, ◌++◌}
-use Rattle.dn_records.specs.Records.{line_of}
-use Rattle.dn_replay.specs.Report.{report_header}
+use Rattle.dn_replay.proofs.Words.{List, ap, line_of, report_header, ℕ, ◌++◌, ◌∙◌}
 use Rattle.dn_replay.proofs.LineBytes.{header-short}
 use Rattle.dn_replay.proofs.report.write_kept.begin.Goals as goal
 

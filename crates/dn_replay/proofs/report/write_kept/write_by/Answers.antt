@@ -1,4 +1,4 @@
-use Rattle.std.proofs.Common.{◌∙◌, refl, sym}
+use Rattle.dn_replay.proofs.Words.{refl, sym, ◌∙◌}
 use Rattle.dn_replay.proofs.KeptReport.{are-known, report-is-kept, untargeted-is-kept}
 use Rattle.dn_replay.proofs.report.write_kept.write_by.Goals as goal
 

@@ -1,13 +1,5 @@
-use Rattle.std.proofs.Common.{◌≡◌, ◌∙◌, sym, ◌++◌, ℕ, List, [], ◌∷◌, Option, map, append-nil}
-use Rattle.std.specs.Prelude.{filter}
-use Rattle.dn_types.specs.declared.delivery.Delivery.{Delivery}
-use Rattle.dn_records.proofs.Lines.{on_err}
-use Rattle.dn_records.specs.Records.{line_of, text_of}
-use Rattle.dn_replay.specs.Kept.{delivery_line, fate_lines, kept_lines}
-use Rattle.dn_replay.specs.Parts.{IsUnderWay}
-use Rattle.dn_replay.specs.Report.{is_other, line_fields, report_header}
-use Rattle.dn_replay.specs.declared.report.fate.Fate.{Fate}
-use Rattle.dn_replay.specs.declared.report.kept.Kept.{Kept}
+use Rattle.dn_replay.proofs.Words.{Delivery, Fate, IsUnderWay, Kept, List, Option, [], append-nil, delivery_line, fate_lines, filter, is_other, kept_lines, line_fields, line_of, map, on_err}
+use Rattle.dn_replay.proofs.Words.{report_header, sym, text_of, ℕ, ◌++◌, ◌∙◌, ◌∷◌, ◌≡◌}
 use Rattle.dn_replay.proofs.PartSteps.{begun, ended, line-added, same-part, whole-text}
 use Rattle.dn_replay.proofs.report.write_kept.write_lines.Goals as goal
 

@@ -1,15 +1,5 @@
-use Rattle.std.proofs.Common.{◌≡◌, ℕ, List, ◌++◌, ◌∷◌, [], sym, ap, ◌∙◌, subst, append_assoc}
-use Rattle.std.specs.Vec.{vec_capacity}
-use Rattle.dn_types.specs.History.{calls_of}
-use Rattle.dn_types.specs.declared.call.Call.{Call}
-use Rattle.dn_types.specs.declared.entry.Entry.{Entry}
-use Rattle.dn_types.specs.declared.rule.Rule.TheVariants.{Ordered}
-use Rattle.dn_types.proofs.Histories.{lawful-more, calls_of-more}
-use Rattle.dn_shaper.specs.Shaper.{StandsAfter}
-use Rattle.dn_service.specs.Histories.{entry_of}
-use Rattle.dn_service.specs.Pasts.{BookView, Keeps}
-use Rattle.dn_service.specs.Rooms.{FitsRoom}
-use Rattle.dn_service.specs.declared.book.Pages.{Pages}
+use Rattle.dn_service.proofs.Words.{BookView, Call, Entry, FitsRoom, Keeps, List, Ordered, Pages, StandsAfter, [], ap, append_assoc, calls_of, calls_of-more, entry_of, lawful-more, subst, sym}
+use Rattle.dn_service.proofs.Words.{vec_capacity, ℕ, ◌++◌, ◌∙◌, ◌∷◌, ◌≡◌}
 use Rattle.dn_service.proofs.HistoryLaws.{noted}
 use Rattle.dn_service.proofs.Outcomes.{on_err}
 use Rattle.dn_service.proofs.Replying.{room_for}

@@ -1,5 +1,4 @@
-use Rattle.std.proofs.Common.{◌≡◌}
-use Rattle.dn_service.specs.Callers.{IsSameCaller, KeepsSeen}
+use Rattle.dn_service.proofs.Words.{IsSameCaller, KeepsSeen, ◌≡◌}
 use Rattle.dn_service.proofs.caller.Caller.call_after.Given as goal
 
 abbrev pub invariant-loop : goal.invariant-loop

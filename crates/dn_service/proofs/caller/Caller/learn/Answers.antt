@@ -1,5 +1,4 @@
-use Rattle.std.proofs.Common.{rules, refl, ap, subst}
-use Rattle.dn_service.specs.Lasting.{Learns, caller_at}
+use Rattle.dn_service.proofs.Words.{Learns, ap, caller_at, refl, rules, subst}
 use Rattle.dn_service.proofs.Lastings.{is_told, learned_from}
 use Rattle.dn_service.proofs.Tokens.{learns}
 use Rattle.dn_service.proofs.caller.Caller.learn.Goals as goal

@@ -1,4 +1,4 @@
-use Rattle.std.proofs.Common.{rules}
+use Rattle.dn_service.proofs.Words.{rules}
 use Rattle.dn_service.proofs.Lastings.{shows}
 use Rattle.dn_service.proofs.caller.Caller.seen.Goals as goal
 

@@ -1,10 +1,5 @@
-use Rattle.std.proofs.Common.{length, length-append, arith, ◌+◌, ◌^◌, ◌≡◌, ◌++◌, ◌∷◌, [], ◌<◌, ◌≤◌, List, refl, sym, ap, ◌∙◌, subst}
-use Rattle.dn_types.specs.History.{own_entries}
-use Rattle.dn_types.specs.declared.entry.Entry.{Entry}
-use Rattle.dn_service.specs.Callers.{Answered, IsSameCaller}
-use Rattle.dn_service.specs.Histories.{entry_of}
-use Rattle.dn_service.specs.Accounts.{Has, front_in, lost_in}
-use Rattle.dn_service.specs.Seats.{sitting, with_history}
+use Rattle.dn_service.proofs.Words.{Answered, Entry, Has, IsSameCaller, List, [], ap, arith, entry_of, front_in, length, length-append, lost_in, own_entries, refl, sitting, subst, sym}
+use Rattle.dn_service.proofs.Words.{with_history, ◌++◌, ◌+◌, ◌<◌, ◌^◌, ◌∙◌, ◌∷◌, ◌≡◌, ◌≤◌}
 use Rattle.dn_service.proofs.Calling.{now_sitting, seen_from, answers, stands_for, has_seen}
 use Rattle.dn_service.proofs.Lastings.{is_sitting, gone_all, seen_less}
 use Rattle.dn_service.proofs.caller.Caller.try_placed.Goals as goal

@@ -1,9 +1,4 @@
-use Rattle.std.proofs.Common.{◌≡◌, ◌++◌, ◌∷◌, [], ◌<◌, ◌≤◌, refl, sym, ap, ◌∙◌, subst}
-use Rattle.dn_service.specs.Callers.{IsSameCaller, having_lost}
-use Rattle.dn_service.specs.Wakes.{Wakes}
-use Rattle.dn_types.specs.History.{own_entries}
-use Rattle.dn_service.specs.Accounts.{lost_in}
-use Rattle.dn_service.specs.Seats.{sitting}
+use Rattle.dn_service.proofs.Words.{IsSameCaller, Wakes, [], ap, having_lost, lost_in, own_entries, refl, sitting, subst, sym, ◌++◌, ◌<◌, ◌∙◌, ◌∷◌, ◌≡◌, ◌≤◌}
 use Rattle.dn_service.proofs.Calling.{now_sitting, lost_sitting, lost_to, same_one, seen_from}
 use Rattle.dn_service.proofs.Lastings.{is_sitting, is_seat}
 use Rattle.dn_service.proofs.Waking.{wakes}

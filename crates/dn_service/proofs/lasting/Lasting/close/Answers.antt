@@ -1,7 +1,4 @@
-use Rattle.std.proofs.Common.{◌≡◌, ◌++◌, [], List, sym, ap, ◌∙◌, subst}
-use Rattle.dn_types.specs.declared.entry.Entry.{Entry}
-use Rattle.dn_service.specs.Callers.{Closes}
-use Rattle.dn_service.specs.Seats.{keeping, shed_in}
+use Rattle.dn_service.proofs.Words.{Closes, Entry, List, [], ap, keeping, shed_in, subst, sym, ◌++◌, ◌∙◌, ◌≡◌}
 use Rattle.dn_service.proofs.lasting.Lasting.close.Goals as goal
 
 pub leave-requires-clause-callers : goal.leave-requires-clause-callers

@@ -1,5 +1,4 @@
-use Rattle.std.proofs.Common.{rules, ◌≡◌, [], sym, ap, ◌∙◌}
-use Rattle.dn_service.specs.Seats.{shed_in, spent}
+use Rattle.dn_service.proofs.Words.{[], ap, rules, shed_in, spent, sym, ◌∙◌, ◌≡◌}
 use Rattle.dn_service.proofs.Handing.{takes_in}
 use Rattle.dn_service.proofs.Lastings.{hands_back}
 use Rattle.dn_service.proofs.Tokens.{vacates}

@@ -1,5 +1,4 @@
-use Rattle.std.proofs.Common.{rules, ◌≡◌, sym, subst, All}
-use Rattle.dn_service.specs.Callers.{ServiceView, IsOf, new_callers}
+use Rattle.dn_service.proofs.Words.{All, IsOf, ServiceView, new_callers, rules, subst, sym, ◌≡◌}
 use Rattle.dn_service.proofs.Handing.{new_are_of}
 use Rattle.dn_service.proofs.service.Service.open_with_key.Goals as goal
 

@@ -1,5 +1,5 @@
 -- The settling is all that the call makes happen.
-use Rattle.std.proofs.Common.{◌∙◌, ◌+◌, ap, max, refl, arith}
+use Rattle.dn_shaper.proofs.Words.{ap, arith, max, refl, ◌+◌, ◌∙◌}
 use Rattle.dn_shaper.proofs.Rooms.{keeps-room}
 use Rattle.dn_shaper.proofs.Standing.{advanced, advanced-sound}
 use Rattle.dn_shaper.proofs.calls.advance.advance.Goals as goal

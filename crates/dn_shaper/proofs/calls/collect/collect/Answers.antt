@@ -1,9 +1,5 @@
 -- The reply has the list that was gathered.
-use Rattle.std.proofs.Common.{◌∙◌, List, sym, subst}
-use Rattle.dn_types.specs.declared.call.Call.TheVariants.{Collect}
-use Rattle.dn_types.specs.declared.delivery.Delivery.{Delivery}
-use Rattle.dn_types.specs.declared.reply.Reply.TheVariants.{Delivered}
-use Rattle.dn_shaper.specs.Refinement.Calls.{Does}
+use Rattle.dn_shaper.proofs.Words.{Collect, Delivered, Delivery, Does, List, subst, sym, ◌∙◌}
 use Rattle.dn_shaper.proofs.calls.collect.collect.Goals as goal
 
 pub returns-clause-does : goal.returns-clause-does

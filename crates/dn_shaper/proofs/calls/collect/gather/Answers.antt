@@ -1,8 +1,5 @@
 -- What is due after the settling is given.
-use Rattle.std.proofs.Common.{◌∙◌, ◌++◌, ◌+◌, List, ap, max, refl, arith}
-use Rattle.std.specs.Prelude.{nat_le}
-use Rattle.std.specs.List.{filter}
-use Rattle.dn_types.specs.declared.delivery.Delivery.{Delivery}
+use Rattle.dn_shaper.proofs.Words.{Delivery, List, ap, arith, filter, max, nat_le, refl, ◌++◌, ◌+◌, ◌∙◌}
 use Rattle.dn_shaper.proofs.Rooms.{keeps-room, with-line}
 use Rattle.dn_shaper.proofs.Standing.{collects, collects-sound}
 use Rattle.dn_shaper.proofs.calls.collect.gather.Goals as goal

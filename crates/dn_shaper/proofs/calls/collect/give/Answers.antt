@@ -1,9 +1,5 @@
 -- What was taken is what is due, and what is left is not.
-use Rattle.std.proofs.Common.{◌∙◌, ◌++◌, List, ap, sym, refl, subst, arith}
-use Rattle.dn_types.specs.declared.delivery.Delivery.{Delivery}
-use Rattle.dn_link.specs.Line.{Line}
-use Rattle.dn_link.proofs.Collected.{IsInOrder, IsInOrder-undelivered, due-none, not_due-none}
-use Rattle.std.proofs.lemmas.List.{append-nil}
+use Rattle.dn_shaper.proofs.Words.{Delivery, IsInOrder, IsInOrder-undelivered, Line, List, ap, append-nil, arith, due-none, not_due-none, refl, subst, sym, ◌++◌, ◌∙◌}
 use Rattle.dn_shaper.proofs.calls.collect.give.Goals as goal
 
 pub loop-delivery-init : goal.loop-delivery-init

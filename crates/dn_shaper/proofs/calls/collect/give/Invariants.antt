@@ -1,6 +1,4 @@
-use Rattle.std.proofs.Common.{◌≡◌, ◌≤◌, ◌+◌, ◌++◌, length}
-use Rattle.std.specs.Vec.{vec_capacity}
-use Rattle.dn_link.proofs.Collected.{due_at, not_due_at, IsInOrder}
+use Rattle.dn_shaper.proofs.Words.{IsInOrder, due_at, length, not_due_at, vec_capacity, ◌++◌, ◌+◌, ◌≡◌, ◌≤◌}
 use Rattle.dn_shaper.proofs.calls.collect.give.Given as goal
 
 abbrev pub invariant-loop-delivery : goal.invariant-loop-delivery

@@ -1,8 +1,5 @@
 -- The command is answered and obeyed, and counts.
-use Rattle.std.proofs.Common.{◌∙◌, sym, subst}
-use Rattle.dn_types.specs.declared.reply.Reply.{Reply}
-use Rattle.dn_wf2q.proofs.Reserved.{on_err_always}
-use Rattle.dn_shaper.specs.declared.state.State.{State}
+use Rattle.dn_shaper.proofs.Words.{Reply, State, on_err_always, subst, sym, ◌∙◌}
 use Rattle.dn_shaper.proofs.Configuring.{Obeys, obeys-put, obeys-delete, obeys-refused, configured-does, configured-sound}
 use Rattle.dn_shaper.proofs.calls.configure.configure.Goals as goal
 use Rattle.dn_shaper.proofs.calls.configure.configure.Goals.{Joined-reply, in-Configured+in_ok-put-in-Configured, in-Deleted, in_default}

@@ -1,7 +1,5 @@
 -- One active flow is discarded, or there is none.
-use Rattle.std.proofs.Common.{◌∙◌, subst, arith, List}
-use Rattle.dn_types.specs.declared.flow_key.FlowKey.{FlowKey}
-use Rattle.dn_shaper.specs.Refinement.Reordering.{DiscardsSome}
+use Rattle.dn_shaper.proofs.Words.{DiscardsSome, FlowKey, List, arith, subst, ◌∙◌}
 use Rattle.dn_shaper.proofs.Reached.{keeps-more, one-done, room-done, room-keeps, then-done}
 use Rattle.dn_shaper.proofs.Reserved.{reserves-kept, reserves-within}
 use Rattle.dn_shaper.proofs.calls.configure.discard_next.Goals as goal

@@ -1,7 +1,5 @@
 -- Active flows are discarded one after another, until none is left.
-use Rattle.std.proofs.Common.{◌∙◌, List, arith, subst}
-use Rattle.dn_types.specs.declared.flow_key.FlowKey.{FlowKey}
-use Rattle.dn_shaper.specs.Refinement.Reordering.{DiscardsSome}
+use Rattle.dn_shaper.proofs.Words.{DiscardsSome, FlowKey, List, arith, subst, ◌∙◌}
 use Rattle.dn_shaper.proofs.Reached.{all-done, keeps-more, keeps-none, none-done, then-done}
 use Rattle.dn_shaper.proofs.calls.configure.discard_reached.Goals as goal
 

@@ -1,8 +1,4 @@
-use Rattle.std.proofs.Common.{◌+◌, ◌≤◌, ℕ}
-use Rattle.dn_shaper.specs.Refinement.Arriving.{KeepsFlows}
-use Rattle.dn_shaper.specs.Refinement.Reordering.{DiscardsSome, active_flows}
-use Rattle.dn_shaper.specs.Refinement.Settling.{AreInStep}
-use Rattle.dn_shaper.specs.Refinement.Starting.{Within}
+use Rattle.dn_shaper.proofs.Words.{AreInStep, DiscardsSome, KeepsFlows, Within, active_flows, ℕ, ◌+◌, ◌≤◌}
 use Rattle.dn_shaper.proofs.calls.configure.discard_reached.Given as goal
 
 abbrev pub invariant-loop : goal.invariant-loop

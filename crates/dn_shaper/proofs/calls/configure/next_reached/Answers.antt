@@ -1,9 +1,5 @@
 -- Only a flow's reserved place may be let go.
-use Rattle.std.proofs.Common.{ℕ, List, ap, length, refl, subst, sym, arith}
-use Rattle.std.specs.Prelude.{slice_get}
-use Rattle.dn_flows.specs.declared.waiting.Waiting.{Waiting}
-use Rattle.dn_shaper.specs.Refinement.Making.{KeepsAt}
-use Rattle.dn_shaper.specs.Refinement.Views.{LinkView, queue_lengths, views_of}
+use Rattle.dn_shaper.proofs.Words.{KeepsAt, LinkView, List, Waiting, ap, arith, length, queue_lengths, refl, slice_get, subst, sym, views_of, ℕ}
 use Rattle.dn_shaper.proofs.Alone.{all-seen-same}
 use Rattle.dn_shaper.proofs.HomesOf.{homes-each}
 use Rattle.dn_shaper.proofs.Reached.{as-active}

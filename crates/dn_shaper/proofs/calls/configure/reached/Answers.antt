@@ -1,7 +1,5 @@
 -- A command that is no delete reaches no flow.
-use Rattle.std.proofs.Common.{◌∙◌, ap, refl, sym}
-use Rattle.dn_types.specs.Calls.{reaches}
-use Rattle.dn_types.specs.declared.command.Command.{Command}
+use Rattle.dn_shaper.proofs.Words.{Command, ap, reaches, refl, sym, ◌∙◌}
 use Rattle.dn_shaper.proofs.calls.configure.reached.Goals as goal
 
 pub returns-in-Pipe-clause-none : goal.returns-in-Pipe-clause-none

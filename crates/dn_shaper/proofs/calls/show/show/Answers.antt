@@ -1,5 +1,5 @@
 -- The flows are told, and one call more is counted.
-use Rattle.std.proofs.Common.{◌∙◌}
+use Rattle.dn_shaper.proofs.Words.{◌∙◌}
 use Rattle.dn_shaper.proofs.Showing.{shows, shows-sound}
 use Rattle.dn_shaper.proofs.calls.show.show.Goals as goal
 

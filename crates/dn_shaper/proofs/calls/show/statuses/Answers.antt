@@ -1,7 +1,5 @@
 -- Each turn of the loop tells one flow more.
-use Rattle.std.proofs.Common.{◌∙◌, List, length, ap, arith}
-use Rattle.dn_types.specs.declared.flow_status.FlowStatus.{FlowStatus}
-use Rattle.dn_flows.proofs.Places.{length-more}
+use Rattle.dn_shaper.proofs.Words.{FlowStatus, List, ap, arith, length, length-more, ◌∙◌}
 use Rattle.dn_shaper.proofs.Showing.{told-next}
 use Rattle.dn_shaper.proofs.calls.show.statuses.Goals as goal
 

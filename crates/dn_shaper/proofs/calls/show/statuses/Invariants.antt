@@ -1,6 +1,4 @@
-use Rattle.std.proofs.Common.{◌≡◌, ◌≤◌, ◌++◌, length, drop}
-use Rattle.std.specs.Vec.{vec_capacity}
-use Rattle.dn_shaper.specs.Refinement.Calls.{told_from}
+use Rattle.dn_shaper.proofs.Words.{drop, length, told_from, vec_capacity, ◌++◌, ◌≡◌, ◌≤◌}
 use Rattle.dn_shaper.proofs.calls.show.statuses.Given as goal
 
 abbrev pub invariant-loop-flow : goal.invariant-loop-flow

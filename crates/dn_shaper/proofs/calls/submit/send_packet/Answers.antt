@@ -1,12 +1,5 @@
 -- What the verdict makes of the parts, or what they stay where memory is refused.
-use Rattle.std.proofs.Common.{◌∙◌, ap, refl}
-use Rattle.dn_types.specs.Flows.{flow_number, key_of, treatment, with_key}
-use Rattle.dn_types.specs.declared.reply.Reply.TheVariants.{NoTarget}
-use Rattle.dn_types.specs.declared.target.Target.{Target}
-use Rattle.dn_wf2q.proofs.Reserved.{on_err_always}
-use Rattle.dn_shaper.specs.declared.state.State.{State}
-use Rattle.dn_shaper.specs.Refinement.Settings.{settings_of}
-use Rattle.dn_shaper.specs.Refinement.Submitting.{treatment_of}
+use Rattle.dn_shaper.proofs.Words.{NoTarget, State, Target, ap, flow_number, key_of, on_err_always, refl, settings_of, treatment, treatment_of, with_key, ◌∙◌}
 use Rattle.dn_shaper.proofs.Rooms.{keeps-room, others-all, others-some}
 use Rattle.dn_shaper.proofs.Sending.{submits-does, submits-none, submits-some, sound-settled, sound-then, still-stands}
 use Rattle.dn_shaper.proofs.calls.submit.send_packet.Goals as goal

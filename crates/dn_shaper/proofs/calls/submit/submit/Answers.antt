@@ -1,6 +1,5 @@
 -- The clock moves and the call counts once the packet was sent.
-use Rattle.std.proofs.Common.{◌∙◌, ap, max}
-use Rattle.dn_wf2q.proofs.Reserved.{on_err_always}
+use Rattle.dn_shaper.proofs.Words.{ap, max, on_err_always, ◌∙◌}
 use Rattle.dn_shaper.proofs.calls.submit.submit.Goals as goal
 
 pub returns-clause-does : goal.returns-clause-does

@@ -1,14 +1,6 @@
 -- The flow's home takes the packet, and it starts at once or waits.
-use Rattle.std.proofs.Common.{◌≡◌, ◌∙◌, ◌<◌, ℕ, false, length, refl, ap, sym, subst, arith, IsPermutation, ◌∷◌}
-use Rattle.std.specs.Prelude.{Some, slice_get}
-use Rattle.std.proofs.lemmas.Grind.{common_steps}
-use Rattle.dn_flows.proofs.Places.{get-read}
-use Rattle.dn_types.specs.Trace.{own, pipe_of}
-use Rattle.dn_flows.specs.declared.home.Home.{Home}
-use Rattle.dn_shaper.specs.Refinement.Agreement.{GivesRates, IsHomeOf}
-use Rattle.dn_shaper.specs.Refinement.Arriving.{ArrivesAt}
-use Rattle.dn_shaper.specs.Refinement.Settings.{settings_of}
-use Rattle.dn_shaper.specs.Refinement.Views.{homes_of, LinkView, home, queue_lengths, view_of, views_of}
+use Rattle.dn_shaper.proofs.Words.{ArrivesAt, GivesRates, Home, IsHomeOf, IsPermutation, LinkView, Some, ap, arith, common_steps, false, get-read, home, homes_of, length, own, pipe_of}
+use Rattle.dn_shaper.proofs.Words.{queue_lengths, refl, settings_of, slice_get, subst, sym, view_of, views_of, ℕ, ◌<◌, ◌∙◌, ◌∷◌, ◌≡◌}
 use Rattle.dn_shaper.proofs.Accepted.{same-link, same-rates, mid-within, mid-keeps, idle-kept, idle-within, idle-keeps, idle-accepts, waits-accepts, room-first, first-kept, other-kept}
 use Rattle.dn_shaper.proofs.Accepting.{can-join, few-accepted, few-waiting, home-at, may-agree, none-waits, seen-there, some-waits}
 use Rattle.dn_shaper.proofs.Alone.{goes-own}

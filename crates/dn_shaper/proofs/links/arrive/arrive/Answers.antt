@@ -1,10 +1,5 @@
 -- The link at the home's place takes the packet.
-use Rattle.std.proofs.Common.{◌≡◌, ◌∙◌, ap, map, refl, subst, sym}
-use Rattle.std.specs.Prelude.{Some}
-use Rattle.dn_flows.specs.Table.{flow_at, pushed}
-use Rattle.dn_flows.proofs.Places.{get-map, viewed}
-use Rattle.dn_shaper.specs.Refinement.Arriving.{CanJoin, is_idle}
-use Rattle.dn_shaper.specs.Refinement.Views.{LinkView, queue_lengths, view_of, views_of}
+use Rattle.dn_shaper.proofs.Words.{CanJoin, LinkView, Some, ap, flow_at, get-map, is_idle, map, pushed, queue_lengths, refl, subst, sym, view_of, viewed, views_of, ◌∙◌, ◌≡◌}
 use Rattle.dn_shaper.proofs.Alone.{one-more-at, push-longer, set-seen}
 use Rattle.dn_shaper.proofs.links.arrive.arrive.Goals as goal
 

@@ -1,7 +1,5 @@
 -- The flow whose queue gets the packet keeps its home.
-use Rattle.std.proofs.Common.{◌∙◌, ap, refl}
-use Rattle.dn_flows.specs.Table.{flow_at, pushed}
-use Rattle.dn_shaper.specs.Refinement.Views.{homes_of}
+use Rattle.dn_shaper.proofs.Words.{ap, flow_at, homes_of, pushed, refl, ◌∙◌}
 use Rattle.dn_shaper.proofs.HomesOf.{homes-set}
 use Rattle.dn_shaper.proofs.links.arrive.join_queue.Goals as goal
 

@@ -1,12 +1,6 @@
 -- The flow's packets leave its link.
-use Rattle.std.proofs.Common.{◌≡◌, ◌∙◌, ◌<◌, ℕ, inl, inr, ap, arith, subst, sym, Contains, IsPermutation, ◌∷◌}
-use Rattle.std.specs.Prelude.{Some, slice_get}
-use Rattle.dn_flows.proofs.Places.{get-below-map, viewed}
-use Rattle.std.proofs.lemmas.Grind.{common_steps}
-use Rattle.dn_link.specs.LinkState.{LinkState}
-use Rattle.dn_types.specs.declared.flow_status.FlowStatus.{FlowStatus}
-use Rattle.dn_shaper.specs.Refinement.Discarding.{HoldsCount}
-use Rattle.dn_shaper.specs.Refinement.Views.{homes_of, LinkView, queue_lengths, view_of}
+use Rattle.dn_shaper.proofs.Words.{Contains, FlowStatus, HoldsCount, IsPermutation, LinkState, LinkView, Some, ap, arith, common_steps, get-below-map, homes_of, inl, inr, queue_lengths, slice_get}
+use Rattle.dn_shaper.proofs.Words.{subst, sym, view_of, viewed, ℕ, ◌<◌, ◌∙◌, ◌∷◌, ◌≡◌}
 use Rattle.dn_shaper.proofs.Accepting.{none-waits, some-waits}
 use Rattle.dn_shaper.proofs.Discarding.{few-there, is-home, holds, alone, enough-all, discards-agree, discards-within, discards-keeps, still-next}
 use Rattle.dn_shaper.proofs.HomeRead.{at-home, in-table}

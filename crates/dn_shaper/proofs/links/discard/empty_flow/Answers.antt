@@ -1,9 +1,5 @@
 -- The link at the home's place loses the packets.
-use Rattle.std.proofs.Common.{◌∙◌, ℕ, ap, refl, subst, sym, arith}
-use Rattle.dn_flows.specs.Table.{emptied, flow_at}
-use Rattle.dn_flows.proofs.Places.{viewed, get-map}
-use Rattle.dn_shaper.specs.Refinement.Discarding.{HoldsCount, LeavesLink}
-use Rattle.dn_shaper.specs.Refinement.Views.{homes_of, LinkView, queue_lengths, view_of, views_of}
+use Rattle.dn_shaper.proofs.Words.{HoldsCount, LeavesLink, LinkView, ap, arith, emptied, flow_at, get-map, homes_of, queue_lengths, refl, subst, sym, view_of, viewed, views_of, ℕ, ◌∙◌}
 use Rattle.dn_shaper.proofs.Alone.{length-now, loses-at, set-seen}
 use Rattle.dn_shaper.proofs.HomesOf.{homes-set}
 use Rattle.dn_shaper.proofs.links.discard.empty_flow.Goals as goal

@@ -1,7 +1,5 @@
 -- The verdict after the settling.
-use Rattle.std.proofs.Common.{◌<◌, List, length, subst, sym}
-use Rattle.dn_types.specs.declared.flow_key.FlowKey.{FlowKey}
-use Rattle.dn_shaper.specs.Refinement.Submitting.{treatment_of}
+use Rattle.dn_shaper.proofs.Words.{FlowKey, List, length, subst, sym, treatment_of, ◌<◌}
 use Rattle.dn_shaper.proofs.Submitting.{within-settled, can-see, can-accept, answers-lost, answers-full, answers-taken}
 use Rattle.dn_shaper.proofs.links.judge.judge.Goals as goal
 

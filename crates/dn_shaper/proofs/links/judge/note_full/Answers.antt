@@ -1,8 +1,5 @@
 -- The parts agree with the event, and one count of the flow is one more.
-use Rattle.std.proofs.Common.{refl, arith}
-use Rattle.dn_types.specs.Trace.{refused}
-use Rattle.dn_flows.specs.Table.{flow_at, one_full}
-use Rattle.dn_shaper.specs.Refinement.Views.{homes_of, views_of}
+use Rattle.dn_shaper.proofs.Words.{arith, flow_at, homes_of, one_full, refl, refused, views_of}
 use Rattle.dn_shaper.proofs.Noting.{IsNoted, noted-counts, noted-in-step, noted-keeps, noted-ready, noted-sees}
 use Rattle.dn_shaper.proofs.Quiet.{refused-agrees}
 use Rattle.dn_shaper.proofs.links.judge.note_full.Goals as goal

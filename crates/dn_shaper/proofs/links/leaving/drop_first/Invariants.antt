@@ -1,5 +1,4 @@
-use Rattle.std.proofs.Common.{length}
-use Rattle.dn_shaper.specs.Refinement.Emptied.{HasKept, KeepsCounting}
+use Rattle.dn_shaper.proofs.Words.{HasKept, KeepsCounting, length}
 use Rattle.dn_shaper.proofs.links.leaving.drop_first.Given as goal
 
 abbrev pub invariant-loop : goal.invariant-loop

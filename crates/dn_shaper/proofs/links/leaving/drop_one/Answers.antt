@@ -1,7 +1,5 @@
 -- The first key goes if its link left it.
-use Rattle.std.proofs.Common.{◌≡◌, ◌∙◌, ℕ, true, List, sym, subst}
-use Rattle.std.specs.Prelude.{Option}
-use Rattle.dn_shaper.specs.Refinement.Emptied.{HasKept, KeepsCounting, is_left}
+use Rattle.dn_shaper.proofs.Words.{HasKept, KeepsCounting, List, Option, is_left, subst, sym, true, ℕ, ◌∙◌, ◌≡◌}
 use Rattle.dn_shaper.proofs.LeftSteps.{TopPopped, dropped, dropped-kept, first-of-none, first-of-top, keeps-none, popped-fewer, top-popped}
 use Rattle.dn_shaper.proofs.NextStarts.{zero_from_none}
 use Rattle.dn_shaper.proofs.links.leaving.drop_one.Goals.{After-forget}

@@ -1,5 +1,5 @@
 -- After all keys that were left have gone, the room that callers see is there.
-use Rattle.std.proofs.Common.{arith}
+use Rattle.dn_shaper.proofs.Words.{arith}
 use Rattle.dn_shaper.proofs.LeftSteps.{counts-of-zero, first-of-zero, keeps-none}
 use Rattle.dn_shaper.proofs.links.leaving.make_room.Goals as goal
 

@@ -1,9 +1,5 @@
 -- The packet arrives at its flow's home and leaves at once.
-use Rattle.std.proofs.Common.{arith, refl, subst}
-use Rattle.std.proofs.lemmas.Grind.{common_steps}
-use Rattle.dn_shaper.specs.declared.links.link_parts.LinkParts.{LinkParts}
-use Rattle.dn_shaper.specs.Refinement.Passing.{PassesLink}
-use Rattle.dn_shaper.specs.Refinement.Views.{queue_lengths, view_of}
+use Rattle.dn_shaper.proofs.Words.{LinkParts, PassesLink, arith, common_steps, queue_lengths, refl, subst, view_of}
 use Rattle.dn_shaper.proofs.Accepting.{few-accepted, may-agree}
 use Rattle.dn_shaper.proofs.HomeRead.{in-table, place-below}
 use Rattle.dn_shaper.proofs.Passing.{agrees, arrives, can, can-pass, few-started, free-by, homes-passed, mid, none, stands, starts, views, within}

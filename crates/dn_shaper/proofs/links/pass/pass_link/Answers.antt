@@ -1,8 +1,6 @@
 -- An own link is left as it is, and the block of a shared one holds the scheduler after its step.
-use Rattle.std.proofs.Common.{◌<◌, ◌^◌, ap, subst, sym}
-use Rattle.std.specs.Box.{with_value}
-use Rattle.dn_wf2q.specs.Schedule.{IsIdle, KeepsRoom, Passes, room_at}
-use Rattle.dn_shaper.specs.declared.links.shared_link.SharedLink.{SharedLink}
+use Rattle.dn_shaper.proofs.Words.{IsIdle, Passes, SharedLink, ap, room_at, subst, sym, with_value, ◌<◌, ◌^◌}
+use Rattle.dn_wf2q.specs.Schedule.{KeepsRoom}
 use Rattle.dn_shaper.proofs.Passing.{can-shared, own-passes, shared-passes}
 use Rattle.dn_shaper.proofs.links.pass.pass_link.Goals as goal
 

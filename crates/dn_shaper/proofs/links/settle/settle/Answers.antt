@@ -1,5 +1,5 @@
 -- Where no start is due, all are made already.
-use Rattle.dn_shaper.specs.Refinement.Settings.{settings_of}
+use Rattle.dn_shaper.proofs.Words.{settings_of}
 use Rattle.dn_shaper.proofs.Settles.{none-starts, only-none, reaches-none, reaches-start}
 use Rattle.dn_shaper.proofs.links.settle.settle.Goals as goal
 

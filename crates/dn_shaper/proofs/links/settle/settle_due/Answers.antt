@@ -1,7 +1,5 @@
 -- The loop makes the starts of the settling, one by one, until none is due.
-use Rattle.std.proofs.Common.{subst, sym}
-use Rattle.dn_shaper.specs.declared.links.parts.Parts.{Parts}
-use Rattle.dn_shaper.specs.Refinement.Settings.{settings_of}
+use Rattle.dn_shaper.proofs.Words.{Parts, settings_of, subst, sym}
 use Rattle.dn_shaper.proofs.Settles.{Reaches}
 use Rattle.dn_shaper.proofs.Settles.{only-none, only-more, reaches-start, reaches-one, reaches-none}
 use Rattle.dn_shaper.proofs.links.settle.settle_due.Goals as goal

@@ -1,5 +1,4 @@
-use Rattle.dn_shaper.specs.Refinement.Settings.{settings_of}
-use Rattle.dn_shaper.specs.Refinement.Settling.{AreInStep, OnlyStarts}
+use Rattle.dn_shaper.proofs.Words.{AreInStep, OnlyStarts, settings_of}
 use Rattle.dn_shaper.proofs.Settles.{Reaches}
 use Rattle.dn_shaper.proofs.links.settle.settle_due.Given as goal
 

@@ -1,15 +1,6 @@
 -- One step of the loop is one start of the settling.
-use Rattle.std.proofs.Common.{◌≡◌, ◌<◌, ◌≤◌, ◌∙◌, ◌+◌, ℕ, ◌∷◌, ap, length, subst, refl, arith, IsPermutation}
-use Rattle.std.proofs.lemmas.Grind.{common_steps}
-use Rattle.std.proofs.lemmas.List.Sorted.{length_permutation}
-use Rattle.dn_flows.proofs.Places.{viewed, get-below-map}
-use Rattle.dn_shaper.specs.declared.links.next_start.NextStart.{NextStart}
-use Rattle.dn_heap.specs.Heap.{IsLeast}
-use Rattle.dn_types.specs.Trace.{pipe_of}
-use Rattle.dn_shaper.specs.Refinement.Agreement.{GivesRates}
-use Rattle.dn_shaper.specs.Refinement.NextStarts.{next_start_cmp}
-use Rattle.dn_shaper.specs.Refinement.Settings.{settings_of}
-use Rattle.dn_shaper.specs.Refinement.Views.{LinkView, queue_lengths, view_of}
+use Rattle.dn_shaper.proofs.Words.{GivesRates, IsLeast, IsPermutation, LinkView, NextStart, ap, arith, common_steps, get-below-map, length, length_permutation, next_start_cmp, pipe_of}
+use Rattle.dn_shaper.proofs.Words.{queue_lengths, refl, settings_of, subst, view_of, viewed, ℕ, ◌+◌, ◌<◌, ◌∙◌, ◌∷◌, ◌≡◌, ◌≤◌}
 use Rattle.dn_shaper.proofs.Accepting.{none-waits, some-waits}
 use Rattle.dn_shaper.proofs.NextStarts.{zero_from_none, none_late, all_late}
 use Rattle.dn_shaper.proofs.Settles.{none-starts, can-start, first-starts, kept-some, kept-none, least-due, link-after, only-starts, popped-keys, popped-least, popped-room, rates-read}

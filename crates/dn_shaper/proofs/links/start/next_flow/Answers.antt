@@ -1,5 +1,5 @@
 -- On a shared link the flow is the one that its scheduler picks.
-use Rattle.std.specs.Box.{with_value}
+use Rattle.dn_shaper.proofs.Words.{with_value}
 use Rattle.dn_shaper.proofs.Taking.{keeps-of, picks-of, queues-of, takes-of}
 use Rattle.dn_shaper.proofs.links.start.next_flow.Goals as goal
 

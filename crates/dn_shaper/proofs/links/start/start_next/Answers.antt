@@ -1,10 +1,5 @@
 -- The link at the place is the one that can start.
-use Rattle.std.proofs.Common.{◌∙◌, ℕ, ap, sym, refl, subst, arith}
-use Rattle.dn_flows.specs.Table.{flow_at, popped}
-use Rattle.dn_flows.proofs.Places.{get-map}
-use Rattle.dn_shaper.specs.Refinement.Sending.{HasQueues}
-use Rattle.dn_shaper.specs.Refinement.Starting.{HasFront}
-use Rattle.dn_shaper.specs.Refinement.Views.{homes_of, LinkView, CanSend, IsNextToSend, queue_lengths, view_of}
+use Rattle.dn_shaper.proofs.Words.{CanSend, HasFront, HasQueues, IsNextToSend, LinkView, ap, arith, flow_at, get-map, homes_of, popped, queue_lengths, refl, subst, sym, view_of, ℕ, ◌∙◌}
 use Rattle.dn_shaper.proofs.Alone.{set-seen}
 use Rattle.dn_shaper.proofs.HomesOf.{homes-set, popped-home}
 use Rattle.dn_shaper.proofs.Queued.{queues-at}

@@ -1,6 +1,5 @@
 -- The flow that is taken has a packet at the front of its queue.
-use Rattle.std.proofs.Common.{◌∙◌, ap, arith, ℕ, sym}
-use Rattle.dn_shaper.specs.Refinement.Views.{queue_lengths}
+use Rattle.dn_shaper.proofs.Words.{ap, arith, queue_lengths, sym, ℕ, ◌∙◌}
 use Rattle.dn_shaper.proofs.Taking.{sent, some-is}
 use Rattle.dn_shaper.proofs.links.start.start_one.Goals as goal
 

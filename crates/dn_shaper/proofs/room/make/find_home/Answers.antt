@@ -1,7 +1,5 @@
 -- The link that is noted for the key is a shared one, and where none is noted the flow gets a new link.
-use Rattle.std.proofs.Common.{◌∙◌, map, refl, sym}
-use Rattle.dn_shaper.specs.Refinement.Homing.{place_for}
-use Rattle.dn_shaper.specs.Refinement.Views.{view_of}
+use Rattle.dn_shaper.proofs.Words.{map, place_for, refl, sym, view_of, ◌∙◌}
 use Rattle.dn_shaper.proofs.Sharing.{both-ok, houses-none, houses-some, if-ok}
 use Rattle.dn_shaper.proofs.room.make.find_home.Goals as goal
 

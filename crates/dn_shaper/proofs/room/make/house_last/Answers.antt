@@ -1,6 +1,5 @@
 -- Where memory is refused, the last flow is out and only room was made.
-use Rattle.std.proofs.Common.{◌∙◌, List, length, ap, sym}
-use Rattle.dn_flows.specs.declared.waiting.Waiting.{Waiting}
+use Rattle.dn_shaper.proofs.Words.{List, Waiting, ap, length, sym, ◌∙◌}
 use Rattle.dn_shaper.proofs.Preparing.{err-of, forgets}
 use Rattle.dn_shaper.proofs.room.make.house_last.Goals as goal
 

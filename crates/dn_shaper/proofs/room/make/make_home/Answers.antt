@@ -1,13 +1,7 @@
 -- The flow's place is reserved, which leaves all queues as long as they were, and then its home is made.
-use Rattle.std.proofs.Common.{◌≡◌, ◌∙◌, ℕ, List, length, map, set, ap, refl, subst, sym, arith}
-use Rattle.std.specs.Prelude.{slice_get}
-use Rattle.dn_flows.specs.Table.{FlowState, flow_at, places, with_home, with_place}
-use Rattle.dn_flows.proofs.Reservations.{places-set}
-use Rattle.dn_shaper.specs.Refinement.Homing.{Houses, place_for}
-use Rattle.dn_shaper.specs.Refinement.Making.{KeepsAt, SameFlow}
-use Rattle.dn_shaper.specs.Refinement.Views.{homes_of, LinkView, queue_lengths, view_of, views_of}
+use Rattle.dn_shaper.proofs.Words.{FlowState, Houses, KeepsAt, LinkView, List, SameFlow, ap, arith, flow_at, homes_of, length, length-set, map, place_for, places, places-set, queue_lengths, refl}
+use Rattle.dn_shaper.proofs.Words.{set, slice_get, subst, sym, view_of, views_of, with_home, with_place, ℕ, ◌∙◌, ◌≡◌}
 use Rattle.dn_shaper.proofs.Alone.{all-seen-same, lengths-same}
-use Rattle.std.proofs.lemmas.List.{length-set}
 use Rattle.dn_shaper.proofs.HomesOf.{homes-set, set-housed}
 use Rattle.dn_shaper.proofs.Reserving.{place-reserved, placed-keeps}
 use Rattle.dn_shaper.proofs.Sharing.{on-err}

@@ -1,13 +1,5 @@
 -- The link is the flow's own, or one that it shares alone so far.
-use Rattle.std.proofs.Common.{◌≡◌, ◌∙◌, ◌<◌, ◌++◌, List, ℕ, [], ◌∷◌, ap, sym, subst, length}
-use Rattle.dn_types.specs.Calls.{link_of}
-use Rattle.dn_types.specs.declared.target.Target.{Target}
-use Rattle.dn_wf2q.specs.Schedule.{Schedule, room_at}
-use Rattle.dn_shaper.specs.declared.links.link_parts.Carries.{Carries}
-use Rattle.dn_shaper.specs.declared.links.shared_link.SharedLink.{SharedLink}
-use Rattle.dn_shaper.specs.Refinement.Homing.{IsNewLink}
-use Rattle.dn_shaper.specs.Refinement.Making.{OnlyRoom}
-use Rattle.dn_shaper.specs.Refinement.Views.{view_of}
+use Rattle.dn_shaper.proofs.Words.{Carries, IsNewLink, List, OnlyRoom, Schedule, SharedLink, Target, [], ap, length, link_of, room_at, subst, sym, view_of, ℕ, ◌++◌, ◌<◌, ◌∙◌, ◌∷◌, ◌≡◌}
 use Rattle.dn_shaper.proofs.Linked.{own-new, shared-new}
 use Rattle.dn_shaper.proofs.room.make.new_link.Goals as goal
 use Rattle.dn_shaper.proofs.room.make.new_link.Goals.{in-Pipe, in-Queue+in_ok-take_slot-in-Queue+in_ok-new-in-Queue}

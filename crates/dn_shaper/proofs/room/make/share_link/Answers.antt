@@ -1,9 +1,5 @@
 -- The link at the place is shared, and the flow takes its next slot.
-use Rattle.std.proofs.Common.{List, map, sym, subst, refl}
-use Rattle.std.specs.Prelude.{slice_get}
-use Rattle.dn_types.specs.Trace.{shared}
-use Rattle.dn_shaper.specs.Refinement.Making.{KeepsAt}
-use Rattle.dn_shaper.specs.Refinement.Views.{LinkView, view_of}
+use Rattle.dn_shaper.proofs.Words.{KeepsAt, LinkView, List, map, refl, shared, slice_get, subst, sym, view_of}
 use Rattle.dn_flows.proofs.Places.{map-set}
 use Rattle.dn_shaper.proofs.Reserving.{link-reserved}
 use Rattle.dn_shaper.proofs.Sharing.{on-err, read-name, read-view}

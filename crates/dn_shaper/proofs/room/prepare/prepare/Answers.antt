@@ -1,13 +1,6 @@
 -- The flow is known and has room, or it is new and has a home. Where memory is refused only room was made.
-use Rattle.std.proofs.Common.{◌∙◌, ◌≤◌, ◌<◌, List, [], ap, length, sym, subst, arith}
-use Rattle.std.proofs.lemmas.Grind.{common_steps}
-use Rattle.std.specs.Prelude.{slice_get}
-use Rattle.dn_types.specs.Flows.{flow_number}
-use Rattle.dn_flows.specs.Table.{Table}
-use Rattle.dn_shaper.specs.Refinement.Agreement.{AgreesWith, link_names}
-use Rattle.dn_shaper.specs.Refinement.Making.{KeepsPlaces, OnlyMakesRoom}
-use Rattle.dn_shaper.specs.Refinement.Starting.{HoldsPlaces}
-use Rattle.dn_shaper.specs.Refinement.Views.{LinkView, queue_lengths, views_of}
+use Rattle.dn_shaper.proofs.Words.{AgreesWith, HoldsPlaces, KeepsPlaces, LinkView, List, OnlyMakesRoom, Table, [], ap, arith, common_steps, flow_number, length, link_names, queue_lengths}
+use Rattle.dn_shaper.proofs.Words.{slice_get, subst, sym, views_of, ◌<◌, ◌∙◌, ◌≤◌}
 use Rattle.dn_shaper.proofs.Alone.{all-seen-same}
 use Rattle.dn_shaper.proofs.Given.{given-leaves, given-ready, given-prepares, given-sound}
 use Rattle.dn_shaper.proofs.Indexed.{noted-found}

@@ -1,5 +1,5 @@
 -- A flow that has the key is at home where its packets go.
-use Rattle.std.proofs.Common.{ap, cond, ◌++◌, ◌∷◌, []}
+use Rattle.dn_shaper.proofs.Words.{[], ap, cond, ◌++◌, ◌∷◌}
 use Rattle.dn_shaper.proofs.Sending.{goes-there}
 use Rattle.dn_shaper.proofs.room.reserve.reserve_for.Goals as goal
 

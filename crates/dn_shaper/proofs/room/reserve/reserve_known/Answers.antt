@@ -1,15 +1,7 @@
 -- The flow's home has room, and only room was made.
-use Rattle.std.proofs.Common.{◌≡◌, ◌∙◌, ◌<◌, ℕ, List, length, map, set, refl, ap, sym, subst, arith}
-use Rattle.std.specs.Prelude.{Some, slice_get}
-use Rattle.std.proofs.lemmas.Grind.{common_steps}
-use Rattle.dn_types.specs.Trace.{own, shared}
-use Rattle.dn_flows.specs.Table.{flow_at, places, with_place}
-use Rattle.dn_wf2q.specs.Schedule.{room_at}
+use Rattle.dn_shaper.proofs.Words.{Home, KeepsAt, LinkParts, LinkView, List, Some, ap, arith, common_steps, flow_at, homes_of, length, map, own, places, queue_lengths, refl, room_at, set, shared}
+use Rattle.dn_shaper.proofs.Words.{slice_get, subst, sym, view_of, views_of, with_place, ℕ, ◌<◌, ◌∙◌, ◌≡◌}
 use Rattle.dn_flows.proofs.Places.{map-set}
-use Rattle.dn_flows.specs.declared.home.Home.{Home}
-use Rattle.dn_shaper.specs.declared.links.link_parts.LinkParts.{LinkParts}
-use Rattle.dn_shaper.specs.Refinement.Making.{KeepsAt}
-use Rattle.dn_shaper.specs.Refinement.Views.{homes_of, LinkView, queue_lengths, view_of, views_of}
 use Rattle.dn_shaper.proofs.Alone.{all-seen-same, goes-own}
 use Rattle.dn_shaper.proofs.HomeRead.{at-home, in-table, link-there, place-below}
 use Rattle.dn_shaper.proofs.HomesOf.{homes-set}

@@ -1,6 +1,5 @@
 -- Only room was made.
-use Rattle.std.proofs.Common.{refl}
-use Rattle.dn_shaper.specs.declared.state.State.{State}
+use Rattle.dn_shaper.proofs.Words.{State, refl}
 use Rattle.dn_shaper.proofs.Preparing.{parts-sound}
 use Rattle.dn_shaper.proofs.Reserved.{reserves-ready}
 use Rattle.dn_shaper.proofs.Rooms.{keeps-room}

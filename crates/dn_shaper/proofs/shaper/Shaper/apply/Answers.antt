@@ -1,6 +1,5 @@
 -- Each kind of call is answered by its function, below the limit of calls.
-use Rattle.dn_types.specs.declared.call.Call.TheVariants.{Configure, Submit, Advance, Collect, Show}
-use Rattle.dn_wf2q.proofs.Reserved.{on_err_always}
+use Rattle.dn_shaper.proofs.Words.{Advance, Collect, Configure, Show, Submit, on_err_always}
 use Rattle.dn_shaper.proofs.Counting.{exhausted, answers, answers-ok, never-full, refuses, holds-then, holds-ok, needs, same-stands}
 use Rattle.dn_shaper.proofs.Needing.{configure-needs, submit-needs}
 use Rattle.dn_shaper.proofs.Rooms.{leaves-of}

@@ -1,9 +1,5 @@
 -- A Collect in a list that is lent is answered as any other, below the limit of calls.
-use Rattle.std.proofs.Common.{refl, sym, subst, length, arith}
-use Rattle.dn_types.specs.Clock.{counted}
-use Rattle.dn_types.specs.declared.call.Call.TheVariants.{Collect}
-use Rattle.dn_shaper.specs.declared.state.State.{State}
-use Rattle.dn_shaper.specs.Standing.{StandsAt}
+use Rattle.dn_shaper.proofs.Words.{Collect, StandsAt, State, arith, counted, length, refl, subst, sym}
 use Rattle.dn_shaper.proofs.Counting.{exhausted, answers-ok, holds-ok, same-stands}
 use Rattle.dn_shaper.proofs.Holding.{held-is}
 use Rattle.dn_shaper.proofs.shaper.Shaper.collect_lent.Goals as goal

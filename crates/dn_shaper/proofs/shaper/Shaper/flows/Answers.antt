@@ -1,11 +1,5 @@
 -- The flows are those of the calls, and a Show has one item for each.
-use Rattle.std.proofs.Common.{◌∙◌, ◌≤◌, sym, subst}
-use Rattle.dn_types.specs.Clock.{counted}
-use Rattle.dn_types.specs.Replies.{reply}
-use Rattle.dn_types.specs.declared.call.Call.TheVariants.{Show}
-use Rattle.dn_shaper.specs.declared.state.State.{State}
-use Rattle.dn_shaper.specs.Shaper.{items_in}
-use Rattle.dn_shaper.specs.Standing.{StandsAt}
+use Rattle.dn_shaper.proofs.Words.{Show, StandsAt, State, counted, items_in, reply, subst, sym, ◌∙◌, ◌≤◌}
 use Rattle.dn_shaper.proofs.Holding.{flows-are, shows-few}
 use Rattle.dn_shaper.proofs.shaper.Shaper.flows.Goals as goal
 

@@ -1,11 +1,5 @@
 -- What is held is what the calls lead to, and no Collect's list is longer.
-use Rattle.std.proofs.Common.{◌∙◌, ◌≤◌, sym, subst}
-use Rattle.dn_types.specs.Clock.{counted}
-use Rattle.dn_types.specs.Replies.{reply}
-use Rattle.dn_types.specs.declared.call.Call.TheVariants.{Collect}
-use Rattle.dn_shaper.specs.declared.state.State.{State}
-use Rattle.dn_shaper.specs.Shaper.{items_in}
-use Rattle.dn_shaper.specs.Standing.{StandsAt}
+use Rattle.dn_shaper.proofs.Words.{Collect, StandsAt, State, counted, items_in, reply, subst, sym, ◌∙◌, ◌≤◌}
 use Rattle.dn_shaper.proofs.Holding.{held-is, collects-few}
 use Rattle.dn_shaper.proofs.shaper.Shaper.held.Goals as goal
 

@@ -1,7 +1,5 @@
 -- The greater of the two counts, and no list in the next reply is longer.
-use Rattle.std.proofs.Common.{◌∙◌, ◌≤◌, max, sym, subst}
-use Rattle.dn_types.specs.Replies.{reply}
-use Rattle.dn_shaper.specs.Shaper.{items_in}
+use Rattle.dn_shaper.proofs.Words.{items_in, max, reply, subst, sym, ◌∙◌, ◌≤◌}
 use Rattle.dn_shaper.proofs.Holding.{items-few}
 use Rattle.dn_shaper.proofs.shaper.Shaper.reply_room.Goals as goal
 

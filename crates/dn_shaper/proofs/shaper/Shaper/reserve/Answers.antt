@@ -1,8 +1,5 @@
 -- Only room was made, so the shaper stands after the same calls.
-use Rattle.std.proofs.Common.{sym, subst}
-use Rattle.dn_types.specs.Clock.{counted}
-use Rattle.dn_shaper.specs.declared.state.State.{State}
-use Rattle.dn_shaper.specs.Standing.{StandsAt}
+use Rattle.dn_shaper.proofs.Words.{StandsAt, State, counted, subst, sym}
 use Rattle.dn_shaper.proofs.Rooms.{not-full, told-new}
 use Rattle.dn_shaper.proofs.shaper.Shaper.reserve.Goals as goal
 

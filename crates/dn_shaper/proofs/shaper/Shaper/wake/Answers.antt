@@ -1,9 +1,4 @@
-use Rattle.std.proofs.Common.{◌∙◌, ◌<◌, ℕ, max, sym, subst, IfSome}
-use Rattle.std.specs.Prelude.{Option}
-use Rattle.dn_types.specs.Clock.{counted, effective_moment}
-use Rattle.dn_shaper.specs.declared.state.State.{State}
-use Rattle.dn_shaper.specs.Refinement.Views.{views_of, next_starts}
-use Rattle.dn_shaper.specs.Standing.{StandsAt}
+use Rattle.dn_shaper.proofs.Words.{IfSome, Option, StandsAt, State, counted, effective_moment, max, next_starts, subst, sym, views_of, ℕ, ◌<◌, ◌∙◌}
 use Rattle.dn_shaper.proofs.Wakes.{wakes}
 use Rattle.dn_shaper.proofs.Waking.{wake-is, quiet}
 use Rattle.dn_shaper.proofs.shaper.Shaper.wake.Goals as goal

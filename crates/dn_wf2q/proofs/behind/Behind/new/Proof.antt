@@ -1,6 +1,5 @@
 -- `new` makes the empty list.
-use Rattle.std.proofs.Common.{◌≡◌, [], ◌∷◌, refl}
-use Rattle.std.proofs.raw_atomic.Walks.{proved_at, leaves}
+use Rattle.dn_wf2q.proofs.Words.{[], leaves, proved_at, refl, the_row, ◌∷◌, ◌≡◌}
 use base.Logic.{SProp, emp}
 use contract.Monad.{fact, fact_i}
 use contract.Running.{tables}
@@ -15,8 +14,7 @@ use types.ByLocal.{alloc_all, pass_all, free_all, look_at, sets}
 use types.Kit.{‵, raw, ◌⊛◌, ◌$◌, ◌∵◌, !, qed, by, keep, split, use0}
 use types.Part.{agg}
 use types.Run.{no_more, returns, enter}
-use Rattle.dn_wf2q.specs.contracts.behind.Behind.{the_row}
-use Rattle.dn_wf2q.specs.contracts.behind.Behind.new.{ended, clauses}
+use Rattle.dn_wf2q.specs.contracts.behind.Behind.new.{clauses, ended}
 use Rattle.dn_wf2q.specs.contracts.behind.Behind.new.Key.{name as #self}
 use Rattle.dn_wf2q.proofs.behind.Behind.new.Statement.{statement}
 use Rattle.dn_wf2q.proofs.behind.Behind.new.Code as code

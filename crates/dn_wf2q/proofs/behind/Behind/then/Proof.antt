@@ -1,6 +1,5 @@
 -- `then` makes the list that its clause names.
-use Rattle.std.proofs.Common.{◌≡◌, List, [], ◌∷◌, ◌++◌, refl}
-use Rattle.std.proofs.raw_atomic.Walks.{proved_at, leaves}
+use Rattle.dn_wf2q.proofs.Words.{List, [], changed, leaves, proved_at, refl, the_row, ◌++◌, ◌∷◌, ◌≡◌}
 use base.Logic.{SProp, emp}
 use contract.Monad.{fact, fact_i}
 use contract.Running.{tables}
@@ -18,10 +17,8 @@ use types.ByLocal.{alloc_all, pass_all, free_all, look_at, sets}
 use types.Kit.{‵, raw, prop, ◌⊛◌, ◌$◌, ◌∵◌, !, qed, by, move, keep, drop, split, fsplit, fjoin, feq_l, regoal, use0}
 use types.Part.{agg}
 use types.Run.{no_more, returns, enter}
-use Rattle.dn_wf2q.specs.Queue.{changed}
-use Rattle.dn_wf2q.specs.contracts.behind.Behind.{the_row}
 use Rattle.dn_wf2q.specs.contracts.behind.Change as change
-use Rattle.dn_wf2q.specs.contracts.behind.Behind.then.{ended, clauses}
+use Rattle.dn_wf2q.specs.contracts.behind.Behind.then.{clauses, ended}
 use Rattle.dn_wf2q.specs.contracts.behind.Behind.then.Key.{name as #self}
 use Rattle.dn_wf2q.proofs.behind.Behind.then.Statement.{statement}
 use Rattle.dn_wf2q.proofs.behind.Behind.then.Code as code

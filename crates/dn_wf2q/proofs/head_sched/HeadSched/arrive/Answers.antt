@@ -1,5 +1,4 @@
-use Rattle.std.proofs.Common.{arith}
-use Rattle.dn_wf2q.specs.Kept.{flows_of, seen}
+use Rattle.dn_wf2q.proofs.Words.{arith, flows_of, seen}
 use Rattle.dn_wf2q.proofs.BySlot.{length-by_slot}
 use Rattle.dn_wf2q.proofs.Rooms.{keeps-set, room_listed}
 use Rattle.dn_wf2q.proofs.head_sched.HeadSched.arrive.Goals as goal

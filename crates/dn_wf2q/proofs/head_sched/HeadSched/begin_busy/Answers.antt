@@ -1,6 +1,4 @@
-use Rattle.std.proofs.Common.{ap, ◌∙◌}
-use Rattle.dn_wf2q.specs.Schedule.{one_each}
-use Rattle.dn_wf2q.specs.Kept.{flows_of}
+use Rattle.dn_wf2q.proofs.Words.{ap, flows_of, one_each, ◌∙◌}
 use Rattle.dn_wf2q.proofs.Rooms.{rooms-forgotten}
 use Rattle.dn_wf2q.proofs.head_sched.HeadSched.begin_busy.Goals as goal
 

@@ -1,4 +1,4 @@
-use Rattle.dn_wf2q.specs.Kept.{flows_of}
+use Rattle.dn_wf2q.proofs.Words.{flows_of}
 use Rattle.dn_wf2q.proofs.Rooms.{keeps-set}
 use Rattle.dn_wf2q.proofs.head_sched.HeadSched.discard.Goals as goal
 

@@ -1,6 +1,4 @@
-use Rattle.std.proofs.Common.{ℕ, subst, arith}
-use Rattle.dn_wf2q.specs.Kept.{flows_of, schedule_of, seen}
-use Rattle.dn_wf2q.specs.Schedule.{Passes}
+use Rattle.dn_wf2q.proofs.Words.{Passes, arith, flows_of, schedule_of, seen, subst, ℕ}
 use Rattle.dn_wf2q.proofs.BySlot.{length-by_slot}
 use Rattle.dn_wf2q.proofs.Passed.{passes}
 use Rattle.dn_wf2q.proofs.Rooms.{keeps-forgotten, room_listed}

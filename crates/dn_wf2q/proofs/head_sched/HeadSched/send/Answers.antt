@@ -1,9 +1,4 @@
-use Rattle.std.proofs.Common.{◌∙◌, drop}
-use Rattle.dn_types.specs.Wf2q.{raised}
-use Rattle.dn_wf2q.specs.Schedule.{flow_at, heads_of}
-use Rattle.dn_wf2q.specs.Queue.{IsFirst}
-use Rattle.dn_wf2q.specs.Kept.{flows_of}
-use Rattle.dn_wf2q.specs.Steps.{SendsHead}
+use Rattle.dn_wf2q.proofs.Words.{IsFirst, SendsHead, drop, flow_at, flows_of, heads_of, raised, ◌∙◌}
 use Rattle.dn_wf2q.proofs.Rooms.{keeps-set}
 use Rattle.dn_wf2q.proofs.Sending.{at_first, from_first}
 use Rattle.dn_wf2q.proofs.head_sched.HeadSched.send.Goals as goal

@@ -1,5 +1,4 @@
-use Rattle.std.proofs.Common.{arith}
-use Rattle.dn_wf2q.specs.Stored.{spare}
+use Rattle.dn_wf2q.proofs.Words.{arith, spare}
 use Rattle.dn_wf2q.proofs.Rooms.{room_listed, room_of_others}
 use Rattle.dn_wf2q.proofs.Stored.{has_place, has_room, joined}
 use Rattle.dn_wf2q.proofs.sched.Sched.arrive.Goals as goal

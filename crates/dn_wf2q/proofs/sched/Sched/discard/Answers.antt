@@ -1,6 +1,4 @@
-use Rattle.std.proofs.Common.{arith}
-use Rattle.std.proofs.lemmas.List.{get_or_read}
-use Rattle.dn_wf2q.specs.Stored.{spare}
+use Rattle.dn_wf2q.proofs.Words.{arith, get_or_read, spare}
 use Rattle.dn_wf2q.proofs.Rooms.{room_grows}
 use Rattle.dn_wf2q.proofs.Stored.{cleared}
 use Rattle.dn_wf2q.proofs.sched.Sched.discard.Goals as goal

@@ -1,6 +1,4 @@
-use Rattle.std.proofs.Common.{ap, map}
-use Rattle.dn_wf2q.specs.Schedule.{Flow, forgotten}
-use Rattle.dn_wf2q.specs.Stored.{spare}
+use Rattle.dn_wf2q.proofs.Words.{Flow, ap, forgotten, map, spare}
 use Rattle.dn_wf2q.proofs.Passed.{idle_at}
 use Rattle.dn_wf2q.proofs.Rooms.{room_listed}
 use Rattle.dn_wf2q.proofs.Stored.{begun, has_room, passed, passes_with}

@@ -1,8 +1,4 @@
-use Rattle.std.proofs.Common.{◌∙◌, map, sym, ap, arith}
-use Rattle.std.proofs.lemmas.List.{get_or_read}
-use Rattle.dn_types.specs.Wf2q.{pick}
-use Rattle.dn_wf2q.specs.Schedule.{Picks, Schedule, SendsFirst, heads_of}
-use Rattle.dn_wf2q.specs.Stored.{spare}
+use Rattle.dn_wf2q.proofs.Words.{Picks, Schedule, SendsFirst, ap, arith, get_or_read, heads_of, map, pick, spare, sym, ◌∙◌}
 use Rattle.dn_wf2q.proofs.Calm.{if_some}
 use Rattle.dn_wf2q.proofs.Rooms.{room_grows}
 use Rattle.dn_wf2q.proofs.Sending.{at_first, backlog_first, flows_were, mapped_none, picks_first, sends_first}

@@ -1,6 +1,4 @@
-use Rattle.std.proofs.Common.{◌+◌, arith}
-use Rattle.std.proofs.lemmas.List.{get_or_read}
-use Rattle.dn_wf2q.specs.Stored.{spare}
+use Rattle.dn_wf2q.proofs.Words.{arith, get_or_read, spare, ◌+◌}
 use Rattle.dn_wf2q.proofs.Rooms.{on_ok, room_grows}
 use Rattle.dn_wf2q.proofs.Stored.{extended, regrown, room_here}
 use Rattle.dn_wf2q.proofs.sched.Sched.reserve_flow.Goals as goal

@@ -1,4 +1,4 @@
-use Rattle.std.proofs.Common.{◌+◌, refl, arith}
+use Rattle.dn_wf2q.proofs.Words.{arith, refl, ◌+◌}
 use Rattle.dn_wf2q.proofs.Reserved.{kept_extended, extended_seen, grown}
 use Rattle.dn_wf2q.proofs.sched_parts.SchedParts.add_flow.Goals as goal
 

@@ -1,4 +1,4 @@
-use Rattle.std.proofs.Common.{refl, sym, ◌∙◌, arith}
+use Rattle.dn_wf2q.proofs.Words.{arith, refl, sym, ◌∙◌}
 use Rattle.dn_wf2q.proofs.Arrived.{last_fits, arrives, was_kept, busy_kept, idle_kept}
 use Rattle.dn_wf2q.proofs.sched_parts.SchedParts.arrive.Goals as goal
 

@@ -1,4 +1,4 @@
-use Rattle.std.proofs.Common.{refl}
+use Rattle.dn_wf2q.proofs.Words.{refl}
 use Rattle.dn_wf2q.proofs.Begun.{begun, flows_forgotten}
 use Rattle.dn_wf2q.proofs.Calm.{none_waits}
 use Rattle.dn_wf2q.proofs.sched_parts.SchedParts.begin_busy.Goals as goal

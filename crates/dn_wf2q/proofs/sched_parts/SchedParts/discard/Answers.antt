@@ -1,7 +1,5 @@
-use Rattle.std.proofs.Common.{◌<◌, ◌≤◌, ◌+◌, refl, ap, sym, ◌∙◌, arith}
-use Rattle.std.proofs.lemmas.Bool.Decides.{nat_tests}
+use Rattle.dn_wf2q.proofs.Words.{ap, arith, nat_tests, packets_of, refl, sym, ◌+◌, ◌<◌, ◌∙◌, ◌≤◌}
 use Rattle.dn_wf2q.proofs.Heads.{next_is_none}
-use Rattle.dn_wf2q.specs.Queue.{packets_of}
 use Rattle.dn_wf2q.proofs.Calm.{left_late}
 use Rattle.dn_wf2q.proofs.Payable.{payable}
 use Rattle.dn_wf2q.proofs.Discarded.{Took, beyond, discards, eligible_left, idle_left, took_eligible, took_waiting, waiting_left, weighs}

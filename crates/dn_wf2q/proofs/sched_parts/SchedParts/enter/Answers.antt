@@ -1,7 +1,4 @@
-use Rattle.std.proofs.Common.{◌<◌, ap, arith}
-use Rattle.std.proofs.lemmas.Bool.Decides.{nat_tests}
-use Rattle.dn_wf2q.specs.Rank.{RankView}
-use Rattle.dn_wf2q.specs.Kept.{seen, tagged}
+use Rattle.dn_wf2q.proofs.Words.{RankView, ap, arith, nat_tests, seen, tagged, ◌<◌}
 use Rattle.dn_wf2q.proofs.BySlot.{length-by_slot}
 use Rattle.dn_wf2q.proofs.Payable.{head_fits}
 use Rattle.dn_wf2q.proofs.Steps.{weights-le}

@@ -1,9 +1,5 @@
-use Rattle.std.proofs.Common.{◌≡◌, ℕ, sym, ◌∙◌, ◌<◌, length, List, subst, refl, None, Option, Some, IfSome, IfNone}
-use Rattle.std.specs.List.{filter}
-use Rattle.std.specs.Option.{option_map}
-use Rattle.dn_types.specs.Wf2q.{Stamped, first_to_go, is_eligible, pick, raised}
-use Rattle.dn_wf2q.specs.Schedule.{Flow, flow_at, heads_of, IsIdle}
-use Rattle.dn_wf2q.specs.Kept.{flows_of}
+use Rattle.dn_wf2q.proofs.Words.{Flow, IfNone, IfSome, IsIdle, List, None, Option, Some, Stamped, filter, first_to_go, flow_at, flows_of, heads_of, is_eligible, length, option_map, pick, raised}
+use Rattle.dn_wf2q.proofs.Words.{refl, subst, sym, ℕ, ◌<◌, ◌∙◌, ◌≡◌}
 use Rattle.dn_wf2q.proofs.Calm.{flows_same}
 use Rattle.dn_wf2q.proofs.Counts.{heads_of_idle, idle_from_heads}
 use Rattle.dn_wf2q.proofs.Scan.{pick_none}

@@ -1,6 +1,4 @@
-use Rattle.std.proofs.Common.{◌≡◌, ◌≤◌, length, refl}
-use Rattle.dn_wf2q.specs.Schedule.{flow_at}
-use Rattle.dn_wf2q.specs.Kept.{flows_of}
+use Rattle.dn_wf2q.proofs.Words.{flow_at, flows_of, length, refl, ◌≡◌, ◌≤◌}
 use Rattle.dn_wf2q.proofs.Heads.{head_waits}
 use Rattle.dn_wf2q.proofs.Ranks.{zero_from_none}
 use Rattle.dn_wf2q.proofs.Own.{own_slots}

@@ -1,5 +1,4 @@
-use Rattle.std.proofs.Common.{◌≡◌, sum_by, arith}
-use Rattle.dn_wf2q.specs.Kept.{bound, flows_of, head_weight}
+use Rattle.dn_wf2q.proofs.Words.{arith, bound, flows_of, head_weight, sum_by, ◌≡◌}
 use Rattle.dn_wf2q.proofs.Counts.{idle_weighs}
 use Rattle.dn_wf2q.proofs.sched_parts.SchedParts.is_idle.Goals as goal
 

@@ -1,5 +1,4 @@
-use Rattle.std.proofs.Common.{◌≡◌, ◌<◌, length, arith, refl, sym}
-use Rattle.std.proofs.lemmas.Bool.Decides.{nat_tests}
+use Rattle.dn_wf2q.proofs.Words.{arith, length, nat_tests, refl, sym, ◌<◌, ◌≡◌}
 use Rattle.dn_wf2q.proofs.Steps.{raised_ready}
 use Rattle.dn_wf2q.proofs.sched_parts.SchedParts.make_eligible.Goals as goal
 

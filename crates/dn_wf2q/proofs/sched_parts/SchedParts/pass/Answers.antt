@@ -1,4 +1,4 @@
-use Rattle.std.proofs.Common.{refl, arith}
+use Rattle.dn_wf2q.proofs.Words.{arith, refl}
 use Rattle.dn_wf2q.proofs.Passed.{few_moves, no_key, none_free, numbered, passed, passed_kept, through}
 use Rattle.dn_wf2q.proofs.Calm.{none_waits}
 use Rattle.dn_wf2q.proofs.sched_parts.SchedParts.pass.Goals as goal

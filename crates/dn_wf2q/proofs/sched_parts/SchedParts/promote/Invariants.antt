@@ -1,6 +1,4 @@
-use Rattle.std.proofs.Common.{length}
-use Rattle.dn_wf2q.specs.Kept.{IsSchedKept}
-use Rattle.dn_wf2q.specs.Steps.{OnlyHeaps}
+use Rattle.dn_wf2q.proofs.Words.{IsSchedKept, OnlyHeaps, length}
 use Rattle.dn_wf2q.proofs.sched_parts.SchedParts.promote.Given as goal
 
 abbrev pub invariant-loop : goal.invariant-loop

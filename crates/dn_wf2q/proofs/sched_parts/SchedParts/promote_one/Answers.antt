@@ -1,8 +1,4 @@
-use Rattle.std.proofs.Common.{◌≡◌, ap, false, arith}
-use Rattle.std.proofs.lemmas.List.Sorted.{length_permutation}
-use Rattle.std.proofs.lemmas.List.Elements.{All-contains}
-use Rattle.std.specs.Ordering.{is_lt}
-use Rattle.dn_wf2q.specs.Rank.{RankView, rank_cmp}
+use Rattle.dn_wf2q.proofs.Words.{All-contains, RankView, ap, arith, false, is_lt, length_permutation, rank_cmp, ◌≡◌}
 use Rattle.dn_wf2q.proofs.Ranks.{not_before}
 use Rattle.dn_wf2q.proofs.Promoted.{free, listed, has_room, moved, numbered, tag_fits}
 use Rattle.dn_wf2q.proofs.sched_parts.SchedParts.promote_one.Goals as goal

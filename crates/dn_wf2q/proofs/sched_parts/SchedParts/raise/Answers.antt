@@ -1,8 +1,7 @@
-use Rattle.std.proofs.Common.{length, arith, refl}
+use Rattle.dn_wf2q.proofs.Words.{arith, flows_of, length, refl}
 use Rattle.dn_wf2q.proofs.Ranks.{zero_from_none}
 use Rattle.dn_wf2q.proofs.Counts.{heads_of_idle, no_heads_idle}
 use Rattle.dn_wf2q.proofs.Steps.{later_kept, raised_by_top, top_within}
-use Rattle.dn_wf2q.specs.Kept.{flows_of}
 use Rattle.dn_wf2q.proofs.sched_parts.SchedParts.raise.Goals as goal
 
 -- Virtual time is raised to the least start tag.

@@ -1,4 +1,4 @@
-use Rattle.std.proofs.Common.{refl, sym, arith}
+use Rattle.dn_wf2q.proofs.Words.{arith, refl, sym}
 use Rattle.dn_wf2q.proofs.Reserved.{padded_same}
 use Rattle.dn_wf2q.proofs.sched_parts.SchedParts.reserve_flow.Goals as goal
 

@@ -1,6 +1,4 @@
-use Rattle.dn_types.specs.Wf2q.{raised}
-use Rattle.dn_wf2q.specs.Schedule.{heads_of}
-use Rattle.dn_wf2q.specs.Kept.{flows_of}
+use Rattle.dn_wf2q.proofs.Words.{flows_of, heads_of, raised}
 use Rattle.dn_wf2q.proofs.Calm.{picked_sends}
 use Rattle.dn_wf2q.proofs.sched_parts.SchedParts.send.Goals as goal
 

@@ -1,7 +1,4 @@
-use Rattle.std.proofs.Common.{◌+◌, drop, length, refl, sym, ap, ◌∙◌, arith}
-use Rattle.dn_wf2q.specs.Queue.{finishing, packets_of, IsFirst}
-use Rattle.dn_wf2q.specs.Schedule.{flow_at}
-use Rattle.dn_wf2q.specs.Kept.{flows_of}
+use Rattle.dn_wf2q.proofs.Words.{IsFirst, ap, arith, drop, finishing, flow_at, flows_of, length, packets_of, refl, sym, ◌+◌, ◌∙◌}
 use Rattle.dn_wf2q.proofs.Payable.{payable}
 use Rattle.dn_wf2q.proofs.Ranks.{zero_from_none}
 use Rattle.dn_wf2q.proofs.Heads.{next_is_none}

@@ -1,4 +1,4 @@
-use Rattle.std.proofs.Common.{◌∙◌, sym}
+use Rattle.dn_wf2q.proofs.Words.{sym, ◌∙◌}
 use Rattle.dn_wf2q.proofs.Queues.{joined, joined_chained, joined_last}
 use Rattle.dn_wf2q.proofs.tagged_queue.TaggedQueue.append.Goals as goal
 

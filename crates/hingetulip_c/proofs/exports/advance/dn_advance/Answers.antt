@@ -1,5 +1,5 @@
 -- The handle's call leaves the room.
-use Rattle.std.proofs.Common.{inl, refl}
+use Rattle.hingetulip_c.proofs.Words.{inl, refl}
 use Rattle.hingetulip_c.proofs.exports.advance.dn_advance.Goals as goal
 
 pub returns-in-Ok-clause-leaves : goal.returns-in-Ok-clause-leaves

@@ -1,7 +1,5 @@
 -- The list has the reply's items.
-use Rattle.std.proofs.Common.{ap, length, refl}
-use Rattle.dn_types.specs.declared.call.Call.TheVariants.{Collect}
-use Rattle.hingetulip_c.specs.Lists.{deliveries_of}
+use Rattle.hingetulip_c.proofs.Words.{Collect, ap, deliveries_of, length, refl}
 use Rattle.hingetulip_c.proofs.Answering.{listed}
 use Rattle.hingetulip_c.proofs.Rooms.{roomy_through}
 use Rattle.hingetulip_c.proofs.exports.collect.dn_collect.Goals as goal

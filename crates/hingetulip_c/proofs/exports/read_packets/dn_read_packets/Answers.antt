@@ -1,5 +1,5 @@
 -- No row was read off the front of the text, so none begins it, or the list has no place.
-use Rattle.std.proofs.Common.{length}
+use Rattle.hingetulip_c.proofs.Words.{length}
 use Rattle.hingetulip_c.proofs.PacketRows.{none_at_front}
 use Rattle.hingetulip_c.proofs.exports.read_packets.dn_read_packets.Goals as goal
 

@@ -1,8 +1,5 @@
 -- What the handle says of the packet's submit is said of the packet.
-use Rattle.std.proofs.Common.{subst, sym, true≢false}
-use Rattle.dn_types.specs.declared.call.Call.{Call}
-use Rattle.dn_types.specs.declared.call.Call.TheVariants.{Submit}
-use Rattle.hingetulip_c.specs.Room.{IsOfNewFlow}
+use Rattle.hingetulip_c.proofs.Words.{Call, IsOfNewFlow, Submit, subst, sym, true≢false}
 use Rattle.hingetulip_c.proofs.Rooms.{room_of_alike, room_of_call}
 use Rattle.hingetulip_c.proofs.exports.reserve.dn_reserve.Goals as goal
 

@@ -1,7 +1,5 @@
 -- The list has the reply's items.
-use Rattle.std.proofs.Common.{inr, refl, length}
-use Rattle.dn_types.specs.declared.call.Call.TheVariants.{Show}
-use Rattle.hingetulip_c.specs.Lists.{flows_of}
+use Rattle.hingetulip_c.proofs.Words.{Show, flows_of, inr, length, refl}
 use Rattle.hingetulip_c.proofs.Answering.{listed}
 use Rattle.hingetulip_c.proofs.Rooms.{roomy_through}
 use Rattle.hingetulip_c.proofs.exports.show.dn_show.Goals as goal

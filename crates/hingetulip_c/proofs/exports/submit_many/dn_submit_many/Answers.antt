@@ -1,14 +1,6 @@
 -- A turn tells the fate of one packet more, and the last one all of them.
-use Rattle.std.proofs.Common.{◌≡◌, ◌∙◌, ◌<◌, ⊎_elim, inl, inr, List, ◌∷◌, get_or, take, length, sym, subst, arith}
-use Rattle.std.proofs.lemmas.List.{length-set, get_or_default}
-use Rattle.dn_types.specs.Replies.{reply}
-use Rattle.dn_types.specs.declared.call.Call.{Call}
-use Rattle.dn_types.specs.declared.reply.Reply.TheVariants.{Exhausted}
-use Rattle.hingetulip_c.specs.Handles.{HeldAfter, CanLackMemory}
-use Rattle.hingetulip_c.specs.Many.{sent}
-use Rattle.hingetulip_c.specs.Submits.{Faulty, InRange, submit_of}
-use Rattle.hingetulip_c.specs.declared.records.c_fate.CFate.{CFate}
-use Rattle.hingetulip_c.specs.declared.records.c_packet.CPacket.{CPacket}
+use Rattle.hingetulip_c.proofs.Words.{CFate, CPacket, Call, CanLackMemory, Exhausted, Faulty, HeldAfter, InRange, List, arith, get_or, get_or_default, inl, inr, length, length-set, reply, sent}
+use Rattle.hingetulip_c.proofs.Words.{submit_of, subst, sym, take, ⊎_elim, ◌<◌, ◌∙◌, ◌∷◌, ◌≡◌}
 use Rattle.hingetulip_c.proofs.Many.{sent-more, told-more, others_more, unanswered, is_answered, is_answered_last, answered_once, untold}
 use Rattle.hingetulip_c.proofs.exports.submit_many.dn_submit_many.Goals as goal
 

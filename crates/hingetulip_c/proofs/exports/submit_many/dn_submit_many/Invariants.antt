@@ -1,7 +1,5 @@
 -- The packets so far are told, and the other fates are as they were.
-use Rattle.std.proofs.Common.{◌≡◌, [], length, take, drop}
-use Rattle.hingetulip_c.specs.Handles.{After, HeldAfter}
-use Rattle.hingetulip_c.specs.Many.{AreTold, sent}
+use Rattle.hingetulip_c.proofs.Words.{After, AreTold, HeldAfter, [], drop, length, sent, take, ◌≡◌}
 use Rattle.hingetulip_c.proofs.exports.submit_many.dn_submit_many.Given as goal
 
 abbrev pub invariant-loop-i : goal.invariant-loop-i

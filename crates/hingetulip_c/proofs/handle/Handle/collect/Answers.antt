@@ -1,7 +1,5 @@
 -- The reply is the held shaper's.
-use Rattle.std.proofs.Common.{◌∙◌, [], ◌∷◌, ap, sym}
-use Rattle.dn_types.specs.declared.call.Call.TheVariants.{Collect}
-use Rattle.dn_shaper.specs.declared.state.State.{State}
+use Rattle.hingetulip_c.proofs.Words.{Collect, State, [], ap, sym, ◌∙◌, ◌∷◌}
 use Rattle.hingetulip_c.proofs.Answering.{answers_held}
 use Rattle.hingetulip_c.proofs.handle.Handle.collect.Goals as goal
 

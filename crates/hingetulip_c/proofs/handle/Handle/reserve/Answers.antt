@@ -1,8 +1,5 @@
 -- The room is in the shaper that is put back.
-use Rattle.std.proofs.Common.{◌∙◌, ◌∷◌, [], List, ap, subst, sym}
-use Rattle.dn_types.specs.declared.call.Call.TheVariants.{Submit}
-use Rattle.dn_shaper.specs.declared.state.State.{State}
-use Rattle.hingetulip_c.specs.Room.{HoldsRoomFor}
+use Rattle.hingetulip_c.proofs.Words.{HoldsRoomFor, List, State, Submit, [], ap, subst, sym, ◌∙◌, ◌∷◌}
 use Rattle.hingetulip_c.proofs.handle.Handle.reserve.Goals as goal
 
 pub returns-in-Ok-clause-room : goal.returns-in-Ok-clause-room

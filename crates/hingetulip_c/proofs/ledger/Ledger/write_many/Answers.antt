@@ -1,5 +1,4 @@
-use Rattle.std.proofs.Common.{rules, ◌≡◌, ◌∙◌, ap, drop, length, sym, vec_len}
-use Rattle.hingetulip_c.specs.Services.{waiting}
+use Rattle.hingetulip_c.proofs.Words.{ap, drop, length, rules, sym, vec_len, waiting, ◌∙◌, ◌≡◌}
 use Rattle.hingetulip_c.proofs.ManyTexts.{none_fits}
 use Rattle.hingetulip_c.proofs.ledger.Ledger.write_many.Goals as goal
 

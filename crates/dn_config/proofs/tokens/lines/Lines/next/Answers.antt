@@ -1,5 +1,4 @@
-use Rattle.std.proofs.Common.{drop, take, arith, sym, ap, ◌∙◌, length-drop, refl}
-use Rattle.std.proofs.lemmas.Bool.{eqb-true, eqb-false}
+use Rattle.dn_config.proofs.Vocabulary.{ap, arith, drop, eqb-false, eqb-true, length-drop, refl, sym, take, ◌∙◌}
 use Rattle.dn_config.proofs.LineCuts.{no_lines, next_line}
 use Rattle.dn_config.proofs.tokens.lines.Lines.next.Goals as goal
 

@@ -1,5 +1,4 @@
-use Rattle.std.proofs.Common.{refl}
-use Rattle.std.proofs.lemmas.Fn.{says_at}
+use Rattle.dn_heap.proofs.Words.{refl, says_at}
 use Rattle.dn_heap.proofs.keep.fn.keep_where.retain.Goals as goal
 
 pub returns : goal.returns

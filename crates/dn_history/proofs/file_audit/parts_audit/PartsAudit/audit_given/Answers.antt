@@ -1,5 +1,4 @@
-use Rattle.std.proofs.Common.{◌∙◌, ◌++◌}
-use Rattle.dn_history.specs.HistoryRecords.{rule_of}
+use Rattle.dn_history.proofs.Words.{rule_of, ◌++◌, ◌∙◌}
 use Rattle.dn_history.proofs.AuditSteps.{on_ok}
 use Rattle.dn_history.proofs.file_audit.parts_audit.PartsAudit.audit_given.Goals as goal
 

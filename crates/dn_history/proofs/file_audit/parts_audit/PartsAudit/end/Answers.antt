@@ -1,5 +1,4 @@
-use Rattle.std.proofs.Common.{◌∙◌, sym}
-use Rattle.dn_history.specs.HistoryRecords.{rule_of}
+use Rattle.dn_history.proofs.Words.{rule_of, sym, ◌∙◌}
 use Rattle.dn_history.proofs.FileAuditSteps.{of_history, of_left}
 use Rattle.dn_history.proofs.file_audit.parts_audit.PartsAudit.end.Goals as goal
 

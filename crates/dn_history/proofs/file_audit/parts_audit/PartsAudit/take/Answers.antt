@@ -1,4 +1,4 @@
-use Rattle.std.proofs.Common.{◌++◌}
+use Rattle.dn_history.proofs.Words.{◌++◌}
 use Rattle.dn_history.proofs.AuditSteps.{on_ok}
 use Rattle.dn_history.proofs.file_audit.parts_audit.PartsAudit.take.Goals as goal
 

@@ -1,5 +1,4 @@
-use Rattle.std.proofs.Common.{arith, ap, length}
-use Rattle.dn_history.specs.RecordsLeft.{Rest}
+use Rattle.dn_history.proofs.Words.{Rest, ap, arith, length}
 use Rattle.dn_history.proofs.HistoryReading.{numbered}
 use Rattle.dn_history.proofs.read.entry_reader.EntryReader.from.Goals as goal
 

@@ -1,8 +1,5 @@
-use Rattle.std.proofs.Common.{◌≡◌, ◌∙◌, ap, drop}
+use Rattle.dn_history.proofs.Words.{ap, behind-feed, drop, records_after, records_of, ◌∙◌, ◌≡◌}
 use Rattle.csv.specs.declared.parser.State.TheVariants as st
-use Rattle.dn_records.specs.Reading.{records_after}
-use Rattle.dn_records.specs.Records.{records_of}
-use Rattle.dn_records.proofs.FirstLine.{behind-feed}
 use Rattle.dn_history.proofs.PartsRead.{all-read}
 use Rattle.dn_history.proofs.read.history_parts.HistoryParts.finish.Goals as goal
 

@@ -1,4 +1,4 @@
-use Rattle.std.proofs.lemmas.List.{append-nil}
+use Rattle.dn_history.proofs.Words.{append-nil}
 use Rattle.dn_history.proofs.PartsRead.{begun}
 use Rattle.dn_history.proofs.read.history_parts.HistoryParts.new.Goals as goal
 

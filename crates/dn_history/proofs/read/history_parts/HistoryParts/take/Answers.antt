@@ -1,5 +1,4 @@
-use Rattle.std.proofs.Common.{◌≡◌, ◌∙◌, ◌-◌, sym, refl, arith, length, take, drop}
-use Rattle.std.proofs.lemmas.List.{take_rest}
+use Rattle.dn_history.proofs.Words.{arith, drop, length, refl, sym, take, take_rest, ◌-◌, ◌∙◌, ◌≡◌}
 use Rattle.dn_history.proofs.PartsRead.{only-whole, taken}
 use Rattle.dn_history.proofs.read.history_parts.HistoryParts.take.Goals as goal
 

@@ -1,4 +1,4 @@
-use Rattle.std.proofs.Common.{arith}
+use Rattle.dn_history.proofs.Words.{arith}
 use Rattle.dn_history.proofs.HistoryReading.{numbered}
 use Rattle.dn_history.proofs.read.numbered_records.NumberedRecords.from.Goals as goal
 

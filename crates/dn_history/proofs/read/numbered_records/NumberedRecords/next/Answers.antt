@@ -1,5 +1,4 @@
-use Rattle.csv.specs.Records.{fields_of}
-use Rattle.std.proofs.Common.{arith}
+use Rattle.dn_history.proofs.Words.{arith, fields_of}
 use Rattle.dn_history.proofs.HistoryReading.{missing, took, wide}
 use Rattle.dn_history.proofs.read.numbered_records.NumberedRecords.next.Goals as goal
 

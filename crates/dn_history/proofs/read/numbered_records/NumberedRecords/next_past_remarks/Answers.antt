@@ -1,7 +1,4 @@
-use Rattle.csv.specs.Records.{fields_of}
-use Rattle.std.proofs.Common.{arith}
-use Rattle.dn_history.specs.HistoryRecords.{has_remarks}
-use Rattle.dn_history.specs.Remarks.{ahead}
+use Rattle.dn_history.proofs.Words.{ahead, arith, fields_of, has_remarks}
 use Rattle.dn_history.proofs.HistoryReading.{missing, took, wide}
 use Rattle.dn_history.proofs.read.numbered_records.NumberedRecords.next_past_remarks.Goals as goal
 

@@ -1,6 +1,5 @@
-use Rattle.std.proofs.Common.{arith, ◌+◌, ◌∷◌}
+use Rattle.dn_history.proofs.Words.{arith, behind-line, ◌+◌, ◌∷◌}
 use Rattle.dn_history.proofs.PlainForms.{one-counted, one-fewer}
-use Rattle.dn_records.proofs.PlainLines.{behind-line}
 use Rattle.dn_history.proofs.read.numbered_records.NumberedRecords.pass_line.Goals as goal
 
 pub go_on-requires : goal.go_on-requires

@@ -1,7 +1,5 @@
-use Rattle.std.specs.Prelude.{codes}
-use Rattle.std.proofs.Common.{refl}
+use Rattle.dn_history.proofs.Words.{codes, records_after, refl}
 use Rattle.csv.specs.declared.parser.State.TheVariants as st
-use Rattle.dn_records.specs.Reading.{records_after}
 use Rattle.dn_history.proofs.PlainForms.{call-taken}
 use Rattle.dn_history.proofs.read.numbered_records.NumberedRecords.take_submit.Goals as goal
 

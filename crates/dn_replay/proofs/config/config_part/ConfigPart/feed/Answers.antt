@@ -1,8 +1,5 @@
-use Rattle.std.proofs.Common.{◌∙◌, ◌+◌, ◌++◌, List, ℕ, ap, drop, subst, take}
-use Rattle.std.proofs.lemmas.List.{take_rest}
+use Rattle.dn_replay.proofs.Words.{IsConfigSoFar, List, ap, drop, joined_parts, subst, take, take_rest, ℕ, ◌++◌, ◌+◌, ◌∙◌}
 use Rattle.std.proofs.lemmas.List as L
-use Rattle.dn_config.specs.Tokens.Joined.{joined_parts}
-use Rattle.dn_replay.specs.OnePass.{IsConfigSoFar}
 use Rattle.dn_replay.proofs.ConfigCuts.{at_byte, byte_more}
 use Rattle.dn_replay.proofs.config.config_part.ConfigPart.feed.Goals as goal
 

@@ -1,5 +1,4 @@
-use Rattle.std.proofs.Common.{ℕ, List, ◌++◌, take}
-use Rattle.dn_replay.specs.OnePass.{IsConfigSoFar}
+use Rattle.dn_replay.proofs.Words.{IsConfigSoFar, List, take, ℕ, ◌++◌}
 use Rattle.dn_replay.proofs.config.config_part.ConfigPart.feed.Given as goal
 
 abbrev pub invariant-loop-i : goal.invariant-loop-i

@@ -1,4 +1,4 @@
-use Rattle.std.proofs.Common.{◌∙◌, sym}
+use Rattle.dn_replay.proofs.Words.{sym, ◌∙◌}
 use Rattle.dn_replay.proofs.ConfigCuts.{cut_by_end, marked_by_end}
 use Rattle.dn_replay.proofs.config.config_part.ConfigPart.finish.Goals as goal
 

@@ -1,5 +1,4 @@
-use Rattle.std.proofs.Common.{◌≡◌, ◌∙◌, sym, ℕ, false, ◌==◌}
-use Rattle.std.proofs.lemmas.List.Elements.{All-nil}
+use Rattle.dn_replay.proofs.Words.{All-nil, false, sym, ℕ, ◌==◌, ◌∙◌, ◌≡◌}
 use Rattle.dn_replay.proofs.ConfigCuts.{line_cut, marked}
 use Rattle.dn_replay.proofs.config.config_part.ConfigPart.take_byte.Goals as goal
 

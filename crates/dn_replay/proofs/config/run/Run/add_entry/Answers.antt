@@ -1,4 +1,4 @@
-use Rattle.std.proofs.Common.{◌∙◌}
+use Rattle.dn_replay.proofs.Words.{◌∙◌}
 use Rattle.dn_replay.proofs.Runs.{grown}
 use Rattle.dn_replay.proofs.config.run.Run.add_entry.Goals as goal
 

@@ -1,6 +1,4 @@
-use Rattle.std.proofs.Common.{sym, arith}
-use Rattle.dn_config.specs.Tokens.Lines.{lines_of}
-use Rattle.dn_replay.specs.Configuring.{configured_by}
+use Rattle.dn_replay.proofs.Words.{arith, configured_by, lines_of, sym}
 use Rattle.dn_replay.proofs.Runs.{bad_line, line-more, no_line, refused}
 use Rattle.dn_replay.proofs.config.run.Run.configure.Goals as goal
 

@@ -1,8 +1,4 @@
-use Rattle.std.proofs.Common.{◌≡◌, ◌+◌, ◌≤◌, length, List}
-use Rattle.dn_types.specs.declared.call.Call.{Call}
-use Rattle.dn_config.specs.Tokens.Lines.{lines_of}
-use Rattle.dn_replay.specs.Configuring.{configured_by, configured_from}
-use Rattle.dn_replay.specs.Runs.{HasMade}
+use Rattle.dn_replay.proofs.Words.{Call, HasMade, List, configured_by, configured_from, length, lines_of, ◌+◌, ◌≡◌, ◌≤◌}
 use Rattle.dn_replay.proofs.config.run.Run.configure.Given as goal
 
 abbrev pub invariant-loop-line : goal.invariant-loop-line

@@ -1,5 +1,4 @@
-use Rattle.std.proofs.lemmas.Result.{on_ok_weaker}
-use Rattle.dn_types.specs.declared.rule.Rule.TheVariants.{Ordered}
+use Rattle.dn_replay.proofs.Words.{Ordered, on_ok_weaker}
 use Rattle.dn_replay.proofs.config.run.Run.make.Goals as goal
 
 pub returns : goal.returns

@@ -1,5 +1,4 @@
-use Rattle.std.proofs.Common.{◌∙◌, sym}
-use Rattle.dn_types.specs.declared.rule.Rule.TheVariants.{Ordered}
+use Rattle.dn_replay.proofs.Words.{Ordered, sym, ◌∙◌}
 use Rattle.dn_replay.proofs.Runs.{accepted}
 use Rattle.dn_replay.proofs.config.run.Run.make_command.Goals as goal
 

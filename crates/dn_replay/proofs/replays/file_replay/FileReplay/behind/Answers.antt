@@ -1,8 +1,4 @@
-use Rattle.std.proofs.Common.{◌≡◌, [], Some, Ok, ◌≤◌, length, arith}
-use Rattle.dn_files.specs.ConfigFile.{config_limit}
-use Rattle.dn_files.specs.declared.source.Source.TheVariants.{Config}
-use Rattle.dn_files.proofs.Inputs.{short}
-use Rattle.dn_replay.specs.Replays.{config_calls}
+use Rattle.dn_replay.proofs.Words.{Config, Ok, Some, [], arith, config_calls, config_limit, length, short, ◌≡◌, ◌≤◌}
 use Rattle.dn_replay.proofs.PartsCome.{behind_begins}
 use Rattle.dn_replay.proofs.replays.file_replay.FileReplay.behind.Goals as goal
 

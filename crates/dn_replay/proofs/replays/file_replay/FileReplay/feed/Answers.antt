@@ -1,4 +1,4 @@
-use Rattle.std.proofs.Common.{arith}
+use Rattle.dn_replay.proofs.Words.{arith}
 use Rattle.dn_replay.proofs.PartsCome.{goes_on}
 use Rattle.dn_replay.proofs.replays.file_replay.FileReplay.feed.Goals as goal
 

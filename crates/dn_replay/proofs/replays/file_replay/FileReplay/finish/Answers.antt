@@ -1,8 +1,4 @@
-use Rattle.std.proofs.Common.{◌≡◌, ◌∙◌, ap, sym}
-use Rattle.std.proofs.lemmas.Result.{IfErr-weaker, IfOk-weaker}
-use Rattle.dn_replay.specs.Held.{has_entries}
-use Rattle.dn_replay.specs.InParts.{calls_asked, Coming}
-use Rattle.dn_replay.specs.OnePass.{NoneFailed}
+use Rattle.dn_replay.proofs.Words.{Coming, IfErr-weaker, IfOk-weaker, NoneFailed, ap, calls_asked, has_entries, sym, ◌∙◌, ◌≡◌}
 use Rattle.dn_replay.proofs.InputSteps.{answered_through, asked_within, unanswered_through}
 use Rattle.dn_replay.proofs.PartsCome.{few-taken}
 use Rattle.dn_replay.proofs.replays.file_replay.FileReplay.finish.Goals as goal

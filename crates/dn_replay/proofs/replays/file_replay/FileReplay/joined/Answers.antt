@@ -1,4 +1,4 @@
-use Rattle.std.proofs.Common.{[], None}
+use Rattle.dn_replay.proofs.Words.{None, []}
 use Rattle.dn_replay.proofs.PartsCome.{joined_begins}
 use Rattle.dn_replay.proofs.replays.file_replay.FileReplay.joined.Goals as goal
 

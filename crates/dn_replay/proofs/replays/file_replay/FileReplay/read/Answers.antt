@@ -1,5 +1,4 @@
-use Rattle.std.proofs.Common.{refl}
-use Rattle.std.proofs.lemmas.Result.{IfErr-weaker, on_ok_weaker}
+use Rattle.dn_replay.proofs.Words.{IfErr-weaker, on_ok_weaker, refl}
 use Rattle.dn_replay.proofs.replays.file_replay.FileReplay.read.Goals as goal
 
 pub returns-clause-ok : goal.returns-clause-ok

@@ -1,4 +1,4 @@
-use Rattle.std.proofs.lemmas.Result.{IfErr-weaker}
+use Rattle.dn_replay.proofs.Words.{IfErr-weaker}
 use Rattle.dn_replay.proofs.replays.file_replay.FileReplayFeed.feed.Goals as goal
 
 pub returns-clause-err : goal.returns-clause-err

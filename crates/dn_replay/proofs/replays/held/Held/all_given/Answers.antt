@@ -1,5 +1,4 @@
-use Rattle.std.proofs.Common.{◌^◌}
-use Rattle.dn_types.specs.declared.call.Call.TheVariants.{Collect}
+use Rattle.dn_replay.proofs.Words.{Collect, ◌^◌}
 use Rattle.dn_replay.proofs.PassSteps.{can_report_recorded}
 use Rattle.dn_replay.proofs.Runs.{nonempty}
 use Rattle.dn_replay.proofs.replays.held.Held.all_given.Goals as goal

@@ -1,6 +1,4 @@
-use Rattle.std.proofs.Common.{◌≡◌, ◌^◌, refl}
-use Rattle.std.proofs.lemmas.Option.{MatchOption-at_some}
-use Rattle.std.proofs.lemmas.Result.{on_ok_weaker}
+use Rattle.dn_replay.proofs.Words.{MatchOption-at_some, on_ok_weaker, refl, ◌^◌, ◌≡◌}
 use Rattle.dn_replay.proofs.PassSteps.{can_report}
 use Rattle.dn_replay.proofs.replays.held.Held.collect_rest.Goals as goal
 

@@ -1,5 +1,4 @@
-use Rattle.std.proofs.Common.{refl}
-use Rattle.std.proofs.lemmas.Result.{on_ok_weaker}
+use Rattle.dn_replay.proofs.Words.{on_ok_weaker, refl}
 use Rattle.dn_replay.proofs.PassSteps.{fed-first}
 use Rattle.dn_replay.proofs.replays.pass.Pass.configure.Goals as goal
 

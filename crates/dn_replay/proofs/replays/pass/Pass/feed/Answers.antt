@@ -1,5 +1,4 @@
-use Rattle.std.proofs.Common.{◌∙◌, [], ◌∷◌, ◌++◌}
-use Rattle.dn_replay.specs.Rows.{submitted}
+use Rattle.dn_replay.proofs.Words.{[], submitted, ◌++◌, ◌∙◌, ◌∷◌}
 use Rattle.dn_replay.proofs.PassSteps.{one_row}
 use Rattle.dn_replay.proofs.replays.pass.Pass.feed.Goals as goal
 

@@ -1,6 +1,4 @@
-use Rattle.std.proofs.Common.{ℕ, Bool, List, ◌++◌}
-use Rattle.dn_types.specs.declared.call.Call.{Call}
-use Rattle.dn_replay.specs.OnePass.{HasFed}
+use Rattle.dn_replay.proofs.Words.{Bool, Call, HasFed, List, ℕ, ◌++◌}
 use Rattle.dn_replay.proofs.replays.pass.Pass.feed.Given as goal
 
 abbrev pub invariant-loop : goal.invariant-loop

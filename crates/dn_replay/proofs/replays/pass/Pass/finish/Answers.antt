@@ -1,7 +1,4 @@
-use Rattle.std.proofs.Common.{◌∙◌, sym}
-use Rattle.std.proofs.lemmas.Result.{err_from_is_err_and}
-use Rattle.dn_replay.specs.Rows.{submitted}
-use Rattle.dn_replay.specs.OnePass.{calls_with}
+use Rattle.dn_replay.proofs.Words.{calls_with, err_from_is_err_and, submitted, sym, ◌∙◌}
 use Rattle.dn_replay.proofs.PassSteps.{recorded, refused_text, told, untold}
 use Rattle.dn_replay.proofs.replays.pass.Pass.finish.Goals as goal
 

@@ -1,6 +1,4 @@
-use Rattle.std.proofs.Common.{◌∙◌, ◌++◌}
-use Rattle.std.proofs.lemmas.Result.{err_from_is_err_and}
-use Rattle.dn_replay.specs.Rows.{submitted}
+use Rattle.dn_replay.proofs.Words.{err_from_is_err_and, submitted, ◌++◌, ◌∙◌}
 use Rattle.dn_replay.proofs.PassSteps.{few_rows, last_rows, refused_rows}
 use Rattle.dn_replay.proofs.replays.pass.Pass.submit_rest.Goals as goal
 

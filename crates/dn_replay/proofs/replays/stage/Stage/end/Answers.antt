@@ -1,5 +1,4 @@
-use Rattle.std.proofs.Common.{[]}
-use Rattle.std.proofs.lemmas.Result.{on_ok_weaker}
+use Rattle.dn_replay.proofs.Words.{[], on_ok_weaker}
 use Rattle.dn_replay.proofs.InputSteps.{at_end, end_begun, stays_refused}
 use Rattle.dn_replay.proofs.replays.stage.Stage.end.Goals as goal
 

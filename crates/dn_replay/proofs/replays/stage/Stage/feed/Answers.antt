@@ -1,4 +1,4 @@
-use Rattle.std.proofs.Common.{◌++◌}
+use Rattle.dn_replay.proofs.Words.{◌++◌}
 use Rattle.dn_replay.proofs.InputSteps.{packets_come, still_refused}
 use Rattle.dn_replay.proofs.replays.stage.Stage.feed.Goals as goal
 

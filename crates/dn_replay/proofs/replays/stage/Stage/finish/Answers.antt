@@ -1,6 +1,4 @@
-use Rattle.std.proofs.Common.{◌≡◌, ◌∙◌, sym}
-use Rattle.std.proofs.lemmas.Result.{IfErr-weaker, IfOk-weaker}
-use Rattle.dn_replay.specs.OnePass.{calls_with, NoneFailed}
+use Rattle.dn_replay.proofs.Words.{IfErr-weaker, IfOk-weaker, NoneFailed, calls_with, sym, ◌∙◌, ◌≡◌}
 use Rattle.dn_replay.proofs.InputSteps.{answered_through, records-taken, unanswered_through}
 use Rattle.dn_replay.proofs.replays.stage.Stage.finish.Goals as goal
 

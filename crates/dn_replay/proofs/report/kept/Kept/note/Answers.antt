@@ -1,5 +1,4 @@
-use Rattle.std.proofs.Common.{◌∙◌, ap}
-use Rattle.dn_replay.specs.Kept.{fate_of}
+use Rattle.dn_replay.proofs.Words.{ap, fate_of, ◌∙◌}
 use Rattle.dn_replay.proofs.KeptSteps.{kept-submitted}
 use Rattle.dn_replay.proofs.report.kept.Kept.note.Goals as goal
 

@@ -1,5 +1,4 @@
-use Rattle.std.proofs.Common.{◌∙◌, ap, rules}
-use Rattle.dn_replay.specs.Report.{due_of, sorted_by, packet_of, row_number}
+use Rattle.dn_replay.proofs.Words.{ap, due_of, packet_of, row_number, rules, sorted_by, ◌∙◌}
 use Rattle.dn_replay.proofs.Orders.{sorted_by_key}
 use Rattle.dn_replay.proofs.report.order.ReportLines.sort.Goals as goal
 

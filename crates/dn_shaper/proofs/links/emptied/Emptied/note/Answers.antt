@@ -1,5 +1,5 @@
 -- There are no more moments than places.
-use Rattle.std.proofs.Common.{arith}
+use Rattle.dn_shaper.proofs.Words.{arith}
 use Rattle.dn_shaper.proofs.Accepting.{backlogged-le}
 use Rattle.dn_shaper.proofs.links.emptied.Emptied.note.Goals as goal
 

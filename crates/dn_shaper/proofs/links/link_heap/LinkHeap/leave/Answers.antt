@@ -1,9 +1,6 @@
 -- The key stays where it is, and counts no more.
-use Rattle.std.proofs.Common.{◌≡◌, ◌<◌, ◌+◌, ℕ, List, ◌∷◌, arith, sym, subst, length, Contains, IsPermutation}
-use Rattle.std.specs.Prelude.{Option, Some, slice_set}
-use Rattle.std.proofs.lemmas.List.Sorted.{Contains-permutation, IsPermutation-cons, IsPermutation-trans, sum_by-IsPermutation}
-use Rattle.dn_shaper.specs.Refinement.Emptied.{HasKept, KeepsCounting, counting}
-use Rattle.dn_shaper.specs.Refinement.NextStarts.{backlogged, keys_at, one_at}
+use Rattle.dn_shaper.proofs.Words.{Contains, Contains-permutation, HasKept, IsPermutation, IsPermutation-cons, IsPermutation-trans, KeepsCounting, List, Option, Some, arith, backlogged, counting}
+use Rattle.dn_shaper.proofs.Words.{keys_at, length, one_at, slice_set, subst, sum_by-IsPermutation, sym, ℕ, ◌+◌, ◌<◌, ◌∷◌, ◌≡◌}
 use Rattle.dn_shaper.proofs.LeavesKey.{leaves-keys, leaves-more}
 use Rattle.dn_shaper.proofs.LeftSteps.{left-kept, place-there}
 use Rattle.dn_shaper.proofs.links.link_heap.LinkHeap.leave.Goals.{After-make_way}

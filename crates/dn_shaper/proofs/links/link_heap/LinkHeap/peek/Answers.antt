@@ -1,5 +1,5 @@
 -- The first key of all counts.
-use Rattle.std.proofs.Common.{refl}
+use Rattle.dn_shaper.proofs.Words.{refl}
 use Rattle.dn_shaper.proofs.LeftKeys.{top-held, top-least, top-some}
 use Rattle.dn_shaper.proofs.links.link_heap.LinkHeap.peek.Goals as goal
 

@@ -1,7 +1,5 @@
 -- The first key of all leaves, and those that were left behind it.
-use Rattle.std.proofs.Common.{◌≡◌, ◌<◌, false, length, refl, Contains, IsPermutation, ◌∷◌}
-use Rattle.std.proofs.lemmas.List.Sorted.{IsPermutation-trans, IsPermutation-cons}
-use Rattle.dn_shaper.specs.Refinement.Emptied.{HasKept, counting, is_left}
+use Rattle.dn_shaper.proofs.Words.{Contains, HasKept, IsPermutation, IsPermutation-cons, IsPermutation-trans, counting, false, is_left, length, refl, ◌<◌, ◌∷◌, ◌≡◌}
 use Rattle.dn_shaper.proofs.LeftKeys.{top-least, top-some}
 use Rattle.dn_shaper.proofs.LeftSteps.{first-of-empty, popped-held, popped-keys, popped-kept}
 use Rattle.dn_shaper.proofs.links.link_heap.LinkHeap.pop.Goals.{After-is_empty}

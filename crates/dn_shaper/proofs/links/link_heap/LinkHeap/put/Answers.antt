@@ -1,8 +1,5 @@
 -- The key counts again, or is a new one.
-use Rattle.std.proofs.Common.{◌≡◌, ◌∙◌, ℕ, ◌∷◌, List, true, arith, sym, subst, IsPermutation}
-use Rattle.std.specs.Prelude.{Option}
-use Rattle.std.proofs.lemmas.List.Sorted.{IsPermutation-cons, IsPermutation-trans}
-use Rattle.dn_shaper.specs.Refinement.Emptied.{IsTidy, counting, is_left}
+use Rattle.dn_shaper.proofs.Words.{IsPermutation, IsPermutation-cons, IsPermutation-trans, IsTidy, List, Option, arith, counting, is_left, subst, sym, true, ℕ, ◌∙◌, ◌∷◌, ◌≡◌}
 use Rattle.dn_shaper.proofs.LeftKeys.{back-keys, with-keys}
 use Rattle.dn_shaper.proofs.LeftSteps.{back-tidy, pushed-tidy}
 use Rattle.dn_shaper.proofs.links.link_heap.LinkHeap.put.Goals as goal

@@ -1,5 +1,5 @@
 -- There is a place for each key that is in or has room.
-use Rattle.std.proofs.Common.{arith}
+use Rattle.dn_shaper.proofs.Words.{arith}
 use Rattle.dn_shaper.proofs.LeftSteps.{reserved-most, reserved-tidy}
 use Rattle.dn_shaper.proofs.links.link_heap.LinkHeap.reserve.Goals as goal
 

@@ -1,6 +1,5 @@
 -- A place is below 2^64, so one comparison of 128 bits is the comparison by moment and then by place.
-use Rattle.std.proofs.Common.{◌∙◌}
-use Rattle.std.specs.Ordering.{nat_cmp}
+use Rattle.dn_shaper.proofs.Words.{nat_cmp, ◌∙◌}
 use Rattle.dn_shaper.proofs.Ordered.{ordered}
 use Rattle.dn_shaper.proofs.links.next_start.NextStartOrd.cmp.Goals as goal
 

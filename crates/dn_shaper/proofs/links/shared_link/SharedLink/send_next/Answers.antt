@@ -1,10 +1,5 @@
 -- The pick is the flow at its slot, and behind its packet in the flow's queue is what is behind it at the slot.
-use Rattle.std.proofs.Common.{◌∙◌, List, ap, drop, sym, arith}
-use Rattle.std.specs.Option.{option_map}
-use Rattle.std.proofs.lemmas.Grind.{common_steps}
-use Rattle.dn_types.specs.Wf2q.{Stamped}
-use Rattle.dn_flows.specs.Table.{flow_at}
-use Rattle.dn_wf2q.proofs.Sending.{backlog_first, keeps_room_first, picks_first, sends_first}
+use Rattle.dn_shaper.proofs.Words.{List, Stamped, ap, arith, backlog_first, common_steps, drop, flow_at, keeps_room_first, option_map, picks_first, sends_first, sym, ◌∙◌}
 use Rattle.dn_wf2q.specs.Schedule.{Schedule, flow_at as slot_at, next_of}
 use Rattle.dn_shaper.proofs.Taking.{behind-slot, flow-there, picks-flow, slot-within, some-is}
 use Rattle.dn_shaper.proofs.links.shared_link.SharedLink.send_next.Goals as goal

@@ -1,7 +1,5 @@
 -- The place was made before, and that of the link is all that is written.
-use Rattle.std.proofs.Common.{◌∙◌, ◌<◌, ap, arith, length}
-use Rattle.std.specs.Prelude.{Some}
-use Rattle.dn_shaper.specs.Refinement.Settings.{at_number}
+use Rattle.dn_shaper.proofs.Words.{Some, ap, arith, at_number, length, ◌<◌, ◌∙◌}
 use Rattle.dn_shaper.proofs.Numbered.{writes}
 use Rattle.dn_shaper.proofs.room.shared_places.SharedPlaces.insert.Goals as goal
 

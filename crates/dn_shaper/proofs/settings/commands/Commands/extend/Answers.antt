@@ -1,6 +1,5 @@
 -- Each new place has none under it.
-use Rattle.std.proofs.Common.{◌∙◌, ap, arith}
-use Rattle.dn_shaper.specs.Refinement.Settings.{at_number, unboxed}
+use Rattle.dn_shaper.proofs.Words.{ap, arith, at_number, unboxed, ◌∙◌}
 use Rattle.dn_shaper.proofs.Numbered.{one-place}
 use Rattle.dn_shaper.proofs.settings.commands.Commands.extend.Goals as goal
 

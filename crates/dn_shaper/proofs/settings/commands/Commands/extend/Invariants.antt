@@ -1,7 +1,5 @@
 -- The new places have none under them, and there is room for those that are left.
-use Rattle.std.proofs.Common.{◌≡◌, ℕ, ◌-◌, ◌≤◌}
-use Rattle.std.specs.Vec.{vec_len, vec_capacity}
-use Rattle.dn_shaper.specs.Refinement.Settings.{at_number, unboxed}
+use Rattle.dn_shaper.proofs.Words.{at_number, unboxed, vec_capacity, vec_len, ℕ, ◌-◌, ◌≡◌, ◌≤◌}
 use Rattle.dn_shaper.proofs.settings.commands.Commands.extend.Given as goal
 
 abbrev pub invariant-loop-self : goal.invariant-loop-self

@@ -1,9 +1,5 @@
 -- The place was made before, and the command is all that is written.
-use Rattle.std.proofs.Common.{◌<◌, ap, arith, length}
-use Rattle.std.proofs.lemmas.Grind.{common_steps}
-use Rattle.std.specs.Prelude.{Some}
-use Rattle.std.specs.Box.{with_value}
-use Rattle.std.proofs.lemmas.List.{length-map}
+use Rattle.dn_shaper.proofs.Words.{Some, ap, arith, common_steps, length, length-map, with_value, ◌<◌}
 use Rattle.dn_shaper.proofs.Numbered.{command-in, puts-in}
 use Rattle.dn_shaper.proofs.settings.commands.Commands.put.Goals as goal
 

@@ -1,6 +1,5 @@
 -- Nothing is left in the place.
-use Rattle.std.proofs.Common.{◌<◌, ap, refl, arith, length}
-use Rattle.std.specs.Prelude.{None}
+use Rattle.dn_shaper.proofs.Words.{None, ap, arith, length, refl, ◌<◌}
 use Rattle.dn_shaper.proofs.Numbered.{command-in, puts-in}
 use Rattle.dn_shaper.proofs.settings.commands.Commands.take.Goals as goal
 

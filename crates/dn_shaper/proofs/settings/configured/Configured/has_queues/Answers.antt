@@ -1,9 +1,5 @@
 -- The kept count is above 0 exactly if one of the queues names the pipe.
-use Rattle.std.proofs.Common.{◌∙◌, subst}
-use Rattle.std.specs.Prelude.{ℕ, List, nat_lt, ◌≡◌}
-use Rattle.dn_types.specs.Configuration.{has_queues}
-use Rattle.dn_shaper.specs.Refinement.Configuring.{Lists}
-use Rattle.dn_shaper.specs.Refinement.Settings.{InForce, settings_of}
+use Rattle.dn_shaper.proofs.Words.{InForce, List, Lists, has_queues, nat_lt, settings_of, subst, ℕ, ◌∙◌, ◌≡◌}
 use Rattle.dn_shaper.proofs.QueueCounts.{has-queues-by}
 use Rattle.dn_shaper.proofs.settings.configured.Configured.has_queues.Goals as goal
 

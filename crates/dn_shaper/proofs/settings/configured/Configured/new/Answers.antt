@@ -1,8 +1,5 @@
 -- Nothing is in force, and no queue is counted.
-use Rattle.std.proofs.Common.{ℕ, List, sym, subst}
-use Rattle.std.specs.Prelude.{Option}
-use Rattle.dn_types.specs.declared.command.Command.{Command}
-use Rattle.dn_shaper.specs.Refinement.QueueCounts.{CountsQueues}
+use Rattle.dn_shaper.proofs.Words.{Command, CountsQueues, List, Option, subst, sym, ℕ}
 use Rattle.dn_shaper.proofs.Putting.{no-queues}
 use Rattle.dn_shaper.proofs.settings.configured.Configured.new.Goals as goal
 

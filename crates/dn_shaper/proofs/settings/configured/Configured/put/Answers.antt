@@ -1,11 +1,6 @@
 -- The command takes the place of what was in force for its subject, and a queue moves from one pipe's count to another's.
-use Rattle.std.proofs.Common.{◌≡◌, ◌∙◌, ◌<◌, ap, sym, subst, arith}
-use Rattle.std.specs.Prelude.{Some, OnErr, Result, Ok, Err}
-use Rattle.dn_types.specs.declared.reply.Reply.TheVariants.{Configured}
+use Rattle.dn_shaper.proofs.Words.{Configured, Err, InForce, IsAnswered, Ok, OnErr, Result, Some, ap, arith, at_number, named_pipe, settings_of, subst, sym, ◌<◌, ◌∙◌, ◌≡◌}
 use Rattle.dn_types.specs.declared.target.Target.TheVariants.{Pipe as ToPipe}
-use Rattle.dn_shaper.specs.Refinement.Configuring.{IsAnswered}
-use Rattle.dn_shaper.specs.Refinement.QueueCounts.{named_pipe}
-use Rattle.dn_shaper.specs.Refinement.Settings.{InForce, at_number, settings_of}
 use Rattle.dn_shaper.proofs.Putting.{counted-before, counts-queue, few, not-in-force, pipe-there, place-for}
 use Rattle.dn_shaper.proofs.settings.configured.Configured.put.Goals.{After-named_pipe}
 use Rattle.dn_shaper.proofs.settings.configured.Configured.put.Goals as goal

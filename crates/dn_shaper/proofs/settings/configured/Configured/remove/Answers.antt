@@ -1,8 +1,5 @@
 -- A queue that is taken out leaves the count of its pipe.
-use Rattle.std.proofs.Common.{◌∙◌, ap, refl, arith}
-use Rattle.std.specs.Prelude.{None}
-use Rattle.dn_shaper.specs.Refinement.QueueCounts.{named_pipe}
-use Rattle.dn_shaper.specs.Refinement.Settings.{InForce}
+use Rattle.dn_shaper.proofs.Words.{InForce, None, ap, arith, named_pipe, refl, ◌∙◌}
 use Rattle.dn_shaper.proofs.Putting.{counted-before, counts-queue}
 use Rattle.dn_shaper.proofs.settings.configured.Configured.remove.Goals as goal
 

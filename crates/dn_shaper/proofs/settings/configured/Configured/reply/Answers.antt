@@ -1,11 +1,6 @@
 -- A pipe that is in force is deleted unless a queue names it.
-use Rattle.std.proofs.Common.{◌≡◌, ◌∙◌, Bool, true, false, cond, ap, sym}
-use Rattle.std.specs.Prelude.{is_some}
-use Rattle.dn_types.specs.Configuration.{command_reply, has_queues}
-use Rattle.dn_types.specs.declared.reply.Reply.{Reply}
-use Rattle.dn_types.specs.declared.reply.Reply.TheVariants.{Deleted, NoSuchPipe, PipeHasQueues}
+use Rattle.dn_shaper.proofs.Words.{Bool, Deleted, NoSuchPipe, PipeHasQueues, Reply, ap, command_reply, cond, false, has_queues, is_some, settings_of, sym, true, ◌∙◌, ◌≡◌}
 use Rattle.dn_types.specs.declared.target.Target.TheVariants.{Pipe as ToPipe}
-use Rattle.dn_shaper.specs.Refinement.Settings.{settings_of}
 use Rattle.dn_shaper.proofs.settings.configured.Configured.reply.Goals as goal
 
 pub returns-then-has_queues : goal.returns-then-has_queues

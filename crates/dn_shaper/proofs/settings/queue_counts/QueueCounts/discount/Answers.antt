@@ -1,6 +1,5 @@
 -- The pipe's count is above 0.
-use Rattle.std.proofs.Common.{ℕ, ◌≤◌, List, sym, subst, arith}
-use Rattle.dn_shaper.specs.Refinement.QueueCounts.{count_at, one_for}
+use Rattle.dn_shaper.proofs.Words.{List, arith, count_at, one_for, subst, sym, ℕ, ◌≤◌}
 use Rattle.dn_shaper.proofs.Numbered.{has-place}
 use Rattle.dn_shaper.proofs.settings.queue_counts.QueueCounts.discount.Goals as goal
 

@@ -1,5 +1,5 @@
 -- The status and the count are those of a Collect.
-use Rattle.std.proofs.Common.{◌∙◌}
+use Rattle.hingetulip_c.proofs.Words.{◌∙◌}
 use Rattle.hingetulip_c.proofs.Listing.{collects}
 use Rattle.hingetulip_c.proofs.exports.caller.collect.dn_caller_collect.Goals as goal
 

@@ -1,5 +1,5 @@
 -- The status and the count are those of a Show.
-use Rattle.std.proofs.Common.{◌∙◌}
+use Rattle.hingetulip_c.proofs.Words.{◌∙◌}
 use Rattle.hingetulip_c.proofs.Listing.{shows}
 use Rattle.hingetulip_c.proofs.exports.caller.show.dn_caller_show.Goals as goal
 

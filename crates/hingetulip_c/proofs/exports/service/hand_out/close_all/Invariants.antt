@@ -1,6 +1,5 @@
 -- The handles so far are closed.
-use Rattle.std.proofs.Common.{◌≡◌, [], length, replicate, take}
-use Rattle.hingetulip_c.specs.Services.{all_held}
+use Rattle.hingetulip_c.proofs.Words.{[], all_held, length, replicate, take, ◌≡◌}
 use Rattle.hingetulip_c.proofs.exports.service.hand_out.close_all.Given as goal
 
 abbrev pub invariant-loop-place : goal.invariant-loop-place

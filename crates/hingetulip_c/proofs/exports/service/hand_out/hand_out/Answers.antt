@@ -1,6 +1,5 @@
 -- There is a caller for each handle, and each turn gives one more handle its caller.
-use Rattle.std.proofs.Common.{arith}
-use Rattle.std.proofs.lemmas.Grind.{common_steps}
+use Rattle.hingetulip_c.proofs.Words.{arith, common_steps}
 use Rattle.hingetulip_c.proofs.exports.service.hand_out.hand_out.Goals as goal
 
 pub remove-requires : goal.remove-requires

@@ -1,6 +1,5 @@
 -- The handles so far hold their callers, and the others' callers are left.
-use Rattle.std.proofs.Common.{◌≡◌, length, take, drop, map}
-use Rattle.hingetulip_c.specs.Services.{all_held, held_new}
+use Rattle.hingetulip_c.proofs.Words.{all_held, drop, held_new, length, map, take, ◌≡◌}
 use Rattle.hingetulip_c.proofs.exports.service.hand_out.hand_out.Given as goal
 
 abbrev pub invariant-loop-place : goal.invariant-loop-place

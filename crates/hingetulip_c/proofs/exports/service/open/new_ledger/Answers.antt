@@ -1,6 +1,5 @@
 -- Of the callers that the service hands out the last is its own, and the others are in the handles.
-use Rattle.std.proofs.Common.{◌∙◌, length, ap}
-use Rattle.hingetulip_c.specs.Services.{all_held, waiting}
+use Rattle.hingetulip_c.proofs.Words.{all_held, ap, length, waiting, ◌∙◌}
 use Rattle.hingetulip_c.proofs.Serving.{last_is_own, opened}
 use Rattle.hingetulip_c.proofs.exports.service.open.new_ledger.Goals as goal
 

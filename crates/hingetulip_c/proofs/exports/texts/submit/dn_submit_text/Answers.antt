@@ -1,8 +1,5 @@
 -- The text is the entry's.
-use Rattle.std.proofs.Common.{◌≡◌, ◌≢◌, ◌⊎◌, ◌∙◌, inl, inr, ℕ, ap, arith, length}
-use Rattle.dn_types.specs.declared.entry.Entry.{Entry}
-use Rattle.dn_records.specs.Records.{text_of}
-use Rattle.dn_history.specs.HistoryText.{entry_records}
+use Rattle.hingetulip_c.proofs.Words.{Entry, ap, arith, entry_records, inl, inr, length, text_of, ℕ, ◌∙◌, ◌≡◌, ◌≢◌, ◌⊎◌}
 use Rattle.hingetulip_c.proofs.exports.texts.submit.dn_submit_text.Goals as goal
 
 has_length : (status : ℕ) → (status ≡ 0) ⊎ (status ≡ 7) → status ≢ 6
