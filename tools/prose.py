@@ -101,7 +101,7 @@ def cut(line: int, text: str, is_cell: bool = False) -> Iterator[Sentence]:
 
 
 def of_page(text: str) -> Iterator[Sentence]:
-    """Paragraphs, items of lists and cells of tables."""
+    """Yields the sentences in paragraphs, list items and table cells."""
     is_code, begin = False, 1
     block: list[str] = []
     for number, line in enumerate([*text.splitlines(), ""], 1):
@@ -175,7 +175,7 @@ def row(name: str, these: dict[str, float]) -> str:
 
 
 def sentences_of(top: pathlib.Path, names: list[str]) -> dict[str, list[Sentence]]:
-    """The sentences of each page of more than 100 words."""
+    """Returns the sentences of each page with more than 100 words."""
     every = {name: list(of_page((top / name).read_text(encoding="utf-8"))) for name in names if (top / name).is_file()}
     return {name: these for name, these in every.items() if sum(it.words for it in these) > 100}
 
@@ -218,7 +218,7 @@ def worst(pages: dict[str, list[Sentence]]) -> None:
 
 
 def of_python(source: str) -> Iterator[Sentence]:
-    """The docstrings of a file, and the messages of the exceptions that it raises."""
+    """Yields the sentences in a file's docstrings, and in its exceptions' messages."""
     for node in ast.walk(ast.parse(source)):
         if isinstance(node, (ast.Module, ast.ClassDef, ast.FunctionDef, ast.AsyncFunctionDef)):
             for paragraph in (ast.get_docstring(node) or "").split("\n\n"):
@@ -241,9 +241,10 @@ def is_participle(name: str) -> bool:
 
 
 def participles(folder: pathlib.Path) -> tuple[int, dict[str, int]]:
-    """How many names the functions of a folder bind (variables, parameters, targets of loops), and how often each participle is one.
+    """Returns how many names the functions of a folder bind (variables, parameters, loop targets), and the counts of participles
+    among them.
 
-    Names `is_..` are left out.
+    Names `is_..` don't count.
     """
     count = 0
     times: dict[str, int] = {}

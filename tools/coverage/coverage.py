@@ -60,7 +60,7 @@ class File(NamedTuple):
 
 
 def interpreter() -> str:
-    """A Python that has coverage.py and what the tests of the kit take."""
+    """Returns a Python with coverage.py and the packages for the kit's tests."""
     for word in ("/usr/bin/python3", sys.executable):
         if subprocess.run([word, "-c", "import coverage, numpy"], cwd="/", capture_output=True).returncode == 0:
             return word
@@ -68,7 +68,7 @@ def interpreter() -> str:
 
 
 def build(name: str, folder: Path, library: Path) -> Path:
-    """A host whose objects write their counts beside themselves, also where it ends by _exit."""
+    """Builds a host whose objects write their counts beside themselves, even if it ends with _exit; returns its path."""
     place = folder / name
     place.mkdir()
     (place / "kept.c").write_text(KEPT_AT_EXIT)
@@ -85,7 +85,7 @@ def build(name: str, folder: Path, library: Path) -> Path:
 
 
 def environment(folder: Path, python: str) -> dict[str, str]:
-    """Names the hosts, and has each Python count."""
+    """Returns the environment that names the hosts and makes each Python count."""
     library = Path(
         subprocess.run([TOP / "tools" / "release" / "library"], stdout=subprocess.PIPE, text=True, check=True).stdout.strip()
     )
@@ -113,7 +113,7 @@ def environment(folder: Path, python: str) -> dict[str, str]:
 
 
 def run(name: str, python: str, env: dict[str, str], folder: Path) -> None:
-    """Runs a suite, and prints its last line and, where it fails, what it says before."""
+    """Runs a suite, and prints its last line; if it fails, also its output."""
     words = [env["DUMMYNET"] if word == "PROGRAM" else word for word in SUITES[name]]
     with open(folder / "said", "w+", errors="replace") as said:  # what a failed test left running would hold a pipe
         how: Any = {"stdin": subprocess.DEVNULL, "stdout": said, "stderr": subprocess.STDOUT}
@@ -124,7 +124,7 @@ def run(name: str, python: str, env: dict[str, str], folder: Path) -> None:
 
 
 def c_files(folder: Path) -> Iterator[File]:
-    """The figures of gcov, each line once."""
+    """Yields the figures of gcov, each line once."""
     counts: dict[str, Counter[int]] = {}
     taken: dict[str, dict[int, list[int]]] = {}
     for notes in sorted(folder.glob("*/*.gcno")):
@@ -141,7 +141,7 @@ def c_files(folder: Path) -> Iterator[File]:
 
 
 def add(lines: list[dict[str, Any]], counts: Counter[int], taken: dict[int, list[int]]) -> None:
-    """Adds what gcov tells of a file's lines. A line in several objects, as a header's, has its branches once."""
+    """Adds gcov's figures for a file's lines. The branches of a line in several objects, such as a header's, count once."""
     for line in lines:
         number, branches = line["line_number"], [branch["count"] for branch in line["branches"]]
         counts[number] += line["count"]

@@ -1,4 +1,4 @@
-"""What tools/coverage/coverage.py has each Python do at its start: count its lines, also where it ends by os._exit or execv.
+"""The start that tools/coverage/coverage.py adds to each Python: count its lines, even if the process ends by os._exit or execv.
 
 A file `.pth` among a user's packages imports it. It does nothing unless COVERAGE_PROCESS_START names what to count.
 """
@@ -20,7 +20,7 @@ LEAVES = ("_exit", "execv", "execve")  # what execvp and the like call
 
 
 def keeping(leave: Callable[..., Any]) -> Callable[..., Any]:
-    """A call that leaves this Python for good, behind what keeps its counts where this user may write."""
+    """Returns a call that leaves this Python for good, and before that saves its counts where this user may write."""
 
     def kept(*words: Any) -> Any:
         with contextlib.suppress(Exception):

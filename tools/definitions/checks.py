@@ -57,7 +57,7 @@ def refused(kind: type[Exception], run: Callable[[], object]) -> bool:
 
 
 def reading(tally: Tally) -> None:
-    """A text that isn't understood is refused. What is understood gives the program's replies, which the gate asks."""
+    """Checks that an unknown text is refused. Whether known texts give the program's replies is checked by `gate`."""
     tally.equal("a sign that isn't in the language", True, refused(NotUnderstood, lambda: tokens("a ? b")))
     for text in FAULTY:
         tally.equal(f"'{text}' is refused", True, refused(NotUnderstood, lambda: Parser(text).equation()))

@@ -1,4 +1,4 @@
-"""Reads the line of a command in its canonical form, as histories have it."""
+"""The reader of a command's line in its canonical form, as in histories."""
 
 from __future__ import annotations
 

@@ -49,12 +49,12 @@ def sessions(program: str, seed: int, count: int) -> Iterator[list[Entry]]:
 
 
 def answered(program: str) -> dict[str, bool]:
-    """Whether the program answers each of the calls at the ends of the ranges."""
+    """Returns whether the program answers each call at the ends of the ranges."""
     return {line: "\nc,0," in told(program, [line]).stdout for line in ENDS}
 
 
 class Given(NamedTuple):
-    """What the program did: sessions, and which calls at the ends of the ranges it answers."""
+    """The program's behaviour: sessions, and its answers to calls at the ends of the ranges."""
 
     sessions: list[list[Entry]]
     answered: dict[str, bool]

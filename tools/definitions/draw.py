@@ -26,7 +26,7 @@ LAST = 2**62
 
 
 class Session:
-    """The lines of one session, and where its clock is."""
+    """The lines of a session, and its clock."""
 
     def __init__(self, rng: Random) -> None:
         self.rng, self.lines, self.now = rng, [], 0  # type: Random, list[str], int
@@ -53,7 +53,7 @@ class Session:
         return "".join(self.rng.choice(of) for of in (WEIGHTS, self.limits, self.losses, self.masks))
 
     def queue(self, number: int, pipe: int) -> None:
-        """Configures a queue, mostly as it was before."""
+        """Configures a queue, mostly as before."""
         if self.rng.random() < 0.4:
             self.options[number - 1] = self.queue_options()
         self.call(f"configure,queue {number} config pipe {pipe}{self.options[number - 1]}")
@@ -136,7 +136,7 @@ class Session:
         self.queue(self.any_queue(), pipe)
 
     def more(self) -> None:
-        """A call of some kind, or some."""
+        """Adds one or several calls of some kind."""
         rng, chance = self.rng, self.rng.random()
         if self.shares and chance < 0.1:
             self.burst()

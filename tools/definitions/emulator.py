@@ -1,4 +1,4 @@
-"""What the definitions of dn_types say: the replies, when a history is lawful, and which calls are in range."""
+"""The content of dn_types' definitions: replies, lawful histories, and the ranges of calls."""
 
 from __future__ import annotations
 
@@ -23,21 +23,21 @@ class Difference(NamedTuple):
 
 
 def texts() -> dict[str, str]:
-    """The texts of the specs, by the names of their files."""
+    """Returns the texts of the specs by file name."""
     return {path.stem: path.read_text() for path in sorted((CRATE / "specs").glob("*.antt"))}
 
 
 class Emulator:
-    """The emulator by these texts."""
+    """The emulator defined by these texts."""
 
     def __init__(self, of: dict[str, str]) -> None:
         types = declared(CRATE / "src")
         self.definitions = Definitions({name: read(text, types) for name, text in of.items()})
 
     def difference(self, rule: str, entries: Sequence[Entry]) -> Optional[Difference]:
-        """Makes the calls of a history, and says where a reply is another one, or a call is out of range.
+        """Makes the calls of a history; returns the first wrong reply or out-of-range call.
 
-        The words about whole histories have to agree: it is lawful if all replies are these.
+        The definitions of whole histories must agree: a history with only right replies is lawful.
         """
         self.definitions.forget()
         reply, under, calls = self.definitions.value("Replies", "reply"), data(f"Rule.{rule}"), NIL
@@ -55,7 +55,7 @@ class Emulator:
         return self.of_the_whole(under, calls, history)
 
     def of_the_whole(self, rule: Value, calls: Value, history: list[Value]) -> Optional[Difference]:
-        """Whether the words about histories agree with a history of which each reply is right."""
+        """Returns a difference if the definitions of histories disagree with a history whose replies are right."""
         entries, value = to_list(history), self.definitions.value
         if not apply(value("History", "IsLawful"), rule, entries):
             return Difference(len(history) - 1, "each reply is right, and the history isn't lawful")
@@ -68,5 +68,5 @@ class Emulator:
         return None
 
     def is_in_range(self, line: str) -> bool:
-        """Whether the call of a record is in the ranges on which the bounds rest."""
+        """Returns whether a record's call is in the ranges on which the bounds rest."""
         return bool(apply(self.definitions.value("Bounds", "IsInRange"), call_of(line)))

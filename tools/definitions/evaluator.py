@@ -47,13 +47,13 @@ class Definitions:
         self.memories: list[dict[Variables, Value]] = []
 
     def forget(self) -> None:
-        """Lets go what was computed. Values that were made before must not be used any more."""
+        """Drops all computed values. Older values must not be used any more."""
         KEPT.clear()
         for memory in self.memories:
             memory.clear()
 
     def value(self, file: str, name: str) -> Value:
-        """What a name means in a file."""
+        """Returns the value of a name in a file."""
         spec = self.specs[file]
         if name in spec.constructors:
             return constructed(spec.constructors[name])
@@ -68,7 +68,7 @@ class Definitions:
         raise NotUnderstood(f"{file} has no {name}")
 
     def constructor(self, file: str, name: str) -> Optional[Constructor]:
-        """The constructor that a name is in a file, which has it from a file that it imports, if it isn't its own."""
+        """Returns the constructor that a name denotes in a file, possibly imported."""
         spec = self.specs[file]
         if name in spec.constructors:
             return spec.constructors[name]
@@ -76,13 +76,18 @@ class Definitions:
 
 
 def all_match(matches: list[Match], values: Variables, variables: Variables) -> Optional[Variables]:
-    """The variables with those of all patterns, if each fits its value."""
+    """Returns the variables with those of all patterns, if each pattern matches its value."""
     for match, value in zip(matches, values):
         found = match(value, variables)
         if found is None:
             return None
         variables = found
     return variables
+
+
+def bound(result: Value, then: Value) -> Value:
+    assert isinstance(result, Data)
+    return apply(then, result.parts[0]) if result.constructor == "Ok" else result
 
 
 def constructed(constructor: Constructor) -> Value:
@@ -92,13 +97,13 @@ def constructed(constructor: Constructor) -> Value:
 
 
 class Compiler:
-    """Makes code of what one file has."""
+    """The compiler of a file."""
 
     def __init__(self, definitions: Definitions, file: str) -> None:
         self.definitions, self.file = definitions, file
 
     def definition(self, equations: list[Equation]) -> Value:
-        """A definition, by the first of its equations whose patterns fit."""
+        """Returns a definition, which uses the first equation whose patterns match."""
         name, arity = equations[0].name, len(equations[0].patterns)
         ways = [self.equation(equation) for equation in equations]
         memory: dict[Variables, Value] = {}
@@ -130,7 +135,7 @@ class Compiler:
         return matches, self.code(equation.body, scope)
 
     def pattern(self, pattern: Pattern, scope: Scope) -> tuple[Match, Scope]:
-        """Code that matches, and the variables in scope behind it."""
+        """Returns code that matches a pattern, and the scope after it."""
         if isinstance(pattern, NilPattern):
             return lambda value, variables: variables if value is NIL else None, scope
         if isinstance(pattern, ConsPattern):
@@ -147,7 +152,7 @@ class Compiler:
             if len(pattern.parts) != constructor.arity:
                 raise NotUnderstood(f"{name} has {constructor.arity} parts")
             return self.parts(constructor.name, pattern.parts, scope)
-        if name in ("None", "Some"):
+        if name in ("None", "Some", "Ok", "Err"):
             return self.parts(name, pattern.parts, scope)
         if name in ("zero", "true", "false"):
             plain = WORDS[name]
@@ -217,8 +222,10 @@ class Compiler:
         left, right = self.code(expression.left, scope), self.code(expression.right, scope)
         if expression.sign in ("&&", "×"):
             return lambda variables: left(variables) and right(variables)
-        if expression.sign == "||":
+        if expression.sign in ("||", "⊎"):
             return lambda variables: left(variables) or right(variables)
+        if expression.sign == ">>=":
+            return lambda variables: bound(left(variables), right(variables))
         if expression.sign == "→":
             return lambda variables: not left(variables) or right(variables)
         if expression.sign == "∷":

@@ -24,28 +24,31 @@ from syntax import (
 from tokens import NotUnderstood, Token, tokens
 
 BINDING = {
+    ">>=": 0,
     "→": 0,
-    "×": 1,
-    "≡": 2,
-    "≤": 2,
-    "<": 2,
-    "||": 3,
-    "&&": 4,
-    "++": 5,
-    "∷": 6,
-    "+": 7,
-    "-": 7,
-    "*": 8,
-    "/": 8,
-    "%": 8,
-    "^": 9,
+    "⊎": 1,
+    "×": 2,
+    "≡": 3,
+    "≤": 3,
+    "<": 3,
+    "||": 4,
+    "&&": 5,
+    "==": 6,
+    "++": 7,
+    "∷": 8,
+    "+": 9,
+    "-": 9,
+    "*": 10,
+    "/": 10,
+    "%": 10,
+    "^": 11,
 }
-TO_THE_RIGHT = {"→", "×", "++", "∷", "^"}
+TO_THE_RIGHT = {"→", "⊎", "×", "++", "∷", "^"}
 KEYWORDS = {"let", "in", "elim", "record"}
 
 
 class Parser:
-    """Reads one text. Each method takes the tokens of what it is named for."""
+    """The parser of a text. Each method reads the construct in its name."""
 
     def __init__(self, text: str) -> None:
         self.tokens, self.place = tokens(text), 0
@@ -55,7 +58,7 @@ class Parser:
         return self.tokens[self.place]
 
     def take(self, text: str = "") -> str:
-        """The next token's text, which has to be this one if one is given."""
+        """Returns the next token's text, which must equal `text` if that is given."""
         token = self.next
         if text and token.text != text or token.kind == "end":
             near = " ".join(token.text for token in self.tokens[max(0, self.place - 6) : self.place + 6])
@@ -123,13 +126,17 @@ class Parser:
     def begins_an_atom(self) -> bool:
         kind, text = self.next
         is_name = kind == "name" and (text == "record" or text not in KEYWORDS)
-        return is_name or kind == "number" or kind == "sign" and text in "([⊤⊥"
+        return is_name or kind in ("number", "text") or kind == "sign" and text in "([⊤⊥"
 
     def atom(self) -> Expression:
         kind, text = self.next
         found: Expression
         if kind == "number":
             found = Number(int(self.take()))
+        elif kind == "text":
+            found = EmptyList()
+            for byte in reversed(self.take()[1:-1].encode()):
+                found = Infix("∷", Number(byte), found)
         elif self.take_if("record"):
             found = self.record()
         elif kind == "name" and text not in KEYWORDS or text in ("⊤", "⊥"):
@@ -140,6 +147,8 @@ class Parser:
         else:
             self.take("(")
             found = self.expression()
+            if self.take_if(","):  # a pair is a record of the fields 0 and 1
+                found = Record(None, (("0", found), ("1", self.expression())))
             self.take(")")
         while self.next.kind == "field":
             found = Field(found, self.take())

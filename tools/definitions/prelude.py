@@ -3,15 +3,17 @@
 from __future__ import annotations
 
 from collections.abc import Callable
+from functools import reduce
+from itertools import takewhile
 from typing import Any
 
-from values import NIL, NONE, Data, Function, Value, apply, items, some, to_list
+from values import NIL, NONE, Data, Function, Value, apply, data, items, some, to_list
 
 WORDS: dict[str, Value] = {"true": True, "false": False, "None": NONE, "zero": 0, "⊤": True, "⊥": False}
 
 
 def word(arity: int, name: str = "") -> Callable[[Callable[..., Any]], Callable[..., Any]]:
-    """Gives a word its meaning: the function below, by its own name or another."""
+    """Registers the function below as the meaning of a word."""
 
     def keep(function: Callable[..., Any]) -> Callable[..., Any]:
         WORDS[name or function.__name__] = Function(arity, function)
@@ -28,6 +30,15 @@ word(2, "min")(min)
 word(2, "bit_and")(lambda a, b: a & b)
 word(1, "suc")(lambda n: n + 1)
 word(1, "Some")(some)
+word(1, "Ok")(lambda value: data("Ok", value))
+word(1, "Err")(lambda fault: data("Err", fault))
+word(1, "codes")(lambda text: text)
+word(2, "bytes_eq")(lambda a, b: a is b)
+word(2, "unwrap_or")(lambda option, other: other if option is NONE else option.parts[0])
+word(1, "is_ascii_digit")(lambda byte: 48 <= byte < 58)
+word(1, "is_ascii_alphabetic")(lambda byte: chr(byte).isascii() and chr(byte).isalpha())
+word(1, "to_ascii_lowercase")(lambda byte: byte + 32 * (65 <= byte < 91))
+word(1, "digit_value")(lambda byte: int(chr(byte), 36) if chr(byte).isascii() and chr(byte).isalnum() else 36)
 word(1, "is_some")(lambda option: option is not NONE)
 word(1, "length")(lambda values: sum(1 for _ in items(values)))
 word(1, "sum")(lambda values: sum(number for number in items(values) if isinstance(number, int)))
@@ -93,6 +104,48 @@ def of_all(function: Value, values: Value) -> bool:
 
 
 @word(2)
+def list_all(function: Value, values: Value) -> bool:
+    return bool(of_all(function, values))
+
+
+@word(2)
+def take_while(function: Value, values: Value) -> Value:
+    return to_list(takewhile(lambda value: apply(function, value), items(values)))
+
+
+@word(2)
+def prefix_len(function: Value, values: Value) -> int:
+    return sum(1 for _ in takewhile(lambda value: apply(function, value), items(values)))
+
+
+@word(2)
+def before_first(function: Value, values: Value) -> Value:
+    return to_list(takewhile(lambda value: not apply(function, value), items(values)))
+
+
+@word(2)
+def slice_split(function: Value, values: Value) -> Value:
+    parts: list[list[Value]] = [[]]
+    for value in items(values):
+        if apply(function, value):
+            parts.append([])
+        else:
+            parts[-1].append(value)
+    return to_list(to_list(part) for part in parts)
+
+
+@word(2)
+def digits_value(radix: int, text: Value) -> int:
+    return reduce(lambda sum_of, byte: sum_of * radix + int(chr(byte), 36), [*items(text)], 0)
+
+
+@word(2)
+def slice_index(values: Value, place: int) -> Value:
+    rest = drop(place, values)
+    return rest.parts[0] if isinstance(rest, Data) and rest is not NIL else 0
+
+
+@word(2)
 def slice_get(values: Value, place: int) -> Value:
     rest = drop(place, values)
     return some(rest.parts[0]) if isinstance(rest, Data) and rest is not NIL else NONE
@@ -118,6 +171,7 @@ SIGNS: dict[str, Callable[..., Any]] = {
     "^": lambda a, b: a**b,
     "++": lambda a, b: to_list(items(a), b),
     "≡": lambda a, b: a == b,
+    "==": lambda a, b: a == b,
     "≤": lambda a, b: a <= b,
     "<": lambda a, b: a < b,
 }

@@ -1,4 +1,4 @@
-"""Reads the text of a history or of a transcript as entries, and writes what a reply's records are."""
+"""The reader of histories and transcripts, and the writer of replies' records."""
 
 from __future__ import annotations
 
@@ -74,7 +74,7 @@ def dotted(number: Value) -> str:
 
 
 def call_of(line: str) -> Value:
-    """The call of its record."""
+    """Returns the call of a record."""
     try:
         _, _, kind, *fields = line.split(",", 3) if line.split(",")[2:3] == ["configure"] else line.split(",")
         if kind == "configure":
@@ -107,7 +107,7 @@ def joined(*fields: object) -> str:
 
 
 def five(of: Value) -> list[object]:
-    """The five fields of a tuple or a mask, as records have them."""
+    """Returns the five fields of a tuple or mask, in the order of records."""
     assert isinstance(of, Data)
     return [dotted(of[name]) if name in ("src", "dst") else of[name] for name in FIELDS]
 
@@ -128,7 +128,7 @@ def delivery(of: Value) -> str:
 
 
 def reply_records(reply: Value) -> list[str]:
-    """The records of a reply."""
+    """Returns the records of a reply."""
     assert isinstance(reply, Data)
     kind = str(reply.constructor).removeprefix("Reply.")
     if kind == "Delivered":

@@ -1,4 +1,4 @@
-"""Reads the files of a crate's specs, and the types that its sources declare."""
+"""The reader of a crate's specs, and of the types in its sources."""
 
 from __future__ import annotations
 
@@ -10,9 +10,10 @@ from parser import Parser
 from syntax import Equation
 from tokens import NotUnderstood
 
-VARIANTS = re.compile(r"use Rattle\.\w+\.specs\.declared\.\w+\.(\w+)\.TheVariants\.\{(.*)\}$")
+VARIANTS = re.compile(r"use Rattle\.\w+\.specs\.declared\.[\w.]+?\.(\w+)\.TheVariants(?:\.\{(.*)\}| as (\w+))$")
 IMPORT = re.compile(r"use Rattle\.(\w+)\.specs\.([\w.]+)\.\{(.*)\}$")
 TYPE = re.compile(r"pub data (\w+)")
+BIND = re.compile(r"(?m)^(?:infixl .*|abbrev pub ◌>>=◌ .*|\((?:Ok|Err) \w+\) >>= .*)\n")  # its meaning is the evaluator's
 SIGNATURE = re.compile(r"(?:abbrev |unfoldable )(?:pub )?(\w+) :|pub (?:record|mod) ")
 ENUM = re.compile(r"^pub enum (\w+) \{\n(.*?)^\}", re.M | re.S)
 VARIANT = re.compile(r"^    (\w+)(?:\((.*?)\)| \{(.*?)\})?,$", re.M | re.S)
@@ -20,7 +21,7 @@ VARIANT = re.compile(r"^    (\w+)(?:\((.*?)\)| \{(.*?)\})?,$", re.M | re.S)
 
 @dataclass
 class Constructor:
-    """A constructor's own name, with its type's before it, and the count of its parts."""
+    """A constructor's name, prefixed with its type's, and its number of parts."""
 
     name: str
     arity: int
@@ -28,7 +29,7 @@ class Constructor:
 
 @dataclass
 class Spec:
-    """A file of specs: what its names are, and its equations by name, as text."""
+    """A specs file: its names' meanings, and its equations by name, as text."""
 
     constructors: dict[str, Constructor] = field(default_factory=dict)
     imports: dict[str, str] = field(default_factory=dict)  # a name, and the file that it is from
@@ -40,9 +41,9 @@ class Spec:
 
 
 def declared(sources: Path) -> dict[str, dict[str, int]]:
-    """The variants of each `enum` of a crate's sources, each with the count of its parts."""
+    """Returns the variants of each `enum` in a crate's sources, with their numbers of parts."""
     found = {}
-    for path in sorted(sources.glob("*.rt")):
+    for path in sorted(sources.rglob("*.rt")):
         text = re.sub(r"^ *//.*\n", "", path.read_text(), flags=re.M)
         for name, body in ENUM.findall(text):
             found[name] = {
@@ -65,18 +66,19 @@ def blocks(text: str) -> list[list[str]]:
 
 
 def names(text: str) -> list[tuple[str, str]]:
-    """The names in a list of imports, each with the one that it has here."""
+    """Returns the names in an import list, each with its local name."""
     pairs = [item.strip().partition(" as ") for item in text.split(",") if item.strip()]
     return [(name, here or name) for name, _, here in pairs]
 
 
 def read(text: str, types: dict[str, dict[str, int]], crate: str = "dn_types") -> Spec:
-    """Reads the text of a file. Types of functions are passed over, since what is run is well typed."""
+    """Reads a file's text. Types of functions are skipped, since the prover has checked them."""
     spec = Spec()
-    for block in blocks(text):
+    for block in blocks(BIND.sub("", text)):
         line = " ".join(part.strip() for part in block)
         if found := VARIANTS.match(line):
-            for name, here in names(found[2]):
+            alls = [(name, f"{found[3]}.{name}") for name in types[found[1]]] if found[3] else names(found[2])
+            for name, here in alls:
                 spec.constructors[here] = Constructor(f"{found[1]}.{name}", types[found[1]][name])
         elif found := IMPORT.match(line):
             read_import(spec, found, crate)
@@ -90,7 +92,7 @@ def read(text: str, types: dict[str, dict[str, int]], crate: str = "dn_types") -
 
 
 def read_import(spec: Spec, found: re.Match[str], crate: str) -> None:
-    """Takes the names of an import of specs. Those of declared types are needed for signatures alone."""
+    """Adds the names of an import. Declared types matter only in signatures, and are skipped."""
     if found[1] == "std":
         spec.words |= {name for name, _ in names(found[3])}
     elif found[1] == crate and "declared" not in found[2]:

@@ -23,7 +23,7 @@ class Name:
 
 @dataclass(frozen=True)
 class Field:
-    """A field of a record: `p.len`."""
+    """A field of a record, as in `p.len`."""
 
     record: Expression
     name: str
@@ -57,7 +57,7 @@ class Lambda:
 
 @dataclass(frozen=True)
 class Record:
-    """A record by its fields, or another record with some of its fields changed."""
+    """A record by its fields, or another record with some fields changed."""
 
     base: Optional[Expression]
     fields: tuple[tuple[str, Expression], ...]
@@ -65,7 +65,7 @@ class Record:
 
 @dataclass(frozen=True)
 class Elim:
-    """A value by cases: `elim e [ None ↦ a | Some s ↦ b ]`."""
+    """A case distinction, as in `elim e [ None ↦ a | Some s ↦ b ]`."""
 
     value: Expression
     cases: tuple[tuple[Pattern, Expression], ...]
@@ -92,7 +92,7 @@ class ConsPattern:
 
 @dataclass(frozen=True)
 class NamePattern:
-    """A constructor with patterns for its parts, or a variable. Which of these it is, the names in scope decide."""
+    """A constructor with patterns, or a variable; the scope decides which."""
 
     name: str
     parts: tuple[Pattern, ...]

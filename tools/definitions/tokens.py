@@ -1,13 +1,14 @@
-"""The tokens of a text in the language of specs."""
+"""The tokens of specs."""
 
 from __future__ import annotations
 
 import re
 from typing import NamedTuple
 
-# A field stands at once behind what it is a field of: the dot of `λ p. p.len` before a space is a sign.
+# A field stands at once behind what it is a field of: the dot of `λ p. p.len` before a space is a sign. `kind.Pipe` is one name.
 TOKEN = re.compile(
-    r"(?P<number>\d+)|(?P<name>[^\W\d][\w']*)|(?P<field>\.[^\W\d]\w*)" r"|(?P<sign>\+\+|&&|\|\||[][(){};=λ↦|∷+*/%^.,<≤≡×→⊤⊥:-])"
+    r'(?P<number>\d+)|(?P<name>[^\W\d][\w\']*(?:\.[A-Z]\w*)?)|(?P<field>\.\w+)|(?P<text>"[^"]*")'
+    r"|(?P<sign>\+\+|&&|\|\||>>=|==|[][(){};=λ↦|∷+*/%^.,<≤≡×⊎→⊤⊥:-])"
 )
 
 
@@ -16,14 +17,14 @@ class NotUnderstood(Exception):
 
 
 class Token(NamedTuple):
-    """A kind (number, name, field, sign or end) and the text, a field's without its dot."""
+    """A kind (number, name, field, text, sign or end) and the text, a field's without its dot."""
 
     kind: str
     text: str
 
 
 def tokens(text: str) -> list[Token]:
-    """The tokens of a text without comments, with one of kind `end` behind them."""
+    """Returns the tokens of a text without comments, followed by one of kind `end`."""
     found, place = [], 0
     while text[place:].strip():
         if text[place].isspace():

@@ -1,6 +1,6 @@
 """Values: numbers, truth values, functions, and data, of which equal ones are one object.
 
-So two values are compared in one step, and what a definition gives for its arguments is kept by these.
+So two values are compared in one step, and a definition's results are cached by these values.
 """
 
 from __future__ import annotations
@@ -10,7 +10,7 @@ from typing import Union
 
 
 class Data:
-    """A constructor with its parts. The constructor of a record is the tuple of the names of its fields, sorted."""
+    """A constructor with its parts. The constructor of a record is the sorted tuple of its fields' names."""
 
     __slots__ = ("constructor", "parts")
 
@@ -22,7 +22,7 @@ class Data:
 
 
 class Function:
-    """A function of so many arguments, and those that it has. If all are kept, equal functions are one object."""
+    """A function with its number of arguments, and those already applied. If all are cached, equal functions are the same object."""
 
     __slots__ = ("arity", "run", "arguments", "is_kept")
 

@@ -1,4 +1,4 @@
-"""Wrong definitions, those of tools/laws/wrong_definitions.py: what they say differs from what the program does."""
+"""Wrong definitions from tools/laws/wrong_definitions.py: their replies differ from the program's."""
 
 from __future__ import annotations
 
@@ -27,7 +27,7 @@ UNSEEN = {
 
 
 class Row(NamedTuple):
-    """What is wrong, and the specs with it."""
+    """A row: its mistake, and the changed specs."""
 
     wrong: str
     specs: dict[str, str]
@@ -41,7 +41,7 @@ class Seen(NamedTuple):
 
 
 def row(number: int) -> Row:
-    """A row of wrong_definitions.py by its number, which counts from 1."""
+    """Returns a row of wrong_definitions.py by its number, from 1."""
     wrong, files, right_texts, wrong_texts, _, _ = wrong_definitions.ROWS[number - 1]
     specs = texts()
     changes = zip(files, right_texts, wrong_texts) if isinstance(files, tuple) else [(files, right_texts, wrong_texts)]
@@ -54,7 +54,7 @@ def row(number: int) -> Row:
 
 
 def all_numbers() -> list[int]:
-    """The numbers of the rows that change specs of dn_types alone."""
+    """Returns the numbers of the rows that change only specs of dn_types."""
     specs, numbers = set(texts()), []
     for number, (_, files, *_) in enumerate(wrong_definitions.ROWS, 1):
         if specs.issuperset(files if isinstance(files, tuple) else (files,)):
@@ -71,9 +71,8 @@ def what_is_given(program: str) -> Given:
     return Given(list(sessions(program, SEED, CALLS)), answered(program))
 
 
-def try_share(tally: Tally, program: str, seed: int) -> None:
-    """Each row of a share of the seed is seen, except those that can't be."""
-    given = what_is_given(program)
+def try_share(tally: Tally, given: Given, seed: int) -> None:
+    """Checks that each row of a seed's share is seen, except the listed ones."""
     for number in all_numbers()[seed % SHARES :: SHARES]:
         tried = row(number)
         if tried.wrong not in UNSEEN:

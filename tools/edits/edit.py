@@ -26,7 +26,7 @@ class Pair(NamedTuple):
 
 @dataclass(frozen=True)
 class Edit:
-    """An edit of a crate, with the functions whose bodies it changes: none if it changes more than bodies."""
+    """An edit of a crate, with the functions whose bodies it changes, or none if it changes more than bodies."""
 
     name: str
     text: str
@@ -75,7 +75,7 @@ def edited_functions(crate: Path, pairs: tuple[Pair, ...]) -> frozenset[Function
 
 
 def is_body(text: str, function: Function, line: int) -> bool:
-    """Whether a line of a function is of its body, and not of its signature or its clauses."""
+    """Returns whether a line belongs to a function's body, rather than its signature or clauses."""
     lines = [one.rstrip() for one in text.split("\n")[function.first - 1 : function.last]]
     depth = len(lines[0]) - len(lines[0].lstrip())
     # A body opens on a line of the function's own depth: alone, or behind the signature.
@@ -92,5 +92,5 @@ def read(crate: Path, path: Path) -> Edit:
 
 
 def edits_of(crate: Path, folders: "tuple[str, ...]") -> list[Edit]:
-    """The edits in these folders of a crate."""
+    """Returns the edits in these folders of a crate."""
     return [read(crate, path) for folder in folders for path in sorted((crate / folder).glob("*.edit"))]

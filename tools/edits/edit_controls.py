@@ -154,7 +154,7 @@ class Misfit(Exception):
 
 
 def controlled(name: str) -> list[Pair]:
-    """An edit's pairs with its mistake undone."""
+    """Returns an edit's pairs with its mistake undone."""
     pairs = pairs_of(name)
     for wrong, right in CONTROLS[name]:
         if not any(wrong in new for _, _, new in pairs):
@@ -164,7 +164,7 @@ def controlled(name: str) -> list[Pair]:
 
 
 def applied(crate: Path, pairs: list[Pair], texts: dict[Path, str]) -> dict[Path, str]:
-    """The texts of a crate's files after an edit, where `texts` has those that were changed before."""
+    """Returns the texts of a crate's files after an edit; `texts` contains earlier changes."""
     texts = dict(texts)
     for file, old, new in pairs:
         place = crate / file
@@ -180,7 +180,7 @@ def edits() -> list[str]:
 
 
 def misfit(name: str) -> str:
-    """What is wrong with an edit or its control, if anything, without a prover."""
+    """Returns the error of an edit or its control that needs no prover, or an empty text."""
     try:
         pairs = controlled(name) if name in CONTROLS else pairs_of(name)
         applied(TOP / "crates" / name.split("/")[0], pairs, {})
@@ -202,7 +202,7 @@ def missing() -> int:
 
 
 def below(crate: str) -> list[str]:
-    """The crates of this repository that a crate stands on, lowest first, and itself."""
+    """Returns the repository's crates below a crate, lowest first, and the crate itself."""
     done = subprocess.run(
         [TOP / "tools" / "release" / "program_sources", "--crates", crate], stdout=subprocess.PIPE, text=True, check=True
     )
@@ -236,7 +236,7 @@ def faults_of(crate: Path, names: list[str]) -> list[str]:
 
 
 def refused(crate: Path, names: list[str]) -> Iterator[tuple[str, list[str]]]:
-    """Each control, and why it was refused, if it was: halves of the list are tried where the whole is refused."""
+    """Yields each refused control with the reason. If a list is refused, its halves are tried."""
     try:
         faults = faults_of(crate, names)
     except Misfit as fault:

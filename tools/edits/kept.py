@@ -1,4 +1,4 @@
-"""Verdicts of earlier runs on this machine, each by a sum of all that it was made from, so that none goes stale."""
+"""The verdicts of earlier runs on this machine, keyed by a checksum of all their inputs, so that none is stale."""
 
 from __future__ import annotations
 
@@ -18,13 +18,13 @@ SCRIPTS = ("edit_controls.py", "mustfail_reasons.py")  # beside these modules; t
 
 
 def own_sum() -> bytes:
-    """The text of these modules, since another text may judge otherwise."""
+    """Returns the text of these modules, since other code may judge differently."""
     modules = sorted(path for path in Path(__file__).parent.glob("*.py") if path.name not in SCRIPTS)
     return b"".join(path.read_bytes() for path in modules)
 
 
 def folder() -> Path:
-    """The place of kept verdicts: in what `rt ci` keeps, where it may be written, else in the user's cache."""
+    """Returns the folder of kept verdicts: inside that of `rt ci` if writable, otherwise in the user's cache."""
     beside = kit().parent / "rattle-kept" / "hingetulip"
     if os.access(beside if beside.is_dir() else beside.parent, os.W_OK):
         return beside
@@ -49,7 +49,7 @@ class Kept:
             return None
 
     def put(self, edit: Edit, verdict: Verdict) -> None:
-        """Keeps a verdict, written apart and then renamed. What can't be written is not kept."""
+        """Keeps a verdict, written separately and then renamed. Failed writes are ignored."""
         try:
             self.place.mkdir(mode=0o700, parents=True, exist_ok=True)
             with NamedTemporaryFile("w", dir=self.place, delete=False) as file:

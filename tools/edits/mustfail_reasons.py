@@ -25,7 +25,7 @@ OTHERWISE = {"NOT REFUSED": "unrefused", "BAD EDIT": "bad", "NOT TRIED": "untrie
 
 
 def sorted_of(line: str) -> Optional[tuple[str, str, str]]:
-    """The kind of an edit's verdict, the edit, and the goal that refused it, if the line has one."""
+    """Returns the kind, the edit and the refusing goal of a verdict's line, or None."""
     ours = BY_US.search(line)
     if ours:
         return ours[2] or OTHERWISE[ours[5]], ours[1], ours[4] or ""

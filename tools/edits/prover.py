@@ -1,4 +1,4 @@
-"""The prover over a copy of a crate with edits, and the libraries that it reads."""
+"""The prover for a copy of a crate with edits, and the libraries below it."""
 
 from __future__ import annotations
 
@@ -7,6 +7,7 @@ import re
 import shutil
 import signal
 import subprocess
+from collections.abc import Iterable
 from functools import lru_cache
 from hashlib import sha256
 from pathlib import Path
@@ -20,7 +21,7 @@ OUTPUT: "dict[str, Any]" = {"stdout": subprocess.PIPE, "stderr": subprocess.STDO
 
 
 class Checked(NamedTuple):
-    """What a check said. It has a verdict if it came to the end, whatever that is."""
+    """The output of a check. It contains a verdict if the check was completed."""
 
     status: int
     text: str
@@ -31,20 +32,20 @@ class Checked(NamedTuple):
 
 @lru_cache(maxsize=None)
 def kit() -> Path:
-    """The folder of the toolchain."""
+    """Returns the toolchain's folder."""
     return Path(subprocess.run(["rt", "doc"], stdout=subprocess.PIPE, text=True, check=True).stdout.strip()).parent
 
 
 @lru_cache(maxsize=None)
 def listed() -> "dict[str, tuple[list[str], list[str]]]":
-    """For each crate of crates.txt the words beside its name, and the libraries that it names."""
+    """Returns the words beside each crate's name in crates.txt, and its libraries."""
     lines = [line.partition("#")[0] for line in (TOP / "crates.txt").read_text().splitlines()]
     heads = [(head.split(), below.split()) for head, colon, below in (line.partition(":") for line in lines) if colon]
     return {head[0]: (head[1:], below) for head, below in heads}
 
 
 def below(crate: str) -> list[str]:
-    """The crates of the repository below one, each once, lowest first."""
+    """Returns the repository's crates below a crate, each once, lowest first."""
     found: list[str] = []
     for name in listed()[crate][1]:
         if name in listed():
@@ -56,27 +57,34 @@ def rlib(crate: str) -> Path:
     return CRATES / crate / "out" / "rlib" / f"{crate}.rlib"
 
 
-def libraries(crate: str) -> list[Path]:
-    """The built libraries that a crate names."""
-    own = {name: rlib(name) for name in listed()[crate][1] if name in listed()}
-    of_kit = ["std", *(name for name in listed()[crate][1] if name not in own)]
-    return [*(kit() / "rlibs" / f"{name}.rlib" for name in of_kit), *own.values()]
+def command(crate: str, of_kit: list[str], own: list[str], root: str = "src/lib.rt") -> list[str]:
+    """Returns the prover's command for a crate over libraries of the toolchain and the repository's built ones."""
+    logic = ["--antt-project", f"{kit()}/rattle/logic/antt-project.json", "--logic-built", f"{kit()}/logic_built"]
+    libraries = [*(kit() / "rlibs" / f"{name}.rlib" for name in of_kit), *map(rlib, own)]
+    named = [word for path in libraries for word in ("--extern", f"{path.stem}={path}")]
+    places = dict.fromkeys([kit() / "rlibs", *(rlib(name).parent for one in own for name in [*below(one), one])])
+    found = [word for place in places for word in ("-L", f"dependency={place}")]
+    return [str(kit() / "bin" / "rattle"), "check", "--crate-name", crate, root, *named, *found, *logic, "--jobs", "1"]
 
 
 def words(crate: str) -> list[str]:
-    """The prover's command for a crate."""
+    """The prover's command for one of the repository's crates."""
     root = "src/main.rt" if (CRATES / crate / "src" / "main.rt").exists() else "src/lib.rt"
-    logic = ["--antt-project", f"{kit()}/rattle/logic/antt-project.json", "--logic-built", f"{kit()}/logic_built"]
-    named = [word for path in libraries(crate) for word in ("--extern", f"{path.stem}={path}")]
-    places = dict.fromkeys([kit() / "rlibs", *(rlib(name).parent for name in below(crate))])
-    found = [word for place in places for word in ("-L", f"dependency={place}")]
+    names = listed()[crate][1]
+    own = [name for name in names if name in listed()]
     kind = ["--crate-type", "staticlib"] if "staticlib" in listed()[crate][0] else []
-    command = [str(kit() / "bin" / "rattle"), "check", "--crate-name", crate, root]
-    return [*command, *named, *found, *logic, *kind, "--jobs", "1"]
+    return [*command(crate, ["std", *(name for name in names if name not in own)], own, root), *kind]
+
+
+def build_below(crates: Iterable[str], is_built: bool) -> None:
+    """Has `rt` build the libraries below crates, where they have changed, or takes those that `rt ci` left, which have no stamp."""
+    if not is_built or any(CRATES.glob("*/out/rlib/stamp")):
+        for crate in filter(below, crates):
+            subprocess.run(["rt", "check", "--only", ""], cwd=CRATES / crate, stdout=subprocess.DEVNULL, stderr=subprocess.STDOUT)
 
 
 def sum_of(crate: str) -> str:
-    """A sum of all that a check of the crate reads: its files, the libraries below it, and the toolchain."""
+    """Returns a checksum of everything that a check of the crate reads: its files, its libraries and the toolchain."""
     total = sha256(repr((listed()[crate], (kit() / "KIT-ID").read_bytes())).encode())
     files = [path for part in PARTS for path in sorted((CRATES / crate / part).rglob("*")) if path.is_file()]
     below_it = [rlib(name) / "format" for name in below(crate)]
@@ -86,7 +94,7 @@ def sum_of(crate: str) -> str:
 
 
 class Room:
-    """A folder in which edits of a crate are tried, with what its checks have proved so far."""
+    """A folder for trying a crate's edits, with earlier checks' results."""
 
     def __init__(self, crate: str, place: Path) -> None:
         self.crate, self.place = crate, place
@@ -98,7 +106,7 @@ class Room:
             self.kept.mkdir()
 
     def check(self, texts: "dict[str, str]", only: list[str]) -> Checked:
-        """Checks the crate with these texts in place of its own: functions or modules of these names, or all."""
+        """Checks the crate with these texts in place of its own: the named functions or modules, or all."""
         with TemporaryDirectory(prefix="edits-", dir=self.place) as folder:
             copy = Path(folder)
             for part in PARTS:
@@ -116,7 +124,7 @@ class Room:
 
 
 def linked(one: str, other: str) -> str:
-    """Copies a file of kept work, or gives it one more name if it is of a kind into which no check writes."""
+    """Copies a file of kept results, or links it if no check writes into its kind; returns the path."""
     try:
         if one.endswith(".oantt"):
             os.link(one, other)

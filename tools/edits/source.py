@@ -1,4 +1,4 @@
-"""The functions of a source file, as rt fmt lays it out."""
+"""The functions of a source file in the layout of rt fmt."""
 
 from __future__ import annotations
 
@@ -15,8 +15,8 @@ IMPL = re.compile(r"impl(?:<.*?>)? (?:(?:\w+::)*(\w+)(?:<.*>)? for )?&?(?:'\w+ )
 
 @dataclass(frozen=True)
 class Function:
-    """A function: its file, its path as the prover prints it without the module of a method's type, and its lines: from
-    the first of its attributes, from its signature on, and to its end."""
+    """A function: its file, its path as the prover prints it without a method's module, and its lines: its first attribute, its
+    signature, and its end."""
 
     file: str
     path: tuple[str, ...]
@@ -28,7 +28,7 @@ class Function:
         return "::".join(self.path)
 
     def owns(self, name: str) -> bool:
-        """Whether a name that the prover prints, without its crate's, is of the function or of a closure in it."""
+        """Returns whether a name of the prover, without the crate, denotes the function or a closure in it."""
         parts = tuple(CLOSURE.sub(r"\1", part) for part in name.split("::") if part != "fn")
         places = range(len(parts) - len(self.path) + 1) if self.path[0][:1].isupper() else range(1)
         return any(parts[place : place + len(self.path)] == self.path for place in places)
@@ -40,21 +40,21 @@ def module_of(file: str) -> tuple[str, ...]:
 
 
 def end_of(lines: list[str], first: int, indent: str) -> int:
-    """The last line of the item that begins here: the first one after it that closes at its own depth."""
+    """Returns the last line of the item that begins here: the first later line that closes at the same depth."""
     closed = (place for place in range(first, len(lines)) if lines[place].rstrip() in (f"{indent}}}", f"{indent};"))
     alone = lines[first].rstrip().endswith(("}", ";"))
     return first if alone else next(closed, len(lines) - 1)
 
 
 def impl_name(line: str) -> Optional[str]:
-    """The name that the prover gives to what an impl holds: the type, and the trait behind it."""
+    """Returns the prover's name for an impl: the type, followed by the trait."""
     found = IMPL.match(line)
     return f"{found[2]}{found[1] or ''}" if found else None
 
 
 @lru_cache(maxsize=None)
 def functions(folder: Path, file: str) -> list[Function]:
-    """The functions with a body, in order. A function within another is a part of it."""
+    """Returns the functions with a body, in order. Nested functions belong to the outer one."""
     lines = (folder / file).read_text().split("\n")
     found: list[Function] = []
     holder: Optional[str] = None

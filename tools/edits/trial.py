@@ -19,11 +19,11 @@ UNKNOWN_PATH = 2  # the prover's status if a name fits no function, or several
 
 
 class NotProved(Exception):
-    """A crate that isn't proved as it is, so that a refusal says nothing."""
+    """Raised for a crate whose unchanged sources aren't proved, so that a refusal means nothing."""
 
 
 class Trial:
-    """The trial of a crate's edits, and what has become of each so far."""
+    """The trial of a crate's edits, with the results so far."""
 
     def __init__(self, crate: str, place: Path) -> None:
         self.folder, self.room = CRATES / crate, Room(crate, place)
@@ -61,8 +61,8 @@ class Trial:
             return False
 
     def prove_as_they_are(self, edits: list[Edit]) -> None:
-        """Proves the functions without an edit, with which the checks begin. They are asked for by name, or by
-        module or all at once if the prover finds none or several of a name."""
+        """Proves the unchanged functions first. They are selected by name, or by module or all together if the prover finds none or
+        several with a name."""
         for self.asked in (names, modules, nothing):
             checked = self.check([], self.asked(edits))
             if checked.status != UNKNOWN_PATH:
@@ -85,14 +85,14 @@ class Trial:
                 self.together(part)
 
     def alone(self, edit: Edit, checked: Checked) -> Verdict:
-        """The verdict on an edit that was alone in a check."""
+        """Returns the verdict on an edit that was alone in a check."""
         if not checked.has_verdict():
             return Verdict("bad", "", unread(checked))
         verdict = verdict_of(edit.functions, checked.text, self.folder)
         return verdict or self.by_the_whole(edit)
 
     def by_the_whole(self, edit: Edit) -> Verdict:
-        """The verdict of a check of the whole crate, in which another function may refuse the edit."""
+        """Returns the verdict of a whole check, in which another function may refuse the edit."""
         checked = self.check([edit], [])
         if checked.status == 0:
             return Verdict("unrefused", "", "")
@@ -117,13 +117,13 @@ def names(edits: list[Edit]) -> list[str]:
 
 
 def modules(edits: list[Edit]) -> list[str]:
-    """The modules that edits change, or nothing if the crate's root is one."""
+    """Returns the modules that edits change; none if the crate's root is among them."""
     found = {"::".join(module_of(pair.file)) for edit in edits for pair in edit.pairs}
     return [] if "" in found else sorted(found)
 
 
 def nothing(edits: list[Edit]) -> list[str]:
-    """No name, which asks for the whole crate."""
+    """Returns no name, which selects the whole crate."""
     return []
 
 
@@ -140,7 +140,7 @@ def batches(edits: list[Edit]) -> list[list[Edit]]:
 
 
 def meet(one: Edit, other: Edit) -> bool:
-    """Whether two edits are of one function, or one writes or changes a text that the other seeks."""
+    """Returns whether two edits change the same function, or one changes text that the other needs."""
     pairs = [(mine, its) for mine in one.pairs for its in other.pairs if mine.file == its.file]
     sought = any(
         mine.old in theirs or its.old in ours for mine, its in pairs for theirs, ours in ((its.old, mine.old), (its.new, mine.new))

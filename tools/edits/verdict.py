@@ -34,7 +34,7 @@ ORDER = ("promise", "answer", "safety", "limit", "form")
 
 
 class Verdict(NamedTuple):
-    """What became of an edit: its kind, and the function and the goal that refused it, or what is wrong with it."""
+    """The result of an edit: its kind, and the refusing function and goal, or the error."""
 
     kind: str
     where: str
@@ -49,13 +49,13 @@ class Verdict(NamedTuple):
 
 
 def goal_of(told: str) -> str:
-    """The name of the goal of which a line speaks."""
+    """Returns the goal in a line."""
     goals = GOAL.findall(told)
     return next(filter(TELLING.match, goals), goals[0] if goals else "?")
 
 
 def kind_of(told: str) -> str:
-    """The kind of a refusal by one of its lines."""
+    """Returns the kind of a refusal from one of its lines."""
     goal = goal_of(told)
     if LIMIT.search(told):
         return "limit"
@@ -67,14 +67,14 @@ def kind_of(told: str) -> str:
 
 
 class Reason(NamedTuple):
-    """A line by which the prover refused something: where it is, and what it says."""
+    """A line with which the prover refused something: the place and the text."""
 
     file: str
     line: int
     text: str
 
     def of(self, crate: Path) -> str:
-        """The name of the function to which it belongs."""
+        """Returns the name of the function at the place."""
         if self.file.startswith("proofs/"):
             return "::".join(Path(self.file).parts[1:-1])
         function = function_at(crate, self.file, self.line) if self.file.startswith("src/") else None
@@ -98,6 +98,6 @@ def best(found: list[Reason], crate: Path) -> Optional[Verdict]:
 
 
 def verdict_of(functions: "frozenset[Function]", text: str, crate: Path) -> Optional[Verdict]:
-    """The verdict on an edit of these functions by their own lines, or of anything by all lines if there are none."""
+    """Returns the verdict on an edit of these functions from their lines, or from all lines if there are no functions."""
     own = [one for one in reasons(text) if not functions or any(function.owns(one.of(crate)) for function in functions)]
     return best(own, crate)

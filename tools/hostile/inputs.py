@@ -66,7 +66,7 @@ def known(flows: int) -> Iterator[str]:
 
 
 def fill(texts: Iterator[str], size: int) -> Iterator[str]:
-    """The header, and as many of the texts as have the size in all."""
+    """Yields the header, and texts up to the size in all."""
     yield HEADER
     size -= len(HEADER)
     for text in texts:
@@ -77,7 +77,7 @@ def fill(texts: Iterator[str], size: int) -> Iterator[str]:
 
 
 def shortest_flows() -> Iterator[str]:
-    """A row for each flow: ten numbers of one digit in the addresses and ports, then of more."""
+    """Yields a row for each flow: with ten one-digit numbers in addresses and ports at first."""
     for digits in count():
         a, b, c, d, e, f, g, h = (digits // 10**place % 10 for place in range(8))
         yield f"0,pipe,1,{a}.{b}.{c}.{d},{e}.{f}.{g}.{h},0,{digits // 10**8},0,1,0\n"

@@ -63,7 +63,7 @@ def dot(a: Vector, b: Vector) -> int:
 
 
 def reduced(basis: list[Vector]) -> list[Vector]:
-    """Short vectors of the lattice: each is made shorter by the others for as long as that helps."""
+    """Returns short vectors of the lattice, each reduced by the others as long as that helps."""
     better = True
     while better:
         better = False
@@ -78,7 +78,7 @@ def reduced(basis: list[Vector]) -> list[Vector]:
 
 
 def differences() -> list[Vector]:
-    """Three short differences of source, destination and ports that leave the hash as it is."""
+    """Returns three short differences of source, destination and ports that don't change the hash."""
     source, destination, ports = secret(9), secret(8), secret(6)
     inverse = pow(ports, -1, WORD)  # it is odd
     return reduced([(1, 0, -source * inverse % WORD), (0, 1, -destination * inverse % WORD), (0, 0, WORD)])

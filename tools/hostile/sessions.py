@@ -31,7 +31,7 @@ def submit(target: str, source: int = FIRST_ADDRESS, length: int = 100, moment: 
 
 
 def queue_delete(flows: int) -> Iterator[str]:
-    """A slow pipe, a queue of so many flows on it with two packets each, its delete, and a packet more on the link."""
+    """Yields a slow pipe, a queue with `flows` flows of two packets each, its delete, and another packet on the link."""
     yield configure("pipe 1 config bw 1bit/s") + configure("queue 1 config pipe 1 mask all")
     yield configure("queue 2 config pipe 1")
     for flow in range(flows):
@@ -40,7 +40,7 @@ def queue_delete(flows: int) -> Iterator[str]:
 
 
 def delete_turns(flows: int) -> Iterator[str]:
-    """So many flows on a link, and as many turns there: a queue, a packet of it, and its delete."""
+    """Yields `flows` flows on a link, and as many rounds there: a queue, its packet, and its delete."""
     yield configure("pipe 1 config bw 1bit/s") + configure("queue 1 config pipe 1 mask all")
     for flow in range(flows):
         yield submit("queue,1", FIRST_ADDRESS + flow)
@@ -49,7 +49,7 @@ def delete_turns(flows: int) -> Iterator[str]:
 
 
 def emptied_pipes(links: int) -> Iterator[str]:
-    """So many pipes, on each of which a packet waits, and the delete of each."""
+    """Yields `links` pipes with a waiting packet each, and their deletes."""
     for number in range(1, links + 1):
         yield configure(f"pipe {number} config bw 1bit/s") + 2 * submit(f"pipe,{number}")
     for number in range(1, links + 1):
@@ -57,7 +57,7 @@ def emptied_pipes(links: int) -> Iterator[str]:
 
 
 def emptied_turns(links: int) -> Iterator[str]:
-    """So many links of one pipe, and as many turns at another: it is configured, gets two packets, and is deleted."""
+    """Yields `links` links of one pipe, and as many rounds at another: it is configured, gets two packets, and is deleted."""
     yield configure("pipe 1 config bw 1bit/s mask all")
     for flow in range(links):
         yield 2 * submit("pipe,1", FIRST_ADDRESS + flow)

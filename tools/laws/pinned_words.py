@@ -4,11 +4,11 @@
     python3 tools/laws/pinned_words.py           prints what fails; the last line is 'N passed, M failed'
     python3 tools/laws/pinned_words.py --list    prints each word with the laws that use it
 
-A law says no more than its words. So each definition of dn_types that a law's statement uses is pinned by a law in words of
-calls, replies and events. crates/dn_laws/README.md has a table of them: words, and the functions and clauses that pin them. A row
-without a law has words that need none, since what they are made of is plain: types, and words of such rows.
-A word passes where the table has it once and its row holds. A row of laws holds where each of them is there and uses a
-word of the row, and each word is used by one. A word that no law uses, and a row that doesn't hold, fails.
+A law says no more than its words. So each definition of dn_types that a law's statement uses is pinned by a law in words of calls,
+replies and events. crates/dn_laws/README.md has a table of them: words, and the functions and clauses that pin them. A row without
+a law has words that need none, since what they are made of is plain: types, and words of such rows. A word passes where the table
+has it once and its row holds. A row of laws holds if each law exists and uses a word in the row, and if a law uses each word. A
+word that no law uses, and a row that doesn't hold, fails.
 """
 
 from __future__ import annotations
@@ -35,7 +35,7 @@ class Row(NamedTuple):
 
 
 def used_by(definitions: Definitions, start: Set[Key]) -> Set[Key]:
-    """The words of dn_types that a statement uses: what it is made of in dn_laws, and no further."""
+    """Returns dn_types' words that a statement uses, through dn_laws' definitions but not beyond."""
     found, seen, left = set(), set(), list(start)
     while left:
         key = left.pop()
@@ -50,13 +50,13 @@ def used_by(definitions: Definitions, start: Set[Key]) -> Set[Key]:
 
 
 def words_in(definitions: Definitions, key: Key) -> Set[Key]:
-    """The definitions that a definition is made of."""
+    """Returns the definitions that a definition uses."""
     own = definitions[key]
     return {own.imports.get(word, (*key[:2], word)) for line in own.lines for word in WORD.findall(line)} - {key}
 
 
 def read_laws(top: Path, definitions: Definitions) -> Dict[Clause, Set[str]]:
-    """The words of dn_types that each clause of the laws uses."""
+    """Returns the words of dn_types that each clause uses."""
     text = "".join(path.read_text() for path in sorted((top / "crates" / "dn_laws" / "src").glob("*.rt")))
     imports = imports_of(text)
     return {
@@ -67,7 +67,7 @@ def read_laws(top: Path, definitions: Definitions) -> Dict[Clause, Set[str]]:
 
 
 def read_table(text: str) -> List[Row]:
-    """The rows of the table."""
+    """Returns the rows of the table."""
     rows, part = [], text.partition(HEADING)[2].partition("\n#")[0]
     for line in part.splitlines():
         cells = line.split("|")
@@ -85,14 +85,14 @@ def read_table(text: str) -> List[Row]:
 
 
 def is_plain(definitions: Definitions, word: str, plain: Set[str]) -> bool:
-    """Whether a word of dn_types is made of types and plain words alone."""
+    """Returns whether a word of dn_types consists only of types and plain words."""
     keys = [key for key in definitions if key[0] == "dn_types" and key[2] == word]
     inner = {part for key in keys for part in words_in(definitions, key) if part in definitions}
     return all(TYPE.match(definitions[part].lines[0]) or part[2] in plain for part in inner)
 
 
 def faults_of(row: Row, laws: Dict[Clause, Set[str]], definitions: Definitions, plain: Set[str]) -> List[str]:
-    """What is wrong with a row."""
+    """Returns the faults of a row."""
     if not row.clauses:
         return [f"`{word}` has no law and isn't plain" for word in row.words if not is_plain(definitions, word, plain)]
     missing = [f"no clause `{clause}` of `{function}`" for function, clause in row.clauses if (function, clause) not in laws]
@@ -106,7 +106,7 @@ def faults_of(row: Row, laws: Dict[Clause, Set[str]], definitions: Definitions, 
 
 
 def main(arguments: List[str]) -> int:
-    """Prints what fails, and how many words pass."""
+    """Prints the failures and the number of passing words; returns the status."""
     top = Path(__file__).resolve().parents[2]
     definitions = read_specs(top)
     laws = read_laws(top, definitions)

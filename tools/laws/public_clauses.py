@@ -3,10 +3,10 @@
     python3 tools/laws/public_clauses.py BASE [NEW]
 
 NEW is the working tree if it isn't given. A clause is `requires`, `ensures` or `succeeds` with its name and its text, spaces
-folded. Printed are the functions that went, those that came, and of each function the clauses that went and came. A function
-that went from a crate and came in one other, in an impl of the same head, has moved, and its clauses are compared too. "Inside"
-is said of a function that its crate's lib.rt doesn't export. The last lines count them. The status is 1 if an exported function
-that was there before has a new condition (`requires`), or has lost a clause and got none.
+folded. The output lists removed and new functions, and each function's removed and new clauses. A function that went from a crate
+and came in one other, in an impl of the same head, has moved, and its clauses are compared too. "Inside" is said of a function that
+its crate's lib.rt doesn't export. The last lines count them. The status is 1 if an exported function that was there before has a
+new condition (`requires`), or has lost a clause and got none.
 """
 
 from __future__ import annotations
@@ -25,7 +25,7 @@ IMPL = re.compile(r"^(?:impl|trait|pub trait)\b([^{]*)\{", re.M)
 
 
 class Function(NamedTuple):
-    """A public function: its crate, the head of the impl that it is in, its name, and whether the crate exports it."""
+    """A public function: its crate, its impl's head, its name, and whether the crate exports the function."""
 
     crate: str
     owner: str
@@ -38,7 +38,7 @@ class Function(NamedTuple):
 
 
 def sources(revision: str | None) -> dict[str, str]:
-    """The text of each source file of the crates."""
+    """Returns the text of each source file of the crates."""
     if revision is None:
         files = sorted((ROOT / "crates").glob("*/src/**/*.rt"))
         return {str(one.relative_to(ROOT)): one.read_text() for one in files}
@@ -69,12 +69,12 @@ def closing(text: str, at: int) -> int:
 
 
 def owners(text: str) -> list[tuple[int, int, str]]:
-    """Where each impl begins and ends, with its head."""
+    """Returns the start and end of each impl, with its head."""
     return [(one.start(), closing(text, one.end() - 1), fold(one[1])) for one in IMPL.finditer(text)]
 
 
 def fold(text: str) -> str:
-    """A text with its spaces folded and without comments of a line."""
+    """Returns a text with single spaces and without line comments."""
     return " ".join(re.sub(r"^\s*//.*$", "", text, flags=re.M).split())
 
 
@@ -104,7 +104,7 @@ def exports(files: dict[str, str]) -> set[tuple[str, str]]:
 
 
 def contracts(files: dict[str, str]) -> dict[Function, set[str]]:
-    """The clauses of each public function."""
+    """Returns the clauses of each public function."""
     found: dict[Function, set[str]] = {}
     exported = exports(files)
     for path, text in files.items():
@@ -128,7 +128,7 @@ def signature_end(text: str, at: int) -> int:
 
 
 def told(one: Function, went: set[str], came: set[str]) -> bool:
-    """Prints how a contract changed, and returns whether it may ask for more or say less."""
+    """Prints the changes of a contract; returns whether it may demand more or promise less."""
     print(f"changed: {one}")
     for sign, of in (("-", went), ("+", came)):
         for clause in sorted(of):
@@ -138,7 +138,7 @@ def told(one: Function, went: set[str], came: set[str]) -> bool:
 
 
 def moved(before: dict[Function, set[str]], after: dict[Function, set[str]]) -> dict[Function, set[str]]:
-    """The clauses before, those of a function that moved under the crate in which it is now."""
+    """Returns the earlier clauses, with those of moved functions under their new crate."""
     came = {one: [new for new in after.keys() - before.keys() if new[1:3] == one[1:3]] for one in before.keys() - after.keys()}
     for one, places in sorted(came.items()):
         if len(places) == 1:

@@ -1,30 +1,21 @@
 #!/usr/bin/env python3
-"""Tries wrong definitions of dn_types and of the crates in BASES one at a time, and asks that the laws of dn_laws refuse each.
+"""Wrong definitions in dn_types and in the crates in BASES, each with a law in dn_laws that the definition violates.
 
     tools/laws/wrong_definitions.py              prints a table in Markdown: a law, and the wrong definitions that it refuses
-    tools/laws/wrong_definitions.py 3 17         tries these rows alone
-    tools/laws/wrong_definitions.py --list       prints the rows and tries nothing
-    tools/laws/wrong_definitions.py --table      prints the table as it is if each row is refused, and tries nothing
+    tools/laws/wrong_definitions.py --list       prints the rows by number
 
-In the table a row without a file in tools/laws/refuted has a star: refuted_laws.py doesn't show that the law is false of it.
-
-Each row changes one line of a crate's specs, or a few, in a copy that has the crate and its laws in one: of dn_service only
-what the laws use. The worked examples, the lists of calls and the witnesses are taken out of it. A row checks the function
-with the law that is false of the definition, and passes where it is not proved. A row without a law is a choice that no law
-judges, and one without a clause is about a function that has one clause without a name.
-The prover is called as RT, which is `rt` where the environment names nothing else.
+Each row changes one line of a crate's specs, or a few. refuted_laws.py has the prover refute its law, at the example in tools/laws/refuted.
 """
-import contextlib
-import os
-import re
-import shutil
-import subprocess
-import sys
-import tempfile
-from typing import NamedTuple
 
-TOP = os.path.dirname(os.path.dirname(os.path.dirname(os.path.abspath(__file__))))
-SET_ASIDE = re.compile(r"Cases|Examples\w*|ShortLists\w*|\w*Witness(?:es)?")
+from __future__ import annotations
+
+import contextlib
+import sys
+from collections.abc import Iterator
+from pathlib import Path
+from typing import Any, Union
+
+from law_crates import Base
 
 # Texts of the rows in which what a command is told isn't what is done, and of those in which the clock goes otherwise.
 SETTING_AFTER = "-- What is in force for a command's subject once"
@@ -55,10 +46,13 @@ ticked moment = moment / 1000000 * 1000000
 
 """
 
+Text = Union[str, tuple[str, ...]]
+Row = tuple[str, Text, Any, Any, str, str]
+
 # What is wrong, the file, the right text, the wrong text (or as many of each as there are places to change), and the
 # function and the clause of the law that is false of it. A row of several files has a tuple of each of the first three.
 # fmt: off
-ROWS = [
+ROWS: list[Row] = [
     ('weights count for nothing', 'Flows', 'pipe = pipe; weight = weight;', 'pipe = pipe; weight = 1;',
      'laws_of_shares', 'tags'),
     ('a cost is the bare length', 'Wf2q', 'scaled len weight = len * 65536 / weight', 'scaled len weight = len',
@@ -304,8 +298,8 @@ ROWS = [
      'IsInRange (Advance moment) = moment ≤ 2 ^ 63', 'laws_of_bounds', 'moments'),
     ('a delay may be 2^50 ms', 'Bounds', 'delay ≤ 3600000', 'delay ≤ 2 ^ 50', 'laws_of_bounds', 'dues'),
     ('no packet is longer than 1,500 bytes', 'Bounds', 'packet.len ≤ 65535', 'packet.len ≤ 1500',
-     'each_call_is_in_range', ''),
-    ('no delay is longer than a minute', 'Bounds', 'delay ≤ 3600000', 'delay ≤ 60000', 'each_call_is_in_range', ''),
+     'laws_of_bounds', 'calls'),
+    ('no delay is longer than a minute', 'Bounds', 'delay ≤ 3600000', 'delay ≤ 60000', 'laws_of_bounds', 'calls'),
     ('a link rests a nanosecond after each packet', 'Starts',
      'option_map (λ p. start_at settings link p (free link trace))',
      'option_map (λ p. start_at settings link p (free link trace + 1))', 'laws_of_waiting', 'known'),
@@ -373,6 +367,22 @@ ROWS = [
     ('a loss rate may be 2', 'Values', 'within 0 (10 ^ 18) (rate', 'within 0 (2 * 10 ^ 18) (rate', 'laws_of_lines', 'ranges'),
     ('a queue may have no slot', 'Values', 'number_within 1 10000 (digits', 'number_within 0 10000 (digits', 'laws_of_lines', 'ranges'),
     ('a delay may be two hours', 'Values', 'number_within 0 3600000', 'number_within 0 7200000', 'laws_of_lines', 'ranges'),
+    ('a delete behind its number is of a queue', 'Line', '(whole_at (at + 3) ws (deletes k n))\n', '(whole_at (at + 3) ws (deletes kind.Queue n))\n',
+     'laws_of_lines', 'deletes'),
+    ('words behind a delete say nothing', 'Line', 'whole_at at (w ∷ ws) command = Err (UnknownWord at)',
+     'whole_at at (w ∷ ws) command = Ok command', 'laws_of_lines', 'behind'),
+    ('a line behind ipfw deletes pipe 1', 'Line', 'behind_ipfw (w ∷ ws) = command_from 2 (w ∷ ws)',
+     'behind_ipfw (w ∷ ws) = Ok (c.DeletePipe 1)', 'laws_of_lines', 'prefix'),
+    ('a comment begins with a semicolon', 'Words', 'is_hash byte = byte == 35', 'is_hash byte = byte == 59', 'laws_of_lines', 'words'),
+    ('a tab is no separator', 'Tokens/Words', 'byte == 32 || byte == 9 || byte == 13', 'byte == 32 || byte == 13', 'laws_of_lines', 'words'),
+    ('a query is an unknown word', 'Line', 'cond (is_query w) (Err (LeftOut (at + 1)))', 'cond (is_query w) (Err (UnknownWord (at + 1)))',
+     'laws_of_lines', 'behind'),
+    ('a queue without a pipe is on the pipe of its number', 'Line', 'queue_with at n o None = Err (NeedsPipe at)',
+     'queue_with at n o None = Ok (c.Queue n n o.weight o.limit o.loss o.buckets o.mask)', 'laws_of_lines', 'needs_pipe'),
+    ('an unknown word is a weight', 'Groups', 'left_out rest = Err (cond left_out (LeftOut at) (UnknownWord at))',
+     'left_out rest = Ok (set.Weight 1)', 'laws_of_lines', 'others'),
+    ('words that are left out are unknown', 'Groups', 'left_out rest = Err (cond left_out (LeftOut at) (UnknownWord at))',
+     'left_out rest = Err (UnknownWord at)', 'laws_of_lines', 'left_out'),
     ('source and destination of a row are exchanged', 'Fields', 'record { src = src; dst = dst;',
      'record { src = dst; dst = src;', 'laws_of_records', 'rows'),
     ('a row has its word before its length', 'Fields', ('(place + 5) 1', '(place + 6) 0'), ('(place + 6) 1', '(place + 5) 0'),
@@ -423,170 +433,33 @@ ROWS = [
     ('a service closes without a caller', 'Callers', '(k : ℕ) → k < service',
      '(k : ℕ) → k + 1 < service', 'laws_of_services', 'entries'),
     ('a front begins no history', 'Histories', '× (history ≡ front ++ rest)', '× (rest ≡ rest)', 'laws_of_services', 'callers'),
-    ('each caller has every entry', 'Callers', '≡ own_entries c.number history', '≡ history', 'laws_of_services', 'callers'),
-    ('each entry is of caller 0', 'Histories', 'record { caller = k;', 'record { caller = 0;', 'laws_of_services', 'callers'),
+    ('each caller has every entry', 'Callers', '≡ own_entries c.number history', '≡ history', 'laws_of_services', 'histories'),
+    ('each entry is of caller 0', 'Histories', 'record { caller = k;', 'record { caller = 0;', 'laws_of_services', 'answers'),
     ('no try is counted', 'Callers', 'c.faced ≡ lost_to c.number callers', 'c.faced ≡ c.faced', 'laws_of_services', 'callers'),
     ('a caller is told replies by rule Free', 'Callers', ('Rule.TheVariants.{Ordered}', 'pub lawful : IsLawful Ordered after'),
-     ('Rule.TheVariants.{Ordered, Free}', 'pub lawful : IsLawful Free after'), 'laws_give_the_headline', 'calls'),
+     ('Rule.TheVariants.{Ordered, Free}', 'pub lawful : IsLawful Free after'), 'laws_of_services', 'answers'),
 ]
 # fmt: on
 
 
-class Base(NamedTuple):
-    """A crate, those below it that its copy has too, and the word with which the names of its laws' files begin."""
-
-    crate: str
-    below: tuple
-    word: str
-    kept: tuple = ()  # what the copy has of src/ and specs/, where that isn't all
-    joined: tuple = ()  # crates below whose definitions are tried too, so that their files are the crate's own in the copy
-
-
-DEFINITIONS = Base("dn_types", (), "")
-SERVICES = Base(
-    "dn_service", ("dn_types",), "service", ("close_fault", "open_fault", "try_fault", "Accounts", "Callers", "Histories")
-)
+# The crate of each law's definitions; dn_types has those of the other laws.
+DEFINITIONS = Base("dn_types", "laws", is_whole=True)
 BASES = {
-    "laws_of_lines": Base("dn_config", ("dn_types",), "line"),
-    "laws_of_records": Base(
-        "dn_history",
-        ("dn_types", "dn_heap", "dn_flows", "dn_link", "dn_wf2q", "dn_shaper", "dn_config", "dn_records"),
-        "record",
-        joined=("dn_files",),
-    ),
-    "laws_of_reservations": Base("dn_shaper", ("dn_types", "dn_heap", "dn_flows", "dn_link", "dn_wf2q"), "reservation"),
-    "laws_of_services": SERVICES,
-    "laws_give_the_headline": SERVICES,
+    "laws_of_lines": Base("dn_config", "lines"),
+    "laws_of_records": Base("dn_history", "records", ("dn_files",)),
+    "laws_of_reservations": Base("dn_shaper", "reservations", is_whole=True),
+    "laws_of_services": Base("dn_service", "services"),
 }
 
 
-def base_of(row):
+def base_of(row: Row) -> Base:
     return BASES.get(row[4], DEFINITIONS)
 
 
-def in_one_crate(text, crate="dn_types", other="dn_laws"):
-    """A text of another crate as one of the crate, for the copy that has both."""
-    text = text.replace("Rattle.%s." % other, "Rattle.%s." % crate)
-    return text.replace("use %s::" % crate, "use crate::").replace("use %s::" % other, "use crate::")
-
-
-def files_of(top):
-    """The specs, proofs and sources of a crate, by their paths in it."""
-    paths = (os.path.join(folder, name) for folder, _, names in os.walk(top) for name in names if name.endswith((".antt", ".rt")))
-    return [path for path in (os.path.relpath(one, top) for one in paths) if not path.startswith(("out", "edits", "must-fail"))]
-
-
-def join_crate(crate, base, other):
-    """Puts the files of another crate into the copy as ones of its own. The lists of modules, which both have, become one."""
-    for top in (crate, os.path.join(TOP, "crates", other)):
-        for path in files_of(top):
-            own = os.path.join(crate, path)
-            with open(os.path.join(top, path)) as file:
-                text = in_one_crate(file.read(), base.crate, other)
-            joins = top != crate and os.path.exists(own)
-            os.makedirs(os.path.dirname(own), exist_ok=True)
-            with open(own, "a" if joins else "w") as file:
-                file.write(re.sub(r"(?m)^(//!|#!).*\n", "", text) if joins else text)
-
-
-def has_word(path, word):
-    return any(part.lower().startswith(word) for part in path.split(os.sep))
-
-
-def is_wanted(path, base):
-    """Whether the copy has this file of dn_laws: none of another word, and of a crate above dn_types no law of the definitions."""
-    if any(has_word(path, other.word) for other in BASES.values() if other != base):
-        return False
-    return has_word(path, base.word) or not {"src", "laws", "determined"} & set(os.path.dirname(path).split(os.sep))
-
-
-def add_the_laws(crate, base=DEFINITIONS):
-    """Puts the files of dn_laws into the copy of the crate, so that a wrong definition meets its law first."""
-    top, own = os.path.join(TOP, "crates", "dn_laws"), files_of(crate)
-    for path in files_of(top):
-        folder, name = os.path.split(path)
-        with open(os.path.join(top, path)) as file:
-            text = in_one_crate(file.read(), base.crate)
-        if name == "Lib.antt":
-            modules = [os.path.join(folder, line.split()[-1] + ".antt") for line in text.splitlines()]
-            wanted = [module not in own and is_wanted(module, base) for module in modules]
-            text = "".join(line for line, is_one in zip(text.splitlines(True), wanted) if is_one)
-        elif name == "lib.rt" or path in own or not is_wanted(path, base):
-            continue
-        os.makedirs(os.path.dirname(os.path.join(crate, path)), exist_ok=True)
-        with open(os.path.join(crate, path), "a" if name == "Lib.antt" else "w") as file:
-            file.write(text)
-    with open(os.path.join(crate, "src", "lib.rt"), "a") as file:
-        file.write("pub mod %ss;\n" % base.word if base.word else "pub mod determined;\npub mod laws;\n")
-
-
-def set_aside(proofs):
-    """Takes what computes at single points out of the copy."""
-    library = os.path.join(proofs, "Lib.antt")
-    with open(library) as file:
-        text = file.read()
-    for name in re.findall(r"mod (\w+)$", text, re.M):
-        if SET_ASIDE.fullmatch(name):
-            os.remove(os.path.join(proofs, name + ".antt"))
-    with open(library, "w") as file:
-        file.write(re.sub(r"(?m)^(?:pub )?mod (?:%s)\n" % SET_ASIDE.pattern, "", text))
-    shutil.rmtree(os.path.join(proofs, "Cases"), ignore_errors=True)
-
-
-def only_kept(crate, kept):
-    """Leaves of the copy what has these names in src/ and specs/, and no proof."""
-    shutil.rmtree(os.path.join(crate, "proofs"))
-    for folder, library, form in (("src", "lib.rt", "pub mod %s;\n"), ("specs", "Lib.antt", "pub mod %s\n")):
-        whole = os.path.join(crate, folder)
-        for name in os.listdir(whole):
-            path = os.path.join(whole, name)
-            if os.path.isdir(path):
-                shutil.rmtree(path)
-            elif name.split(".")[0] not in kept:
-                os.remove(path)
-        modules = [form % name.split(".")[0] for name in sorted(os.listdir(whole))]
-        with open(os.path.join(whole, library), "w") as file:
-            file.writelines(["#![tactic(auto)]\n"] * (folder == "src") + modules)
-
-
-def copy_of_the_crate(folder, base=DEFINITIONS):
-    """A copy of the crate with its laws, without what computes at single points, beside the crates below it."""
-    crates = os.path.join(folder, "crates")
-    crate = os.path.join(crates, base.crate)
-    shutil.copytree(os.path.join(TOP, "crates", base.crate), crate, ignore=shutil.ignore_patterns("out", "must-fail", "edits"))
-    for name in base.below:
-        shutil.copytree(os.path.join(TOP, "crates", name), os.path.join(crates, name), dirs_exist_ok=True)
-    shutil.copy(os.path.join(TOP, "HANDLES"), folder)
-    with open(os.path.join(TOP, "crates.txt")) as file:
-        needs = {line.split()[0].rstrip(":"): line.split()[1:] for line in file}
-    needs[base.crate] = list(dict.fromkeys(sum((needs[name] for name in (base.crate, *base.joined)), [])))
-    ours = set(os.listdir(os.path.join(TOP, "crates"))) - {*base.below}
-    with open(os.path.join(folder, "crates.txt"), "w") as own:
-        for name in (*base.below, base.crate):
-            own.write(" ".join([name + ":", *(word for word in needs[name] if word not in ours)]) + "\n")
-    if base.kept:
-        only_kept(crate, base.kept)
-    add_the_laws(crate, base)
-    for name in base.joined:
-        join_crate(crate, base, name)
-    set_aside(os.path.join(crate, "proofs"))
-    return crate
-
-
-def check(crate, function, word=""):
-    """The functions that are not proved, the first lemma that was refused of the laws' own, and whether the check was finished."""
-    command = os.environ.get("RT", "rt").split() + ["check", "--only", function]
-    told = subprocess.run(command, cwd=crate, stdout=subprocess.PIPE, stderr=subprocess.STDOUT, text=True).stdout
-    unproved = re.findall(r"^fn \w+::\w+::(\w+): (?!proved)", told, flags=re.M)
-    proved = re.findall(r"^fn \w+::\w+::(\w+): proved", told, flags=re.M)
-    refused = re.findall(r"proofs/(\w+)\.antt:\d+:\d+: error: `([^`]+)`", told)
-    own = [".".join(lemma) for lemma in refused if has_word(lemma[0], word)]
-    return set(unproved), own[0] if own else "", len(unproved) + len(proved) > 0
-
-
-def changed(text, old, new):
-    """The text of a spec with the wrong definition in the place of the right one."""
-    for before, after in zip(*((old, new) if isinstance(old, tuple) else ((old,), (new,)))):
+def changed(text: str, old: Text, new: Text) -> str:
+    """Returns a spec's text with the wrong definition in place of the right one."""
+    befores, afters = ([one] if isinstance(one, str) else [*one] for one in (old, new))
+    for before, after in zip(befores, afters):
         if before not in text:
             sys.exit("the text to change is not there: " + before)
         text = text.replace(before, after)
@@ -594,94 +467,33 @@ def changed(text, old, new):
 
 
 @contextlib.contextmanager
-def wrongly_defined(crate, row):
-    """Has the row's wrong definition in the copy, and then the right one again."""
+def wrongly_defined(crate: Path, row: Row) -> Iterator[None]:
+    """Has the row's wrong definition in a copy of the crate, and then the right one again."""
     _, names, old, new, _, _ = row
-    changes, kept = zip(names, old, new) if isinstance(names, tuple) else [(names, old, new)], {}
+    kept: dict[Path, str] = {}
     try:
-        for name, before, after in changes:
-            spec = os.path.join(crate, "specs", name + ".antt")
-            with open(spec) as file:
-                kept[spec] = file.read()
-            with open(spec, "w") as file:
-                file.write(changed(kept[spec], before, after))
+        for name, before, after in zip(names, old, new) if isinstance(names, tuple) else [(names, old, new)]:
+            spec = crate / "specs" / f"{name}.antt"
+            kept[spec] = spec.read_text()
+            spec.write_text(changed(kept[spec], before, after))
         yield
     finally:
         for spec, right in kept.items():
-            with open(spec, "w") as file:
-                file.write(right)
+            spec.write_text(right)
 
 
-def try_row(crate, row):
-    """What was refused, and whether the row went as it should."""
-    function = row[4]
-    with wrongly_defined(crate, row):
-        unproved, refused, finished = check(crate, function or "laws", base_of(row).word)
-    if function is None:
-        return refused, finished
-    refuses = finished and function in unproved and (refused != "" or base_of(row) == DEFINITIONS)
-    return refused if refuses else "not refused", refuses
-
-
-def refuted_rows():
-    """The names of the rows with a file in tools/laws/refuted: each file begins with one."""
-    folder = os.path.join(TOP, "tools", "laws", "refuted")
-    names = set()
-    for name in os.listdir(folder):
-        with open(os.path.join(folder, name)) as file:
-            names.add(file.readline().strip().replace("-- Wrong: ", ""))
-    return names
-
-
-def print_table(rows):
-    """The functions in the order of their first row, and with each clause the definitions that it refuses."""
-    by_function, refuted = {}, refuted_rows()
-    for wrong, _, _, _, function, clause in rows:
-        clauses = by_function.setdefault("`%s`" % function if function else "none: pinned by examples alone", {})
-        clauses.setdefault("`%s`: " % clause if clause else "", []).append(wrong + " *" * (wrong not in refuted))
+def print_table() -> None:
+    """Prints the functions in the order of their first row, and with each clause the definitions of which it is false."""
+    by_function: dict[str, dict[str, list[str]]] = {}
+    for wrong, _, _, _, function, clause in ROWS:
+        by_function.setdefault(f"`{function}`", {}).setdefault(f"`{clause}`: ", []).append(wrong)
     print("| Law | Clause: wrong definitions of which it is false |\n|---|---|")
     for function, clauses in by_function.items():
         print("| %s | %s |" % (function, ". ".join(clause + "; ".join(wrongs) for clause, wrongs in clauses.items())))
 
 
-def try_rows(base, rows, functions):
-    """The rows of a crate that passed, or None where its laws are not proved of the right definitions."""
-    with tempfile.TemporaryDirectory() as folder:
-        crate = copy_of_the_crate(folder, base)
-        for function in functions:
-            unproved, _, finished = check(crate, function)
-            if unproved or not finished:
-                print("the laws are not proved of the right definitions:", ", ".join(sorted(unproved)))
-                return None
-        passed = []
-        for row in rows:
-            told, good = try_row(crate, row)
-            print("%s: %s" % (row[0], told), file=sys.stderr, flush=True)
-            passed += [row] if good else []
-    return passed
-
-
-def main(arguments):
-    if "--list" in arguments:
-        for place, row in enumerate(ROWS, 1):
-            print(place, row[0])
-        return 0
-    if "--table" in arguments:
-        print_table(ROWS)
-        return 0
-    rows = [ROWS[int(argument) - 1] for argument in arguments] or ROWS
-    passed = []
-    for base in dict.fromkeys((DEFINITIONS, *BASES.values())):
-        own = [row for row in rows if base_of(row) == base]
-        functions = {row[4] if base.word else "laws" for row in own}
-        good = try_rows(base, own, sorted(functions)) if own else []
-        if good is None:
-            return 1
-        passed += good
-    print_table(passed)
-    print("\n%d tried, %d not refused" % (len(rows), len(rows) - len(passed)))
-    return 0 if len(passed) == len(rows) else 1
-
-
 if __name__ == "__main__":
-    sys.exit(main(sys.argv[1:]))
+    if "--list" in sys.argv:
+        print(*(f"{place} {row[0]}" for place, row in enumerate(ROWS, 1)), sep="\n")
+    else:
+        print_table()

@@ -10,48 +10,14 @@ from random import Random
 from scenarios import Style, first_commands
 from spelling import spell
 
+# fmt: off
 HARD_FIELDS = (
-    b"",
-    b"0",
-    b"1",
-    b"01",
-    b"+1",
-    b"-1",
-    b" 1",
-    b"1 ",
-    b"16",
-    b"65535",
-    b"65536",
-    b"255",
-    b"256",
-    b"4294967295",
-    b"4294967296",
-    b"4611686018427387904",
-    b"4611686018427387905",
-    b"18446744073709551615",
-    b"18446744073709551616",
-    b"1" + b"0" * 50,
-    b"pipe",
-    b"queue",
-    b"Pipe",
-    b"10.0.0.1",
-    b"10.0.0",
-    b"10.0.0.256",
-    b"10.0.0.01",
-    b"10.0.0.1.",
-    b"10..0.1",
-    b"\xff\xfe",
-    b"caf\xc3\xa9",
-    b'"1"',
-    b'"',
-    b'""',
-    b'a"b',
-    b'"1"2',
-    b'"1',
-    b"1e3",
-    b"0x10",
-    b"\xd9\xa1",
+    b"", b"0", b"1", b"01", b"+1", b"-1", b" 1", b"1 ", b"16", b"65535", b"65536", b"255", b"256", b"4294967295",
+    b"4294967296", b"4611686018427387904", b"4611686018427387905", b"18446744073709551615", b"18446744073709551616",
+    b"1" + b"0" * 50, b"pipe", b"queue", b"Pipe", b"10.0.0.1", b"10.0.0", b"10.0.0.256", b"10.0.0.01", b"10.0.0.1.",
+    b"10..0.1", b"\xff\xfe", b"caf\xc3\xa9", b'"1"', b'"', b'""', b'a"b', b'"1"2', b'"1', b"1e3", b"0x10", b"\xd9\xa1",
 )
+# fmt: on
 
 
 def damaged_record(rng: Random, line: bytes) -> bytes:
@@ -86,7 +52,7 @@ VALUES = (
 
 
 def bad_line(rng: Random, style: Style) -> str:
-    """A good line with one to three words put in, taken out or changed."""
+    """Returns a good line with one to three words inserted, removed or changed."""
     commands = first_commands(rng, style)
     words = spell(rng, rng.choice(commands)).split("#")[0].split()
     for _ in range(rng.choice((1, 1, 1, 2, 3))):
@@ -104,7 +70,7 @@ def bad_line(rng: Random, style: Style) -> str:
 
 
 def random_words_line(rng: Random) -> str:
-    """A line of options alone, each option with a value that may suit it."""
+    """Returns a line of options, each with a value that may suit it."""
     kind = rng.choice(("pipe", "queue"))
     words = [kind, str(rng.randint(1, 3)), "config"]
     for _ in range(rng.randint(0, 4)):

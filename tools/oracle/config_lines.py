@@ -1,4 +1,4 @@
-"""Configuration lines: what docs/LINKS.md says of a line."""
+"""The reader of configuration lines according to docs/LINKS.md."""
 
 from __future__ import annotations
 
@@ -6,18 +6,7 @@ import re
 from dataclasses import dataclass
 from typing import Optional
 
-from model import (
-    ALL_BITS,
-    DEFAULT_LIMIT,
-    NO_BITS,
-    Command,
-    DeletePipe,
-    DeleteQueue,
-    FiveTuple,
-    Limit,
-    Pipe,
-    Queue,
-)
+import model
 
 UNKNOWN_WORD = "unknown word"
 MISSING_VALUE = "missing value"
@@ -42,7 +31,7 @@ _NUMBER = re.compile(r"(?:0|[1-9][0-9]*)\Z")
 
 
 class LineFault(Exception):
-    """What is wrong with a line, and the position of the word from 1."""
+    """Raised for a wrong line, with the position of the word, from 1."""
 
     def __init__(self, kind: str, word: int) -> None:
         super().__init__(f"{kind}({word})")
@@ -51,19 +40,19 @@ class LineFault(Exception):
 
 
 def ascii_lower(text: str) -> str:
-    """Lower case of the letters A to Z alone (Python's lower() also changes the Kelvin sign)."""
+    """Returns a text with A to Z in lower case (Python's lower() also changes the Kelvin sign)."""
     return "".join(chr(ord(c) + 32) if "A" <= c <= "Z" else c for c in text)
 
 
 def read_number(text: str) -> Optional[int]:
-    """The value of a number by its grammar, None for another shape."""
+    """Returns the value of a number in the grammar's form, or None."""
     if not _NUMBER.match(text):
         return None
     return int(text) if len(text) <= 30 else HUGE
 
 
 def split_digits(text: str) -> tuple[str, str]:
-    """The leading digits 0-9 and what follows them."""
+    """Returns the leading digits 0-9, and the rest."""
     n = 0
     while n < len(text) and text[n] in "0123456789":
         n += 1
@@ -71,7 +60,7 @@ def split_digits(text: str) -> tuple[str, str]:
 
 
 def split_words(line: str) -> list[str]:
-    """Words are separated by spaces, tabs and carriage returns, and by nothing else."""
+    """Returns the words of a line, which only spaces, tabs and carriage returns separate."""
     return [w for w in re.split("[ \t\r]+", line.split("#", 1)[0]) if w]
 
 
@@ -111,12 +100,12 @@ def read_delay(word: str, position: int) -> int:
     return ranged(read_number(digits), 0, 3_600_000, position)
 
 
-def read_limit(word: str, position: int) -> Limit:
+def read_limit(word: str, position: int) -> model.Limit:
     digits, rest = split_digits(word)
     if rest == "":
-        return Limit(ranged(read_number(digits), 1, 10000, position), None)
+        return model.Limit(ranged(read_number(digits), 1, 10000, position), None)
     if ascii_lower(rest) in ("k", "kb", "kbyte", "kbytes"):
-        return Limit(None, ranged(read_number(digits), 1, 1024, position))
+        return model.Limit(None, ranged(read_number(digits), 1, 1024, position))
     raise LineFault(BAD_NUMBER, position)
 
 
@@ -159,7 +148,7 @@ class Words:
 
     @property
     def position(self) -> int:
-        """Position of the word taken last."""
+        """Returns the position of the last word taken."""
         return self.taken
 
     def take(self) -> Optional[str]:
@@ -176,7 +165,7 @@ class Words:
         return word
 
 
-def read_mask(words: Words) -> FiveTuple:
+def read_mask(words: Words) -> model.FiveTuple:
     """The fields after the word `mask`, which was taken last."""
     start = words.position
     fields = {"src": 0, "dst": 0, "proto": 0, "sport": 0, "dport": 0}
@@ -187,14 +176,14 @@ def read_mask(words: Words) -> FiveTuple:
             raise LineFault(LEFT_OUT, words.position + 1)
         if word == "all":
             words.take()
-            fields = {name: getattr(ALL_BITS, name) for name in fields}
+            fields = {name: getattr(model.ALL_BITS, name) for name in fields}
         elif word in MASK_FIELDS:
             words.take()
             name, high = MASK_FIELDS[word]
             value = words.need()
             fields[name] = read_mask_value(value, high, words.position)
         elif some:
-            return FiveTuple(**fields)
+            return model.FiveTuple(**fields)
         else:
             raise LineFault(MISSING_VALUE, start)
         some = True
@@ -208,10 +197,10 @@ class Options:
     delay: int = 0
     pipe: Optional[int] = None
     weight: int = 1
-    limit: Limit = DEFAULT_LIMIT
+    limit: model.Limit = model.DEFAULT_LIMIT
     loss: int = 0
     buckets: Optional[int] = None
-    mask: FiveTuple = NO_BITS
+    mask: model.FiveTuple = model.NO_BITS
 
 
 def read_head(words: Words) -> tuple[str, int]:
@@ -227,7 +216,7 @@ def read_head(words: Words) -> tuple[str, int]:
 
 
 def read_action(words: Words) -> tuple[int, bool]:
-    """The number, and whether the line deletes. The word `delete` stands before the number or after it."""
+    """Returns the number, and whether the line is a delete. The word `delete` comes before or after the number."""
     second = words.need()
     if second in ("show", "list"):
         raise LineFault(LEFT_OUT, words.position)
@@ -246,7 +235,7 @@ def read_action(words: Words) -> tuple[int, bool]:
 
 
 def read_option(words: Words, is_pipe: bool, found: Options) -> None:
-    """The option whose first word was taken last, with its value."""
+    """Reads the value of the option whose first word was taken last."""
     option, at = words.words[words.taken - 1], words.position
     if option in LEFT_OUT_WORDS:
         raise LineFault(LEFT_OUT, at)
@@ -270,8 +259,8 @@ def read_option(words: Words, is_pipe: bool, found: Options) -> None:
         raise LineFault(UNKNOWN_WORD, at)
 
 
-def parse_line(line: str) -> Optional[Command]:
-    """The command of a line, None of a line without words; a LineFault is raised."""
+def parse_line(line: str) -> Optional[model.Command]:
+    """Returns the command of a line, or None for a line without words. LineFault: the line is wrong."""
     words = Words(split_words(line))
     if words.peek() is None:
         return None
@@ -281,12 +270,12 @@ def parse_line(line: str) -> Optional[Command]:
     if is_delete:
         if words.take() is not None:
             raise LineFault(UNKNOWN_WORD, words.position)
-        return DeletePipe(number) if is_pipe else DeleteQueue(number)
+        return model.DeletePipe(number) if is_pipe else model.DeleteQueue(number)
     found = Options()
     while words.take() is not None:
         read_option(words, is_pipe, found)
     if is_pipe:
-        return Pipe(number, found.bw, found.delay, found.limit, found.loss, found.buckets, found.mask)
+        return model.Pipe(number, found.bw, found.delay, found.limit, found.loss, found.buckets, found.mask)
     if found.pipe is None:
         raise LineFault(NEEDS_PIPE, head)
-    return Queue(number, found.pipe, found.weight, found.limit, found.loss, found.buckets, found.mask)
+    return model.Queue(number, found.pipe, found.weight, found.limit, found.loss, found.buckets, found.mask)

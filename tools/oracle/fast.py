@@ -1,7 +1,4 @@
-"""The replies of dummynet, from the rules in words: running clock and counts, two heaps, an epoch per busy period.
-
-The wrong bodies of mutants.py are its text with a slip each.
-"""
+"""The replies of dummynet, from the rules in words: running clock and counts, two heaps, an epoch per busy period."""
 
 from __future__ import annotations
 
@@ -11,37 +8,7 @@ from collections.abc import Iterable
 from dataclasses import dataclass, field
 from typing import Optional, Union
 
-from model import (
-    ORDERED,
-    Advance,
-    Advanced,
-    Call,
-    Collect,
-    Command,
-    Configure,
-    Configured,
-    DeletePipe,
-    Deleted,
-    Delivered,
-    Delivery,
-    Entry,
-    FlowKey,
-    FlowStatus,
-    Full,
-    Lost,
-    NoSuchPipe,
-    NoSuchQueue,
-    NoTarget,
-    Pipe,
-    PipeHasQueues,
-    Queue,
-    Queued,
-    Reply,
-    Show,
-    Status,
-    Submit,
-    masked,
-)
+import model
 
 
 @dataclass
@@ -56,7 +23,7 @@ class Waiting:
 @dataclass
 class Flow:
     number: int
-    key: FlowKey
+    key: model.FlowKey
     queue: deque[Waiting] = field(default_factory=deque)
     bytes: int = 0
     lost: int = 0
@@ -68,7 +35,7 @@ class Flow:
 
 
 class Sched:
-    """WF2Q+ of a shared link."""
+    """The WF2Q+ scheduler of a shared link."""
 
     def __init__(self) -> None:
         self.v = 0
@@ -153,48 +120,46 @@ class Link:
 class FastDummynet:
     """Sequential dummynet with running state."""
 
-    new_sched = Sched
-
-    def __init__(self, rule: str = ORDERED) -> None:
+    def __init__(self, rule: str = model.ORDERED) -> None:
         self.rule = rule
         self.clock = 0
-        self.pipes: dict[int, Pipe] = {}
-        self.queues: dict[int, Queue] = {}
+        self.pipes: dict[int, model.Pipe] = {}
+        self.queues: dict[int, model.Queue] = {}
         self.flows: list[Flow] = []
-        self.flow_of: dict[FlowKey, Flow] = {}
+        self.flow_of: dict[model.FlowKey, Flow] = {}
         self.links: list[Link] = []
         self.link_of_flow: dict[int, Link] = {}
         self.shared: dict[int, Link] = {}
         self.busy_links: list[tuple[int, int, Link]] = []  # (free, a tie breaker, link) of links with a backlog
         self.accepted = 0
-        self.delay_line: list[Delivery] = []
+        self.delay_line: list[model.Delivery] = []
 
     # ---- configuration ------------------------------------------------------------------------------------
 
-    def configure(self, c: Command) -> Reply:
-        if isinstance(c, Pipe):
+    def configure(self, c: model.Command) -> model.Reply:
+        if isinstance(c, model.Pipe):
             self.pipes[c.number] = c
-            return Configured()
-        if isinstance(c, Queue):
+            return model.Configured()
+        if isinstance(c, model.Queue):
             if c.pipe not in self.pipes:
-                return NoSuchPipe()
+                return model.NoSuchPipe()
             self.queues[c.number] = c
-            return Configured()
-        if isinstance(c, DeletePipe):
+            return model.Configured()
+        if isinstance(c, model.DeletePipe):
             if c.number not in self.pipes:
-                return NoSuchPipe()
+                return model.NoSuchPipe()
             if any(q.pipe == c.number for q in self.queues.values()):
-                return PipeHasQueues()
+                return model.PipeHasQueues()
             del self.pipes[c.number]
             reached = [f for f in self.flows if f.key.pipe == c.number]
         else:
             if c.number not in self.queues:
-                return NoSuchQueue()
+                return model.NoSuchQueue()
             del self.queues[c.number]
             reached = [f for f in self.flows if f.key.target.kind == "queue" and f.key.target.number == c.number]
         for flow in reached:
             self.discard(flow)
-        return Deleted()
+        return model.Deleted()
 
     def discard(self, flow: Flow) -> None:
         link = self.link_of_flow.get(flow.number)
@@ -218,7 +183,7 @@ class FastDummynet:
             else:
                 found = self.shared.get(flow.key.pipe)
                 if found is None:
-                    found = self.shared[flow.key.pipe] = Link(flow.key.pipe, None, self.new_sched())
+                    found = self.shared[flow.key.pipe] = Link(flow.key.pipe, None, Sched())
                     self.links.append(found)
             self.link_of_flow[flow.number] = found
         return found
@@ -243,11 +208,11 @@ class FastDummynet:
         pipe = self.pipes[link.pipe]
         tx = self.tx_time(w.len, pipe.bw)
         link.free = moment + tx
-        self.deliver(link, Delivery(moment + tx + pipe.delay * 10**6, w.packet, flow.number, moment))
+        self.deliver(link, model.Delivery(moment + tx + pipe.delay * 10**6, w.packet, flow.number, moment))
 
-    def deliver(self, link: Link, d: Delivery) -> None:
-        if self.rule == ORDERED and d.due < link.last_due:
-            d = Delivery(link.last_due, d.packet, d.flow, d.start)
+    def deliver(self, link: Link, d: model.Delivery) -> None:
+        if self.rule == model.ORDERED and d.due < link.last_due:
+            d = model.Delivery(link.last_due, d.packet, d.flow, d.start)
         link.last_due = d.due
         heapq.heappush(self.delay_line, d)
 
@@ -266,54 +231,55 @@ class FastDummynet:
 
     # ---- calls --------------------------------------------------------------------------------------------
 
-    def apply(self, c: Call) -> Reply:
-        if isinstance(c, Configure):
+    def apply(self, c: model.Call) -> model.Reply:
+        if isinstance(c, model.Configure):
             return self.configure(c.command)
-        if isinstance(c, Show):
-            return Status(
+        if isinstance(c, model.Show):
+            return model.Status(
                 tuple(
-                    FlowStatus(f.number, f.key, len(f.queue), f.bytes, f.lost, f.full, f.started, f.discarded) for f in self.flows
+                    model.FlowStatus(f.number, f.key, len(f.queue), f.bytes, f.lost, f.full, f.started, f.discarded)
+                    for f in self.flows
                 )
             )
         self.clock = max(self.clock, c.moment)
         self.settle()
-        if isinstance(c, Advance):
-            return Advanced(self.clock)
-        if isinstance(c, Collect):
+        if isinstance(c, model.Advance):
+            return model.Advanced(self.clock)
+        if isinstance(c, model.Collect):
             return self.collect()
         return self.submit(c)
 
-    def collect(self) -> Reply:
+    def collect(self) -> model.Reply:
         found = []
         while self.delay_line and self.delay_line[0].due <= self.clock:
             found.append(heapq.heappop(self.delay_line))
-        return Delivered(self.clock, tuple(found))
+        return model.Delivered(self.clock, tuple(found))
 
-    def find_or_make(self, key: FlowKey) -> Flow:
+    def find_or_make(self, key: model.FlowKey) -> Flow:
         flow = self.flow_of.get(key)
         if flow is None:
             flow = self.flow_of[key] = Flow(len(self.flows), key)
             self.flows.append(flow)
         return flow
 
-    def is_full(self, flow: Flow, conf: Union[Pipe, Queue]) -> bool:
+    def is_full(self, flow: Flow, conf: Union[model.Pipe, model.Queue]) -> bool:
         if conf.limit.kbytes is not None:
             return flow.bytes > conf.limit.kbytes * 1024
         return len(flow.queue) >= conf.limit.slots
 
-    def submit(self, c: Submit) -> Reply:
+    def submit(self, c: model.Submit) -> model.Reply:
         table = self.pipes if c.target.kind == "pipe" else self.queues
         conf = table.get(c.target.number)
         if conf is None:
-            return NoTarget(self.clock)
-        pipe = conf.number if isinstance(conf, Pipe) else conf.pipe
-        flow = self.find_or_make(FlowKey(c.target, pipe, conf.mask, masked(conf.mask, c.packet.tuple)))
+            return model.NoTarget(self.clock)
+        pipe = conf.number if isinstance(conf, model.Pipe) else conf.pipe
+        flow = self.find_or_make(model.FlowKey(c.target, pipe, conf.mask, model.masked(conf.mask, c.packet.tuple)))
         if (c.packet.word & 0x7FFFFFFF) < conf.loss:
             flow.lost += 1
-            return Lost(self.clock, flow.number)
+            return model.Lost(self.clock, flow.number)
         if self.is_full(flow, conf):
             flow.full += 1
-            return Full(self.clock, flow.number)
+            return model.Full(self.clock, flow.number)
         w = Waiting(self.accepted, c.packet.len)
         self.accepted += 1
         link = self.link(flow)
@@ -329,15 +295,15 @@ class FastDummynet:
         if link.free <= self.clock:
             self.start(link, self.clock)
         self.list_link(link)
-        return Queued(self.clock, flow.number, w.packet)
+        return model.Queued(self.clock, flow.number, w.packet)
 
 
-def run(calls: Iterable[Call], rule: str = ORDERED) -> list[Reply]:
+def run(calls: Iterable[model.Call], rule: str = model.ORDERED) -> list[model.Reply]:
     net = FastDummynet(rule)
     return [net.apply(call) for call in calls]
 
 
-def first_difference(entries: list[Entry], rule: str) -> Optional[int]:
-    """The least place of an entry whose reply isn't that of sequential dummynet, or None."""
+def first_difference(entries: list[model.Entry], rule: str) -> Optional[int]:
+    """Returns the first entry whose reply differs from sequential dummynet's, or None."""
     net = FastDummynet(rule)
     return next((place for place, entry in enumerate(entries) if net.apply(entry.call) != entry.reply), None)

@@ -1,4 +1,4 @@
-"""What docs/FILES.md says of configurations, joined inputs, packet files, reports and faults."""
+"""The formats of configurations, joined inputs, packet files, reports and faults according to docs/FILES.md."""
 
 from __future__ import annotations
 
@@ -7,37 +7,16 @@ from typing import Iterable, Optional
 
 from config_lines import LineFault, parse_line, read_number
 from csv_bytes import read_records
-from model import (
-    MAX_LEN,
-    MAX_MOMENT,
-    MAX_NUMBER,
-    Command,
-    Delivered,
-    Delivery,
-    Entry,
-    FiveTuple,
-    Full,
-    Lost,
-    NoSuchPipe,
-    NoSuchQueue,
-    NoTarget,
-    Packet,
-    PipeHasQueues,
-    Queued,
-    Reply,
-    Row,
-    Submit,
-    Target,
-)
+import model
 
 PACKET_HEADER = "moment,target,number,src,dst,proto,sport,dport,len,word"
 REPORT_HEADER = "event,row,flow,packet,at,start,due"
 LIMITS = {"config": 1_048_576, "packets": 67_108_864, "input": 67_108_864, "history": 268_435_456}
-REFUSALS = {NoSuchPipe: "no such pipe", PipeHasQueues: "pipe has queues", NoSuchQueue: "no such queue"}
+REFUSALS = {model.NoSuchPipe: "no such pipe", model.PipeHasQueues: "pipe has queues", model.NoSuchQueue: "no such queue"}
 
 
 class ReplayFault(Exception):
-    """The line of a fault, and the status of the program."""
+    """Raised with a fault's line and the program's status."""
 
     def __init__(self, line: str, status: int) -> None:
         super().__init__(line)
@@ -45,7 +24,7 @@ class ReplayFault(Exception):
         self.status = status
 
 
-def refused_line(line: int, reply: Reply) -> ReplayFault:
+def refused_line(line: int, reply: model.Reply) -> ReplayFault:
     return ReplayFault(f"config line {line}: {REFUSALS[type(reply)]}", 3)
 
 
@@ -57,13 +36,13 @@ def bad_row(row: int, field: int) -> ReplayFault:
 
 
 def split_lines(data: bytes) -> list[bytes]:
-    """At line feeds; what follows the last one is a line too, if it isn't empty."""
+    """Splits at line feeds; a last line without one counts if it isn't empty."""
     lines = data.split(b"\n")
     return lines[:-1] if lines[-1] == b"" else lines
 
 
-def read_line(number: int, line: bytes) -> Optional[Command]:
-    """The command of a line. It is read as text first, and then by the grammar."""
+def read_line(number: int, line: bytes) -> Optional[model.Command]:
+    """Returns the command of a line, decoded as text and then parsed."""
     text = text_of(line)
     if text is None:
         raise ReplayFault(f"config line {number}: not UTF-8", 3)
@@ -74,9 +53,9 @@ def read_line(number: int, line: bytes) -> Optional[Command]:
 
 
 def split_joined(data: bytes) -> tuple[bytes, bytes]:
-    """Configuration and packet file, without the first line that is `--`.
+    """Returns configuration and packet file, without the first line that is `--`.
 
-    A carriage return may stand before its line feed, so `--` and a carriage return at the very end is no such line.
+    A carriage return may precede its line feed, so `--` and a carriage return at the very end don't form such a line.
     """
     at = 0
     while at < len(data):
@@ -120,7 +99,7 @@ def kind_of(field: bytes) -> Optional[str]:
 # ---- Packet file -------------------------------------------------------------------------------------------------
 
 
-def read_packets(data: bytes) -> list[Row]:
+def read_packets(data: bytes) -> list[model.Row]:
     records = read_records(data)
     if not records:
         return []
@@ -129,55 +108,55 @@ def read_packets(data: bytes) -> list[Row]:
     return [read_row(number, record) for number, record in enumerate(records[1:], 1)]
 
 
-def read_row(row: int, record: list[bytes]) -> Row:
+def read_row(row: int, record: list[bytes]) -> model.Row:
     if len(record) != 10:
         raise bad_row(row, 0)
     values = (
-        number_of(record[0], 0, MAX_MOMENT),
+        number_of(record[0], 0, model.MAX_MOMENT),
         kind_of(record[1]),
-        number_of(record[2], 1, MAX_NUMBER),
+        number_of(record[2], 1, model.MAX_NUMBER),
         address_of(record[3]),
         address_of(record[4]),
         number_of(record[5], 0, 255),
         number_of(record[6], 0, 65535),
         number_of(record[7], 0, 65535),
-        number_of(record[8], 1, MAX_LEN),
+        number_of(record[8], 1, model.MAX_LEN),
         number_of(record[9], 0, 2**32 - 1),
     )
     if None in values:
         raise bad_row(row, values.index(None) + 1)
     moment, kind, number, src, dst, proto, sport, dport, length, word = values
-    return Row(moment, Target(kind, number), Packet(FiveTuple(src, dst, proto, sport, dport), length, word))
+    return model.Row(moment, model.Target(kind, number), model.Packet(model.FiveTuple(src, dst, proto, sport, dport), length, word))
 
 
 # ---- Report ------------------------------------------------------------------------------------------------------
 
 
-def other_line(row: int, r: Reply) -> str:
-    """The line of a packet that didn't leave."""
-    if isinstance(r, Queued):
+def other_line(row: int, r: model.Reply) -> str:
+    """Returns the line of a packet that didn't leave."""
+    if isinstance(r, model.Queued):
         return f"held,{row},{r.flow},{r.packet},{r.at},,"
-    if isinstance(r, Lost):
+    if isinstance(r, model.Lost):
         return f"lost,{row},{r.flow},,{r.at},,"
-    if isinstance(r, Full):
+    if isinstance(r, model.Full):
         return f"full,{row},{r.flow},,{r.at},,"
-    assert isinstance(r, NoTarget)
+    assert isinstance(r, model.NoTarget)
     return f"none,{row},,,{r.at},,"
 
 
-def report(history: Iterable[Entry], callers: int = 1) -> str:
+def report(history: Iterable[model.Entry], callers: int = 1) -> str:
     """The packets that left in the order in which they did, and then the others by row. The j-th Submit of caller k is row k + j * callers + 1, with j from 0."""
     history = list(history)
-    out: dict[int, Delivery] = {d.packet: d for e in history if isinstance(e.reply, Delivered) for d in e.reply.list}
+    out: dict[int, model.Delivery] = {d.packet: d for e in history if isinstance(e.reply, model.Delivered) for d in e.reply.list}
     submits: Counter[int] = Counter()
     out_lines: list[tuple[int, int, str]] = []
     other_lines: list[tuple[int, str]] = []
     for e in history:
-        if not isinstance(e.call, Submit):
+        if not isinstance(e.call, model.Submit):
             continue
         row, r = e.caller + submits[e.caller] * callers + 1, e.reply
         submits[e.caller] += 1
-        if isinstance(r, Queued) and r.packet in out:
+        if isinstance(r, model.Queued) and r.packet in out:
             d = out[r.packet]
             out_lines.append((d.due, d.packet, f"out,{row},{r.flow},{r.packet},{r.at},{d.start},{d.due}"))
         else:

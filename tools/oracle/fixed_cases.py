@@ -77,21 +77,13 @@ EDGES_OF_THE_FORMATS = {
 }
 # fmt: on
 
+# fmt: off
 ROWS = (
-    "0,pipe,1,10.0.0.1,10.0\n",
-    row(LAST_MOMENT + 1),
-    row(LAST_MOMENT),
-    row(5, "queue", 9),
-    row("x"),
-    row(target="PIPE"),
-    row(number=0),
-    row(number=65536),
-    row(length=0),
-    row(length=65536),
-    row(word=2**32),
-    row("00"),
-    row(number="+1"),
+    "0,pipe,1,10.0.0.1,10.0\n", row(LAST_MOMENT + 1), row(LAST_MOMENT), row(5, "queue", 9), row("x"),
+    row(target="PIPE"), row(number=0), row(number=65536), row(length=0), row(length=65536), row(word=2**32),
+    row("00"), row(number="+1"),
 )
+# fmt: on
 
 FIELDS = row().rstrip().split(",")
 BAD_FIELDS = {"empty": "", "letter": "x", "accent": "\u00e9", "minus": "-0", "digits": "9" * 23, "address": "256.0.0.0"}
@@ -113,7 +105,6 @@ JOINED = {
 }
 # fmt: on
 
-LONG_LINE = b"#" + b"x" * 1_048_575
 HEADER_BYTES = HEADER.encode()
 
 # Name, the words after `replay`, and the files.
@@ -123,36 +114,22 @@ REPLAYS = {
     "files-header": (("c", "p"), {"c": b"", "p": HEADER_BYTES}),
     **{f"files-row-{i:02}": (("c", "p"), {"c": b"pipe 1 config bw 8Mbit/s", "p": (HEADER + line).encode()})
        for i, line in enumerate(ROWS)},
-    "missing-config": (("none", "p"), {"p": b""}),
-    "missing-packets": (("c", "none"), {"c": b"bad line"}),
-    "missing-both": (("none", "none2"), {}),
-    "folder-config": ((".", "p"), {"p": b""}),
-    "folder-packets": (("c", "."), {"c": b"pipe 1 config"}),
-    "longest-config": (("c", "p"), {"c": LONG_LINE, "p": b""}),
-    "too-long-config": (("c", "p"), {"c": LONG_LINE + b"x", "p": b""}),
 }
 # fmt: on
 
-# Inputs that never end.
-ENDLESS = {
-    "endless-config": (("/dev/zero", "p"), {"p": b""}),
-    "endless-packets": (("c", "/dev/zero"), {"c": b""}),
-    "bad-config-before-endless-packets": (("c", "/dev/zero"), {"c": b"bad"}),
-}
-
 
 def configured(line: str) -> str:
-    """The records of a line that is accepted."""
+    """Returns the records of an accepted line."""
     return f"c,0,configure,{line}\nr,configured\n"
 
 
 def queued(moment: int, packet: int) -> str:
-    """The records of a packet to pipe 1 that is queued when it is sent."""
+    """Returns the records of a packet to pipe 1 that is queued when sent."""
     return f"c,0,submit,pipe,1,10.0.0.1,10.0.0.2,17,1000,2000,1000,0,{moment}\nr,queued,{moment},0,{packet}\n"
 
 
 def delivered(moment: int, items: str) -> str:
-    """The records of a Collect that gives one packet."""
+    """Returns the records of a Collect with a single packet."""
     return f"c,0,collect,{moment}\nr,delivered,{moment},1\nd,{items}\n"
 
 
@@ -211,23 +188,3 @@ AUDITS = {
     "remark-after-end": ONE_CALLER + "#\n",
 }
 # fmt: on
-
-# Command lines that give nothing to do.
-USAGES = (
-    ("replay",),
-    ("replay", "c"),
-    ("replay", "c", "p", "q"),
-    ("nothing",),
-    ("--nothing",),
-    ("--help",),
-    ("--version",),
-    ("replay", "--help"),
-    ("replay", "c", "p", "--history", "c"),
-    ("replay", "c", "p", "--history", "p"),
-    ("audit",),
-    ("audit", "c", "p"),
-    ("audit", "--history", "c"),
-    ("audit", "--help"),
-    *(("replay", "c", "p", "--callers", n) for n in ("0", "17", "x", "1.5", "18446744073709551616")),
-    ("replay", "c", "p", "--callers"),
-)

@@ -1,68 +1,51 @@
-"""The text of a history: a record for each call, with its configuration line as it is printed, and records for its reply."""
+"""The text of a history: a record for each call, with its configuration line in canonical form, and the reply's records."""
 
 from __future__ import annotations
 
 from typing import Iterable
 
-from model import (
-    FREE,
-    Advance,
-    Advanced,
-    Call,
-    Collect,
-    Configure,
-    Configured,
-    Deleted,
-    Delivered,
-    Exhausted,
-    FiveTuple,
-    FlowStatus,
-    Full,
-    Lost,
-    NoSuchPipe,
-    NoSuchQueue,
-    NoTarget,
-    PipeHasQueues,
-    Queued,
-    Reply,
-    Status,
-    Submit,
-)
+import model
 from printing import command_text
 
 BARE_REPLIES = {
-    Configured: "configured",
-    NoSuchPipe: "no-such-pipe",
-    Deleted: "deleted",
-    PipeHasQueues: "pipe-has-queues",
-    NoSuchQueue: "no-such-queue",
-    Exhausted: "exhausted",
+    model.Configured: "configured",
+    model.NoSuchPipe: "no-such-pipe",
+    model.Deleted: "deleted",
+    model.PipeHasQueues: "pipe-has-queues",
+    model.NoSuchQueue: "no-such-queue",
+    model.Exhausted: "exhausted",
 }
-NUMBERED_REPLIES = {Queued: "queued", Lost: "lost", Full: "full", NoTarget: "no-target", Advanced: "advanced"}
+NUMBERED_REPLIES = {
+    model.Queued: "queued",
+    model.Lost: "lost",
+    model.Full: "full",
+    model.NoTarget: "no-target",
+    model.Advanced: "advanced",
+}
 
 
 def address_text(value: int) -> str:
     return ".".join(str(value >> shift & 255) for shift in (24, 16, 8, 0))
 
 
-def tuple_text(t: FiveTuple) -> str:
+def tuple_text(t: model.FiveTuple) -> str:
     return f"{address_text(t.src)},{address_text(t.dst)},{t.proto},{t.sport},{t.dport}"
 
 
-def call_text(caller: int, c: Call) -> str:
-    """The record of a call."""
-    if isinstance(c, Configure):
+def call_text(caller: int, c: model.Call) -> str:
+    """Returns the record of a call."""
+    if isinstance(c, model.Configure):
         return f"c,{caller},configure,{command_text(c.command)}"
-    if isinstance(c, Submit):
+    if isinstance(c, model.Submit):
         p = c.packet
         return f"c,{caller},submit,{c.target.kind},{c.target.number},{tuple_text(p.tuple)},{p.len},{p.word},{c.moment}"
-    if isinstance(c, (Advance, Collect)):
+    if isinstance(c, (model.Advance, model.Collect)):
         return f"c,{caller},{type(c).__name__.lower()},{c.moment}"
     return f"c,{caller},show"
 
 
-def status_text(f: FlowStatus, version: int) -> str:
-    """The record of a flow. Version 1 doesn't tell how many packets were discarded."""
+def status_text(f: model.FlowStatus, version: int) -> str:
+    """Returns the record of a flow. Version 1 omits the number of discarded packets."""
     k = f.key
     text = (
         f"f,{f.flow},{k.target.kind},{k.target.number},{k.pipe},{tuple_text(k.mask)},{tuple_text(k.tuple)},"
@@ -71,21 +54,21 @@ def status_text(f: FlowStatus, version: int) -> str:
     return text if version == 1 else f"{text},{f.discarded}"
 
 
-def reply_lines(r: Reply, version: int) -> list[str]:
-    """The record of a reply, and those of its items."""
+def reply_lines(r: model.Reply, version: int) -> list[str]:
+    """Returns the record of a reply, and those of its items."""
     if type(r) in BARE_REPLIES:
         return [f"r,{BARE_REPLIES[type(r)]}"]
-    if isinstance(r, Delivered):
+    if isinstance(r, model.Delivered):
         return [f"r,delivered,{r.at},{len(r.list)}"] + [f"d,{d.packet},{d.flow},{d.start},{d.due}" for d in r.list]
-    if isinstance(r, Status):
+    if isinstance(r, model.Status):
         return [f"r,status,{len(r.list)}"] + [status_text(f, version) for f in r.list]
     numbers = [str(getattr(r, name)) for name in ("at", "flow", "packet") if hasattr(r, name)]
     return [",".join(["r", NUMBERED_REPLIES[type(r)], *numbers])]
 
 
-def history_text(rule: str, calls: Iterable[tuple[int, Call]], replies: Iterable[Reply]) -> str:
-    """A history of calls, each with its caller and its reply."""
-    version = 2 if rule == FREE else 3
+def history_text(rule: str, calls: Iterable[tuple[int, model.Call]], replies: Iterable[model.Reply]) -> str:
+    """Returns the history of calls with their callers and replies."""
+    version = 2 if rule == model.FREE else 3
     lines, count = [f"dummynet-history,{version}"], 0
     for (caller, call), reply in zip(calls, replies):
         lines += [call_text(caller, call), *reply_lines(reply, version)]

@@ -1,4 +1,4 @@
-"""Reading of history files, of versions 1 to 3, and of transcripts of live sessions, as docs/FILES.md says, and their audit."""
+"""The reader of histories (versions 1 to 3) and of live sessions' transcripts according to docs/FILES.md, and their audit."""
 
 from __future__ import annotations
 
@@ -9,47 +9,17 @@ from csv_bytes import read_records
 from fast import first_difference
 from files import ReplayFault, address_of, kind_of, number_of, text_of
 from history import BARE_REPLIES, NUMBERED_REPLIES
-from model import (
-    FREE,
-    MAX_CALLERS,
-    MAX_LEN,
-    MAX_MOMENT,
-    MAX_NUMBER,
-    MAX_U64,
-    ORDERED,
-    Advance,
-    Call,
-    Collect,
-    Command,
-    Configure,
-    Deleted,
-    DeletePipe,
-    DeleteQueue,
-    Delivered,
-    Delivery,
-    Entry,
-    FiveTuple,
-    FlowKey,
-    FlowStatus,
-    NoSuchQueue,
-    Packet,
-    PipeHasQueues,
-    Reply,
-    Show,
-    Status,
-    Submit,
-    Target,
-)
+import model
 
 VERSIONS = {(b"dummynet-history", b"1"): 1, (b"dummynet-history", b"2"): 2, (b"dummynet-history", b"3"): 3}
 TRANSCRIPT = (b"dummynet-live", b"1")  # as version 3, with remarks between its entries
-SINCE_VERSION_2 = (Deleted, PipeHasQueues, NoSuchQueue)
+SINCE_VERSION_2 = (model.Deleted, model.PipeHasQueues, model.NoSuchQueue)
 WIDTHS = {"queued": 3, "lost": 2, "full": 2, "no-target": 1, "advanced": 1}
 ITEM = TypeVar("ITEM")
 
 
 class HistoryReader:
-    """Reads one record after the other. A fault has the number of the record at hand."""
+    """Reads records one by one. Faults contain the current record's number."""
 
     def __init__(self, data: bytes) -> None:
         self.records = read_records(data)
@@ -61,7 +31,7 @@ class HistoryReader:
         return ReplayFault(f"history record {self.taken}: bad", 4)
 
     def take(self) -> list[bytes]:
-        """The next record; a missing one has the number that it would have."""
+        """Returns the next record; a missing one counts, too."""
         self.taken += 1
         if self.is_at_end(self.taken - 1):
             raise self.bad()
@@ -80,15 +50,15 @@ class HistoryReader:
             raise self.bad()
         return value
 
-    def number(self, field: bytes, low: int = 0, high: int = MAX_U64) -> int:
+    def number(self, field: bytes, low: int = 0, high: int = model.MAX_U64) -> int:
         return self.known(number_of(field, low, high))
 
-    def target(self, kind: bytes, number: bytes) -> Target:
-        return Target(self.known(kind_of(kind)), self.number(number, 1, MAX_NUMBER))
+    def target(self, kind: bytes, number: bytes) -> model.Target:
+        return model.Target(self.known(kind_of(kind)), self.number(number, 1, model.MAX_NUMBER))
 
-    def five(self, fields: list[bytes]) -> FiveTuple:
+    def five(self, fields: list[bytes]) -> model.FiveTuple:
         src, dst, proto, sport, dport = fields
-        return FiveTuple(
+        return model.FiveTuple(
             self.known(address_of(src)),
             self.known(address_of(dst)),
             self.number(proto, 0, 255),
@@ -96,17 +66,17 @@ class HistoryReader:
             self.number(dport, 0, 65535),
         )
 
-    def read(self) -> tuple[str, list[Entry]]:
+    def read(self) -> tuple[str, list[model.Entry]]:
         """The rule of the file's version, and the entries."""
         first = tuple(self.take())
         self.version = 3 if first == TRANSCRIPT else self.known(VERSIONS.get(first))
         pass_remarks = self.pass_remarks if first == TRANSCRIPT else lambda: None
-        entries: list[Entry] = []
+        entries: list[model.Entry] = []
         pass_remarks()
         record = self.take()
         while record[0] != b"end":
             caller, call = self.call(record)
-            entries.append(Entry(caller, call, self.reply(self.take())))
+            entries.append(model.Entry(caller, call, self.reply(self.take())))
             pass_remarks()
             record = self.take()
         if len(record) != 2 or self.number(record[1]) != len(entries):
@@ -114,35 +84,37 @@ class HistoryReader:
         if not self.is_at_end(self.taken):
             self.taken += 1
             raise self.bad()
-        return (ORDERED if self.version == 3 else FREE), entries
+        return (model.ORDERED if self.version == 3 else model.FREE), entries
 
-    def call(self, record: list[bytes]) -> tuple[int, Call]:
+    def call(self, record: list[bytes]) -> tuple[int, model.Call]:
         if len(record) < 3 or record[0] != b"c":
             raise self.bad()
-        caller = self.number(record[1], 0, MAX_CALLERS - 1)
+        caller = self.number(record[1], 0, model.MAX_CALLERS - 1)
         name, rest = record[2], record[3:]
         if name == b"configure" and len(rest) == 1:
-            return caller, Configure(self.command(rest[0]))
+            return caller, model.Configure(self.command(rest[0]))
         if name == b"submit" and len(rest) == 10:
             target = self.target(rest[0], rest[1])
-            packet = Packet(self.five(rest[2:7]), self.number(rest[7], 1, MAX_LEN), self.number(rest[8], 0, 2**32 - 1))
-            return caller, Submit(target, packet, self.number(rest[9], 0, MAX_MOMENT))
+            packet = model.Packet(
+                self.five(rest[2:7]), self.number(rest[7], 1, model.MAX_LEN), self.number(rest[8], 0, 2**32 - 1)
+            )
+            return caller, model.Submit(target, packet, self.number(rest[9], 0, model.MAX_MOMENT))
         if name in (b"advance", b"collect") and len(rest) == 1:
-            return caller, (Advance if name == b"advance" else Collect)(self.number(rest[0], 0, MAX_MOMENT))
+            return caller, (model.Advance if name == b"advance" else model.Collect)(self.number(rest[0], 0, model.MAX_MOMENT))
         if name == b"show" and not rest:
-            return caller, Show()
+            return caller, model.Show()
         raise self.bad()
 
-    def command(self, field: bytes) -> Command:
+    def command(self, field: bytes) -> model.Command:
         try:
             command = self.known(parse_line(self.known(text_of(field))))
         except LineFault:
             raise self.bad() from None
-        if self.version == 1 and isinstance(command, (DeletePipe, DeleteQueue)):
+        if self.version == 1 and isinstance(command, (model.DeletePipe, model.DeleteQueue)):
             raise self.bad()
         return command
 
-    def reply(self, record: list[bytes]) -> Reply:
+    def reply(self, record: list[bytes]) -> model.Reply:
         if len(record) < 2 or record[0] != b"r":
             raise self.bad()
         name, rest = text_of(record[1]), record[2:]
@@ -154,33 +126,33 @@ class HistoryReader:
             if name == numbered_name and len(numbers) == WIDTHS[name]:
                 return numbered(*numbers)
         if name == "delivered" and len(numbers) == 2:
-            return Delivered(numbers[0], self.items(numbers[1], self.delivery))
+            return model.Delivered(numbers[0], self.items(numbers[1], self.delivery))
         if name == "status" and len(numbers) == 1:
-            return Status(self.items(numbers[0], self.flow_status))
+            return model.Status(self.items(numbers[0], self.flow_status))
         raise self.bad()
 
     def items(self, count: int, read_item: Callable[[list[bytes]], ITEM]) -> tuple[ITEM, ...]:
-        """As many items as the count says; one is missing long before a count of 2^64 is met."""
+        """Returns `count` items; with a count near 2^64, one is soon missing."""
         found: list[ITEM] = []
         while len(found) < count:
             found.append(read_item(self.take()))
         return tuple(found)
 
-    def delivery(self, record: list[bytes]) -> Delivery:
+    def delivery(self, record: list[bytes]) -> model.Delivery:
         if len(record) != 5 or record[0] != b"d":
             raise self.bad()
         packet, flow, start, due = [self.number(field) for field in record[1:]]
-        return Delivery(due, packet, flow, start)
+        return model.Delivery(due, packet, flow, start)
 
-    def flow_status(self, record: list[bytes]) -> FlowStatus:
+    def flow_status(self, record: list[bytes]) -> model.FlowStatus:
         if len(record) != (20 if self.version == 1 else 21) or record[0] != b"f":
             raise self.bad()
         flow = self.number(record[1])
         target = self.target(record[2], record[3])
-        pipe = self.number(record[4], 1, MAX_NUMBER)
-        key = FlowKey(target, pipe, self.five(record[5:10]), self.five(record[10:15]))
+        pipe = self.number(record[4], 1, model.MAX_NUMBER)
+        key = model.FlowKey(target, pipe, self.five(record[5:10]), self.five(record[10:15]))
         counts = [self.number(field) for field in record[15:]]
-        return FlowStatus(flow, key, *counts, *([0] if self.version == 1 else []))
+        return model.FlowStatus(flow, key, *counts, *([0] if self.version == 1 else []))
 
 
 def audit_line(data: bytes) -> tuple[str, int]:

@@ -1,4 +1,4 @@
-"""A live session, as docs/FILES.md says: what is written for an input, and the program's status."""
+"""The live session according to docs/FILES.md: its output and status for an input."""
 
 from __future__ import annotations
 
@@ -9,30 +9,14 @@ from csv_bytes import read_records
 from fast import FastDummynet
 from files import address_of, kind_of, number_of, text_of
 from history import call_text, reply_lines
-from model import (
-    MAX_CALLERS,
-    MAX_LEN,
-    MAX_MOMENT,
-    MAX_NUMBER,
-    ORDERED,
-    Advance,
-    Call,
-    Collect,
-    Command,
-    Configure,
-    FiveTuple,
-    Packet,
-    Show,
-    Submit,
-    Target,
-)
+import model
 
 LINE_LIMIT = 65_536
 WIDTHS = {b"configure": 4, b"submit": 13, b"advance": 4, b"collect": 4, b"show": 3}
 
 
 class BadLine(Exception):
-    """The place of the first bad field, from 1, or 0, and why it is bad."""
+    """Raised with the place of the first bad field, from 1, or 0, and the reason."""
 
     def __init__(self, field: int, cause: str) -> None:
         super().__init__(field, cause)
@@ -40,7 +24,7 @@ class BadLine(Exception):
 
 
 class Record:
-    """The fields of a call's record, by their places from 1."""
+    """The fields of a call's record, counted from 1."""
 
     def __init__(self, fields: list[bytes]) -> None:
         self.fields = fields
@@ -59,8 +43,8 @@ class Record:
     def address(self, place: int) -> int:
         return self.known(place, address_of(self.field(place)))
 
-    def call(self) -> tuple[int, Call]:
-        caller = self.number(2, 0, MAX_CALLERS - 1)
+    def call(self) -> tuple[int, model.Call]:
+        caller = self.number(2, 0, model.MAX_CALLERS - 1)
         name = self.field(3)
         if WIDTHS.get(name) != len(self.fields):
             raise BadLine(3, "bad field")
@@ -68,27 +52,29 @@ class Record:
             command = command_of(self.field(4), 4)
             if command is None:
                 raise BadLine(4, "no command")
-            return caller, Configure(command)
+            return caller, model.Configure(command)
         if name == b"show":
-            return caller, Show()
+            return caller, model.Show()
         if name == b"submit":
             return caller, self.submit()
-        return caller, (Advance if name == b"advance" else Collect)(self.number(4, 0, MAX_MOMENT))
+        return caller, (model.Advance if name == b"advance" else model.Collect)(self.number(4, 0, model.MAX_MOMENT))
 
-    def submit(self) -> Submit:
+    def submit(self) -> model.Submit:
         kind = kind_of(self.field(4))
         if kind is None:
             raise BadLine(4, "bad field")
-        target = Target(kind, self.number(5, 1, MAX_NUMBER))
-        five = FiveTuple(
+        target = model.Target(kind, self.number(5, 1, model.MAX_NUMBER))
+        five = model.FiveTuple(
             self.address(6), self.address(7), self.number(8, 0, 255), self.number(9, 0, 65535), self.number(10, 0, 65535)
         )
-        return Submit(
-            target, Packet(five, self.number(11, 1, MAX_LEN), self.number(12, 0, 2**32 - 1)), self.number(13, 0, MAX_MOMENT)
+        return model.Submit(
+            target,
+            model.Packet(five, self.number(11, 1, model.MAX_LEN), self.number(12, 0, 2**32 - 1)),
+            self.number(13, 0, model.MAX_MOMENT),
         )
 
 
-def command_of(line: bytes, field: int) -> Optional[Command]:
+def command_of(line: bytes, field: int) -> Optional[model.Command]:
     text = text_of(line)
     if text is None:
         raise BadLine(field, "not UTF-8")
@@ -99,8 +85,8 @@ def command_of(line: bytes, field: int) -> Optional[Command]:
 
 
 def asked_in(line: bytes) -> list[bytes]:
-    """The fields of the record by which a line asks for a call or for the next moment. A configuration line has none: a carriage
-    return is a blank there, and else it ends a record."""
+    """Returns the fields of a line's record for a call or for the next moment. A configuration line has none: it treats a carriage
+    return as a blank, where a record would end."""
     records = read_records(line) if b'"' in line or b"\r" in line else [line.split(b",")]
     if not records or (records[0][0] != b"c" and records[0] != [b"next"]):
         return []
@@ -109,12 +95,12 @@ def asked_in(line: bytes) -> list[bytes]:
     return records[0]
 
 
-def call_in(line: bytes, record: list[bytes]) -> Optional[tuple[int, Call]]:
-    """The call that a line asks for, with its caller."""
+def call_in(line: bytes, record: list[bytes]) -> Optional[tuple[int, model.Call]]:
+    """Returns the call that a line requests, with its caller."""
     if record:
         return Record(record).call()
     command = command_of(line, 1)
-    return None if command is None else (0, Configure(command))
+    return None if command is None else (0, model.Configure(command))
 
 
 def answer(net: FastDummynet, line: bytes) -> list[str]:
@@ -130,8 +116,8 @@ def answer(net: FastDummynet, line: bytes) -> list[str]:
 
 
 def session(data: bytes) -> tuple[list[str], int]:
-    """What is written, a text for each line of the input between the text before the first and the one behind the last, and the status."""
-    net, calls, bad = FastDummynet(ORDERED), 0, 0
+    """Returns the output (a text for each input line, with those before and after) and the status."""
+    net, calls, bad = FastDummynet(model.ORDERED), 0, 0
     *lines, tail = data.split(b"\n")
     written = ["dummynet-live,1\n"]
     for number, line in enumerate(lines, 1):

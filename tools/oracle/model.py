@@ -1,4 +1,4 @@
-"""The plain values that every part of the reference speaks of: commands, calls, replies and entries."""
+"""The plain values of the reference: commands, calls, replies and entries."""
 
 from __future__ import annotations
 
@@ -16,7 +16,7 @@ ORDERED = "ordered"
 
 @dataclass(frozen=True)
 class FiveTuple:
-    """Also the form of a mask."""
+    """A five-tuple, or the bits of a mask."""
 
     src: int = 0
     dst: int = 0

@@ -16,14 +16,12 @@ from fast import FastDummynet
 from files import LIMITS, ReplayFault, read_line, read_packets, refused_line, report, split_joined, split_lines
 from history import history_text
 from history_reader import audit_line
-from model import MAX_CALLERS, MAX_MOMENT, ORDERED, Collect, Configure, Configured, Deleted, Entry, Submit
-
-USAGE = 2
+from model import MAX_MOMENT, ORDERED, Collect, Configure, Configured, Deleted, Entry, Submit
 
 
 @dataclass(frozen=True)
 class Outcome:
-    """What the program writes, its status, and the files that it makes. The text of a usage fault is left to the program."""
+    """The program's output, status, and files."""
 
     stdout: bytes
     stderr: bytes
@@ -50,7 +48,7 @@ def open_for_reading(path: Path, source: str) -> BinaryIO:
 
 
 def configured(net: FastDummynet, config: bytes) -> list[Entry]:
-    """The lines one by one: text, grammar, application."""
+    """Applies the lines one by one: text, grammar, application; returns the entries."""
     entries: list[Entry] = []
     for number, line in enumerate(split_lines(config), 1):
         command = read_line(number, line)
@@ -64,7 +62,7 @@ def configured(net: FastDummynet, config: bytes) -> list[Entry]:
 
 
 def replay_over(config: bytes, packets: Callable[[], bytes]) -> list[Entry]:
-    """The history of a replay. The packets are asked for where the configuration has no fault."""
+    """Returns the history of a replay. The packets are read if the configuration is correct."""
     net = FastDummynet()
     entries = configured(net, config)
     calls = [Submit(row.target, row.packet, row.moment) for row in read_packets(packets())]
@@ -83,7 +81,7 @@ def replay_files(config: Path, packets: Path) -> list[Entry]:
 
 
 def reported(history: list[Entry], folder: Path, file: Optional[str]) -> Outcome:
-    """The report, and then the file of the history, where one is asked for. Its folder may not be there."""
+    """Returns the report, and then the history's file if requested. Its folder may be missing."""
     text = report(history).encode()
     if file is None:
         return Outcome(text, b"", 0)
@@ -100,42 +98,31 @@ def audited(path: Path) -> Outcome:
     return Outcome(f"{line}\n".encode(), b"", status)
 
 
-def asked(words: list[str]) -> Optional[tuple[list[str], Optional[str]]]:
-    """The two files of a replay and the file of its history, or None where the words ask for no replay, or for one that would
-    write over what it reads."""
-    options: dict[str, Optional[str]] = {"--callers": "1", "--history": None}
-    paths: list[str] = []
-    rest = iter(words[1:])
+def asked(words: list[str]) -> tuple[list[str], Optional[str]]:
+    """Returns a replay's two files, and its history's file if requested. How many callers there are changes nothing."""
+    paths, file, rest = list[str](), None, iter(words[1:])
     for word in rest:
-        value = next(rest, "-") if word in options else word
-        if value.startswith("-"):
-            return None
-        if word in options:
-            options[word] = value
+        if word == "--history":
+            file = next(rest)
+        elif word == "--callers":
+            next(rest)
         else:
             paths.append(word)
-    callers = options["--callers"]
-    is_count = callers is not None and callers.isascii() and callers.isdigit() and 1 <= int(callers) <= MAX_CALLERS
-    is_apart = options["--history"] not in paths
-    return (paths, options["--history"]) if words[:1] == ["replay"] and len(paths) == 2 and is_count and is_apart else None
+    return paths, file
 
 
 def replayed(words: list[str], stdin: BinaryIO, folder: Path) -> Outcome:
-    """The report of a replay, where the words ask for one. Several callers are replayed as one is: what they do in turn is theirs."""
-    replay = asked(words)
-    if words and replay is None:
-        return Outcome(b"", b"", USAGE if {"--help", "--version"}.isdisjoint(words) else 0)
-    if replay is None:
+    """Returns the report of a replay of two files, or of a joined input if there are no words."""
+    if not words:
         return reported(replay_joined(stdin), folder, None)
-    (config, packets), file = replay
+    (config, packets), file = asked(words)
     return reported(replay_files(folder / config, folder / packets), folder, file)
 
 
 def outcome(words: list[str], stdin: BinaryIO, folder: Path) -> Outcome:
-    """What the program does with this command line, in this folder."""
-    audits = words[:1] == ["audit"] and len(words) == 2 and not words[1].startswith("-")
+    """Returns the program's outcome for this command line, which has to be a right one, in this folder."""
     try:
-        return audited(folder / words[1]) if audits else replayed(words, stdin, folder)
+        return audited(folder / words[1]) if words[:1] == ["audit"] else replayed(words, stdin, folder)
     except ReplayFault as fault:
         return Outcome(b"", f"{fault.line}\n".encode(), fault.status)
 

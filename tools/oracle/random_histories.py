@@ -1,4 +1,4 @@
-"""Random history files of all versions: lawful ones, ones with a reply or an entry changed, and broken ones.
+"""Random history files in all versions: valid files, files with a changed reply or entry, and broken files.
 
 All is a function of the random.Random that is handed in.
 """
@@ -14,20 +14,13 @@ from model import FREE, MAX_U64, ORDERED, Call, Configure
 from scenarios import Style, random_calls
 from spelling import spell
 
+# fmt: off
 FIRST_RECORDS = (
-    b"dummynet-history,1",
-    b"dummynet-history,2",
-    b"dummynet-history,3",
-    b"dummynet-history,4",
-    b"dummynet-history,03",
-    b"dummynet-history",
-    b"dummynet-live,1",
-    b"dummynet-live,2",
-    b"dummynet-live",
-    b"dummynet-history,3,",
-    b"Dummynet-history,3",
-    b"",
+    b"dummynet-history,1", b"dummynet-history,2", b"dummynet-history,3", b"dummynet-history,4", b"dummynet-history,03",
+    b"dummynet-history", b"dummynet-live,1", b"dummynet-live,2", b"dummynet-live", b"dummynet-history,3,",
+    b"Dummynet-history,3", b"",
 )
+# fmt: on
 FURTHER_RECORDS = (b"#", b"#,next,7", b"", b"c,0,show", b"r,configured", b"d,0,0,0,0", b"x", b'""', b"end,0", b" ")
 REMARKS = ("#", "#,next,7", "#,bad,3,1,word 1: unknown word", '"#",x')
 OTHER_NAMES = {
@@ -47,7 +40,7 @@ OTHER_NAMES = {
 
 
 def quoted(text: str) -> str:
-    """The field in quotes where it has to stand in them."""
+    """Returns the field, quoted if necessary."""
     return '"' + text.replace('"', '""') + '"' if any(c in text for c in ',"\r\n') else text
 
 
@@ -59,12 +52,12 @@ def call_record(rng: Random, caller: int, c: Call, plain: bool) -> str:
 
 
 def remarks(rng: Random) -> list[str]:
-    """What may come between two entries of a transcript."""
+    """Returns remarks that may occur between a transcript's entries."""
     return [rng.choice(REMARKS) for _ in range(rng.choice((0, 0, 0, 1, 1, 3)))]
 
 
 def lawful_history(rng: Random, style: Style) -> list[bytes]:
-    """The records of a lawful history, or of a live session's transcript of one."""
+    """Returns the records of a lawful history, or of a live session's transcript."""
     version = rng.choice((1, 2, 3, 3))
     count = rng.choice((3, 20, 40, 40, 80))
     calls = random_calls(rng, style, count, rng.randint(1, 16), version > 1 and rng.random() < 0.7)
@@ -108,7 +101,7 @@ def other_entries(rng: Random, records: list[bytes]) -> list[bytes]:
 
 
 def changed_history(rng: Random, records: list[bytes]) -> list[bytes]:
-    """The records with one of them changed, or an entry."""
+    """Returns the records with one record or entry changed."""
     kind = rng.choice(("reply",) * 6 + ("record", "record", "version", "entries"))
     if kind == "version":
         return [rng.choice(FIRST_RECORDS), *records[1:]]

@@ -36,7 +36,7 @@ TX = 1_000_000  # 1,000 bytes at 8 Mbit/s
 
 @dataclass(frozen=True)
 class Style:
-    """What a scenario is about."""
+    """The subject of a scenario."""
 
     name: str
     bws: tuple[int, ...]
@@ -193,7 +193,7 @@ def changed(rng: Random, style: Style, c: Command) -> Command:
 
 
 def random_calls(rng: Random, style: Style, count: int, callers: int, deletes: bool) -> list[tuple[int, Call]]:
-    """Configuration, then Submits with everything else mixed in."""
+    """Returns the configuration, followed by Submits mixed with other calls."""
     commands = {(type(c), c.number): c for c in first_commands(rng, style)}
     start = list(commands.values())
     if rng.random() < 0.1:

@@ -61,7 +61,7 @@ def spell_mask(rng: Random, mask: FiveTuple) -> str:
 
 
 def spelled_options(rng: Random, c: Pipe | Queue) -> list[str]:
-    """The options of a line that reads as this command, in some order. One that says what goes without saying is mostly left out."""
+    """Returns the options of a line for this command, in some order, mostly without defaults."""
     options = []
     if isinstance(c, Pipe):
         options.append((f"bw {spell_bw(rng, c.bw)}", c.bw == 0))
@@ -105,7 +105,7 @@ def any_mask(rng: Random) -> FiveTuple:
 
 
 def any_command(rng: Random, pipes: list[int]) -> Command:
-    """A pipe or queue line with values of the whole ranges; the queue's pipe is one of these."""
+    """Returns a pipe or queue command with values from the whole ranges; its pipe is one of these."""
     limit = rng.choice(
         (
             DEFAULT_LIMIT,
@@ -117,19 +117,7 @@ def any_command(rng: Random, pipes: list[int]) -> Command:
     buckets = rng.choice((None, 16, 65536, rng.randint(16, 65536)))
     number = rng.choice((1, 2, 3, 65535, rng.randint(1, 65535)))
     if not pipes or rng.random() < 0.6:
-        bw = rng.choice(
-            (
-                0,
-                1,
-                8,
-                10**3,
-                8 * 10**6,
-                10**9,
-                10**12,
-                10**12 - 1,
-                rng.randint(0, 10**12),
-                8000 * rng.randint(1, 10**6),
-            )
-        )
+        drawn = rng.randint(0, 10**12), 8000 * rng.randint(1, 10**6)
+        bw = rng.choice((0, 1, 8, 10**3, 8 * 10**6, 10**9, 10**12, 10**12 - 1, *drawn))
         return Pipe(number, bw, rng.choice((0, 1, 3_600_000, rng.randint(0, 3_600_000))), limit, loss, buckets, any_mask(rng))
     return Queue(number, rng.choice(pipes), rng.choice((1, 2, 100, rng.randint(1, 100))), limit, loss, buckets, any_mask(rng))
