@@ -64,7 +64,7 @@ static void make(struct host *host, const struct change *change) {
         return;
     }
     advance(host->links, change->moment);
-    const char *wrong = follow(host->cuts, change->line);
+    const char *wrong = make_change(host, change->line, change->moment);
     if (wrong) fprintf(stderr, "hinge: at %.3f s: %s: %s\n", (double)change->moment / 1e9, change->line, wrong);
 }
 

@@ -19,17 +19,17 @@ struct answer {
 /* A fault in a word is told before the links get the line, since a transcript has lines that can be read. Whether a pipe is there, which is
    one word, the links say, as all lines of the plan were tried before. */
 static const char *obey_now(struct host *host, const char *line, uint64_t moment) {
-    const char *wrong = wrong_with_line(host->cuts, line);
+    const char *wrong = wrong_with_change(host, line);
     if (wrong && strchr(wrong, ' ')) return wrong;
     catch_up(host->pacing, moment);
     advance(host->links, moment);
-    return follow(host->cuts, line);
+    return make_change(host, line, moment);
 }
 
 static const char *obey_later(struct host *host, const char *rest, uint64_t moment, struct answer *answer) {
     uint64_t later;
     if (!take_number(&rest, &later)) return "no line";
-    const char *wrong = wrong_with_line(host->cuts, rest);
+    const char *wrong = wrong_with_change(host, rest);
     if (wrong) return wrong;
     insert_line(host->changes, moment + later, rest);
     answer->line = behind_cut(host->cuts, rest);
@@ -60,6 +60,11 @@ static const char *taken_line(struct host *host, const char *text, uint64_t mome
         return wrong;
     }
     if (strncmp(text, "at ", strlen("at ")) == 0) return obey_later(host, text + strlen("at "), moment, answer);
+    if (strncmp(text, "acted ", strlen("acted ")) == 0) {
+        snprintf(answer->both, sizeof answer->both, "%" PRIu64, last_act(host->acts, text + strlen("acted ")));
+        answer->line = answer->both;
+        return NULL;
+    }
     if (strncmp(text, "outage ", strlen("outage ")) == 0) return obey_outage(host, text + strlen("outage "), moment, answer);
     if (strcmp(text, "main") == 0) begin_main(host, moment);
     return strcmp(text, "main") == 0 || strcmp(text, "moment") == 0 ? NULL : "no line";

@@ -1,5 +1,7 @@
 /* Ways that lose all packets, for as long as any of the cuts of their pipe goes on: each cut has a number of its own, by which it begins and
-   ends. A line of a pipe that is cut is obeyed with the loss of all packets, and as it is once the last cut has ended. */
+   ends. A line of a pipe that is cut is obeyed with the loss of all packets, and as it is once the last cut has ended. What rules send to
+   other pipes and to queues goes to that pipe meanwhile, as each of these has a loss of its own. A cut may be one of a port alone: its packets
+   get the word of a loss, and the pipe the least loss where it has none. */
 #pragma once
 #include <stdbool.h>
 
@@ -12,11 +14,15 @@ struct cuts *new_cuts(struct links *links, struct pacing *pacing, struct transcr
 
 /* Whether a line is one of these, in which case it needs no links to be tried:
 
-     cut PIPE N       the cut with this number begins
-     open PIPE N      it ends; nothing happens where it doesn't go on
-     heal PIPE        all cuts of a pipe that go on end
+     cut PIPE N [PROTO PORT]    the cut with this number begins, of all packets or of those to and from a port
+     open PIPE N [PROTO PORT]   it ends; nothing happens where it doesn't go on
+     heal PIPE [PROTO PORT]     all cuts of a pipe that go on end, or those of a port
      remark WORDS     a remark in the transcript */
 bool is_own_line(const char *line);
+
+/* Whether cuts of a way's pipe, whose number is by 1 above the way's, lose a packet: as all, or as one of a port. */
+enum extent { OF_NONE, OF_ITS_PORT, OF_ALL };
+enum extent extent_of_cut(const struct cuts *cuts, int way, const struct dn_packet *packet);
 
 /* What is wrong with a line of the plan, of the links or of these, or NULL. Nothing changes. */
 const char *wrong_with_line(struct cuts *cuts, const char *line);

@@ -5,6 +5,7 @@
 #include "octets.h"
 
 enum { IPV4_HEADER = 20, IPV6_HEADER = 40, FRAGMENT = 44, FRAGMENT_HEADER = 8, SHORTEST_EXTENSION = 8 };
+enum { ICMP_HEADER = 8, UNREACHABLE = 3, NO_NETWORK = 0, TOO_LONG = 4, UNREACHABLE_SIX = 1, NO_ROUTE_SIX = 0 }; /* RFC 792, RFC 4443 */
 
 static uint64_t eight(const unsigned char *at) { return (uint64_t)four(at) << 32 | four(at + 4); }
 
@@ -51,4 +52,14 @@ bool dissect(struct strangers *strangers, const unsigned char *bytes, size_t len
     else if (len >= IPV6_HEADER && bytes[0] >> 4 == 6) dissect_ipv6(strangers, bytes, len, packet, headers);
     else return false;
     return true;
+}
+
+const unsigned char *rejected(const unsigned char *bytes, size_t len, size_t *quoted) {
+    bool is_six = bytes[0] >> 4 == 6;
+    size_t header = is_six ? IPV6_HEADER : (size_t)(bytes[0] & 15) * 4;
+    if (len < header + ICMP_HEADER || bytes[is_six ? 6 : 9] != (is_six ? IPPROTO_ICMPV6 : IPPROTO_ICMP)) return NULL;
+    int type = bytes[header], code = bytes[header + 1];
+    if (is_six ? type != UNREACHABLE_SIX || code == NO_ROUTE_SIX : type != UNREACHABLE || code == NO_NETWORK || code == TOO_LONG) return NULL;
+    *quoted = len - header - ICMP_HEADER;
+    return bytes + header + ICMP_HEADER;
 }

@@ -17,3 +17,7 @@ struct headers {
 
 /* Reads addresses, protocol and ports into both; false where it is no IP packet. A later fragment has no ports. */
 bool dissect(struct strangers *strangers, const unsigned char *bytes, size_t len, struct dn_packet *packet, struct headers *headers);
+
+/* The packet that an IP packet quotes, and its bytes there, where it is the message of a system that has rejected that one. NULL for others,
+   and where the kernel counts those that it drops so: of what no route is known for, or is too long. */
+const unsigned char *rejected(const unsigned char *bytes, size_t len, size_t *quoted);

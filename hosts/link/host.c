@@ -10,6 +10,7 @@ void make_parts(struct host *host, int ways) {
     host->late = new_late_remarks(ways);
     host->pacing = new_pacing(host->links, ways);
     host->cuts = new_cuts(host->links, host->pacing, host->transcript, ways);
+    host->acts = new_acts();
     host->switches = new_switches(ways);
     host->strangers = new_strangers(host->transcript);
     host->changes = new_changes();

@@ -1,5 +1,6 @@
 /* All that hinge-link keeps, in parts that main.c makes. A function gets the part that it is about, or the host where it needs several. */
 #pragma once
+#include "acts.h"
 #include "basics.h"
 #include "carrier.h"
 #include "changes.h"
@@ -30,6 +31,7 @@ struct host {
     struct late_remarks *late;
     struct pacing *pacing;
     struct cuts *cuts;
+    struct acts *acts;
     struct switches *switches;
     struct strangers *strangers;
     struct changes *changes;

@@ -85,6 +85,7 @@ static void open_carrier(struct host *host, int count, char **words) {
     int ends = udp ? 2 : count - 2 - tun;
     if (ends < 2 || ends % 2) fail("usage", USAGE);
     host->page = open_page(number_of(words[count - 1]), ends);
+    host->rules.met = met_of(host->page, ends);
     if (udp) host->carrier = udp_carrier(number_of(words[2]), words[3], words[4], host->page, &host->clock);
     else host->carrier = (tun ? tun_carrier : plain_carrier)(ends, descriptors(ends, words + 1 + tun));
 }

@@ -28,6 +28,10 @@ struct page {
     struct way ways[]; /* as carrier.h numbers them: of a link up, from the client to the server, and then down */
 };
 
+/* Behind the ways: a bit for each of the first rules, which is 1 once a packet met it. */
+enum { MET = 16 };
+uint64_t *met_of(struct page *page, int ways);
+
 /* Opens the page for so many ways. */
 struct page *open_page(int descriptor, int ways);
 

@@ -19,7 +19,7 @@ _Noreturn static void refuse(const char *line, const char *wrong) {
 }
 
 static void refuse_wrong(struct host *host, const char *line) {
-    const char *wrong = wrong_with_line(host->cuts, line);
+    const char *wrong = wrong_with_change(host, line);
     if (wrong) refuse(line, wrong);
 }
 
@@ -51,7 +51,7 @@ static bool read_change(struct host *host, const char *rest) {
 /* Takes a pipe of a way from the front of a text. */
 static bool take_pipe(const struct host *host, const char **rest, int *pipe) { return take_int(rest, 1, host->carrier.ways, pipe); }
 
-/* outage NS PIPE LENGTH */
+/* outage NS PIPE LENGTH: where no packet waits for the pipe, one that nobody sent enters it with this length. */
 static bool read_outage(struct host *host, const char *rest) {
     uint64_t moment;
     int pipe, length;
@@ -60,7 +60,7 @@ static bool read_outage(struct host *host, const char *rest) {
     return true;
 }
 
-/* hold PIPE FROM TO: an outage, in ns. */
+/* hold PIPE FROM TO: what would leave between these moments, in ns, leaves at the second. */
 static bool read_hold(struct host *host, const char *rest) {
     int pipe;
     uint64_t from, to;
@@ -101,7 +101,7 @@ static bool take_span(const char **text, struct span *span) {
     return take_int(text, 0, UINT16_MAX, &span->low) && take_int(text, 0, UINT16_MAX, &span->high);
 }
 
-/* map WAY KIND NUMBER PROTO DSCP SRC MASK DST MASK SPORT SPORT DPORT DPORT */
+/* map WAY KIND NUMBER PROTO DSCP SRC MASK DST MASK SPORT SPORT DPORT DPORT: KIND 0 is a pipe, 1 a queue; -1 is any; IPv6 addresses in hex. */
 static bool read_map(struct host *host, const char *rest) {
     struct rule rule;
     if (!take_int(&rest, 0, INT_MAX, &rule.way) || !take_int(&rest, DN_PIPE, DN_QUEUE, &rule.kind) || !take_int(&rest, 1, MOST_PIPE, &rule.number) ||
@@ -225,6 +225,9 @@ static bool read_remark(struct host *host, const char *rest) {
     return true;
 }
 
+/* host NAME FREEZE KILL: the descriptors of its cgroup's files, for acts. */
+static bool read_host(struct host *host, const char *rest) { return add_host(host->acts, rest); }
+
 /* control DESCRIPTOR: where lines come from while packets pass. */
 static bool read_control(struct host *host, const char *rest) { return take_int(&rest, 1, INT_MAX, &host->control) && !*rest; }
 
@@ -242,7 +245,7 @@ static bool read_one(struct host *host, const char *line) {
         {"realtime", read_realtime},      {"epoch ", read_epoch},   {"remark ", read_remark},     {"contents", read_contents},
         {"hold ", read_hold},             {"slots ", read_slots},   {"control ", read_control},   {"jitter ", read_jitter},
         {"copies ", read_copies},         {"main ", read_main},     {"simulated", read_simulated}, {"switch ", read_switch},
-        {"fault ", read_fault},
+        {"fault ", read_fault},           {"host ", read_host},
     };
     /* clang-format on */
     for (size_t i = 0; i < sizeof kinds / sizeof *kinds; i++)
@@ -253,6 +256,7 @@ static bool read_one(struct host *host, const char *line) {
 void begin_main(struct host *host, uint64_t moment) {
     struct plan *plan = &host->plan;
     plan->base = moment ? moment : 1; /* 0 is the links' beginning */
+    if (host->contents_are_told) remark(host->transcript, "#,main,%" PRIu64 "\n", plan->base);
     for (size_t i = 0; i < plan->count; i++) {
         if (!read_one(host, plan->behind_main[i])) refuse(plan->behind_main[i], "no line of a plan");
         free(plan->behind_main[i]);

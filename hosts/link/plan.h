@@ -1,4 +1,4 @@
-/* The plan, which `hinge run` writes on standard input: a line for each thing. hinge/run/plan.py says what is in it. */
+/* The plan, which `hinge run` writes on standard input: a line for each thing, of the forms in plan.c. */
 #pragma once
 #include <stddef.h>
 #include <stdint.h>

@@ -1,6 +1,7 @@
 #include "rules.h"
 
 #include "basics.h"
+#include "page.h"
 
 void add_rule(struct rules *rules, const struct rule *rule) {
     rules->list = grown(rules->list, (rules->count + 1) * sizeof *rules->list);
@@ -19,10 +20,17 @@ static bool fits(const struct rule *rule, int way, const struct headers *headers
            in_span(packet->dport, rule->dport);
 }
 
+void classify_plainly(int way, struct dn_packet *packet) {
+    packet->kind = DN_PIPE;
+    packet->number = (uint16_t)(way + 1);
+}
+
 void classify(const struct rules *rules, int way, const struct headers *headers, struct dn_packet *packet) {
     size_t place = 0;
     while (place < rules->count && !fits(&rules->list[place], way, headers, packet)) place++;
-    const struct rule *rule = place < rules->count ? &rules->list[place] : NULL;
-    packet->kind = rule ? (uint8_t)rule->kind : DN_PIPE;
-    packet->number = rule ? (uint16_t)rule->number : (uint16_t)(way + 1);
+    classify_plainly(way, packet);
+    if (place == rules->count) return;
+    if (rules->met && place < 64 * (size_t)MET) rules->met[place / 64] |= (uint64_t)1 << place % 64;
+    packet->kind = (uint8_t)rules->list[place].kind;
+    packet->number = (uint16_t)rules->list[place].number;
 }

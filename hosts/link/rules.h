@@ -19,9 +19,13 @@ struct rule {
 struct rules {
     struct rule *list;
     size_t count;
+    uint64_t *met; /* of the page, or NULL where nobody asks */
 };
 
 void add_rule(struct rules *rules, const struct rule *rule);
+
+/* Sends a packet to the pipe of its way. */
+void classify_plainly(int way, struct dn_packet *packet);
 
 /* Sends a packet to what the first rule that fits names, else to the pipe of its way, whose number is by 1 above the way's. */
 void classify(const struct rules *rules, int way, const struct headers *headers, struct dn_packet *packet);

@@ -17,6 +17,17 @@ static void tell_content(const struct host *host, const struct payload *payload,
     remark_content(host->transcript, (payload->is_ip ? content_of : content_of_bytes)(payload->bytes, payload->len));
 }
 
+/* Tells who rejected a packet, and from where to where it went: the audit along the paths looks for that one in vain. */
+static void tell_rejected(const struct host *host, int way, const struct payload *payload, const struct dn_packet *packet) {
+    size_t len;
+    struct dn_packet lost;
+    struct headers headers;
+    const unsigned char *bytes = host->contents_are_told && payload->is_ip ? rejected(payload->bytes, payload->len, &len) : NULL;
+    if (bytes && dissect(host->strangers, bytes, len, &lost, &headers))
+        remark(host->transcript, "#,rejected,%" PRIu64 ",%d,%" PRIu32 ",%" PRIu32 ",%" PRIu32 "\n", packet->moment, way + 1, packet->src, lost.src,
+               lost.dst);
+}
+
 /* What comes on a way, behind its prefix: a frame or an IP packet. */
 struct arrival {
     const unsigned char *bytes;
@@ -45,6 +56,7 @@ static void enter_once(struct host *host, int way, const struct arrival *arrival
     counts->came_bytes += packet->length;
     packet->word = word;
     catch_up(host->pacing, packet->moment);
+    tell_rejected(host, way, payload, packet);
     tell_content(host, payload, arrival->is_for_all);
     submit_paced(host->pacing, packet, &fate);
     switch (fate.outcome) {
@@ -60,10 +72,11 @@ static void enter_once(struct host *host, int way, const struct arrival *arrival
     }
 }
 
-/* Submits a packet, and again where a fault has it come twice: that has no number of its way. */
-static void enter(struct host *host, int way, const struct arrival *arrival, const struct payload *payload, struct dn_packet *packet) {
-    enter_once(host, way, arrival, payload, packet, next_word(host->losses, host->passes, way));
-    if (fault_of(host->passes, way, IS_TWICE)) enter_once(host, way, arrival, payload, packet, WORD_OF_NONE);
+/* Submits a packet, and again where a fault has it come twice: that has no number of its way. Neither is drawn in a cut of its port. */
+static void enter(struct host *host, int way, const struct arrival *arrival, const struct payload *payload, struct dn_packet *packet, bool is_lost) {
+    uint32_t word = next_word(host->losses, host->passes, way);
+    enter_once(host, way, arrival, payload, packet, is_lost ? WORD_OF_A_LOSS : word);
+    if (fault_of(host->passes, way, IS_TWICE)) enter_once(host, way, arrival, payload, packet, is_lost ? WORD_OF_A_LOSS : WORD_OF_NONE);
 }
 
 /* Gives what came to the link; false where it is neither a frame nor a packet. */
@@ -72,9 +85,12 @@ static bool give(struct host *host, int way, const struct arrival *arrival, uint
     struct payload payload;
     struct headers headers;
     if (!look_at(host, way, arrival, &payload, &packet, &headers)) return false;
-    classify(&host->rules, way, &headers, &packet);
-    enter(host, way, arrival, &payload, &packet);
-    if (is_copied(host->passes, way)) enter(host, way, arrival, &payload, &packet);
+    enum extent extent = extent_of_cut(host->cuts, way, &packet);
+    bool is_lost = extent == OF_ITS_PORT;
+    if (extent != OF_NONE) classify_plainly(way, &packet);
+    else classify(&host->rules, way, &headers, &packet);
+    enter(host, way, arrival, &payload, &packet, is_lost);
+    if (is_copied(host->passes, way)) enter(host, way, arrival, &payload, &packet, is_lost);
     return true;
 }
 

@@ -5,8 +5,9 @@
 #include <stddef.h>
 #include <stdint.h>
 
-/* The statuses with which it ends: a fault that standard error tells, or the number of what the system refused there. */
-enum { USAGE = 2, FAULT = 4, UNREAD = 5, UNWRITTEN = 6 };
+/* The statuses with which it ends: a fault that standard error tells, or the number of what the system refused there; of a text, that it
+   has quotes, another header or too long a line, or the number of the first bad row, from 0. */
+enum { USAGE = 2, QUOTED = 3, FAULT = 4, UNREAD = 5, UNWRITTEN = 6, BAD_HEADER = 8, BAD_ROW = 9, TOO_LONG = 10 };
 
 /* Time in ns, which a capture may count in more than 64 bits. */
 typedef __int128 nanoseconds;

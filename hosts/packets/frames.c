@@ -2,63 +2,11 @@
 
 #include <stdio.h>
 #include <stdlib.h>
-#include <string.h>
-#include <sys/random.h>
 
 #include "dissect.h"
 
 enum { LONGEST_SEGMENT = 8 * 65535 }; /* bytes that Linux gives a card to cut; none takes more */
 enum { LONGEST = 1500 };              /* bytes of a packet on most links */
-
-enum { WORD = sizeof(uint64_t), LEAST_ROOM = 256 };
-#define MOST_ITEMS (UINT32_C(1) << 30)
-
-static struct table empty_table(size_t bytes) {
-    struct table made = {.words = bytes / WORD};
-    /* Without secrets a capture could be made so that its addresses meet in a slot. */
-    if (getrandom(made.secrets, sizeof made.secrets, 0) < 0) refused(UNREAD);
-    return made;
-}
-
-static uint64_t folded(uint64_t one, uint64_t other) {
-    unsigned __int128 product = (unsigned __int128)one * other;
-    return (uint64_t)product ^ (uint64_t)(product >> 64);
-}
-
-static uint64_t hash(const struct table *table, const uint64_t *item) {
-    uint64_t made = table->secrets[1];
-    /* An item has as many words as its table says. NOLINTNEXTLINE(clang-analyzer-core.UndefinedBinaryOperatorResult) */
-    for (size_t i = 0; i < table->words; i++) made = folded(item[i] ^ made, table->secrets[0] | 1);
-    return folded(made, table->secrets[1] | 1);
-}
-
-/* The slot of an item, or the empty one in which it is to be. */
-static uint32_t *slot_of(const struct table *table, const uint64_t *item) {
-    uint32_t mask = 2 * table->room - 1, at = (uint32_t)hash(table, item) & mask;
-    while (table->slots[at] && memcmp(table->items + (table->slots[at] - 1) * table->words, item, table->words * WORD) != 0) at = (at + 1) & mask;
-    return &table->slots[at];
-}
-
-static void make_room(struct table *table) {
-    if (table->room >= MOST_ITEMS) refuse("it takes more memory than there is");
-    table->room = table->room ? 2 * table->room : LEAST_ROOM;
-    table->items = grown(table->items, table->room * table->words * WORD);
-    free(table->slots);
-    table->slots = zeroed(2 * (size_t)table->room, sizeof *table->slots);
-    for (uint32_t i = 0; i < table->count; i++) *slot_of(table, table->items + i * table->words) = i + 1;
-}
-
-static uint32_t number_of(struct table *table, const void *item) {
-    if (table->count == table->room) make_room(table);
-    uint32_t *slot = slot_of(table, item);
-    if (!*slot) {
-        memcpy(table->items + table->count * table->words, item, table->words * WORD);
-        *slot = ++table->count;
-    }
-    return *slot - 1;
-}
-
-const void *item_of(const struct table *table, uint32_t number) { return table->items + number * table->words; }
 
 static void refuse_length(uint64_t number, uint32_t length) {
     if (length <= LONGEST_SEGMENT) return;

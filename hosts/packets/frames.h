@@ -2,15 +2,7 @@
 #ifndef FRAMES_H
 #define FRAMES_H
 #include "capture.h"
-
-/* Items of one size, each once, which are numbered in the order in which they came. */
-struct table {
-    size_t words; /* of 64 bits, of an item */
-    uint64_t *items;
-    uint32_t count, room;
-    uint32_t *slots; /* twice as many as there is room for, 0 or an item's number and one */
-    uint64_t secrets[2];
-};
+#include "table.h"
 
 /* An IP packet: when it came, in ns since 1970, the number of its frame, the bytes of its headers, its flow and its length. */
 struct frame {
@@ -32,8 +24,6 @@ struct frames {
     uint64_t captured, long_ones; /* frames of the capture, and packets that are longer than on most links */
     struct table addresses, flows;
 };
-
-const void *item_of(const struct table *table, uint32_t number);
 
 /* Reads all frames of a capture. */
 void read_frames(struct capture *capture, struct frames *frames);

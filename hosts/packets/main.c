@@ -11,11 +11,8 @@
 #include <string.h>
 #include <unistd.h>
 
+#include "columns.h"
 #include "rows.h"
-
-static void answer(const void *bytes, size_t size) { write_all(STDOUT_FILENO, bytes, size); }
-
-static void answer_table(const struct table *table) { answer(table->items, table->count * table->words * sizeof *table->items); }
 
 static void tell(const struct capture *capture, const struct frames *frames, bool by_frame) {
     const uint64_t head[] = {frames->captured, frames->count, frames->long_ones, capture->is_cut, frames->addresses.count, frames->flows.count};
@@ -47,6 +44,12 @@ static uint64_t number(const char *word) {
 }
 
 int main(int count, char **words) {
+    signal(SIGPIPE, SIG_IGN);
+    signal(SIGXFSZ, SIG_IGN);
+    if (count > 2 && strcmp(words[1], "columns") == 0) {
+        answer_file(words + 2, count - 2);
+        return 0;
+    }
     if (count != 9) return USAGE;
     struct capture capture = {.input = {.descriptor = (int)number(words[1])}};
     struct plan plan = {
@@ -59,8 +62,6 @@ int main(int count, char **words) {
     };
     bool by_frame = strcmp(words[8], "1") == 0;
     struct frames frames;
-    signal(SIGPIPE, SIG_IGN);
-    signal(SIGXFSZ, SIG_IGN);
     read_frames(&capture, &frames);
     tell(&capture, &frames, by_frame);
     struct targets targets = {read_targets(by_frame ? frames.count : frames.flows.count), by_frame};

@@ -49,10 +49,10 @@ struct writer {
 };
 
 void write_all(int descriptor, const void *bytes, size_t size) {
-    for (const char *at = bytes, *end = at + size; at < end;) {
-        ssize_t count = write(descriptor, at, (size_t)(end - at));
+    for (size_t done = 0; done < size;) {
+        ssize_t count = write(descriptor, (const char *)bytes + done, size - done);
         if (count < 0) refused(UNWRITTEN);
-        at += count;
+        done += (size_t)count;
     }
 }
 

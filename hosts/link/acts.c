@@ -1,0 +1,119 @@
+#define _GNU_SOURCE
+#include "acts.h"
+
+#include <errno.h>
+#include <inttypes.h>
+#include <limits.h>
+#include <stdlib.h>
+#include <string.h>
+#include <unistd.h>
+
+#include "host.h"
+
+#define WORD "act "
+
+struct place {
+    char *name;
+    int freeze, kill; /* descriptors */
+    uint64_t *stops;  /* the numbers of those that go on */
+    size_t count;
+    uint64_t done;
+};
+
+struct acts {
+    struct place *places;
+    size_t count;
+};
+
+struct acts *new_acts(void) {
+    return zeroed(sizeof(struct acts));
+}
+
+static struct place *named(const struct acts *acts, const char *name, size_t len) {
+    for (size_t i = 0; i < acts->count; i++)
+        if (strncmp(acts->places[i].name, name, len) == 0 && !acts->places[i].name[len]) return &acts->places[i];
+    return NULL;
+}
+
+bool add_host(struct acts *acts, const char *rest) {
+    size_t len = strcspn(rest, " ");
+    struct place place = {.name = strndup(rest, len)};
+    rest += len + (rest[len] == ' ');
+    if (!place.name) fail("the plan", "out of memory");
+    if (!take_int(&rest, 0, INT_MAX, &place.freeze) || !take_int(&rest, 0, INT_MAX, &place.kill) || *rest) return false;
+    acts->places = grown(acts->places, (acts->count + 1) * sizeof *acts->places);
+    acts->places[acts->count++] = place;
+    return true;
+}
+
+/* An act as its line has it. */
+struct act {
+    struct place *place;
+    const char *words; /* WORD HOST */
+    int len;
+    uint64_t number;
+};
+
+/* Reads `act WORD HOST N`; false where it isn't one of a host that is known. */
+static bool read_act(const struct acts *acts, const char *line, struct act *act) {
+    static const char *const words[] = {"stop ", "cont ", "kill "};
+    act->words = line + strlen(WORD);
+    for (size_t i = 0; i < sizeof words / sizeof *words; i++) {
+        if (strncmp(act->words, words[i], strlen(words[i])) != 0) continue;
+        const char *name = act->words + strlen(words[i]), *number = name + strcspn(name, " ");
+        act->len = (int)(number - act->words);
+        act->place = named(acts, name, (size_t)(number - name));
+        number += *number == ' ';
+        return act->place && take_number(&number, &act->number) && !*number;
+    }
+    return false;
+}
+
+static bool is_act(const char *line) { return strncmp(line, WORD, strlen(WORD)) == 0; }
+
+const char *wrong_with_change(struct host *host, const char *line) {
+    struct act act;
+    if (!is_act(line)) return wrong_with_line(host->cuts, line);
+    return read_act(host->acts, line, &act) ? NULL : "no line";
+}
+
+static void begin_stop(struct place *place, uint64_t number) {
+    place->stops = grown(place->stops, (place->count + 1) * sizeof *place->stops);
+    place->stops[place->count++] = number;
+}
+
+/* Whether nothing stops the host any more, where a stop that went on, or all of them, end. */
+static bool ends_stop(struct place *place, uint64_t number) {
+    size_t before = place->count;
+    if (number == 0) place->count = 0;
+    for (size_t i = 0; i < place->count; i++)
+        if (place->stops[i] == number) place->stops[i--] = place->stops[--place->count];
+    return number == 0 || (place->count == 0 && before > 0);
+}
+
+static bool put(int descriptor, char digit) { return write(descriptor, &digit, 1) == 1; }
+
+/* What is killed stands still first, so that none of it sees the end of another. */
+static bool do_act(const struct act *act) {
+    struct place *place = act->place;
+    if (*act->words == 's') begin_stop(place, act->number);
+    if (*act->words != 'k') return put(place->freeze, *act->words == 's' ? '1' : '0');
+    bool is_done = put(place->freeze, '1') && put(place->kill, '1');
+    return (place->count || put(place->freeze, '0')) && is_done;
+}
+
+const char *make_change(struct host *host, const char *line, uint64_t due) {
+    struct act act;
+    if (!is_act(line)) return follow(host->cuts, line);
+    if (!read_act(host->acts, line, &act)) return "no line";
+    if (*act.words == 'c' && !ends_stop(act.place, act.number)) return NULL;
+    const char *wrong = do_act(&act) ? NULL : strerror(errno);
+    act.place->done = present(&host->clock);
+    if (!wrong) remark(host->transcript, "#,late-act,%" PRIu64 "\n#,act,%.*s\n", act.place->done - due, act.len, act.words);
+    return wrong;
+}
+
+uint64_t last_act(const struct acts *acts, const char *name) {
+    const struct place *place = named(acts, name, strlen(name));
+    return place ? place->done : 0;
+}
