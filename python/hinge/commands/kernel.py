@@ -1,4 +1,4 @@
-"""The kernel of simulated time, from the sources of Linux."""
+"""The command `hinge kernel`, which builds the kernel for simulated time from Linux sources."""
 
 from __future__ import annotations
 
@@ -12,7 +12,6 @@ from hinge.arguments import bounded
 from hinge.border.terminal import show
 from hinge.command import parser, say
 from hinge.program import clock
-from hinge.run.refusals import refusals
 from hinge.simulated import build, trial
 from hinge.simulated.kernel import cache, found, kept
 
@@ -49,11 +48,14 @@ def command_line() -> argparse.Namespace:
     line.add_argument(
         "--clock", action="store_true", help="print where the library is that gives C code the simulated clock, to be preloaded"
     )
+    for option in ("--path", "--clock"):
+        line.yields("--source -j --again", option)
+    line.yields("--path", "--clock")
     return line.parse_args()
 
 
 def made(source: Optional[Path], compilers: int) -> Path:
-    """Builds the kernel and tries it; where it is."""
+    """Builds and tests the kernel; returns its folder."""
     start = time.monotonic()
     steps = build.Build(source or build.source(), compilers).run()
     sleep, began = trial.try_hour(next(steps)), time.monotonic()
@@ -64,16 +66,15 @@ def made(source: Optional[Path], compilers: int) -> Path:
 
 def main() -> None:
     arguments = command_line()
-    with refusals():
-        there = [] if arguments.again or arguments.source else list(kept(cache()))
-        if arguments.clock:
-            show(clock())
-        elif arguments.path:
-            show(str(found().folder))
-        elif there:
-            if not there[0].is_whole:
-                build.add_init(there[0])
-            say("it is built already; --again builds it anew")
-            show(str(there[0].folder))
-        else:
-            show(str(made(arguments.source, arguments.j)))
+    there = [] if arguments.again or arguments.source else list(kept(cache()))
+    if arguments.clock:
+        show(clock())
+    elif arguments.path:
+        show(str(found().folder))
+    elif there:
+        if not there[0].is_whole:
+            build.add_init(there[0])
+        say("it is built already; --again builds it anew")
+        show(str(there[0].folder))
+    else:
+        show(str(made(arguments.source, arguments.j)))

@@ -1,18 +1,18 @@
-"""What of a run may be left out: its faults, its pauses and the losses of its links."""
+"""A run's removable parts: its faults, its pauses and its links' losses."""
 
 from __future__ import annotations
 
 import re
 from dataclasses import dataclass, replace
-from typing import Any, Iterator, NamedTuple, Optional
+from typing import Any, Iterable, Iterator, NamedTuple, Optional, Sequence
 
+from hinge.events.kinds import TimedEvent, fault_ends
 from hinge.net.description import read_description
 from hinge.net.net_plan import NetPlan
-from hinge.net.statements import Statement, statements
+from hinge.net.statements import statements
 from hinge.simulated.pauses import MOST_GIVEN, Given
 
 LONGEST_PACKET = 1500
-ENDS = {"kill": "restart", "stop": "cont", "cut": "heal"}  # what ends a fault, in a line of its own
 LOSS = re.compile(r"\s(?:loss|plr) \S+")
 LINKS, LOSSES = re.compile(r"(link|switch|--(link|up|down|line))[ =]"), re.compile(r"(--)?loss[ =]")
 
@@ -21,7 +21,7 @@ class Part(NamedTuple):
     """Something that is left out as a whole."""
 
     kind: str  # of KINDS
-    what: "tuple[str, ...]"  # lines `at`, a word of --pauses, or a line with losses
+    what: "tuple[str, ...]"  # lines `at`, a word of --pauses, or a line with losses, which may be one lost packet
 
 
 ONE = {"faults": "fault", "pauses": "pause", "losses": "loss"}
@@ -30,7 +30,8 @@ KINDS = tuple(ONE)  # in which order they are left out
 
 @dataclass(frozen=True)
 class Case:
-    """A net, or the options of `hinge run`, by a seed. Its first lines are always there, those with losses in a form without."""
+    """A net, or the options of `hinge run`, with a seed. The first lines are fixed; a line with losses also has a form without
+    them."""
 
     seed: int
     lines: "tuple[str, ...]"  # of a net, or an option with its word each
@@ -44,21 +45,26 @@ class Case:
         return tuple(part for part in self.parts if part.kind == kind)
 
     def lines_left(self) -> "list[str]":
-        lossy = {part.what[0] for part in self.of_kind("losses")}
+        lossy = [part.what[0] for part in self.of_kind("losses")]
         lines = [line if line in lossy else lossless(line) for line in self.lines]
-        return [line for line in lines if line]
+        return [line for line in [*lines, *joined(line for line in lossy if line not in self.lines)] if line]
+
+    def faults(self) -> "list[str]":
+        """Returns the lines that disturb a net or lose packets."""
+        losses = [line for line in self.lines_left() if line.startswith("loss ")]
+        return [*losses, *(line for part in self.of_kind("faults") for line in part.what)]
 
     def net(self) -> str:
-        """The file."""
-        faults = [line for part in self.of_kind("faults") for line in part.what]
-        return "".join(f"{line}\n" for line in [*self.lines_left(), *faults])
+        """Returns the text of the net's file."""
+        lines = [line for line in self.lines_left() if not line.startswith("loss ")]
+        return "".join(f"{line}\n" for line in [*lines, *self.faults()])
 
     def options(self) -> "list[str]":
-        """Those of `hinge run`."""
-        return [word for line in self.lines_left() for word in line.split(" ", 1)]
+        """Returns the options of `hinge run`. A link whose only property was a loss is open, without an option."""
+        return [word for line in self.lines_left() for word in line.split(" ", 1) if not line.endswith(" ")]
 
     def pauses(self) -> Optional[str]:
-        """The word of --pauses, where there are any."""
+        """Returns the word of --pauses, if there are pauses."""
         return ",".join(word for part in self.of_kind("pauses") for word in part.what) or self.drawn
 
     def told(self) -> str:
@@ -67,47 +73,55 @@ class Case:
 
 
 def lossless(line: str) -> str:
-    """A line without what loses packets; nothing where it has no other sense."""
+    """Returns a line without its losses; an empty text if no other words remain."""
     return "" if LOSSES.match(line) else LOSS.sub("", line) if LINKS.match(line) else line
 
 
-def faults_of(lines: "list[str]") -> Iterator[Part]:
-    """A fault with the line that ends it, where that has a line of its own."""
-    rest = [(line, Statement("", 0, line)) for line in lines]
-    while rest:
-        line, statement = rest.pop(0)
-        words = statement.rest.split()[1:]
-        has_length = words[0] in ("kill", "stop") and len(words) > 2  # which ends it
-        end = None if has_length else ENDS.get(words[0])
-        match = next((one for one in rest if one[1].rest.split()[1:3] == [end, words[1]]), None)
-        if match:
-            rest.remove(match)
-        yield Part("faults", (line, *([match[0]] if match else [])))
+def joined(losses: Iterable[str]) -> "list[str]":
+    """Joins lines that lose single packets of a way into one line."""
+    ways = dict[str, list[str]]()
+    for line in losses:
+        way, _, packet = line.rpartition(":")
+        ways.setdefault(way, []).append(packet)
+    return [f"{way}:{','.join(packets)}" for way, packets in ways.items()]
+
+
+def faults_of(events: "list[TimedEvent]") -> Iterator[Part]:
+    """Groups faults with the events that end them, as lines `at`. Without a line from its group a fault would last for ever, or an
+    end would end no fault."""
+    parts = [{place} for place in range(len(events))]
+    for place, end in fault_ends(events):
+        parts[place] |= parts[end]
+        for one in parts[place]:
+            parts[one] = parts[place]
+    for place, part in enumerate(parts):
+        if place == min(part):
+            yield Part("faults", tuple(str(events[one]) for one in sorted(part)))
 
 
 def options_of(words: "list[str]") -> "tuple[str, ...]":
-    """Options of `hinge run`, each with its word."""
+    """Splits the words into options for `hinge run`, each with its value."""
     lines = list[str]()
     for word in words:
         lines = [*lines, word] if word.startswith("--") else [*lines[:-1], f"{lines[-1]} {word}"]
     return tuple(lines)
 
 
-def lines_of(path: str, seed: int) -> "tuple[tuple[str, ...], list[str]]":
-    """Those of a net, and its faults: the lines `at`, and those that the seed draws for its nemeses."""
-    draw_lines = NetPlan(read_description(path), LONGEST_PACKET, seed).drawn
+def lines_of(path: str) -> "tuple[str, ...]":
+    """Returns a net's lines, without faults."""
     texts = [statement.text for statement in statements(path)]
-    lines = tuple(text for text in texts if text.partition(" ")[0] not in ("at", "nemesis"))
-    return lines, [text for text in texts if text.startswith("at ")] + draw_lines
+    return tuple(text for text in texts if text.partition(" ")[0] not in ("at", "nemesis"))
 
 
-def case_of(what: "list[str]", seed: int, record: "dict[str, Any]") -> Case:
-    """The run of a net, or by options, whose summary this is."""
-    lines, at = lines_of(what[1], seed) if what[0] == "net" else (options_of(what[1:]), [])
-    faults = faults_of(at)
-    losses = [Part("losses", (line,)) for line in lines if lossless(line) != line]
+def case_of(what: "list[str]", seed: int, record: "dict[str, Any]", lost: "Optional[Sequence[str]]" = None) -> Case:
+    """Returns a run's case from its summary. Losses are words of links, or lines for each lost packet."""
+    is_net = what[0] == "net"
+    lines = lines_of(what[1]) if is_net else options_of(what[1:])
+    faults = faults_of(NetPlan(read_description(what[1]), LONGEST_PACKET, seed).events) if is_net else ()
+    words = [line for line in lines if lossless(line) != line]
+    losses = [Part("losses", (line,)) for line in (words if lost is None else lost)]
     pauses, parts = record.get("pauses", {"count": 0}), list[Part]()
     if pauses["count"] <= MOST_GIVEN:
-        inputs = [Given(one["number"], one["where"], one["length"]) for one in pauses.get("first", [])]
+        inputs = [Given(one["number"], one["where"], one["length"], one["steps"]) for one in pauses.get("first", [])]
         parts = [Part("pauses", (one.word(),)) for one in inputs]
     return Case(seed, lines, (*faults, *parts, *losses), None if parts else pauses.get("asked"))

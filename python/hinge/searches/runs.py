@@ -1,39 +1,54 @@
-"""The runs of a search: each is a file of its folder, whole or not at all, so that any engine of jobs may make them."""
+"""The runs of a search. Each is a file in the search's folder, complete or missing, so that any job scheduler can make runs."""
 
 from __future__ import annotations
 
-import subprocess
-import tempfile
 from concurrent.futures import ThreadPoolExecutor, as_completed
-from contextlib import contextmanager
 from pathlib import Path
-from typing import Any, Iterator, NamedTuple, Optional, Sequence
+from typing import Any, Callable, NamedTuple, Optional, Sequence
 
 from hinge.border.files import read_object
 from hinge.border.scratch import scratch, undisturbed
 from hinge.command import ROWS, Bar, Fault
 from hinge.outputs import write_json
-from hinge.program import HINGE
+from hinge.commands import net, run
+from hinge.run.settings import SimulatedOptions
 from hinge.searches.case import Case
+from hinge.simulated.failures import file_beside
+from hinge.simulated.job import real_limit_of, refuse_outside
+from hinge.simulated.kernel import found
+from hinge.simulated.machine import NONE, SIGNALLED, Machine
+from hinge.simulated.start import planned, reported
 
 NO_RUN = "no run of a search"
 OUTPUT = 10_000  # the last letters of what a run printed that are kept
-# A command line, a configuration line, a system that lacks something, a run that is void or was ended: no failures of
-# what is tried.
-NO_VERDICT = (2, 3, 6, 75, 124)
+REFUSED = 6
+WELL = "status 0"
+LONGEST = "86400s"  # of simulated time, after which a run goes on for ever, where --limit says nothing
 
 
 class Asked(NamedTuple):
-    """What all runs of a search have in common."""
+    """The parameters that all runs of a search share."""
 
     what: "list[str]"  # `net FILE`, or `run` with its options
     pauses: Optional[str]
     real_limit: Optional[str]
+    limit: Optional[str]
     command: "list[str]"
 
     @property
     def net(self) -> Optional[Path]:
         return Path(self.what[1]) if self.what[0] == "net" else None
+
+
+class Watch(NamedTuple):
+    """A run's files, beside its summary, for a look into its machine."""
+
+    more: "tuple[str, ...]" = ()  # as in Settings
+    cores: str = NONE
+    transcript: Optional[str] = None
+
+
+PLAIN = Watch()
 
 
 class Ran(NamedTuple):
@@ -44,81 +59,93 @@ class Ran(NamedTuple):
     record: "dict[str, Any]"
 
     @property
+    def has_run(self) -> bool:
+        """Returns whether the program started. A run that ended earlier was refused by `hinge` itself."""
+        return isinstance(self.record.get("ended"), dict)
+
+    @property
+    def name(self) -> str:
+        """Returns how the program ended, or why it didn't: two runs with the same name fail in the same way."""
+        return str(self.record["ended"]["name"]) if self.has_run else ""
+
+    @property
     def failed(self) -> bool:
-        return self.status != 0 and self.status not in NO_VERDICT
+        """Returns whether the run failed. A void run doesn't count as a failure."""
+        return self.has_run and not self.record.get("void") and self.name != WELL
+
+    def told(self) -> str:
+        void = "void: " * bool(self.record.get("void"))
+        return f"{void}{self.name or f'status {self.status}'}: {self.last_line()}".rstrip(": ")
 
     def last_line(self) -> str:
         return (self.output.splitlines() or [""])[-1]
 
 
 def words_of(settings: Asked, what: "Sequence[str]", seed: int, pauses: Optional[str]) -> "list[str]":
-    """The command of a run of this net, or by these options."""
+    """Returns the command line that runs this net or these options."""
     options = ["--simulated", "--scratch", "--seed", str(seed)]
     options += ["--pauses", pauses] if pauses else []
+    options += ["--limit", settings.limit] if settings.limit else []
     options += ["--real-limit", settings.real_limit] if settings.real_limit else []
     return [*what, *options, *(["--", *settings.command] if settings.command else [])]
 
 
+Look = Callable[[Machine], None]  # at one that is over, before its folder goes
+
+
+def pass_by(machine: Machine) -> None:
+    """Looks at nothing."""
+
+
+def options_of(words: "Sequence[str]") -> SimulatedOptions:
+    """Returns the options in a `hinge` command line."""
+    return run.command_line(words[1:]) if words[0] == "run" else net.command_line(words[1:])
+
+
 class Runner:
-    """Makes runs, of which none outlives this."""
+    """Makes runs, each in a separate machine. No machine outlives the runner."""
 
     def __init__(self, options: Asked) -> None:
-        self.asked, self.running, self.is_over = options, set[subprocess.Popen[str]](), False
+        self.asked, self.kernel, self.running, self.is_over = options, found(), set[Machine](), False
 
-    def run(self, what: "Sequence[str]", seed: int, pauses: Optional[str]) -> Ran:
+    def run(self, what: "Sequence[str]", seed: int, pauses: Optional[str], watch: Watch = PLAIN, look: Look = pass_by) -> Ran:
+        name, *words = words_of(self.asked, what, seed, pauses)
+        options = options_of([name, "--quiet", *words])
+        options = options.but(limit=options.limit or LONGEST, transcript=watch.transcript)
+        refuse_outside(options, False)
+        plan = planned(name, options)
+        plan = plan._replace(settings=plan.settings._replace(more=watch.more, cores=watch.cores))
         with scratch() as place:
-            summary = place / "summary"
-            name, *options = words_of(self.asked, what, seed, pauses)
-            words = [*HINGE, name, "--json", str(summary), "--quiet", *options]
-            status, output = self.ended(words)
-            record = read_object(summary, NO_RUN) if summary.exists() else {}
-        return Ran(status, output[-OUTPUT:], record)
-
-    def ended(self, words: "list[str]") -> "tuple[int, str]":
-        """The status and the output of a command, which the keys of a terminal don't end."""
-        with subprocess.Popen(
-            words,
-            stdin=subprocess.DEVNULL,
-            stdout=subprocess.PIPE,
-            stderr=subprocess.STDOUT,
-            text=True,
-            errors="replace",
-            start_new_session=True,
-        ) as process:
-            self.running.add(process)
+            (place / "in").touch()
+            machine = Machine(self.kernel, plan.settings, plan.job(place / "in", True))
+            self.running.add(machine)
             try:
                 if self.is_over:
-                    process.terminate()
-                output, _ = process.communicate()
+                    machine.end(SIGNALLED)
+                machine.wait(real_limit_of(options))
+                output = (machine.folder / "out").read_text(errors="replace")
+                result = reported(machine, plan, self.kernel, files=True, is_told=False)
+                look(machine)
             finally:
-                process.terminate()
-                self.running.discard(process)
-        return process.returncode, output
+                self.running.discard(machine)
+                machine.remove()
+        return Ran(result.status, output[-OUTPUT:], result.record)
 
     def end(self) -> None:
-        """Ends the runs that go on, which then say nothing of the net."""
+        """Ends the runs in progress, which then don't count."""
         self.is_over = True
-        for process in list(self.running):
-            process.terminate()
+        for machine in list(self.running):
+            machine.end(SIGNALLED)
 
-    def case(self, case: Case) -> Ran:
+    def case(self, case: Case, watch: Watch = PLAIN, look: Look = pass_by) -> Ran:
         if self.asked.net is None:
-            return self.run(["run", *case.options()], case.seed, case.pauses())
+            return self.run(["run", *case.options()], case.seed, case.pauses(), watch, look)
         with file_beside(self.asked.net, case.net()) as file:
-            return self.run(["net", str(file)], case.seed, case.pauses())
-
-
-@contextmanager
-def file_beside(path: Path, text: str) -> Iterator[Path]:
-    """A net of this text in the folder of the one that is searched, whose commands know that folder."""
-    with tempfile.NamedTemporaryFile("w", dir=path.parent, prefix=".search-", suffix=".net") as file:
-        file.write(text)
-        file.flush()
-        yield Path(file.name)
+            return self.run(["net", str(file)], case.seed, case.pauses(), watch, look)
 
 
 class Runs:
-    """The folder of a search, with the run of a seed in run-SEED.json."""
+    """The folder of a search. The file run-SEED.json contains a seed's run."""
 
     def __init__(self, folder: Path, runner: Runner) -> None:
         self.folder, self.runner = folder, runner
@@ -128,12 +155,17 @@ class Runs:
         return self.folder / f"run-{seed}.json"
 
     def make(self, seed: int) -> None:
-        ran = self.runner.run(self.runner.asked.what, seed, self.runner.asked.pauses)
+        try:
+            ran = self.runner.run(self.runner.asked.what, seed, self.runner.asked.pauses)
+        except Fault:
+            if self.runner.is_over:
+                return
+            raise
         if self.runner.is_over:
             return
-        if ran.status in (2, 3, 6):
-            why = ran.last_line().removeprefix(f"hinge {self.runner.asked.what[0]}: ") or f"seed {seed}: status {ran.status}"
-            raise Fault(why, ran.status)
+        if not ran.has_run:
+            why = ran.last_line().removeprefix(f"hinge {self.runner.asked.what[0]}: ") or f"status {ran.status}"
+            raise Fault(f"seed {seed}: {why}", ran.status or REFUSED)
         write_json(str(self.path(seed)), ran._asdict())
 
     def made(self, seeds: "list[int]") -> "list[int]":
@@ -147,7 +179,7 @@ class Runs:
             raise Fault(f"{self.path(seed)}: {NO_RUN}", ROWS) from None
 
     def make_all(self, seeds: "list[int]", at_once: int) -> None:
-        """Makes those that are missing."""
+        """Makes the missing runs."""
         todo = [seed for seed in seeds if not self.path(seed).exists()]
         bar = Bar("runs", len(todo))
         with ThreadPoolExecutor(at_once) as pool:

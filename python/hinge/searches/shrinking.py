@@ -1,4 +1,4 @@
-"""The least of a failing run: parts are left out as long as it fails in the same way."""
+"""The least case of a failing run: parts are left out as long as the run fails in the same way."""
 
 from __future__ import annotations
 
@@ -14,8 +14,8 @@ def without(parts: "tuple[Part, ...]", left_out: "tuple[Part, ...]") -> "tuple[P
 
 
 def least(case: Case, fails: Fails) -> Case:
-    """A case that fails, and fails no more by leaving out any one of its parts. Faults are tried first, then pauses,
-    then losses, many at a time before single ones."""
+    """Returns a failing case from which no part can be removed without a pass. It tries to leave out faults, then pauses, then
+    losses, many at a time before single ones."""
     before = None
     while before != case:
         before = case
@@ -33,7 +33,7 @@ def least_of_kind(case: Case, kind: str, fails: Fails) -> Case:
 
 
 def left_out_by(case: Case, kind: str, size: int, fails: Fails) -> Case:
-    """The case without each so many neighbours that can go, the last first, since those behind the failure do nothing."""
+    """Returns the case without each group of neighbours that can go, from the last, since parts after the failure have no effect."""
     parts = case.of_kind(kind)
     for first in range(len(parts) - size, -size, -size):
         smaller = case.with_parts(without(case.parts, parts[max(first, 0) : first + size]))

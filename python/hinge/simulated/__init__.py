@@ -1,1 +1,1 @@
-"""Programs in simulated time: a machine of their own, in which time passes when all wait."""
+"""Programs in simulated time. Each run uses a separate machine, in which time passes when all processes wait."""

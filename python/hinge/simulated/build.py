@@ -7,12 +7,12 @@ import os
 import re
 import shutil
 import signal
-import subprocess
 from contextlib import ExitStack
 from functools import partial
 from pathlib import Path
-from typing import Iterator, Optional
+from typing import Any, Iterator, Optional
 
+from hinge.border.programs import NOTHING, PIPE, SAME, Process, asked, begun
 from hinge.border.scratch import scratch
 from hinge.border.terminal import tell
 from hinge.command import MISSING, Bar, Fault, say
@@ -20,17 +20,8 @@ from hinge.run.system import Missing, die_with_parent, exchange
 from hinge.simulated.kernel import CONFIG, INIT, PATCH, VERSION, Kernel, cache, folder_of
 
 PACKAGES = Path("/usr/src")
-NEEDED = {
-    "cc": "gcc",
-    "make": "make",
-    "flex": "flex",
-    "bison": "bison",
-    "bc": "bc",
-    "tar": "tar",
-    "xz": "xz-utils",
-    "patch": "patch",
-    "strip": "binutils",
-}
+PROGRAMS = "cc=gcc make flex bison bc tar xz=xz-utils patch strip=binutils"
+NEEDED = {name: package or name for name, _, package in (word.partition("=") for word in PROGRAMS.split())}
 ROOM = 2_000_000_000  # bytes that a build takes
 MADE = re.compile(r"^  (?:CC|LD|AR|AS|GEN|HOSTCC|HOSTLD|LEX|YACC|UPD|LDS|OBJCOPY|MKCAP|CHK|SYSHDR|SYSTBL|WRAP)\s")
 ABOUT = 1050  # such lines of a whole build
@@ -39,7 +30,7 @@ FAILED = 6
 
 
 def source() -> Optional[Path]:
-    """The newest source package of Linux that Debian has installed."""
+    """Returns the newest Linux source package that Debian has installed."""
 
     def by_version(path: Path) -> list[int]:
         return [int(word) for word in re.findall(r"\d+", path.name.partition(".tar")[0])]
@@ -49,13 +40,13 @@ def source() -> Optional[Path]:
 
 
 def has_static_library() -> bool:
-    """Whether cc can link without libraries at run time; it prints the name alone of a file that it doesn't have."""
+    """Returns whether cc can link static programs. For a missing file, cc prints the bare name."""
     words = ["cc", "-print-file-name=libc.a"]
-    return shutil.which("cc") is not None and os.path.isabs(subprocess.run(words, capture_output=True, text=True).stdout)
+    return shutil.which("cc") is not None and os.path.isabs(asked(words).text)
 
 
 def lacking(place: Optional[Path]) -> dict[str, str]:
-    """All that a build of this source lacks, and Debian's packages that bring it."""
+    """Returns everything that a build from this source lacks, with the Debian packages that contain it."""
     names = {name: package for name, package in NEEDED.items() if shutil.which(name) is None}
     if not has_static_library():
         names["libc.a"] = "libc6-dev"
@@ -65,7 +56,7 @@ def lacking(place: Optional[Path]) -> dict[str, str]:
 
 
 class Build:
-    """A build in a folder of its own, which goes when it is over."""
+    """A build in a temporary folder."""
 
     def __init__(self, place: Optional[Path], jobs: int) -> None:
         names = lacking(place)
@@ -76,20 +67,11 @@ class Build:
         self.packed, self.jobs = place.resolve(), jobs
 
     def step(self, what: str, *words: "str | Path", where: Path) -> None:
-        """Runs a command. Fault: it failed; its last lines are told before."""
+        """Runs a command. Fault: the command failed; its last lines are printed first."""
         names = {"PATH": os.environ["PATH"], "HOME": str(where), "TMPDIR": str(where), "LC_ALL": "C", "ARCH": "um", **VERSION}
         bar, last = Bar(f"steps of the build ({what})", ABOUT), list[str]()
-        with subprocess.Popen(
-            [*map(str, words)],
-            cwd=where,
-            env=names,
-            stdin=subprocess.DEVNULL,
-            text=True,
-            stdout=subprocess.PIPE,
-            stderr=subprocess.STDOUT,
-            errors="replace",
-            preexec_fn=begin_group,
-        ) as process, ExitStack() as behind:
+        how: dict[str, Any] = {"cwd": where, "env": names, "stdin": NOTHING, "stdout": PIPE, "stderr": SAME, "errors": "replace"}
+        with begun([*map(str, words)], text=True, preexec_fn=begin_group, **how) as process, ExitStack() as behind:
             behind.callback(end_group, process)  # where a signal came
             for line in process.stdout or ():
                 last = [*last[-WORDS:], line]
@@ -106,11 +88,12 @@ class Build:
         self.step("unpacking", "tar", "-xf", self.packed, where=folder)
         trees = [path for path in folder.iterdir() if (path / "Kconfig").is_file()]
         if len(trees) != 1:
-            raise Fault(f"{self.packed}: it is no source of Linux", FAILED)
+            raise Fault(f"{self.packed}: it isn't a source of Linux", FAILED)
         return trees[0]
 
     def configure(self, tree: Path) -> None:
-        """Our patch, and the smallest configuration with ours over it. Fault: the source has no time travel."""
+        """Applies the patch and writes the configuration: the smallest one with the project's settings. Fault: the source doesn't
+        support time travel."""
         self.step("our patch, which is for Linux 6.12", "patch", "-p1", "--forward", "-i", PATCH, where=tree)
         self.step("configuration", "make", "tinyconfig", where=tree)
         self.step("configuration", "scripts/kconfig/merge_config.sh", "-m", ".config", CONFIG, where=tree)
@@ -128,21 +111,22 @@ class Build:
         shutil.copyfile(tree / "LICENSES" / "preferred" / "GPL-2.0", into / "COPYING")
 
     def sources(self, tree: Path) -> Iterator[str]:
-        """All that decides the kernel's bytes."""
+        """Yields everything that determines the kernel's bytes."""
         yield f"Linux {version_of(tree)}"
         for path in (self.packed, PATCH, CONFIG):
             yield f"{path.name}, SHA-256 {sha256_of(path)}"
         for words in (["cc", "--version"], ["ld", "--version"], ["ldd", "--version"]):
-            yield subprocess.run(words, capture_output=True, text=True, check=True).stdout.partition("\n")[0]
+            yield asked(words).text.partition("\n")[0]
 
     def run(self) -> Iterator[Kernel]:
-        """The kernel that was built, and once it was tried, the same where it is kept. Missing: there is no room."""
+        """Yields the new kernel, and after a trial the same kernel in its final place. Missing: there is no room."""
         cache().mkdir(parents=True, exist_ok=True)
-        with scratch() as place, scratch(cache(), ".new-") as new:
+        with scratch() as place, scratch(cache()) as beside:
             if shutil.disk_usage(place).free < ROOM:
                 raise Missing(f"{place}: a build takes {ROOM // 10**9} GB; the variable TMPDIR names another place")
             tree = self.unpacked(place)
             self.configure(tree)
+            (new := beside / "kernel").mkdir()
             self.compile(tree, new)
             yield Kernel(new)
             yield kept_as(new, folder_of(version_of(tree)))
@@ -153,8 +137,8 @@ def begin_group() -> None:
     die_with_parent()
 
 
-def end_group(process: "subprocess.Popen[str]") -> None:
-    """Kills a process with all that it started, and waits until nothing of it writes into the build's folder any more."""
+def end_group(process: "Process[str]") -> None:
+    """Kills a process and its children, and waits until all have stopped writing into the build's folder."""
     os.killpg(process.pid, signal.SIGKILL)
     assert process.stdout
     process.stdout.read()  # to its end, which comes when the last of them is gone
@@ -169,23 +153,22 @@ def sha256_of(path: Path) -> str:
 
 
 def add_init(kernel: Kernel) -> None:
-    """Compiles the first process of a kernel's machines. Fault: the compiler refuses it."""
+    """Compiles the first process of a kernel's machines. Fault: the compiler fails."""
     words = ["cc", "-std=c17", "-O2", "-static", "-s", "-o", str(kernel.init), *map(str, INIT)]
     with scratch() as place:  # for what a compiler leaves that is killed
-        process = subprocess.run(words, capture_output=True, text=True, errors="replace", env={**os.environ, "TMPDIR": str(place)})
-    if process.returncode:
-        raise Fault(f"{INIT[0]} isn't compiled: {process.stderr.strip()}", FAILED)
+        answer = asked(words, statuses=(0, 1), env={**os.environ, "TMPDIR": str(place)})
+    if answer.status:
+        raise Fault(f"{INIT[0]} isn't compiled: {answer.told}", FAILED)
 
 
 def version_of(tree: Path) -> str:
-    """The version of a tree of Linux, as 6.12.1."""
+    """Returns the version of a Linux source tree, such as 6.12.1."""
     numbers = re.findall(r"^(?:VERSION|PATCHLEVEL|SUBLEVEL) = (\d+)$", (tree / "Makefile").read_text(), re.MULTILINE)
     return ".".join(numbers)
 
 
 def kept_as(new: Path, folder: Path) -> Kernel:
-    """Gives a kernel the name by which it is looked for, at once: one that is there gets its name, and goes with that."""
-    new.chmod(0o755)
+    """Renames a new kernel's folder to its final name atomically; returns the kernel. An older kernel with that name is removed."""
     if folder.exists():
         try:
             exchange(str(new), str(folder))

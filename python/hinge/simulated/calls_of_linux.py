@@ -1,4 +1,4 @@
-"""Names of calls of Linux on x86-64, by their numbers."""
+"""The names of Linux system calls on x86-64, by number."""
 
 # fmt: off
 NAMES = {

@@ -1,4 +1,4 @@
-"""A command of the kit in a simulated machine, as the launcher started it there."""
+"""A `hinge` command in a simulated machine, as started by the launcher."""
 
 from __future__ import annotations
 

@@ -1,8 +1,8 @@
-"""Interrupts for processes of a machine that only compute.
+"""Interrupts for processes that only compute.
 
-No time passes while a process computes, so nothing inside interrupts one. It may wait for a value that another process
-sets. So one that has computed for long without a call of its kernel is interrupted from outside, and each moves
-the time on a little. These interrupts come at real moments, so no second run is the same.
+Time in a machine doesn't pass while a process computes, so no event inside interrupts the process. It may be waiting for a value
+from another process. A process that computes for a long time without a system call is therefore interrupted from outside, and each
+interrupt advances the time a little. Interrupts occur at real moments, so no second run is the same.
 """
 
 from __future__ import annotations
@@ -21,7 +21,7 @@ OWN_WAITS = 2  # that an interrupt itself makes at most
 
 
 class Look(NamedTuple):
-    """A process when it was looked at. Each call of its kernel makes it wait once."""
+    """A snapshot of a process. Each system call makes the process wait once."""
 
     waits: int
     used: float  # s
@@ -48,7 +48,7 @@ def looked(process: int) -> Optional[Look]:
 
 class Interrupts:
     def __init__(self, machine: int) -> None:
-        """For the processes of the machine whose kernel is this process."""
+        """Interrupts the processes of the machine whose kernel is this process."""
         self.machine, self.count, self.last = machine, 0, dict[int, Look]()
         self.longest = 0.0  # s of processor time that a process computed without a call, as far as it was seen
 
@@ -59,13 +59,13 @@ class Interrupts:
                 yield process, look
 
     def is_long(self, before: Look, look: Look) -> bool:
-        """Whether a process has computed for long, or does still since it was interrupted."""
+        """Returns whether a process has been computing for a long time, or still is since its interrupt."""
         if before.is_interrupted:
             return look.is_running and look.waits - before.waits <= OWN_WAITS
         return look.is_running and look.waits == before.waits and look.used - before.used >= LONG
 
     def look(self) -> float:
-        """Interrupts those that have computed for long; the seconds until the next look."""
+        """Interrupts processes that have been computing for a long time; returns the seconds until the next look."""
         pause, now = PAUSE, dict[int, Look]()
         for process, look in self.looks():
             before = self.last.get(process, look)

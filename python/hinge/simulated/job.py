@@ -1,4 +1,4 @@
-"""What a simulated machine is to run, as the user who asks, in the present folder and environment."""
+"""The job of a simulated machine: a command with the user, folder and environment of the caller."""
 
 from __future__ import annotations
 
@@ -6,12 +6,12 @@ import hashlib
 import json
 import os
 import sys
-from dataclasses import asdict
 from pathlib import Path
-from typing import NamedTuple, Sequence
+from typing import NamedTuple, Optional, Sequence
 
 from hinge.run.settings import SimulatedOptions
 from hinge.run.system import Missing
+from hinge.run.words import Wrong, duration
 
 PACKAGES = str(Path(__file__).resolve().parents[2])
 OWN = ("/dev", "/proc", "/run", "/sys")  # folders that the machine has of its own
@@ -22,6 +22,7 @@ OF_SESSIONS = set(
     """DBUS_SESSION_BUS_ADDRESS DISPLAY GPG_TTY SSH_AGENT_PID SSH_AUTH_SOCK SSH_CLIENT SSH_CONNECTION SSH_TTY STY TMUX TMUX_PANE
     WAYLAND_DISPLAY WINDOWID XDG_RUNTIME_DIR XDG_SESSION_ID""".split()
 )
+SHELLS = {"bash", "dash", "fish", "ksh", "sh", "zsh"}
 CLEAN = {"HOME", "LANG", "LOGNAME", "USER"}  # of the user's own, where few are wanted
 PATH = "/usr/local/sbin:/usr/local/bin:/usr/sbin:/usr/bin:/sbin:/bin"  # and this one
 BEGIN = "import sys; sys.path.insert(0, sys.argv.pop(1)); from hinge.simulated.in_machine import main; main()"
@@ -32,20 +33,22 @@ class Job(NamedTuple):
     input: Path  # a file that is its standard input
     is_one_stream: bool  # whether its output and its errors go to one place
     names: Sequence[str]  # the environment, as NAME=value
+    rooms: Sequence[str] = ()  # the plan of the rooms in which the command is, where it is in some
 
-    def text(self, kind: str, pauses: str) -> bytes:
-        """For the machine's first process: strings that end in 0."""
+    def text(self, *settings: str) -> bytes:
+        """Returns strings that end in 0, for the machine's first process."""
         user = [str(os.getuid()), str(os.getgid()), " ".join(map(str, os.getgroups())), f"{mask():o}"]
-        words = [kind, pauses, *user, folder(), str(len(self.words)), *self.words, *self.names]
+        words = [*settings, *user, folder(), str(len(self.words)), *self.words, *self.names, "", *(self.rooms or ["command"])]
         return joined(words)
 
     def given(self) -> "dict[str, str]":
-        """Checksums of what the programs have in memory. Two runs are the same only if they are."""
+        """Returns checksums of the data in the programs' memory. Only runs with equal checksums are the same."""
         parts = {
             "words": joined(self.words),
             "environment": joined(self.names),
             "folder": joined([folder()]),
             "input": self.input.read_bytes(),
+            **({"link": joined(self.rooms)} if self.rooms else {}),
         }
         return {name: hashlib.sha256(part).hexdigest()[:16] for name, part in parts.items()}
 
@@ -55,21 +58,21 @@ def joined(words: Sequence[str]) -> bytes:
 
 
 def mask() -> int:
-    """That of the files which are made."""
+    """Returns the file mode creation mask."""
     present = os.umask(0o022)
     os.umask(present)
     return present
 
 
 def environment(is_clean: bool) -> list[str]:
-    """The variables of the job; few and in one order, if that is asked for."""
+    """Returns the job's variables; if `is_clean`, only a few, in a fixed order."""
     if is_clean:
         return [f"PATH={PATH}", *(f"{name}={os.environ[name]}" for name in sorted(CLEAN) if name in os.environ)]
     return [f"{name}={value}" for name, value in os.environ.items() if name not in OF_SHELLS | OF_SESSIONS]
 
 
 def folder() -> str:
-    """The present folder. Missing: a machine has a folder of its own in that place."""
+    """Returns the current folder. Missing: a machine needs this path for a folder."""
     place = os.getcwd()
     if any(place == own or place.startswith(f"{own}/") for own in OWN):
         raise Missing(f"--simulated: {place} isn't in the machine, whose {', '.join(OWN)} are its own")
@@ -77,6 +80,44 @@ def folder() -> str:
 
 
 def words_of(command: str, options: SimulatedOptions) -> list[str]:
-    """The words that run a command of the kit inside with these options. They don't depend on Python's own
-    variables, and leave no byte code."""
-    return [sys.executable, "-I", "-S", "-B", "-c", BEGIN, PACKAGES, command, json.dumps(asdict(options))]
+    """Returns the words that run a `hinge` command inside with these options. They don't depend on Python's variables, and write no
+    byte code."""
+    return [sys.executable, "-I", "-S", "-B", "-c", BEGIN, PACKAGES, command, json.dumps(vars(options))]
+
+
+def refuse_outside(options: SimulatedOptions, has_terminal: bool) -> None:
+    """Wrong: an option doesn't apply to a run in its own machine."""
+    if options.leads_outside():
+        raise Wrong("--outside, --to: simulated time has no way to the rest of the network, whose time is real")
+    if options.control:
+        raise Wrong("--control: nothing speaks to a machine of its own from outside; simulated time has --timeline")
+    command = options.command
+    if has_terminal and len(command) == 1 and os.path.basename(command[0]) in SHELLS:
+        raise Wrong(
+            f"--simulated: there is no terminal in simulated time; give {command[0]} its commands by -c " "or on standard input"
+        )
+
+
+def root_of(options: SimulatedOptions) -> Optional[str]:
+    """Returns the folder of --root. Wrong: the path is no folder, or doesn't contain the current folder, in which the program
+    starts."""
+    if options.root is None:
+        return None
+    place = os.path.realpath(options.root)
+    if not os.path.isdir(place):
+        raise Wrong(f"--root {options.root}: there is no such folder")
+    if not os.path.isdir(place + os.getcwd()):
+        raise Wrong(
+            f"--root {options.root}: it has no folder {os.getcwd()}, in which the program would begin: cd to one that it has, as /"
+        )
+    return place
+
+
+def limit_of(options: SimulatedOptions) -> int:
+    """Returns --limit in ns, or 0."""
+    return 0 if options.limit is None else duration(options.limit, "--limit")
+
+
+def real_limit_of(options: SimulatedOptions) -> Optional[float]:
+    """Returns --real-limit in seconds."""
+    return None if options.real_limit is None else duration(options.real_limit, "--real-limit") / 1e9

@@ -1,4 +1,4 @@
-"""The kernel of simulated machines: what it is built of, and where it is kept."""
+"""The kernel for simulated machines: ingredients and location."""
 
 from __future__ import annotations
 
@@ -10,7 +10,9 @@ from typing import Iterator, NamedTuple
 from hinge.run.system import Missing
 
 HERE = Path(__file__).resolve().parent
-CONFIG, PATCH, INIT = HERE / "kernel.config", HERE / "kernel.patch", (HERE / "init.c", HERE / "disks.c")
+CONFIG, PATCH = HERE / "kernel.config", HERE / "kernel.patch"
+INIT = [HERE / f"{name}.c" for name in ("init", "disks", "rooms", "children", "two_rooms", "net", "acts")]
+INIT_HEADERS = [HERE / f"{name}.h" for name in ("init", "rooms", "net")]
 # Where the released one is: beside this module where that was installed, and in a clone's release.
 RELEASED = (HERE / "kernels", HERE.parents[2] / "release" / "kernels")
 LETTERS = 16  # of a checksum in the name of a folder
@@ -34,7 +36,7 @@ class Kernel(NamedTuple):
 
     @property
     def init(self) -> Path:
-        return self.folder / f"init-{checksum_of(*INIT)}"
+        return self.folder / f"init-{checksum_of(*INIT, *INIT_HEADERS)}"
 
     @property
     def checksum(self) -> str:
@@ -51,7 +53,7 @@ class Kernel(NamedTuple):
 
 
 def cache() -> Path:
-    """Where this user's kernels are kept."""
+    """Returns the folder for this user's kernels."""
     path = os.environ.get("XDG_CACHE_HOME", "")
     return Path(path if os.path.isabs(path) else os.path.expanduser("~/.cache")) / "hingetulip" / "kernels"
 
@@ -64,12 +66,12 @@ def checksum_of(*paths: Path, begin: str = "") -> str:
 
 
 def checksum_of_inputs() -> str:
-    """A checksum of what a kernel is built of beside the source of Linux."""
+    """Returns a checksum of a kernel's ingredients, except for the Linux source."""
     return checksum_of(CONFIG, PATCH, begin=repr(sorted(VERSION.items())))
 
 
 def folder_of(version: str) -> Path:
-    """Where the kernel of a version of Linux is kept."""
+    """Returns the folder of the kernel for a Linux version."""
     return cache() / f"{version}-{checksum_of_inputs()}"
 
 
@@ -78,7 +80,7 @@ def version_numbers(folder: Path) -> list[int]:
 
 
 def kept(*places: Path) -> Iterator[Kernel]:
-    """The kernels that were built of the present configuration and patch, the newest Linux of each place first."""
+    """Yields the kernels with the current configuration and patch, the newest Linux of each place first."""
     for place in places:
         for folder in sorted(place.glob(f"*-{checksum_of_inputs()}"), key=version_numbers, reverse=True):
             if Kernel(folder).is_built:
@@ -86,7 +88,7 @@ def kept(*places: Path) -> Iterator[Kernel]:
 
 
 def found() -> Kernel:
-    """The kernel in the folder HINGE_KERNEL, else that of `hinge kernel`, else the released one. Missing: there is none."""
+    """Returns the kernel in the folder HINGE_KERNEL, or built with `hinge kernel`, or released. Missing: there is no kernel."""
     path = os.environ.get("HINGE_KERNEL")
     if path:
         if not Kernel(Path(path)).is_whole:

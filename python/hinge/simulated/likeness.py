@@ -1,4 +1,4 @@
-"""Whether a run was given what an earlier one was, by the summary that the earlier one left."""
+"""The check whether a run got the same input as an earlier one, using the earlier summary."""
 
 from __future__ import annotations
 
@@ -7,13 +7,14 @@ from typing import Any, Iterator
 from hinge.border.files import read_object
 from hinge.command import Fault
 from hinge.run.words import Wrong
+from hinge.simulated.failures import WORDS
 
 GIVEN = ("kernel", "cpu", "processor", "at")  # beside what `given` has
 TIMES = ("simulated", "spun")  # what two equal runs have in common
 
 
 def earlier(path: str) -> "dict[str, Any]":
-    """The summary of an earlier run in simulated time. Wrong: the file is none, or can't be read."""
+    """Returns the summary of an earlier run in simulated time. Wrong: the file isn't one, or can't be read."""
     strange = "no summary of a run in simulated time, as --json writes it"
     try:
         record = read_object(path, strange)
@@ -27,14 +28,42 @@ def earlier(path: str) -> "dict[str, Any]":
 
 
 def what_differs(one: "dict[str, Any]", other: "dict[str, Any]") -> "list[str]":
-    """Names of what the two were given that isn't the same."""
+    """Returns the names of the inputs that differ."""
     return [name for name in GIVEN if one.get(name) != other.get(name)] + [
         name for name in one["given"] if one["given"][name] != other["given"].get(name)
     ]
 
 
+def files_that_differ(one: "dict[str, Any]", other: "dict[str, Any]") -> "list[str]":
+    """Returns the files that differ, in the order in which the earlier run opened them, followed by the other run's."""
+    return [name for name in {**one, **other} if one.get(name) != other.get(name)]
+
+
+def of_files(before: "dict[str, Any]", present: "dict[str, Any]") -> str:
+    if not isinstance(before.get("files"), dict):
+        return ""
+    names = files_that_differ(before["files"], present["files"])
+    if not names:
+        return f"; the same {len(before['files'])} files"
+    first = names[0]
+    why = (
+        "other"
+        if first in before["files"] and first in present["files"]
+        else "new:"
+        if first in before.get("absent", ())
+        else "gone:"
+        if first in present["absent"]
+        else "not read by both:"
+    )
+    return f"; {why} {first}" + f" and {len(names) - 1} more files" * (len(names) > 1)
+
+
 def remarks(path: str, before: "dict[str, Any]", present: "dict[str, Any]") -> Iterator[str]:
     differing = what_differs(before, present)
     text = f"other {', '.join(differing)}" if differing else "the same words, environment, folder, input and kernel"
+    if WORDS in before and isinstance(before.get("ended"), dict):
+        end = present.get("ended", {}).get("name", "no end of its own")
+        same = end == before["ended"]["name"]
+        yield f"--like {path}: it ends by {end}, {'as then' if same else 'and then by ' + str(before['ended']['name'])}"
     took = "the same" if all(before.get(name) == present[name] for name in TIMES) else "not the same"
-    yield f"--like {path}: {text}; the simulated time is {took}"
+    yield f"--like {path}: {text}{of_files(before, present)}; the simulated time is {took}"

@@ -6,15 +6,19 @@ import os
 import select
 import shutil
 import signal
-import subprocess
 import time
+from contextlib import suppress
 from pathlib import Path
 from typing import NamedTuple, Optional
 
+from hinge.border.files import read_system
+from hinge.border.programs import NOTHING, SAME, Process, begun
+from hinge.run.host import program
 from hinge.run.system import Missing, die_with_parent
 from hinge.simulated.interrupts import Interrupts
 from hinge.simulated.job import Job
 from hinge.simulated.kernel import Kernel
+from hinge.simulated.not_begun import raise_descriptors, too_few_descriptors, why
 from hinge.simulated.one_processor import OneProcessor
 from hinge.simulated.pauses import Pauses, PausesMade, pauses_made
 from hinge.simulated.room import Room
@@ -22,13 +26,16 @@ from hinge.simulated.stood import Stood, make_place, stood
 from hinge.simulated.streams import MOST_AHEAD, Copier
 
 BOOTED = 1000  # s of uptime with which a job begins
-LOG_LINES = 8
+LOG_LINES = 3
 TIMED_OUT = 124  # as that of timeout(1)
 SIGNALLED = 128
+NO_LIFE, OVER = signal.SIGUSR1, signal.SIGALRM  # why a machine ends its job: nothing of it will ever wake, or its time is over
+LIBRARIES, LIBRARIES_SIZE = "/etc/ld.so.cache", 1 << 20
+NONE, OF_DEADLOCKS, ALL = "none", "deadlock", "all"  # cores that the launcher looks at
 
 
 class Settings(NamedTuple):
-    """What a machine is like."""
+    """The properties of a machine."""
 
     seed: int
     at: int  # s since 1970, with which the job begins
@@ -36,18 +43,24 @@ class Settings(NamedTuple):
     cpu: str
     scratch: bool  # whether what is written in it is thrown away
     pauses: Optional[Pauses] = None  # of its processes
+    limit: int = 0  # ns of simulated time, or 0
+    root: Optional[str] = None  # a folder that is the machine's root, of which nothing is written
+    more: "tuple[str, ...]" = ()  # lines for /proc/pauses: `keep CALLS`, and `core CALL`
+    cores: str = NONE  # which processes leave a core for the launcher
 
 
 class MachineEnded(NamedTuple):
-    """How a job ended by itself, in ns of simulated time."""
+    """How a job ended, in ns of simulated time."""
 
     status: int
     simulated: int
     spun: int
+    waited: int = 0  # the status as wait(2) tells it
+    cut: int = 0  # the signal by which the machine ended it: NO_LIFE, OVER or 0
 
 
 def kernel_words(kernel: Kernel, settings: Settings) -> list[str]:
-    """The command line. The kernel draws random numbers from it too, so it names no folder."""
+    """Returns the kernel's command line. The kernel's random numbers depend on these words, so they contain no folder."""
     return [
         str(kernel.linux),
         f"mem={settings.memory >> 20}M",
@@ -60,12 +73,32 @@ def kernel_words(kernel: Kernel, settings: Settings) -> list[str]:
     ]
 
 
+def put_loader(folder: Path) -> None:
+    """Copies this system's dynamic loader and C library, with which the link's host can start in any root."""
+    paths = {line.split()[-1] for line in read_system("/proc/self/maps").splitlines()}
+    for path in map(Path, paths):
+        if path.name.startswith(("ld-linux", "libc.so")):
+            shutil.copy(path, folder / ("ld.so" if path.name.startswith("ld-") else path.name))
+
+
+def put_libraries(path: Path, root: str) -> None:
+    """Writes the dynamic loader's cache, padded with zeros to a fixed size. Each program maps the cache, so a different size would
+    move all later mappings, and installing an unrelated package would change the run."""
+    with suppress(OSError):
+        shutil.copyfile(f"{root}{LIBRARIES}", path)
+        size = path.stat().st_size
+        os.truncate(path, -(-size // LIBRARIES_SIZE) * LIBRARIES_SIZE)
+
+
 class Machine:
     """A machine that runs from when this is made, and leaves nothing after `remove`."""
 
-    def __init__(self, kernel: Kernel, settings: Settings, job: Job, place: Optional[Path] = None) -> None:
-        """`kept` is a folder for what the job keeps, where it is to stay."""
-        self.room, self.job, self.processor = Room(settings.memory, place), job, OneProcessor()
+    def __init__(self, kernel: Kernel, settings: Settings, job: Job, place: Optional[str] = None) -> None:
+        """Creates a machine; `place` is a permanent folder for the job's files."""
+        if few := too_few_descriptors():
+            raise Missing(few)
+        self.room, self.job, self.root, self.processor = Room(settings.memory, place), job, settings.root, OneProcessor()
+        self.memory = settings.memory
         try:
             self.furnish(kernel, settings)
             self.begun = time.monotonic()
@@ -82,10 +115,18 @@ class Machine:
         return self.room.folder
 
     def furnish(self, kernel: Kernel, settings: Settings) -> None:
-        """Writes what init reads. Its own file is new in each run, since the age of a file can show in the run."""
-        pauses = "\n".join(settings.pauses.lines()) if settings.pauses else ""
-        (self.folder / "job").write_bytes(self.job.text("scratch" if settings.scratch else "files", pauses))
+        """Writes the files for init. Init's file is new in each run, since its age could show in the run."""
+        pauses = "\n".join([*(settings.pauses.lines() if settings.pauses else ()), *settings.more])
+        kind = "own" if settings.root else "scratch" if settings.scratch else "files"
+        (self.folder / "job").write_bytes(self.job.text(kind, pauses, str(settings.limit), settings.cores))
+        if settings.root:
+            (self.folder / "root").symlink_to(settings.root)
+            put_loader(self.folder)
+        if self.job.rooms:
+            shutil.copy(program(), self.folder / "link")
         make_place(self.folder)
+        (self.folder / "opened").touch()
+        put_libraries(self.folder / "libraries", settings.root or "")
         for name in ("out", "err"):
             (self.folder / name).touch()
         if self.job.is_one_stream:
@@ -95,26 +136,19 @@ class Machine:
         shutil.copyfile(kernel.init, self.folder / "init")
         (self.folder / "init").chmod(0o755)
 
-    def started(self, kernel: Kernel, settings: Settings) -> subprocess.Popen[bytes]:
-        """The kernel's process. A static one of glibc 2.35 and later registers memory for restartable sequences, which
-        its processes unmap, so that the first of them would die."""
+    def started(self, kernel: Kernel, settings: Settings) -> "Process[bytes]":
+        """Starts the kernel; returns its process. A static kernel with glibc 2.35 or later registers memory for restartable
+        sequences. The machine's processes unmap that memory, so the first of them would crash."""
         names = {**os.environ, "TMPDIR": self.room.memory, "GLIBC_TUNABLES": "glibc.pthread.rseq=0"}
 
         def begin() -> None:
             die_with_parent()
+            raise_descriptors()
             self.processor.take()
 
+        words, how = kernel_words(kernel, settings), {"cwd": self.folder, "env": names, "preexec_fn": begin}
         with open(self.folder / "log", "wb") as log:
-            return subprocess.Popen(
-                kernel_words(kernel, settings),
-                stdin=subprocess.DEVNULL,
-                stdout=log,
-                stderr=subprocess.STDOUT,
-                start_new_session=True,
-                cwd=self.folder,
-                preexec_fn=begin,
-                env=names,
-            )
+            return begun(words, stdin=NOTHING, stdout=log, stderr=SAME, start_new_session=True, **how)
 
     def copy_to(self, out: int, err: int, keeps: bool) -> None:
         """Copies the job's output to descriptors while it runs."""
@@ -123,14 +157,14 @@ class Machine:
             self.copiers.append(Copier(self.folder / "err", err, keeps))
 
     def hold_back(self) -> None:
-        """Stops a machine that is far ahead of who reads its output. Its own time stands still meanwhile."""
+        """Pauses a machine that is far ahead of its output's reader. Its simulated time stops, too."""
         ahead = max((copier.ahead() for copier in self.copiers), default=0)
         if self.is_held != (ahead > (MOST_AHEAD / 2 if self.is_held else MOST_AHEAD)):
             self.is_held = not self.is_held
             self.process.send_signal(signal.SIGSTOP if self.is_held else signal.SIGCONT)
 
     def wait(self, limit: Optional[float] = None) -> None:
-        """Waits for its end, which comes at once after so many seconds, or where nobody takes its output."""
+        """Waits for the machine's end. The machine is killed after `limit` seconds, or if its output loses the reader."""
         descriptor = os.pidfd_open(self.process.pid)
         try:
             while self.process.poll() is None:
@@ -147,21 +181,21 @@ class Machine:
             copier.finish()
 
     def lost(self) -> Optional[OSError]:
-        """Why not all of its output was taken."""
+        """Returns the error that prevented writing all output, if any."""
         return next((copier.fault for copier in self.copiers if copier.fault), None)
 
     def real(self) -> float:
-        """The seconds since its beginning."""
+        """Returns the real seconds since the start."""
         return time.monotonic() - self.begun
 
     def end(self, status: int) -> None:
-        """Ends it at once, as a signal's handler may."""
+        """Ends the machine immediately; safe in a signal handler."""
         if self.process.returncode is None:
             self.cut = status
             os.killpg(self.process.pid, signal.SIGKILL)
 
     def ended(self) -> Optional[MachineEnded]:
-        """How its job ended, if it did by itself."""
+        """Returns the job's result, if the machine ended by itself."""
         try:
             return MachineEnded(*map(int, (self.folder / "status").read_text().split()))
         except (OSError, TypeError, ValueError):
@@ -171,21 +205,25 @@ class Machine:
         return pauses_made(self.folder / "paused")
 
     def stood(self) -> Optional[Stood]:
-        """Where it was when it was ended."""
+        """Returns the machine's state when it was killed, if any."""
         return stood(self.folder, BOOTED * 10**9)
 
     def log(self) -> str:
         return (self.folder / "log").read_text(errors="replace")
 
     def fault(self) -> Missing:
-        """Why a machine that nobody killed has no job that ended."""
+        """Returns an error for a machine that ended before its job, although no signal from outside killed the machine."""
         report = self.folder / "fault"
-        text = report.read_text() if report.exists() else "\n".join(self.log().splitlines()[-LOG_LINES:])
+        text = (
+            report.read_text()
+            if report.exists()
+            else why(self.log(), self.memory) or "; ".join(self.log().splitlines()[-LOG_LINES:])
+        )
         return Missing(f"the simulated machine ended by itself: {text.strip()}")
 
     @property
     def hides_the_processor(self) -> bool:
-        """Whether the system lets the machine answer what a process asks the processor itself."""
+        """Returns whether the machine can intercept a process's questions to the processor."""
         return "can't trap cpuid" not in self.log()
 
     def remove(self) -> None:

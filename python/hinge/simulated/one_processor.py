@@ -1,7 +1,7 @@
-"""The processor of the system on which a machine is.
+"""The processor that a machine runs on.
 
-The kernel of a machine and its processes wait for each other at each call. On one processor that takes two thirds of
-the time that it takes on several. So a machine is on one at a time, and goes to another where it waits for its own.
+A machine's kernel and processes wait for each other at each system call. On a single processor that takes two thirds of the time.
+So a machine runs on one processor at a time, and moves to another one if it has to wait.
 """
 
 from __future__ import annotations
@@ -20,25 +20,25 @@ choice = random.SystemRandom().choice
 
 
 def waited(process: int) -> float:
-    """The seconds for which a process has waited for a processor."""
+    """Returns for how many seconds a process has waited for a processor."""
     return int(read_system(f"/proc/{process}/schedstat").split()[1]) / 1e9
 
 
 class OneProcessor:
     def __init__(self) -> None:
-        """One of those that this process may use. A system that doesn't tell of waits takes any at any time."""
+        """Chooses one of this process's allowed processors; any processor if the system doesn't report waiting times."""
         self.allowed = sorted(os.sched_getaffinity(0)) if os.path.exists("/proc/self/schedstat") else []
         self.present = choice(self.allowed) if self.allowed else -1
         self.seen, self.waited = time.monotonic(), 0.0
 
     def take(self, process: int = 0) -> None:
-        """Puts a process there, and those that it begins; 0 is the caller. It stays where the system doesn't let it."""
+        """Moves a process and its future children (0: the caller) to the processor, if the system permits that."""
         with suppress(OSError):
             if self.allowed:
                 os.sched_setaffinity(process, {self.present})
 
     def is_left(self, now: float, wait: float) -> bool:
-        """Whether the time since the last look was spent waiting, so that another processor is chosen."""
+        """Returns whether the time since the last look was spent waiting, so that another processor should be chosen."""
         if len(self.allowed) < 2 or now - self.seen < SPAN:
             return False
         share = (wait - self.waited) / (now - self.seen)
@@ -49,7 +49,7 @@ class OneProcessor:
         return True
 
     def look(self, kernel: int) -> None:
-        """Takes a machine elsewhere, where its kernel has waited much; one that has ended meanwhile is left."""
+        """Moves a machine to another processor if its kernel waited much. Ended machines are ignored."""
         with suppress(OSError, IndexError):
             if self.is_left(time.monotonic(), waited(kernel)):
                 self.take(kernel)  # first, since what it begins is where it is

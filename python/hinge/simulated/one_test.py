@@ -1,6 +1,6 @@
-"""A test of pytest in a simulated machine of its own: it is run again there, and its reports come back.
+"""A pytest test in a separate simulated machine, which runs the test again and returns the reports.
 
-Its folders have the same names there in each run, since a program's memory has them, and in the reports their own.
+Folders have fixed names there, since programs' memory contains them, and their real names in reports.
 """
 
 from __future__ import annotations
@@ -9,7 +9,6 @@ import json
 import os
 import re
 import shutil
-import subprocess
 import sys
 import tempfile
 from pathlib import Path
@@ -17,6 +16,7 @@ from typing import Any, Iterator, NamedTuple
 
 import pytest
 
+from hinge.border.programs import NOTHING, PIPE, begun
 from hinge.border.scratch import temporary_place
 from hinge.border.terminal import lines
 from hinge.program import HINGE
@@ -29,7 +29,7 @@ OF_THE_LINK = re.compile(r"hinge run: (up|down): .*")
 
 
 class Ran(NamedTuple):
-    """How the machine of a test ended: its status, what it told, and the reports of the test's phases."""
+    """The result from a test's machine: its status, its output, and the reports on the test's phases."""
 
     status: int
     told: str
@@ -49,7 +49,7 @@ class Keeper:
 
 
 def options_of_mark(mark: pytest.Mark) -> Iterator[str]:
-    """The options of the mark, as `hinge run` has them: real_limit="60s" is --real-limit 60s."""
+    """Yields the mark's options in the format of `hinge run`: real_limit="60s" becomes --real-limit 60s."""
     for name, value in mark.kwargs.items():
         for one in value if isinstance(value, (list, tuple)) else [value]:
             yield f"--{name.replace('_', '-')}"
@@ -58,7 +58,7 @@ def options_of_mark(mark: pytest.Mark) -> Iterator[str]:
 
 
 def ran(item: pytest.Item, words: list[str], seed: int, folder: Path) -> Ran:
-    """Runs a test in a machine by these options; what is written of it is in the folder."""
+    """Runs a test in a machine with these options; the folder contains the files that it wrote."""
     part = folder / "kept"
     part.mkdir()
     names = {**os.environ, INSIDE: f"{KEPT}/{REPORTS}", "PYTHONDONTWRITEBYTECODE": "1"}
@@ -75,20 +75,20 @@ def ran(item: pytest.Item, words: list[str], seed: int, folder: Path) -> Ran:
     outer = [*HINGE, "run", "--simulated", "--seed", str(seed), "--kept", str(part), *words]
     history = [] if has_net(item) else ["--transcript", str(folder / HISTORY)]
     whole = [*outer, *history, "--", *inner]
-    process = subprocess.run(
-        whole, cwd=item.config.rootpath, env=names, stdin=subprocess.DEVNULL, capture_output=True, text=True, errors="replace"
-    )
+    how: dict[str, Any] = {"cwd": item.config.rootpath, "env": names, "stdin": NOTHING, "stdout": PIPE, "stderr": PIPE}
+    with begun(whole, text=True, errors="replace", **how) as process:
+        output = process.communicate()[1].strip()
     text = (part / REPORTS).read_text().replace(f"{KEPT}/", f"{part}/") if (part / REPORTS).exists() else ""
-    return Ran(process.returncode, process.stderr.strip(), [json.loads(line) for line in text.splitlines()])
+    return Ran(process.returncode, output, [json.loads(line) for line in text.splitlines()])
 
 
 def has_net(item: pytest.Item) -> bool:
-    """Whether a test has hosts of its own. Then nothing takes the link of its machine."""
+    """Returns whether a test creates hosts itself, so that its machine's link stays unused."""
     return "net" in getattr(item, "fixturenames", ())
 
 
 def read(config: pytest.Config, data: dict[str, Any]) -> pytest.TestReport:
-    """A report that was written as JSON, which has no tuples."""
+    """Returns a report from its JSON form, which lacks tuples."""
     report: pytest.TestReport = config.hook.pytest_report_from_serializable(config=config, data=data)
     if isinstance(report.longrepr, list):
         report.longrepr = tuple(report.longrepr)
@@ -96,19 +96,19 @@ def read(config: pytest.Config, data: dict[str, Any]) -> pytest.TestReport:
 
 
 def failed(item: pytest.Item, text: str) -> pytest.TestReport:
-    """The report of a test that the machine didn't run."""
+    """Returns the report of a test that the machine didn't run."""
     return pytest.TestReport(item.nodeid, item.location, {name: 1 for name in item.keywords}, "failed", text, "call")
 
 
 def of_the_link(text: str, seed: int, history: Path) -> str:
-    """What the link did, and how to see more; of a link that nothing takes no word."""
+    """Returns a report on the link, with advice for details; an empty text if no packet used the link."""
     if not history.exists():
         return "\n".join(line for line in text.splitlines() if not OF_THE_LINK.fullmatch(line))
     return "\n".join([text, *dropped_in_history(history), closing(seed, audited(history), history)])
 
 
 def reports(item: pytest.Item, mark: pytest.Mark, links: list[str], seed: int) -> list[pytest.TestReport]:
-    """Runs a test in a machine; its reports. One that failed has what the link did, whose transcript stays."""
+    """Runs a test in a machine; returns its reports. A failed test's report describes the link, and the transcript remains."""
     folder = Path(tempfile.mkdtemp(prefix="hinge-test-", dir=temporary_place()))
     run = ran(item, [*links, *options_of_mark(mark)], seed, folder)
     result = [read(item.config, data) for data in run.reports]

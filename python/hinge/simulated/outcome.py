@@ -1,17 +1,17 @@
-"""What is told of a run in simulated time: how long it was, and whether a second one will be the same."""
+"""The report on a run in simulated time: its length, and whether a second run will be the same."""
 
 from __future__ import annotations
 
-import json
-from typing import Any, Iterator, NamedTuple, Optional, Union
+from typing import Any, Iterator, NamedTuple, Optional
 
 from hinge.border.files import read_system
 from hinge.simulated.interrupts import LONG, NEAR
 from hinge.simulated.kernel import Kernel
 from hinge.simulated.machine import MachineEnded, Machine, Settings
+from hinge.simulated.own_random import programs
 from hinge.simulated.pauses import SHOWN, PausesMade
 
-Record = dict[str, Union[str, int, float, bool, "dict[str, Any]"]]
+Record = dict[str, Any]
 
 
 class Outcome(NamedTuple):
@@ -23,20 +23,13 @@ class Outcome(NamedTuple):
     settings: Settings
     given: "dict[str, str]"  # checksums of what the programs had in memory
     pauses: Optional[PausesMade]
+    random: "list[str]"  # programs that ask the processor itself
 
     @classmethod
     def of(cls, machine: Machine, endings: MachineEnded, settings: Settings) -> Outcome:
-        interrupts = machine.interrupts
-        return cls(
-            endings,
-            machine.real(),
-            interrupts.count,
-            interrupts.longest,
-            machine.hides_the_processor,
-            settings,
-            machine.job.given(),
-            machine.pauses_made(),
-        )
+        real, interrupts, hides = machine.real(), machine.interrupts, machine.hides_the_processor
+        given, pauses, random = machine.job.given(), machine.pauses_made(), programs(machine.folder, machine.root)
+        return cls(endings, real, interrupts.count, interrupts.longest, hides, settings, given, pauses, random)
 
     def differences(self) -> Iterator[str]:
         """Why a second run may differ."""
@@ -51,6 +44,7 @@ class Outcome(NamedTuple):
             yield "by --cpu host programs ask the processor itself"
         elif not self.hides_the_processor:
             yield "this processor can't hide its own random numbers from programs"
+        yield from self.random[:1]
 
     def line(self) -> str:
         why = "; ".join(self.differences())
@@ -59,7 +53,7 @@ class Outcome(NamedTuple):
         return f"simulated {self.ended.simulated / 1e9:.6f} s in {self.real:.2f} s, {text}; {second}"
 
     def lines(self) -> Iterator[str]:
-        """What is told in words."""
+        """Yields the report as text."""
         if self.pauses and self.settings.pauses:
             text = self.pauses
             yield (
@@ -73,20 +67,12 @@ class Outcome(NamedTuple):
     def pauses_record(self) -> "dict[str, Any]":
         if not (self.pauses and self.settings.pauses):
             return {}
-        first = [one._asdict() for one in self.pauses.first]
-        return {
-            "pauses": {
-                "asked": self.settings.pauses.asked,
-                "seed": self.settings.pauses.seed,
-                "calls": self.pauses.calls,
-                "count": self.pauses.amount,
-                "time": self.pauses.time / 1e9,
-                "first": first,
-            }
-        }
+        asked, first = self.settings.pauses, [one._asdict() for one in self.pauses.first]
+        counts = {"calls": self.pauses.calls, "count": self.pauses.amount, "time": self.pauses.time / 1e9}
+        return {"pauses": {"asked": asked.asked, "seed": asked.seed, **counts, "first": first}}
 
     def record(self, kernel: Kernel) -> Record:
-        """The same for programs; times are in seconds."""
+        """Returns the record for JSON, with times in seconds."""
         return {
             "simulated": self.ended.simulated / 1e9,
             "real": round(self.real, 3),
@@ -104,11 +90,6 @@ class Outcome(NamedTuple):
 
 
 def processor() -> str:
-    """The model of this system's processor."""
+    """Returns the model of this system's processor."""
     lines = read_system("/proc/cpuinfo").splitlines()
     return next((line.partition(":")[2].strip() for line in lines if line.startswith("model name")), "")
-
-
-def with_record(summary: str, more: Record) -> str:
-    """The summary of the command for programs, and what is told of simulated time."""
-    return json.dumps({**json.loads(summary), **more}, indent=1) + "\n"

@@ -1,45 +1,45 @@
-"""Pauses of processes behind or before a call of the system, drawn by the seed or given one by one, so that runs try
-different schedules.
+"""Pauses of processes after or before system calls, drawn from a seed or listed individually, so that runs try different schedules.
 
-Computation takes no time in a machine, so a seed alone tries one order of what its processes do.
+Computation takes no time in a machine, so a seed without pauses tries a single order of actions.
 """
 
 from __future__ import annotations
 
-import argparse
-import hashlib
 import re
 from pathlib import Path
 from typing import Iterator, NamedTuple, Optional
 
-from hinge.run.words import Wrong, duration
+from hinge.border.terminal import several
+from hinge.run.words import duration
 from hinge.simulated.calls_of_linux import name_of
 
 DRAWN = "drawn"
 RAREST, OFTENEST = 14, 4  # powers of two: of calls between two pauses at most, where the seed draws them
 LONGEST = 22  # the longest pause is 2^22 us and as much again: the kernel's PAUSE_LONGEST
 GENTLE = 10  # the longest one of some seeds
+STEPS = 11  # a pause between two calls is 2^11 instructions behind the first one at most, and as many again
 BUDGET = 13  # and 2^13 us for each call between two pauses
 LONG = 3  # by half of the seeds that draw pauses, all are of an eighth of the longest at least
 MOST = 10**12
 MOST_GIVEN = 256  # the kernel's PAUSES_KEPT
 SHOWN = 10  # pauses that are told in words
-FORM = "neither pauses of calls, as 3/10000 or 1/20, nor pauses one by one, as 1034-16ms,2200+0.5s, nor `drawn`"
+FORM = "neither pauses of calls, as 3/10000 or 1/20, nor pauses one by one, as 1034-16ms,2200+0.5s,2304+5us@250, nor `drawn`"
 
 
 class Given(NamedTuple):
-    """One pause that is asked for."""
+    """A requested pause."""
 
     call: int  # its number, among those that may pause
     where: str
     ns: int
+    steps: int = 0  # instructions behind the call, where other processes have the same memory
 
     def word(self) -> str:
-        return f"{self.call}{'-' if self.where == 'before' else '+'}{self.ns}ns"
+        return f"{self.call}{'-' if self.where == 'before' else '+'}{self.ns}ns" + f"@{self.steps}" * bool(self.steps)
 
 
 class Pauses(NamedTuple):
-    """So many pauses in each so many calls, drawn by a seed of their own, or those that are given."""
+    """Pauses drawn from a separate seed, as a number of pauses per number of calls, or listed pauses."""
 
     asked: str  # as the option has it
     seed: int
@@ -48,10 +48,10 @@ class Pauses(NamedTuple):
     given: "tuple[Given, ...]" = ()
 
     def lines(self) -> Iterator[str]:
-        """What the kernel reads."""
+        """Yields the lines for the kernel."""
         yield f"{self.amount} {self.calls} {self.seed} {longest_of(self.amount, self.calls)}"
         for one in self.given:
-            yield f"{one.call} {one.where} {one.ns}"
+            yield f"{one.call} {one.where} {one.ns}" + f" {one.steps}" * bool(one.steps)
 
 
 class Paused(NamedTuple):
@@ -63,20 +63,21 @@ class Paused(NamedTuple):
     call: str
     process: int
     where: str
+    steps: int
     program: str
 
     def given(self) -> Given:
-        return Given(self.number, self.where, self.length)
+        return Given(self.number, self.where, self.length, self.steps)
 
     def text(self) -> str:
         return (
             f"{self.given().word()}: process {self.process} ({self.program}) paused for {self.length / 1e6:.3f} ms "
-            f"{self.where} {self.call}"
+            f"{several(self.steps, 'instruction') + ' ' if self.steps else ''}{self.where} {self.call}"
         )
 
 
 class PausesMade(NamedTuple):
-    """What a machine tells at its end: how many calls could have paused, and the first pauses."""
+    """A machine's final report: the number of calls that could pause, and the first pauses."""
 
     calls: int
     amount: int
@@ -85,31 +86,25 @@ class PausesMade(NamedTuple):
 
 
 def given(text: str) -> "tuple[Given, ...]":
-    """Pauses one by one, one of a call, in the order of the calls; none where the text is of another form."""
-    words = [re.fullmatch(r"(\d{1,12})([-+])([\d.]{1,20}[mun]?s)", word, re.ASCII) for word in text.split(",")]
-    items = {Given(int(one[1]), "before" if one[2] == "-" else "behind", duration(one[3])) for one in words if one}
+    """Returns listed pauses in call order, at most one per call; None if the text has another form."""
+    words = [re.fullmatch(r"(\d{1,12})([-+])([\d.]{1,20}[mun]?s)(?:@(\d{1,6}))?", word, re.ASCII) for word in text.split(",")]
+    items = {
+        Given(int(one[1]), "before" if one[2] == "-" else "behind", duration(one[3]), int(one[4] or 0)) for one in words if one
+    }
+    if any(one.steps and one.where == "before" for one in items):
+        return ()
     return tuple(sorted(items)) if len({one.call for one in items}) == len(words) <= MOST_GIVEN else ()
 
 
-def pauses_word(text: str) -> str:
-    """The word of the option. ArgumentTypeError: the text is none."""
-    match = re.fullmatch(r"(\d{1,12})/(\d{1,12})", text, re.ASCII)
-    try:
-        one_by_one = bool(given(text))
-    except Wrong as wrong:
-        raise argparse.ArgumentTypeError(str(wrong)) from None
-    if text != DRAWN and not one_by_one and not (match and int(match[1]) <= int(match[2]) <= MOST and int(match[2])):
-        raise argparse.ArgumentTypeError(f"{text!r} is {FORM}")
-    return text
-
-
 def number_of(text: str) -> int:
-    """A number of 64 bits drawn by a text."""
+    """Returns a 64-bit number derived from a text."""
+    import hashlib  # which few runs need
+
     return int.from_bytes(hashlib.sha256(text.encode()).digest()[:8], "big")
 
 
 def longest_of(amount: int, calls: int) -> int:
-    """The rarer pauses are, the longer they may be, so that rare ones take as much time as frequent ones."""
+    """Returns the maximum length: rarer pauses may be longer, so that all take a similar time."""
     return min((calls // max(amount, 1)).bit_length() - 1 + BUDGET, LONGEST)
 
 
@@ -117,17 +112,20 @@ def drawn(seed: int) -> Iterator[Given]:
     """Pauses that get rarer, so that few calls have some, until they are as rare as the seed says."""
     rare, longest, are_long = (number_of(f"{what} {seed}") for what in ("how often", "longest", "how long"))
     most = 2 ** (rare % (RAREST - OFTENEST + 1) + OFTENEST)
+    are_stepped = number_of(f"between {seed}") % 2  # by half of the seeds pauses are between calls
     longest = longest % (LONGEST - GENTLE + 1) + GENTLE
     shortest, call = are_long % 2 * (longest - LONG), 0
     for _ in range(MOST_GIVEN):
         place, power, more, where = (number_of(f"{what} {call} {seed}") for what in ("place", "length", "more", "where"))
-        call += 1 + place % min(call * 2 // 3 + 2**OFTENEST // 2, most)
+        call += 1 + place % min(call // 4 + 3 if are_stepped else call * 2 // 3 + 2**OFTENEST // 2, most)
         span = 1000 << shortest + power % (longest - shortest + 1)
-        yield Given(call, ("before", "behind")[where % 2], span + more % span)
+        steps, is_before = number_of(f"steps {call} {seed}"), where % (4 if are_stepped else 2) == 0
+        least = 0 if is_before or not are_stepped else 1 << steps % (STEPS + 1)
+        yield Given(call, "before" if is_before else "behind", span + more % span, least + (steps >> 8) % max(least, 1))
 
 
 def pauses_of(word: Optional[str], seed: int) -> Optional[Pauses]:
-    """What an option asks for in the run of a seed."""
+    """Returns the pauses for an option and a seed."""
     if word is None:
         return None
     one_by_one = tuple(drawn(seed)) if word == DRAWN else given(word)
@@ -136,12 +134,12 @@ def pauses_of(word: Optional[str], seed: int) -> Optional[Pauses]:
 
 
 def paused(line: str) -> Paused:
-    at, number, length, call, process, where, program = line.split(" ", 6)
-    return Paused(int(at), int(number), int(length), name_of(int(call)), int(process), where, program)
+    at, number, length, call, process, where, steps, program = line.split(" ", 7)
+    return Paused(int(at), int(number), int(length), name_of(int(call)), int(process), where, int(steps), program)
 
 
 def pauses_made(path: Path) -> Optional[PausesMade]:
-    """What a machine told in this file, if it had pauses."""
+    """Returns a machine's report in this file, if the machine had pauses."""
     if not path.exists():
         return None
     first, *others = path.read_text(errors="replace").splitlines()

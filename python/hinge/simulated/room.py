@@ -14,7 +14,7 @@ from hinge.run.system import Missing
 
 
 def may_be_executed(folder: str) -> bool:
-    """Whether a file there can be mapped as code, as the machine does with its memory."""
+    """Returns whether files in a folder can be mapped as code. Machines map their memory so."""
     try:
         with tempfile.TemporaryFile(dir=folder) as file:
             file.truncate(mmap.PAGESIZE)
@@ -25,7 +25,7 @@ def may_be_executed(folder: str) -> bool:
 
 
 def memory_folder(size: int) -> str:
-    """A folder, best in memory, that has so many bytes free and may be executed. Missing: there is none."""
+    """Returns a folder with enough free bytes that permits execution, preferably in memory. Missing: there is no such folder."""
     places = ["/dev/shm", temporary_place(), "/var/tmp"]
     for place in places:
         if os.path.isdir(place) and may_be_executed(place) and shutil.disk_usage(place).free >= size:
@@ -36,10 +36,10 @@ def memory_folder(size: int) -> str:
 
 
 class Room:
-    """The folder that a machine and its launcher share, and the one in which it keeps what outlives it."""
+    """The folder that a machine shares with its launcher, and a folder for files that remain."""
 
-    def __init__(self, size: int, place: Optional[Path] = None) -> None:
-        """For a machine of so many bytes. A folder that is given for what it keeps stays."""
+    def __init__(self, size: int, place: Optional[str] = None) -> None:
+        """Creates the folders for a machine with this much memory. `place`, a given folder for remaining files, isn't removed."""
         self.memory = memory_folder(size)
         self.scratch = Folder(self.memory)
         self.folder = self.scratch.path

@@ -1,31 +1,51 @@
-"""Starts a command of the kit again in a simulated machine, and reports on it."""
+"""Starts a `hinge` command again in a simulated machine, and reports on it."""
 
 from __future__ import annotations
 
 import errno
+import json
 import shutil
 import signal
 import threading
 from contextlib import contextmanager
-from dataclasses import replace
-from typing import Iterator, Optional
+from pathlib import Path
+from typing import Any, Iterator, NamedTuple, Optional
 
 from hinge.border.scratch import scratch
 from hinge.command import say
 from hinge.outputs import writing, written
-from hinge.run.options import drawn_seed
-from hinge.run.settings import SimulatedOptions
+from hinge.run.plan_of_options import drawn_seed
+from hinge.run.settings import NetOptions, RunOptions, SimulatedOptions
 from hinge.run.system import Missing
+from hinge.run.words import Wrong
+from hinge.run.processes import SIGNALLED
+from hinge.run.summary import FORMAT
 from hinge.run.transcripts import KEPT, parts_of, told
-from hinge.simulated.job import Job, environment, words_of
+from hinge.simulated.job import Job, environment, limit_of, real_limit_of, refuse_outside, root_of, words_of
 from hinge.simulated.kernel import Kernel, found
 from hinge.simulated.likeness import earlier, remarks
-from hinge.simulated.machine import TIMED_OUT, Machine, Settings
+from hinge.simulated.link_rooms import InRooms, link_run
+from hinge.simulated.machine import BOOTED, NO_LIFE, NONE, OF_DEADLOCKS, TIMED_OUT, Machine, MachineEnded, Settings
 from hinge.simulated.pauses import pauses_of
-from hinge.simulated.outcome import Outcome, with_record
+from hinge.simulated.opened_files import files_record
+from hinge.simulated.outcome import Outcome, Record
+from hinge.simulated.places import has_debugger, with_places
 from hinge.simulated.streams import has_terminal, is_same_file, read_input
-from hinge.simulated.time_options import BEGINNING, date, real_limit_of, refuse_outside, size
+from hinge.simulated.time_options import BEGINNING, date, size
 from hinge.simulated.twice import compared
+from hinge.simulated.verdict import (
+    DEADLOCK,
+    DEADLOCKED,
+    ITSELF,
+    LIMIT,
+    LIMITED,
+    OUTSIDE,
+    REAL_LIMIT,
+    SIGNAL,
+    Verdict,
+    signal_name,
+    waits,
+)
 
 HISTORY, SUMMARY = "history", "summary"  # names in the folder that outlives a machine
 MEMORY = "1G"
@@ -34,43 +54,58 @@ MEMORY = "1G"
 def settings_of(options: SimulatedOptions, seed: int) -> Settings:
     at = date(BEGINNING) if options.at is None else options.at
     memory, cpu = options.memory or size(MEMORY), options.cpu or "stable"
-    return Settings(seed, at, memory, cpu, options.scratch or options.twice, pauses_of(options.pauses, seed))
+    scratch, pauses = options.scratch or options.twice, pauses_of(options.pauses, seed)
+    cores = OF_DEADLOCKS if has_debugger() else NONE
+    return Settings(seed, at, memory, cpu, scratch, pauses, limit_of(options), root_of(options), cores=cores)
 
 
 def inside(options: SimulatedOptions, seed: int) -> SimulatedOptions:
-    """The same for the command inside, where any user may put the link before all other programs. A transcript that is
-    there already would show in the run, so it is a new file always, which is copied at the end. What only the launcher
-    looks at is left out, since the words are in the programs' memory, so that it doesn't change the run."""
-    transcript = f"{KEPT}/{HISTORY}" if options.transcript or options.twice else None
-    summary = f"{KEPT}/{SUMMARY}"
-    return replace(
-        options,
-        seed=seed,
-        realtime=True,
-        transcript=transcript,
-        json=summary,
-        kept=None,
-        pauses=None,
-        real_limit=None,
-        twice=False,
-        clean_env=False,
-        like=None,
-    )
+    """Returns the options for the command inside. There any user may use a link, and a transcript is always a new file, copied at
+    the end, since an existing one would show in the run. The launcher's own options are left out: the words are in the programs'
+    memory, and mustn't change the run."""
+    ours = dict.fromkeys(("kept", "pauses", "real_limit", "limit", "like", "root"))
+    files = {"transcript": transcript_of(options), "json": f"{KEPT}/{SUMMARY}"}
+    return options.but(seed=seed, realtime=True, twice=False, clean_env=False, **files, **ours)
 
 
-@contextmanager
-def job_of(name: str, options: SimulatedOptions, seed: int) -> Iterator[Job]:
-    with scratch() as place:
-        inputs = place / "in"
-        read_input(inputs)
-        yield Job(
-            words_of(name, inside(options, seed)), inputs, is_same_file(1, 2) and not options.twice, environment(options.clean_env)
-        )
+def transcript_of(options: SimulatedOptions) -> Optional[str]:
+    """Returns the path of the transcript in the machine, if the run has one."""
+    return f"{KEPT}/{HISTORY}" if options.transcript or options.twice else None
+
+
+class Planned(NamedTuple):
+    """A planned run in a machine: a `hinge` command, or a link's rooms without Python inside."""
+
+    name: str
+    options: SimulatedOptions
+    seed: int
+    settings: Settings
+    rooms: Optional[InRooms]
+
+    def job(self, inputs: Path, is_one_stream: bool) -> Job:
+        names = environment(self.options.clean_env)
+        if self.rooms:
+            return Job(self.options.command, inputs, is_one_stream, names, self.rooms.texts())
+        return Job(words_of(self.name, inside(self.options, self.seed)), inputs, is_one_stream, names)
+
+
+def planned(name: str, options: SimulatedOptions) -> Planned:
+    seed = drawn_seed(options.seed)
+    rooms: Optional[InRooms] = None
+    if isinstance(options, RunOptions) and not options.watch:
+        rooms = link_run(options, seed, transcript_of(options))
+    elif isinstance(options, NetOptions):
+        from hinge.simulated.net_machine import net_run  # which `hinge run` needs not
+
+        rooms = net_run(options, seed, transcript_of(options))
+    if options.root and rooms is None:
+        raise Wrong("--root: disks, --shell and --watch need Python and the kit in the machine")
+    return Planned(name, options, seed, settings_of(options, seed), rooms)
 
 
 @contextmanager
 def ending(machines: "list[Machine]") -> Iterator[list[int]]:
-    """Signals that end the run end the machines at once; those that came."""
+    """Yields the list of signals that came; each also ends the machines immediately."""
     came: list[int] = []
 
     def end(number: int, frame: object) -> None:
@@ -87,7 +122,7 @@ def ending(machines: "list[Machine]") -> Iterator[list[int]]:
 
 
 def hand_over(machine: Machine, transcript: Optional[str]) -> None:
-    """Copies the transcript to where the user wants it, also one that was cut."""
+    """Copies the transcript to the user's path, even if it is incomplete."""
     store = machine.room.kept
     count = len(list(store.glob(f"{HISTORY}*")))
     if transcript and count:
@@ -98,47 +133,112 @@ def hand_over(machine: Machine, transcript: Optional[str]) -> None:
             say(line)
 
 
-def report_of_machine(machine: Machine, options: SimulatedOptions, settings: Settings, kernel: Kernel) -> int:
-    """Tells how a run went; its status. Missing: this kernel lacks pauses. OSError: the disk of its output is full."""
+def verdict_of(machine: Machine, rooms: Optional[InRooms], summary: "dict[str, Any]") -> Optional[Verdict]:
+    """Returns the program's verdict; None if it didn't start."""
+    endings, start = machine.ended(), BOOTED * 10**9
+    if machine.cut is not None:
+        stood = machine.stood()
+        by, name = (REAL_LIMIT, None) if machine.cut == TIMED_OUT else (OUTSIDE, signal_name(machine.cut - SIGNALLED))
+        return Verdict(by, machine.cut, name, stood.now / 1e9 if stood else None)
+    if endings and endings.cut:
+        moment, threads = waits(machine.folder / "waits", start)
+        if endings.cut == NO_LIFE:
+            return Verdict(DEADLOCK, DEADLOCKED, None, moment, with_places(threads, machine.folder, machine.root))
+        return Verdict(LIMIT, LIMITED, None, endings.simulated / 1e9, threads)
+    if rooms:
+        return rooms.ended(machine.folder)
+    return Verdict(ITSELF, summary["status"]) if isinstance(summary.get("status"), int) else None
+
+
+def told_simulated(endings: MachineEnded, verdict: Optional[Verdict]) -> MachineEnded:
+    """Returns the machine's result, up to a deadlock if there was one."""
+    is_dead = verdict is not None and verdict.by == DEADLOCK and verdict.at is not None
+    return endings._replace(simulated=round(verdict.at * 1e9)) if is_dead else endings  # type: ignore[union-attr, operator]
+
+
+def told_cut(verdict: Verdict, options: SimulatedOptions) -> Iterator[str]:
+    """Yields messages about a program that didn't end, unless the user ended the run."""
+    if verdict.by == REAL_LIMIT:
+        yield f"it was ended after {real_limit_of(options):g} s of real time, by --real-limit"
+    elif verdict.by != OUTSIDE:
+        yield from verdict.lines()
+
+
+class Reported(NamedTuple):
+    """A run's result: its status and its record for programs."""
+
+    status: int
+    verdict: Optional[Verdict]
+    record: Record
+
+
+def summary_of(machine: Machine) -> "dict[str, Any]":
+    path = machine.room.kept / SUMMARY
+    result = json.loads(path.read_text()) if path.exists() else {}
+    return result if isinstance(result, dict) else {}
+
+
+def reported(machine: Machine, plan: Planned, kernel: Kernel, files: bool, is_told: bool = True) -> Reported:
+    """Reports a run, unless it should be quiet. Missing: the kernel doesn't support pauses, or the machine failed early."""
+    options, settings, endings = plan.options, plan.settings, machine.ended()
+    if (machine.folder / "fault").exists() or (endings is None and machine.cut is None):
+        raise machine.fault()
+    rooms = plan.rooms if (machine.folder / "ran").exists() else None
+    verdict = verdict_of(machine, rooms, summary_of(machine))
+    is_cut = verdict is not None and verdict.by not in (ITSELF, SIGNAL)
+    status = machine.cut if machine.cut is not None else endings.status if endings else 0
+    if rooms:
+        status = rooms.report(machine.folder, machine.room.kept / SUMMARY, verdict, say if is_told else lambda line: None)
+    if is_cut and verdict:
+        status = verdict.status
+        for line in told_cut(verdict, options) if is_told else ():
+            say(line)
+    record: Record = {"format": FORMAT, "seed": plan.seed, **summary_of(machine)}
+    if verdict:
+        record = {**record, **({"status": status} if is_cut else {}), "ended": verdict.record()}
+    if endings:
+        outcome = Outcome.of(machine, told_simulated(endings, verdict), settings)
+        if settings.pauses and not outcome.pauses:
+            raise Missing("--pauses: this kernel has none; `hinge kernel` builds one that has")
+        for line in outcome.lines() if not options.quiet else []:
+            say(line)
+        record = {**record, **outcome.record(kernel)}
+    if files:
+        record.update(files_record(machine.folder, machine.root))
+    return Reported(status, verdict, record)
+
+
+def report_of_machine(machine: Machine, plan: Planned, kernel: Kernel) -> int:
+    """Reports a run; returns its status. OSError: the disk for its output is full."""
+    options = plan.options
     hand_over(machine, options.transcript)
     if (fault := machine.lost()) and fault.errno != errno.EPIPE:
         raise fault
-    if machine.cut is not None:
-        if machine.cut == TIMED_OUT:
-            say(f"it was ended after {real_limit_of(options):g} s of real time, by --real-limit")
-            stood = machine.stood()
-            if stood:
-                say(stood.line())
-        return machine.cut
-    endings = machine.ended()
-    if endings is None:
-        raise machine.fault()
-    outcome = Outcome.of(machine, endings, settings)
-    if settings.pauses and not outcome.pauses:
-        raise Missing("--pauses: this kernel has none; `hinge kernel` builds one that has")
-    for line in outcome.lines() if not options.quiet else []:
-        say(line)
-    if options.like:
-        for line in remarks(options.like, earlier(options.like), outcome.record(kernel)):
+    result = reported(machine, plan, kernel, bool(options.json or options.like))
+    if machine.cut == TIMED_OUT and (stood := machine.stood()):
+        say(stood.line())
+    if options.like and machine.cut is None:
+        for line in remarks(options.like, earlier(options.like), result.record):
             say(line)
-    summary = machine.room.kept / SUMMARY
-    if options.json and summary.exists():
+    if options.json and (result.verdict or "status" in result.record):
         with writing(options.json) as file:
-            file.write(with_record(summary.read_text(), outcome.record(kernel)))
-    return endings.status
+            file.write(json.dumps(result.record, indent=1) + "\n")
+    return result.status
 
 
 def run_simulated(name: str, options: SimulatedOptions) -> int:
-    """Runs the command of this name of the kit with these options; its status."""
+    """Runs a `hinge` command with these options; returns its status."""
     refuse_outside(options, has_terminal())
     if options.like:
         earlier(options.like)  # so that a wrong one is told before a machine is made
-    limit, kernel, seed = real_limit_of(options), found(), drawn_seed(options.seed)
-    settings, machines = settings_of(options, seed), list[Machine]()
-    with job_of(name, options, seed) as job, ending(machines) as came:
+    limit, kernel, plan = real_limit_of(options), found(), planned(name, options)
+    machines = list[Machine]()
+    with scratch() as place, ending(machines) as came:
+        read_input(place / "in")
+        job = plan.job(place / "in", is_same_file(1, 2) and not options.twice)
         try:
             for part in [options.kept, None] if options.twice else [options.kept]:
-                machines.append(Machine(kernel, settings, job, part))
+                machines.append(Machine(kernel, plan.settings, job, part))
             if came:
                 return 128 + came[0]
             machines[0].copy_to(1, 2, keeps=options.twice)
@@ -148,8 +248,8 @@ def run_simulated(name: str, options: SimulatedOptions) -> int:
             machines[0].wait(limit)
             for other in others:
                 other.join()
-            status = report_of_machine(machines[0], options, settings, kernel)
-            return compared(machines, status, settings.seed) if options.twice else status
+            status = report_of_machine(machines[0], plan, kernel)
+            return compared(machines, status, plan.seed) if options.twice else status
         finally:
             for machine in machines:
                 machine.remove()

@@ -1,4 +1,4 @@
-"""Where a machine was that was ended from outside: its kernel tells it in a file that both have in memory."""
+"""The state of a machine that was killed, which its kernel writes to a shared file in memory."""
 
 from __future__ import annotations
 
@@ -35,7 +35,7 @@ def make_place(folder: Path) -> None:
 
 
 def stood(folder: Path, start: int) -> Optional[Stood]:
-    """What the kernel told, where it did; `begun` is its time in ns at which the job began."""
+    """Returns the kernel's report, if any; `start` is the moment in ns at which the job began."""
     now, since, calls, process, call, name = PLACE.unpack((folder / NAME).read_bytes()[: PLACE.size])
     if not now:
         return None

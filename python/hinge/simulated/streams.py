@@ -1,4 +1,4 @@
-"""What a machine writes, copied on as it is written, and what it reads."""
+"""A machine's output, copied during the run, and its input."""
 
 from __future__ import annotations
 
@@ -22,7 +22,7 @@ PATIENCE = 2.0  # s until it is told that the input hasn't ended
 
 
 class Copier(threading.Thread):
-    """Copies a file that grows to a descriptor. What was copied takes no more room, unless it is kept."""
+    """Copies a growing file to a descriptor. Copied parts free their memory, unless the file is kept."""
 
     def __init__(self, path: Path, to: int, keeps: bool) -> None:
         super().__init__(daemon=True)
@@ -32,11 +32,11 @@ class Copier(threading.Thread):
         self.start()
 
     def ahead(self) -> int:
-        """How many bytes are still to be copied."""
+        """Returns the number of bytes that are still to be copied."""
         return os.fstat(self.file).st_size - self.copied
 
     def copy(self) -> bool:
-        """Copies what there is; whether there was anything."""
+        """Copies new output; returns whether there was any."""
         data = os.pread(self.file, PIECE, self.copied)
         rest = memoryview(data)
         while rest:
@@ -65,7 +65,7 @@ class Copier(threading.Thread):
 
 
 def is_same_file(one: int, other: int) -> bool:
-    """Whether two descriptors lead to one place, so that the order of what is written to them shows."""
+    """Returns whether two descriptors refer to the same file, so that the order of their output matters."""
     try:
         first, second = os.fstat(one), os.fstat(other)
     except OSError:
@@ -81,7 +81,7 @@ def has_terminal() -> bool:
 
 
 def read_input(into: Path) -> None:
-    """Keeps the whole standard input, since simulated time can't wait for more. A terminal's is none."""
+    """Saves the whole standard input, since simulated time can't wait for it. A terminal counts as empty."""
     with open(into, "wb") as file:
         if has_terminal():
             return
@@ -89,7 +89,7 @@ def read_input(into: Path) -> None:
         waiting.daemon = True
         waiting.start()
         try:
-            with opened("-") as source:
+            with opened("-", None) as source:
                 shutil.copyfileobj(source, file)
         finally:
             waiting.cancel()

@@ -17,7 +17,7 @@ REAL = 300.0  # s after which a trial is over
 
 
 def ended(kernel: Kernel, *words: str) -> MachineEnded:
-    """How a command ends in a machine of a kernel; what it writes is dropped."""
+    """Returns a command's result in a machine; its output is dropped."""
     with scratch() as place:
         empty = place / "in"
         empty.touch()
@@ -34,7 +34,7 @@ def ended(kernel: Kernel, *words: str) -> MachineEnded:
 
 
 def try_hour(kernel: Kernel) -> float:
-    """The simulated seconds of a sleep of an hour in a machine of this kernel. Fault: it doesn't travel in time."""
+    """Returns the simulated seconds of an hour's sleep in this kernel's machine. Fault: the kernel doesn't skip waiting times."""
     how = ended(kernel, "sleep", "3600")
     if how.status or not HOUR <= how.simulated < HOUR + STARTED:
         raise Fault(f"the kernel was built, and doesn't travel in time: {how}", FAILED)

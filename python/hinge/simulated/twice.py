@@ -1,4 +1,4 @@
-"""Whether two runs by one seed are the same, and where they part."""
+"""The comparison of two runs with the same seed, up to the first difference."""
 
 from __future__ import annotations
 
@@ -36,7 +36,7 @@ def differing(one: Path, other: Path) -> Optional[Differing]:
 
 
 def difference(one: Path, other: Path, what: str) -> Optional[str]:
-    """Where two files differ: a transcript by its calls, unless only its remarks differ."""
+    """Returns the first difference of two files; transcripts are compared call by call, unless only remarks differ."""
     line = differing(one, other)
     if line is None:
         return None

@@ -1,0 +1,52 @@
+"""The cause of the least case's failure: all threads' calls around each pause, and each paused thread's place in the program."""
+
+from __future__ import annotations
+
+from typing import Iterator, NamedTuple
+
+from hinge.searches.case import Case
+from hinge.searches.runs import Ran, Runner, Watch
+from hinge.simulated.calls_kept import KEPT, Row, around, pauses_in, rows_of
+from hinge.simulated.machine import ALL, BOOTED, NONE, OF_DEADLOCKS, Machine
+from hinge.simulated.pauses import given
+from hinge.simulated.places import has_debugger, innermost
+
+MOST = 4  # pauses that are told
+
+
+class Looked(NamedTuple):
+    """The least run's repetition, with its calls."""
+
+    ran: Ran
+    rows: "list[Row]"
+
+
+def looked(runner: Runner, case: Case) -> Looked:
+    rows = list[Row]()
+    cores = OF_DEADLOCKS if has_debugger() else NONE
+    ran = runner.case(case, Watch((f"keep {KEPT}",), cores), lambda machine: rows.extend(rows_of(machine.folder / "calls")))
+    return Looked(ran, rows)
+
+
+def place_of(runner: Runner, case: Case, call: int, process: int) -> str:
+    """Returns the place at which the thread paused at this call, from a run that ends there; empty if no debugger finds the
+    place."""
+    texts = list[str]()
+
+    def look(machine: Machine) -> None:
+        texts.append(innermost(machine.folder, process, machine.root))
+
+    if has_debugger():
+        runner.case(case, Watch((f"core {call}",), ALL), look)
+    return "".join(texts)
+
+
+def told(runner: Runner, case: Case, look: Looked) -> Iterator[str]:
+    """Yields the cause as text."""
+    pauses = given(case.pauses() or "")
+    for one, place in list(zip(pauses, pauses_in(look.rows)))[:MOST]:
+        text = place_of(runner, case, one.call, look.rows[place].process)
+        yield f"pause {one.word()}{f', in {text}' if text else ''}:"
+        yield from (f"  {line}" for line in around(look.rows, place, BOOTED * 10**9))
+    if len(pauses) > MOST:
+        yield f"and {len(pauses) - MOST} more pauses"

@@ -1,0 +1,106 @@
+"""A search: its runs, and the first failure's least case."""
+
+from __future__ import annotations
+
+import json
+import shlex
+from pathlib import Path
+from typing import Any, Iterator, Optional
+
+from hinge.border.scratch import Ended
+from hinge.border.terminal import several, show
+from hinge.command import Fault, say
+from hinge.outputs import writing
+from hinge.searches.case import Case, case_of
+from hinge.searches.cause import looked, told
+from hinge.searches.losses import lines_in
+from hinge.searches.runs import Asked, Runner, Runs, Watch, words_of
+from hinge.searches.shrinking import least
+from hinge.simulated.failures import NET, WORDS
+from hinge.simulated.start import HISTORY
+
+FAILED, NOT_AGAIN = 1, 76
+
+
+def write_failure(path: str, words: "list[str]", net: Optional[str], record: "dict[str, Any]") -> None:
+    lines = {} if net is None else {NET: net.splitlines()}
+    with writing(path) as file:
+        file.write(json.dumps({WORDS: words, **lines, **record}, indent=1) + "\n")
+
+
+def show_runs(runs: Runs, numbers: "list[int]") -> "list[int]":
+    """Prints a table of the failed runs; returns their seeds."""
+    product, failure = runs.made(numbers), list[int]()
+    for seed in product:
+        ran = runs.of(seed)
+        if ran.failed or ran.record.get("void"):
+            show(f"seed {seed}: {ran.told()}")
+        if ran.failed:
+            failure.append(seed)
+    rest = len(numbers) - len(product)
+    show(f"{len(failure)} of {len(product)} runs failed{f', {rest} more are left' if rest else ''}")
+    return failure
+
+
+def cases_of(runner: Runner, seed: int, record: "dict[str, Any]") -> "Iterator[Case]":
+    """Yields a failing seed's cases: with a line for each lost packet, and with the words for losses."""
+    losses: "list[Optional[list[str]]]" = []
+    what, pauses = runner.asked.what, runner.asked.pauses
+    runner.run(what, seed, pauses, Watch(transcript=HISTORY), lambda machine: losses.append(lines_in(what, machine)))
+    if losses and losses[0] is not None:
+        yield case_of(what, seed, record, losses[0])
+    yield case_of(what, seed, record)
+
+
+def smallest(runs: Runs, seed: int) -> "tuple[Case, int]":
+    """Returns the least case of a failing seed, and the number of runs. Fault: the seed's listed faults and pauses don't fail."""
+    runner, ran, trial = runs.runner, runs.of(seed), dict[Case, bool]()
+
+    def fails(case: Case) -> bool:
+        if case not in trial:
+            trial[case] = runner.case(case).name == ran.name
+            say(f"seed {seed}, run {len(trial)}: {case.told()}: {'fails' if trial[case] else 'no such failure'}")
+        return trial[case]
+
+    whole = next(filter(fails, cases_of(runner, seed, ran.record)), None)
+    if whole is None:
+        raise Fault(
+            f"seed {seed} fails, but not with its faults as lines and its pauses one by one: "
+            f"{command_of(runner.asked, runner.asked.what, seed, runner.asked.pauses)}",
+            NOT_AGAIN,
+        )
+    return least(whole, fails), len(trial)
+
+
+def command_of(options: Asked, what: "list[str]", seed: int, pauses: Optional[str]) -> str:
+    return shlex.join(["hinge", *words_of(options, what, seed, pauses)])
+
+
+def tell_least(runner: Runner, name: str, case: Case, count: int, file: Path) -> None:
+    """Prints the least case, its cause, and the file that repeats it."""
+    options, look = runner.asked, looked(runner, case)
+    what = ["run", *case.options()] if options.net is None else ["net", str(options.net), "--quiet"]  # which a net is told inside
+    net = None if options.net is None else case.net()
+    write_failure(str(file), words_of(options, what, case.seed, case.pauses()), net, look.ran.record)
+    for line in [command_of(options, what, case.seed, case.pauses())] if net is None else case.faults():
+        show(line)
+    for line in told(runner, case, look):
+        show(line)
+    show(f"seed {case.seed} fails by {name} with {case.told()}, found in {several(count, 'run')}")
+    show(f"hinge {what[0]} --like {shlex.quote(str(file))} repeats it, here and elsewhere")
+
+
+def search(options: Asked, seeds: list[int], at_a_time: int, failure: Path, folder: Path) -> int:
+    """Searches the seeds; returns the exit status, which shows whether a run failed."""
+    runs = Runs(folder, Runner(options))
+    try:
+        runs.make_all(seeds, at_a_time)
+    except (KeyboardInterrupt, Ended):
+        show_runs(runs, seeds)
+        raise
+    failures = show_runs(runs, seeds)
+    if not failures:
+        return 0
+    case, count = smallest(runs, failures[0])
+    tell_least(runs.runner, runs.of(failures[0]).name, case, count, failure)
+    return FAILED

@@ -1,0 +1,105 @@
+"""A run's rooms in a simulated machine, whose first process makes them from a plan of texts, and that process's messages."""
+
+from __future__ import annotations
+
+import struct
+from pathlib import Path
+from typing import Callable, Iterable, NamedTuple, Optional, Protocol
+
+from hinge.run.interfaces import NAME, all_dropped
+from hinge.run.order import Order, report
+from hinge.run.page import Counts, size_of_page
+from hinge.run.plan_of_options import draws, limit_of, plan_of
+from hinge.run.processes import SIGNALLED, Ended
+from hinge.run.rooms import Rooms
+from hinge.run.settings import RunOptions
+from hinge.run.steps import Steps
+from hinge.run.two_hosts import ends_of
+from hinge.run.words import duration
+from hinge.simulated.job import root_of
+from hinge.simulated.verdict import Verdict, of_wait
+
+LINK = "/run/hinge/link"  # a copy in the machine's folder, whose name is the same wherever hinge is installed
+TERMINATED = SIGNALLED + 15
+Tell = Callable[[str], None]
+
+
+class InRooms(Protocol):
+    """A run without Python inside."""
+
+    def texts(self) -> "list[str]":
+        """What the machine's first process reads."""
+
+    def ended(self, folder: Path) -> Optional[Verdict]:
+        """Returns how the program ended, or None if it didn't end."""
+
+    def report(self, folder: Path, summary: Path, verdict: Optional[Verdict], tell: Tell) -> int:
+        """Tells how the links went, and writes the summary; the status."""
+
+
+class KeptPage(NamedTuple):
+    """The page of counts after a run."""
+
+    bytes_: bytes
+
+    def read(self) -> Counts:
+        return Counts(struct.unpack(f"{len(self.bytes_) // 8}Q", self.bytes_))
+
+
+def page_of(folder: Path) -> KeptPage:
+    return KeptPage((folder / "page").read_bytes())
+
+
+def counts_of(folder: Path, network: int) -> str:
+    """Returns the common beginning of the file names with the system's counts in a network."""
+    return f"{folder}/net-{network}-"
+
+
+def rooms_texts(kind: str, steps: Steps, interfaces: Iterable[int], plan: str, links: int) -> "list[str]":
+    """Returns a machine's instructions before a program begins; the page of counts is for that many links."""
+    return [kind, *steps.texts, "end", " ".join(map(str, interfaces)), LINK, plan, str(size_of_page(2 * links))]
+
+
+def nanoseconds(seconds: float) -> str:
+    return str(round(seconds * 1e9))
+
+
+def told(folder: Path) -> "list[str]":
+    """Returns the first process's lines, or an empty list if there was no program to report."""
+    try:
+        return (folder / "ran").read_text().splitlines()
+    except OSError:
+        return []
+
+
+class LinkRun(NamedTuple):
+    """A run of `hinge run`."""
+
+    options: RunOptions
+    order: Order
+
+    def texts(self) -> "list[str]":
+        with Steps(root_of(self.options) or "") as steps:
+            rooms = Rooms(self.options.mtu, False, ends_of(self.options.net))
+        texts = rooms_texts("run", steps, rooms.interfaces, self.order.plan, 1)
+        return [*texts, self.options.server or "", *map(nanoseconds, (self.order.server_wait, self.order.server_end))]
+
+    def ended(self, folder: Path) -> Optional[Verdict]:
+        words = "".join(told(folder)).split()
+        return of_wait(int(words[1])) if words and int(words[0]) else None
+
+    def report(self, folder: Path, summary: Path, verdict: Optional[Verdict], tell: Tell) -> int:
+        _, _, by, server, after = "".join(told(folder)).split()
+        endings = None if by == "none" else Ended(of_wait(int(server)).status, round(int(after) / 1e9, 3), by)
+        drops = [all_dropped(counts_of(folder, network)).get(NAME, 0) for network in (0, 1)]
+        order = self.order._replace(options=self.order.options.but(json=str(summary)))
+        return report(order, page_of(folder), drops, verdict.status if verdict else TERMINATED, endings)
+
+
+def link_run(options: RunOptions, seed: int, transcript: Optional[str]) -> LinkRun:
+    """Returns the link's orders in a machine, which are read before the machine starts."""
+    plan = plan_of(options, options.mtu)
+    text = plan.text(seed, transcript, True, options.most, True)
+    wait, end = duration(options.server_wait, "--server-wait") / 1e9, duration(options.server_end, "--server-end") / 1e9
+    order = Order(options.but(transcript=None), text, limit_of(options.late), seed, draws(plan), set(), wait, end, plan)
+    return LinkRun(options, order)

@@ -1,0 +1,115 @@
+"""A net in a simulated machine, whose first process makes the hosts from a plan of texts (net.c), and that process's messages."""
+
+from __future__ import annotations
+
+from pathlib import Path
+from typing import NamedTuple, Optional
+
+from hinge.net.acts import Done
+from hinge.net.clocks import number_of
+from hinge.net.net_rooms import NetEnds, NetRooms
+from hinge.net.net_summary import NetRan, report, silent, status_without
+from hinge.net.order import LinksPlan, NetOrder, net_of, net_order
+from hinge.run.interfaces import all_dropped, unforwarded
+from hinge.run.processes import Ended
+from hinge.run.settings import NetOptions
+from hinge.run.steps import Steps
+from hinge.simulated.job import root_of
+from hinge.simulated.link_rooms import TERMINATED, Tell, counts_of, nanoseconds, page_of, rooms_texts, told
+from hinge.simulated.verdict import ITSELF, Verdict, of_wait
+
+
+class Told(NamedTuple):
+    """The first process's messages on a net."""
+
+    main: Optional[int]  # ns, at which the main command began
+    endings: "dict[str, Ended]"
+    verdicts: "dict[str, Verdict]"  # how the commands ended
+    missing: str  # the port without which the main command didn't begin
+    silent: "list[str]"
+    acts: "list[Done]"
+
+
+class NetRun(NamedTuple):
+    """A run of `hinge net`."""
+
+    order: NetOrder
+
+    @property
+    def rooms(self) -> "list[str]":
+        """Returns the hosts; the main host is the last."""
+        net = self.order.net
+        return sorted(NetEnds(net).own, key=lambda name: name == net.main)
+
+    def texts(self) -> "list[str]":
+        net, order, options = self.order.net, self.order, self.order.options
+        with Steps(root_of(options) or "") as steps:
+            rooms = NetRooms(net, options.mtu)
+        plan = LinksPlan(order, rooms.ends, {}).text()
+        texts = rooms_texts("net", steps, rooms.interfaces, plan, len(net.links))
+        texts += [nanoseconds(order.end_wait), order.folder, "main" if net.main else "all", str(len(self.rooms))]
+        for name in self.rooms:
+            log = str(Path(options.logs, f"{name}.log").absolute()) if options.logs else ""
+            texts += [name, str(rooms.network[name]), net.hosts[name].command, str(number_of(name, net.hosts)), log]
+        texts.append(str(len(net.waits)))
+        for wait in net.waits:
+            kind = "optional" if wait.is_optional else "needed"
+            texts += [str(self.rooms.index(wait.host)), str(wait.port), nanoseconds(wait.lasting), kind]
+        texts.append(str(len(order.made.acts)))
+        for act in order.made.acts:
+            base, host = "main" if act.moment.of_main else "start", str(self.rooms.index(act.host))
+            texts += [base, str(act.moment.ns), act.word, host, str(act.fault), act.more]
+        return texts
+
+    def told(self, folder: Path) -> Optional[Told]:
+        """Nothing where the links ended at once."""
+        rows = [line.split() for line in told(folder)]
+        if not rows:
+            return None
+        main, net = int(rows[0][2]), self.order.net
+        hosts = [
+            (name, of_wait(int(status)), int(after), by)
+            for word, name, status, after, by in (row for row in rows if row[0] == "host")
+        ]
+        waits = [(net.waits[int(row[1])], int(row[2])) for row in rows if row[0] == "silent"]
+        lines = [silent(net, wait, None if status < 0 else status) for wait, status in waits]
+        return Told(
+            main if main >= 0 else None,
+            {name: Ended(verdict.status, round(after / 1e9, 3), by) for name, verdict, after, by in hosts},
+            {name: verdict for name, verdict, _, by in hosts if by == "itself"},
+            next((line for line, (wait, _) in zip(lines, waits) if not wait.is_optional), ""),
+            lines,
+            [Done(int(row[2]), self.order.made.acts[int(row[1])]) for row in rows if row[0] == "act"],
+        )
+
+    def ended(self, folder: Path) -> Optional[Verdict]:
+        """As the main command did, or where there is none as the first that didn't end well."""
+        result = self.told(folder)
+        if result is None:
+            return None
+        if result.missing:
+            return Verdict(ITSELF, status_without(result.missing))
+        if self.order.net.main:
+            return result.verdicts.get(self.order.net.main)
+        return next((one for one in result.verdicts.values() if one.status), Verdict(ITSELF, 0))
+
+    def report(self, folder: Path, summary: Path, verdict: Optional[Verdict], tell: Tell) -> int:
+        result, ends = self.told(folder), NetEnds(self.order.net)
+        if result is None:
+            raise ValueError(folder)
+        places = {name: counts_of(folder, place) for place, name in enumerate(ends.own, 1)}
+        for line in result.silent:
+            tell(line)
+        drops = ends.drops({name: all_dropped(place) for name, place in places.items()})
+        rest = {name: some for name, place in places.items() if (some := unforwarded(place))}
+        status, counts = verdict.status if verdict else TERMINATED, page_of(folder).read()
+        ran = NetRan(status, counts, drops, result.endings, rest, result.acts, result.main, result.missing)
+        return report(self.order._replace(options=self.order.options.but(transcript=None, json=str(summary))), ran, None, tell)
+
+
+def net_run(options: NetOptions, seed: int, transcript: Optional[str]) -> Optional[NetRun]:
+    """Returns None if the net needs Python inside, for disks or a shell."""
+    net = net_of(options)
+    if options.shell or any(host.disks for host in net.hosts.values()):
+        return None
+    return NetRun(net_order(options.but(seed=seed, transcript=transcript), net, set(), True))

@@ -1,0 +1,53 @@
+"""The cause, in a line, why a machine ended before its job: its kernel's last words, and this process's limits."""
+
+from __future__ import annotations
+
+import re
+import resource
+from typing import Optional
+
+GAP = 1 << 30  # bytes of addresses that a machine takes beside its memory
+FILES = 64  # descriptors: those of a machine itself, and one for each file that its programs have open
+TRACED = re.compile(r"ptrace: (?:Operation not permitted|Permission denied)|check_ptrace|PTRACE_\w+ failed|errno = 1\b")
+NO_MEMORY = re.compile(r"errno = -12\b|Cannot allocate memory")
+NO_ROOM = re.compile(r"No space left on device|errno = -28\b")
+
+
+def limit_of(kind: int) -> Optional[int]:
+    """Returns a limit on this process, or None."""
+    soft, _ = resource.getrlimit(kind)
+    return None if soft == resource.RLIM_INFINITY else soft
+
+
+def raise_descriptors() -> None:
+    """Raises the limit on descriptors as far as the system allows, since the kernel's process holds all files of a machine's
+    programs."""
+    _, most = resource.getrlimit(resource.RLIMIT_NOFILE)
+    resource.setrlimit(resource.RLIMIT_NOFILE, (most, most))
+
+
+def too_few_descriptors() -> Optional[str]:
+    _, most = resource.getrlimit(resource.RLIMIT_NOFILE)
+    if most == resource.RLIM_INFINITY or most >= FILES:
+        return None
+    return f"the limit of open files is {most}, and a machine needs {FILES} at least: ulimit -Hn 1024, before"
+
+
+def why(log: str, memory: int) -> Optional[str]:
+    """Returns the cause, if it is known; `memory` is the machine's size in bytes."""
+    size, addresses = limit_of(resource.RLIMIT_FSIZE), limit_of(resource.RLIMIT_AS)
+    if TRACED.search(log):
+        return (
+            "the system keeps a process from tracing another one (ptrace), by which a machine runs programs: "
+            "in a container, docker run --cap-add SYS_PTRACE, or --security-opt seccomp=unconfined"
+        )
+    if size is not None and size < memory + GAP:
+        return f"the limit of a file's size is {size >> 20} MB, and a machine's memory is a file of some GB: ulimit -f unlimited"
+    if addresses is not None and addresses < memory + GAP:
+        return (
+            f"the limit of addresses is {addresses >> 20} MB, and a machine takes {GAP >> 20} MB beside its memory of "
+            f"{memory >> 20} MB: ulimit -v unlimited, or --memory with less"
+        )
+    if NO_MEMORY.search(log):
+        return f"the system doesn't give it {memory >> 20} MB of memory: --memory asks for less"
+    return "the place of its memory is full: --memory asks for less" if NO_ROOM.search(log) else None

@@ -1,0 +1,58 @@
+"""The files that a run opened or failed to find, as reported by the machine's kernel, with lengths and checksums (for folders, the
+number of names). Another run can be compared with them."""
+
+from __future__ import annotations
+
+import hashlib
+import os
+import stat
+from pathlib import Path
+from typing import Any, Iterator, Optional
+
+from hinge.simulated.job import OWN
+
+PIECE = 1 << 20
+OWN_ROOT = "//proc/self/cwd/root/"  # as the kernel names what is in the folder of --root
+ABSENT = "-"  # before a name that was looked for in vain
+known: "dict[tuple[int, int, int, int], str]" = {}  # what many runs of one process read is summed once
+
+
+def checksum(path: str, status: os.stat_result) -> str:
+    key = (status.st_dev, status.st_ino, status.st_size, status.st_mtime_ns)
+    if key not in known:
+        digest = hashlib.sha256()
+        with open(path, "rb") as file:
+            while piece := file.read(PIECE):
+                digest.update(piece)
+        known[key] = digest.hexdigest()[:16]
+    return known[key]
+
+
+def file_record(path: str) -> "Optional[list[Any]]":
+    """Returns the length and checksum of a file, or the number and checksum of a folder's names; None if neither exists any more."""
+    try:
+        status = os.stat(path)
+        if stat.S_ISREG(status.st_mode):
+            return [status.st_size, checksum(path, status)]
+        names = sorted(os.fsencode(name) for name in os.listdir(path))
+        return [len(names), hashlib.sha256(b"\0".join(names)).hexdigest()[:16]]
+    except OSError:
+        return None
+
+
+def names_told(folder: Path, root: Optional[str]) -> "Iterator[tuple[str, bool]]":
+    """Yields the paths that the machine's kernel reported, and whether each existed. The machine's files are left out; with a root,
+    only files below that root count, with their names in the machine."""
+    begin = "/" if root is None else OWN_ROOT
+    for text in (folder / "opened").read_bytes().split(b"\0"):
+        path = os.fsdecode(text).removeprefix(ABSENT)
+        name = os.path.normpath("/" + path[len(begin) :].lstrip("/"))
+        if path.startswith(begin) and not f"{name}/".startswith((f"{folder}/", *(f"{own}/" for own in OWN))):
+            yield name, not text.startswith(os.fsencode(ABSENT))
+
+
+def files_record(folder: Path, root: Optional[str] = None) -> "dict[str, Any]":
+    """Returns the summary's `files`, in the order of opening, and `absent`."""
+    names = dict.fromkeys(names_told(folder, root))
+    files = {name: record for name, is_there in names if is_there and (record := file_record(f"{root or ''}{name}"))}
+    return {"files": files, "absent": [name for name, is_there in names if not is_there]}

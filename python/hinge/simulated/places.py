@@ -1,0 +1,75 @@
+"""The places of threads in their programs, found with gdb in the cores that a machine left."""
+
+from __future__ import annotations
+
+import re
+import shutil
+from itertools import groupby
+from os.path import basename
+from pathlib import Path
+from typing import Iterator, Optional
+
+from hinge.border.programs import TimeoutExpired, asked
+from hinge.command import Fault
+from hinge.simulated.verdict import Waiting
+
+GDB = "gdb"
+FRAME = re.compile(r"#\d+ +(?:0x[0-9a-f]+ in )?(\S+) \(.*?\)(?: at (\S+))?( from \S+)?$")
+THREAD = re.compile(r"Thread \d+ .*\(?LWP (\d+)\)")
+PROGRAM = re.compile(r'AT_EXECFN .* "(.*)"$', re.MULTILINE)
+FRAMES = 4  # that are told
+LONGEST = 30  # s that gdb has for a core
+
+
+def has_debugger() -> bool:
+    return shutil.which(GDB) is not None
+
+
+def debugger(root: Optional[str], core: Path, *commands: str) -> str:
+    """Returns gdb's output for a core; an empty text if gdb fails."""
+    settings = ["set debuginfod enabled off", "set width 0", f"set sysroot {root or ''}", f"core-file {core}"]
+    words = [word for text in [*settings, *commands] for word in ("-ex", text)]
+    try:
+        return asked([GDB, "-nx", "-batch", *words], statuses=range(128), limit=LONGEST).text
+    except (Fault, OSError, TimeoutExpired):
+        return ""
+
+
+def place(lines: "list[str]") -> str:
+    """Returns the innermost functions of a backtrace in the program, with their lines, or otherwise in its libraries."""
+    frames = [(one[1], one[2] or "", one[3]) for line in lines if (one := FRAME.match(line)) and one[1] != "??"]
+    own = [frame for frame in frames if not frame[2] and not frame[1].startswith(("../", "./"))]
+    return " < ".join(f"{name} ({basename(file)})" if file else name for name, file, _ in (own or frames)[:FRAMES])
+
+
+def backtraces(core: Path, root: Optional[str]) -> "Iterator[tuple[int, str]]":
+    """Yields each thread's number in its machine and its place, beginning with the thread that ended the process."""
+    program = PROGRAM.search(debugger(root, core, "info auxv"))
+    if program is None:
+        return
+    path = f"{root or ''}{program[1]}" if program[1].startswith("/") else program[1]
+    text = debugger(root, core, f"file {path}", f"core-file {core}", "thread apply all -ascending bt 20")
+    _, *parts = THREAD.split(text)
+    for number, lines in zip(parts[::2], parts[1::2]):
+        yield int(number), place(lines.splitlines())
+
+
+def places_in(folder: Path, process: int, root: Optional[str]) -> "list[str]":
+    """Returns the places of a process's threads, from the oldest; empty without a core."""
+    core = folder / f"core.{process}"
+    return [text for _, text in sorted(backtraces(core, root))] if core.exists() else []
+
+
+def innermost(folder: Path, process: int, root: Optional[str]) -> str:
+    """Returns the place of the thread that ended a process."""
+    core = folder / f"core.{process}"
+    return next((text for _, text in backtraces(core, root)), "") if core.exists() else ""
+
+
+def with_places(threads: "tuple[Waiting, ...]", folder: Path, root: Optional[str]) -> "tuple[Waiting, ...]":
+    """Returns the threads with their places, where known. Another namespace has other numbers, in the same order."""
+    result = list[Waiting]()
+    for process, group in groupby(sorted(threads, key=Waiting.numbers), lambda one: one.process):
+        places = iter(places_in(folder, process, root))
+        result += [one._replace(place=next(places, "")) for one in group]
+    return tuple(result)
