@@ -1,5 +1,4 @@
-"""Nets of hosts: any number of programs on any links, of which one process carries all, on one clock and into one
-transcript."""
+"""Nets of hosts: programs on any number of links. One process carries all links, on one clock and into one transcript."""
 
 from hinge.net.described import NetError
 from hinge.net.running import CommandFailed, Net, Obeyed

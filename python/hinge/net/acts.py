@@ -1,7 +1,8 @@
-"""What happens to hosts of a net that runs: all that runs on one is killed, stops or goes on, or begins again.
+"""The acts on hosts in a running net: all processes on a host are killed, stopped, continued or restarted.
 
-What runs on a host is what is in its network: its command with all that this began, and what `hinge exec` began there.
-The first process does it, in the thread that begins the commands."""
+A host runs its command with all processes begun from there, and commands from `hinge exec`. If all processes are in a cgroup, the
+links stop and kill that cgroup at the exact moment. Otherwise the first process acts on the processes in the host's network, in the
+thread that begins the commands."""
 
 from __future__ import annotations
 
@@ -12,8 +13,8 @@ import time
 from typing import Callable, Iterator, NamedTuple, Optional
 
 from hinge.border.messages import ObeyedLine
-from hinge.net.cgroups import Cgroup
-from hinge.net.moments import ENDS, Act
+from hinge.events.forms import ENDS
+from hinge.events.kinds import Act
 from hinge.run.host_lines import PATIENCE, HostLines
 from hinge.run.processes import Ticker, signal_group
 from hinge.run.words import SECOND, Wrong
@@ -23,26 +24,31 @@ KILL_PATIENCE, KILL_POLL = 5.0, 0.001  # s
 
 
 class Done(NamedTuple):
-    """An act that is done, by the links' clock."""
+    """A finished act, with its moment on the links' clock."""
 
     moment: int  # ns
     act: Act
 
 
-class HostProcesses:
-    """All that runs in the network of a host, which an act puts into the host's cgroup where there is one."""
+def line_of(act: Act) -> str:
+    """Returns the act in the format of acts.h."""
+    return f"act {act.word} {act.host} {act.fault}"
 
-    def __init__(self, network: int, cgroup: Optional[Cgroup]) -> None:
-        self.network, self.cgroup = network, cgroup
+
+class HostProcesses:
+    """The processes in the network of a host without a cgroup."""
+
+    def __init__(self, network: int) -> None:
+        self.network = network
 
     def all(self) -> list[int]:
-        """But for this process, which may be there too."""
+        """Returns the processes except this one, which may be in the same namespace."""
         own = os.fstat(self.network)
         members = map(int, filter(str.isdecimal, os.listdir("/proc")))
         return [pid for pid in members if pid != os.getpid() and is_in(pid, own)]
 
     def send(self, number: int) -> None:
-        """Also to those that begin meanwhile."""
+        """Sends a signal to all processes, including those that start in the meantime."""
         members: set[int] = set()
         while new := set(self.all()) - members:
             for pid in new:
@@ -52,38 +58,19 @@ class HostProcesses:
                     pass
             members |= new
 
-    def freeze(self) -> bool:
-        """Whether all are in the cgroup, and stand still. What begins behind the first look is taken by a later one."""
-        members: set[int] = set()
-        while new := set(self.all()) - members:
-            if not self.cgroup or not self.cgroup.take(new) or not self.cgroup.freeze():
-                return False
-            members |= new
-        return bool(members)
-
     def stop(self) -> None:
-        if not self.freeze():
-            self.thaw()
-            self.send(signal.SIGSTOP)
-
-    def thaw(self) -> None:
-        if self.cgroup:
-            self.cgroup.thaw()
+        self.send(signal.SIGSTOP)
 
     def cont(self) -> None:
-        self.thaw()
         self.send(signal.SIGCONT)
 
     def kill(self) -> None:
-        """They stand still first, so that none sees the end of another one."""
+        """Freezes all processes before killing them, so that no process sees another die."""
         self.stop()
-        if self.cgroup:
-            self.cgroup.kill()
         until = time.monotonic() + KILL_PATIENCE
         while self.all() and time.monotonic() < until:
             self.send(signal.SIGKILL)
             time.sleep(KILL_POLL)
-        self.thaw()
 
 
 def is_in(pid: int, network: os.stat_result) -> bool:
@@ -94,7 +81,7 @@ def is_in(pid: int, network: os.stat_result) -> bool:
 
 
 def sees_own_processes() -> bool:
-    """Whether /proc is that of these processes, which it isn't in a container that hides parts of it."""
+    """Returns whether /proc shows this process. In a container that hides parts of /proc, the process may be hidden."""
     try:
         return os.readlink("/proc/self") == str(os.getpid())
     except OSError:
@@ -102,13 +89,10 @@ def sees_own_processes() -> bool:
 
 
 class GroupProcesses(HostProcesses):
-    """The process group of a host's command, where the others can't be seen."""
+    """The process group of a host's command, used if /proc doesn't show the other processes."""
 
     def __init__(self, process: int) -> None:
-        self.process, self.cgroup = process, None
-
-    def freeze(self) -> bool:
-        return False
+        self.process = process
 
     def send(self, number: int) -> None:
         signal_group(self.process, number)
@@ -118,17 +102,28 @@ class GroupProcesses(HostProcesses):
 
 
 class Acts(Ticker):
-    """The acts of a plan at their moments, and those that are asked for."""
+    """Carries out the acts of a plan at their moments, and those that users request."""
 
-    def __init__(self, acts: list[Act], lines: HostLines, do: Callable[[Act], None]) -> None:
-        self.planned, self.lines, self.do_act = acts, lines, do
+    def __init__(
+        self,
+        acts: list[Act],
+        lines: HostLines,
+        do: Callable[[Act], Callable[[], None]],
+        is_of_links: Callable[[Act], bool],
+        beside: Optional[Ticker] = None,
+    ) -> None:
+        """`do` carries out an act, except the links' part, and returns the work that remains after its report. Another thread may
+        tick, too."""
+        self.planned, self.lines, self.do_act, self.is_of_links, self.beside = acts, lines, do, is_of_links, beside
         self.pending: list[tuple[float, Act]] = []  # by the monotonic clock
         self.asked: queue.SimpleQueue[tuple[list[Act], queue.SimpleQueue[Done]]] = queue.SimpleQueue()
         self.done: list[Done] = []
+        self.rests: list[tuple[str, Callable[[], None]]] = []  # what is left to do of acts, by hosts
+        self.killed_at: dict[str, float] = {}  # when hosts were killed last by a plan, by the monotonic clock
         self.lasting: dict[tuple[str, str], set[int]] = {}  # the faults that go on, by hosts and by what ends them
 
     def begin(self, of_main: bool, moment: int) -> None:
-        """The moment from which those of a base count is now, `moment` by the links' clock or 0."""
+        """Starts the timetable of a base: now is `moment` on the links' clock (0 for the main command's base)."""
         self.add([act for act in self.planned if act.moment.of_main == of_main], moment)
 
     def add(self, acts: list[Act], moment: int) -> None:
@@ -137,26 +132,59 @@ class Acts(Ticker):
         self.pending.sort(key=lambda one: one[0])
 
     def left(self) -> float:
-        return max(0.0, self.pending[0][0] - time.monotonic()) if self.pending else NEVER
+        act = max(0.0, self.pending[0][0] - time.monotonic()) if self.pending else NEVER
+        return min(act, self.beside.left()) if self.beside else act
 
     def tick(self) -> None:
-        while self.pending and self.left() == 0:
-            self.carry_out(self.pending.pop(0)[1])
+        """Completes the remaining work of acts, after the next due acts on other hosts."""
+        while True:
+            if self.pending and self.pending[0][0] <= time.monotonic():
+                due, act = self.pending.pop(0)
+                self.killed_at |= {act.host: due} if ENDS.get(act.word) == "restart" else {}
+                self.carry_out(act)
+            elif self.rests:
+                self.finish(self.rests[0][0])
+            else:
+                break
+        if self.beside:
+            self.beside.tick()
         while not self.asked.empty():
             acts, reply = self.asked.get()
-            reply.put(self.carry_out(acts[0]))
+            for one in filter(self.is_of_links, acts):
+                length = one.moment.ns - acts[0].moment.ns
+                self.lines.ask(f"at {length} {line_of(one)}" if length else f"line {line_of(one)}")
+            result = self.carry_out(acts[0])
+            self.finish(acts[0].host)
+            reply.put(result)
             self.add(acts[1:], acts[0].moment.ns)
 
     def carry_out(self, act: Act) -> Done:
         if self.is_held(act):
             return Done(act.moment.ns, act)
-        self.do_act(act)
-        self.done.append(Done(self.lines.ask(f"line remark act,{act.word} {act.host}").moment, act))
+        self.finish(act.host)
+        rest = self.do_act(act)
+        self.done.append(Done(self.moment_of(act), act))
+        self.rests.append((act.host, rest))
         return self.done[-1]
 
+    def moment_of(self, act: Act) -> int:
+        """Returns the moment of an act in ns on the links' clock. The links report the moments of their acts."""
+        if not self.is_of_links(act):
+            return self.lines.ask(f"line remark act,{act.word} {act.host}").moment
+        answer = self.lines.ask(f"acted {act.host}")
+        return int(answer.line or answer.moment)
+
+    def finish(self, host: str) -> None:
+        """Completes the acts on a host."""
+        for one in [one for one in self.rests if one[0] == host]:
+            self.rests.remove(one)
+            one[1]()
+
     def is_held(self, act: Act) -> bool:
-        """Whether an act ends a fault of the host, and another one of its kind goes on. One that was written as such
-        ends all of them."""
+        """Returns whether the act would end a fault while another fault of the same kind is still in progress on the host.
+
+        An act without a fault number was written as a separate line, and ends all of them.
+        """
         lasting = self.lasting.setdefault((act.host, ENDS.get(act.word, act.word)), set())
         if act.word in ENDS:
             lasting.add(act.fault)
@@ -169,11 +197,14 @@ class Acts(Ticker):
         return False
 
     def awaited(self) -> bool:
-        """Whether a host's command will begin again."""
+        """Returns whether a host's command will be started again."""
         return any(act.word == "restart" for _, act in self.pending)
 
     def ask(self, acts: list[Act]) -> ObeyedLine:
-        """Of another thread: has the first one do an act now, and others behind it at their moments. Wrong: the net ends."""
+        """Runs in another thread: makes the first process carry out an act now, and schedules the others at their moments.
+
+        Wrong: the net is about to end.
+        """
         reply: queue.SimpleQueue[Done] = queue.SimpleQueue()
         self.asked.put((acts, reply))
         os.kill(os.getpid(), signal.SIGCHLD)  # which it waits for
@@ -183,12 +214,11 @@ class Acts(Ticker):
             raise Wrong("the net doesn't do it: it ends") from None
         return ObeyedLine(result.moment, f"{acts[0].word} {acts[0].host}")
 
-    def last(self, host: str) -> Optional[str]:
-        """The word of the last act on what runs on a host."""
-        words = (one.act.word for one in reversed(self.done) if one.act.host == host and one.act.word != "skew")
-        return next(words, None)
+    def goes_on(self, host: str, end: str) -> bool:
+        """Returns whether a fault of the host continues that `cont` or `restart` ends."""
+        return bool(self.lasting.get((host, end)))
 
     def stopped(self) -> Iterator[str]:
         for host in dict.fromkeys(one.act.host for one in self.done):
-            if self.last(host) == "stop":
+            if self.goes_on(host, "cont"):
                 yield host

@@ -1,4 +1,4 @@
-"""Clocks of hosts in simulated time: what a host reads as the time of day may be ahead of the others', and go faster."""
+"""Clocks of hosts in simulated time. A host's time of day may be ahead of or behind other hosts, and may run faster or slower."""
 
 from __future__ import annotations
 
@@ -7,7 +7,7 @@ from typing import Iterable, NamedTuple
 
 from hinge.net.statements import Statement
 from hinge.run.system import try_to_write
-from hinge.run.words import Wrong, duration
+from hinge.run.words import duration, placed
 
 SKEW = "at TIME skew HOST +TIME|-TIME [PPM]"
 PLACE = "/proc/clocks"  # of the simulated machine's kernel
@@ -17,25 +17,23 @@ IN_REAL_TIME = "hosts have clocks of their own in simulated time alone; add --si
 
 
 class Skew(NamedTuple):
-    """How far a clock is ahead, and how much it gains from then on."""
+    """A clock's offset, and its drift from then on."""
 
     ahead: int  # ns
     gains: int  # ns a second
 
     def text(self) -> str:
-        """As the kernel takes it."""
+        """Returns the skew in the kernel's format."""
         return f"{self.ahead} {self.gains}"
 
 
 def read_skew(statement: Statement) -> Skew:
-    """The skew of `+2s`, `-300ms 100ppm` or `+0s -50.5ppm`. Wrong: it is none of them."""
+    """Reads a skew such as `+2s`, `-300ms 100ppm` or `+0s -50.5ppm`. Wrong: the words are no skew."""
     word = statement.take(SKEW)
     if word[0] not in "+-":
         raise statement.wrong(word, f"how far the clock is ahead, as +2s, or behind, as -2s: {SKEW}")
-    try:
+    with placed(statement.place):
         ahead = duration(word[1:]) * (1 if word[0] == "+" else -1)
-    except Wrong as wrong:
-        raise Wrong(f"{statement.place}: {wrong}") from None
     gains = statement.take(SKEW) if statement.peek() else "0ppm"
     match = re.fullmatch(r"([+-]?\d{1,6}(?:\.\d{1,3})?)ppm", gains, re.ASCII)
     if not match or abs(float(match[1])) > MOST_PPM:
@@ -44,13 +42,13 @@ def read_skew(statement: Statement) -> Skew:
 
 
 def number_of(host: str, hosts: Iterable[str]) -> int:
-    """Of the clock of a host; the machine's own is 0, which those beyond the last one have."""
+    """Returns the number of a host's clock. Hosts after the last clock share the machine's clock, which is 0."""
     number = list(hosts).index(host) + 1
     return number if number <= MOST_CLOCKS else 0
 
 
 def take_clock(number: int) -> None:
-    """Gives a clock to this process and to those that it starts, where there are such."""
+    """Assigns a clock to this process and its future children, if the kernel supports clocks."""
     try_to_write(PLACE, str(number))
 
 

@@ -1,4 +1,4 @@
-"""What a net is, from Python, before it begins: the lines of its file."""
+"""A net described in Python: the lines for its file, before the net starts."""
 
 from __future__ import annotations
 
@@ -16,7 +16,7 @@ Command = Union[str, Sequence[str]]
 
 
 class NetError(Exception):
-    """Why a net doesn't begin, or what it doesn't obey."""
+    """Raised if a net can't start, or refuses a change."""
 
 
 def spelled_time(lasting: Time) -> str:
@@ -25,19 +25,20 @@ def spelled_time(lasting: Time) -> str:
 
 class Described:
     def __init__(self, folder: Path, link: str, back: Optional[str]) -> None:
-        """`link` and `back` are the links of which nothing else is said. Commands of several lines are kept in the folder."""
+        """`link` and `back` are the links without words in a line. Commands with several lines are saved in the folder."""
         self.folder, self.default = folder, (link, back)
         self.lines: list[str] = []
         self.is_running = False
+        self.unsaid = 0  # links of which nothing else was said
 
     def describe(self, text: str) -> None:
-        """Adds lines as the file of `hinge net` has them. NetError: the net runs already."""
+        """Adds lines in the format of a `hinge net` file. NetError: the net is already running."""
         if self.is_running:
             raise NetError("the net runs already; `change`, `cut` and `obey` change it")
         self.lines += text.splitlines()
 
     def host(self, name: str, command: Command = "", *, port: Optional[int] = None, wait: Time = 30, word: str = "host") -> None:
-        """A host, and what runs there. `start` waits until something listens at the port."""
+        """Adds a host and its command. With `port`, `start` waits until something listens there."""
         text = command if isinstance(command, str) else shlex.join(command)
         if "\n" in text.strip() or text.endswith("\\"):
             self.folder.mkdir(parents=True, exist_ok=True)
@@ -48,15 +49,15 @@ class Described:
             self.describe(f"wait {name} port {port} {spelled_time(wait)}")
 
     def router(self, name: str, command: Command = "", *, port: Optional[int] = None) -> None:
-        """A host that hands packets on."""
+        """Adds a host that forwards packets."""
         self.host(name, command, port=port, word="router")
 
     def words(self, link: Optional[str], back: Optional[str], preset: Optional[str]) -> str:
-        """The two ways of a link, as a line has them. NetError: one has a wrong word."""
+        """Returns a link's two ways in the format of a file. NetError: a word is wrong."""
         if preset is not None:
             link, back = either_way(preset, link, back)
         elif link is None:
-            link, back = self.default[0], self.default[1] if back is None else back
+            link, back, self.unsaid = self.default[0], self.default[1] if back is None else back, self.unsaid + 1
         ways = [link or ""] if back is None else [link or "", back]
         for way in ways:
             try:
@@ -68,7 +69,7 @@ class Described:
     def link(
         self, one: str, two: str, link: Optional[str] = None, back: Optional[str] = None, *, preset: Optional[str] = None
     ) -> None:
-        """A link, with the words of both ways, or of the way from the first host and the way back."""
+        """Adds a link. Without `back`, `link` describes both ways, otherwise only the way from the first host to the second."""
         self.describe(f"link {one} {two} {self.words(link, back, preset)}")
 
     def switch(
@@ -80,13 +81,13 @@ class Described:
         *,
         preset: Optional[str] = None,
     ) -> None:
-        """A switch with a link to each of these hosts."""
+        """Adds a switch with a link to each of these hosts."""
         self.describe(f"switch {name} {' '.join(hosts)} {self.words(link, back, preset)}")
 
     def loss(self, one: str, two: str, model: str) -> None:
-        """Bursts, or packets by number, as `up:gilbert:0.01,0.3`."""
+        """Adds a loss model: bursts such as `up:gilbert:0.01,0.3`, or packets by number."""
         self.describe(f"loss {one} {two} {model}")
 
     def trace(self, one: str, two: str, path: Union[str, Path]) -> None:
-        """The bandwidth from the first host to the second follows a file."""
+        """Makes the bandwidth from the first host to the second follow a trace file."""
         self.describe(f"trace {one} {two} {Path(path).absolute()}")

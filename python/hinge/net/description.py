@@ -1,4 +1,4 @@
-"""What a net is, as a file describes it: hosts and what runs there, links between them, and what happens when."""
+"""A net from its file: hosts with their commands, links, and scheduled events."""
 
 from __future__ import annotations
 
@@ -8,17 +8,17 @@ from dataclasses import dataclass, field, replace
 from typing import Callable, NamedTuple, Optional
 
 from hinge.arguments import is_number
+from hinge.events.forms import WORDS as WORDS_OF_EVENTS
 from hinge.net.disks import DISK, Disk, read_disk
-from hinge.net.statements import Statement, statements
-from hinge.run.words import Wrong, bytes_of_mtu
+from hinge.net.statements import NO_HOST, Statement, statements
+from hinge.run.words import Wrong, bytes_of_mtu, placed
 
 NAME = re.compile(r"[A-Za-z][A-Za-z0-9-]{0,62}", re.ASCII)
-ACTS = ("kill", "stop", "cont", "restart", "skew", "crash")  # of hosts
-TAKEN = {"localhost", "cut", "heal", "from", *ACTS}
+TAKEN = {"localhost", "from", *WORDS_OF_EVENTS}
+KEYWORDS = {"at", "of", "every", "for", "until", "to", "and", *TAKEN}  # for which nobody means a host
 HOST, MAIN, ROUTER = "host NAME [COMMAND]", "main NAME [COMMAND]", "router NAME [COMMAND]"
-NO_HOST = "no host of this net"
 MTU, ROUTES = "mtu A B [N] BYTES", "routes none"
-LINK, SWITCH, WAIT = "link A B LINK [/ LINK]", "switch NAME A B .. LINK [/ LINK]", "wait NAME port N [TIME]"
+LINK, SWITCH, WAIT = "link A B LINK [/ LINK]", "switch NAME A B .. LINK [/ LINK]", "wait NAME port N [TIME] [optional]"
 PATIENCE = 30.0  # s for which a port is waited for
 MOST_LINKS = 32767  # each has two pipes of 65,535
 MOST_PORTS = 254  # hosts at switches that are joined, as addresses of IPv4 end in 1 to 254
@@ -35,7 +35,7 @@ class Host:
 
 @dataclass(frozen=True)
 class NetLink:
-    """The words of a link's two ways, from the first end and back."""
+    """A link, with the words of both ways: from the first end, and back."""
 
     ends: tuple[str, str]
     ways: tuple[str, str]
@@ -47,7 +47,7 @@ class NetLink:
 
 
 class Port(NamedTuple):
-    """An end of a link at which a host is at a switch."""
+    """A host's end of a link to a switch."""
 
     segment: int  # the first link of the switches that are joined, by its place from 0
     number: int  # of the host's end among those of the segment, from 1
@@ -58,6 +58,7 @@ class Wait:
     host: str
     port: int
     lasting: float  # s
+    is_optional: bool  # whether the net goes on where nothing listens
 
 
 @dataclass
@@ -71,8 +72,10 @@ class Description:
     has_routes: bool = True  # to hosts that aren't neighbours
 
     def between(self, statement: Statement, form: str) -> tuple[int, bool]:
-        """The link that the next words of a statement name, `A B` or `A B N` for the N-th between the two, and whether
-        A is its second end."""
+        """Reads a link from the next words, `A B`, or `A B N` for the N-th link between both.
+
+        Returns the link's number, and whether A is the second end.
+        """
         one, two = self.host(statement, form), self.host(statement, form)
         result = [number for number, link in enumerate(self.links) if set(link.ends) == {one, two} and one != two]
         place = int(statement.take(form)) if is_number(statement.peek()) else 1
@@ -82,14 +85,27 @@ class Description:
             )
         return result[place - 1], self.links[result[place - 1]].ends[0] != one
 
+    def ways_between(self, host: str, others: tuple[str, ...], side: str = "") -> tuple[int, ...]:
+        """Returns the ways of a host's links, or only its links to some hosts: both, `up` (from the host) or `down` (to the
+        host)."""
+        ways = [(2 * number + way, link) for number, link in enumerate(self.links) if host in link.ends for way in (0, 1)]
+        return tuple(
+            way
+            for way, link in ways
+            if (not others or link.other(host) in others) and side != ("down" if link.ends[way % 2] == host else "up")
+        )
+
     def host(self, statement: Statement, form: str) -> str:
         name = statement.take(form)
         if name not in self.hosts:
-            raise statement.unknown(name, self.hosts, NO_HOST)
+            is_of_file = statement.number > 0  # and not a word of `hinge change`, which can't add a host
+            raise statement.unknown(
+                name, self.hosts, NO_HOST, f"write host {name}" * bool(is_of_file and NAME.fullmatch(name) and name not in KEYWORDS)
+            )
         return name
 
     def is_room(self, name: str) -> bool:
-        """Whether it is a host on which something can run."""
+        """Returns whether programs can run on the host. Switches run no programs."""
         return name in self.hosts and not self.hosts[name].is_switch
 
     def room(self, statement: Statement, form: str) -> str:
@@ -138,6 +154,7 @@ class Description:
             members.append(statement.take(SWITCH))
         if not members:
             raise statement.unknown(statement.peek(), self.hosts, f"{NO_HOST}: {SWITCH}")
+        statement.refuse_twice(members)
         for member in members:
             self.add_link(statement, member, name, statement.rest)
 
@@ -148,13 +165,11 @@ class Description:
         number, _ = self.between(statement, MTU)
         word = statement.take(MTU)
         statement.done(MTU)
-        try:
+        with placed(statement.place):
             self.links[number] = replace(self.links[number], mtu=bytes_of_mtu(word))
-        except Wrong as wrong:
-            raise Wrong(f"{statement.place}: {wrong}") from None
 
     def longest(self, otherwise: int) -> int:
-        """Bytes of the longest packet, where interfaces have an MTU of `otherwise` of which nothing else is said."""
+        """Returns the length of the longest packet in bytes. `otherwise` is the MTU of interfaces that don't specify one."""
         return max(otherwise if link.mtu is None else link.mtu for link in self.links)
 
     def routes(self, statement: Statement) -> None:
@@ -168,9 +183,10 @@ class Description:
         port = statement.take(WAIT)
         if word != "port" or not is_number(port) or not 1 <= int(port) <= 65535:
             raise statement.wrong(f"{word} {port}", f"no port from 1 to 65535: {WAIT}")
-        lasting = statement.take_time(WAIT) / 1e9 if statement.peek() else PATIENCE
+        lasting = statement.take_time(WAIT) / 1e9 if statement.peek() not in ("", "optional") else PATIENCE
+        is_optional = statement.peek() == "optional" and bool(statement.take(WAIT))
         statement.done(WAIT)
-        self.waits.append(Wait(host, int(port), lasting))
+        self.waits.append(Wait(host, int(port), lasting, is_optional))
 
     def disk(self, statement: Statement) -> None:
         self.hosts[self.room(statement, DISK)].disks.append(read_disk(statement))
@@ -182,7 +198,7 @@ class Description:
         statement.rest = rest
 
     def ways(self) -> list[str]:
-        """The names of all ways: `A > B`, and `A > B 2` on the second link of the two."""
+        """Returns the names of all ways: `A > B`, or `A > B 2` on the second link between both."""
         names, counts = list[str](), Counter[str]()
         for name in (" > ".join(ends) for link in self.links for ends in (link.ends, link.ends[::-1])):
             counts[name] += 1
@@ -190,7 +206,7 @@ class Description:
         return names
 
     def ways_into_switches(self) -> dict[str, list[int]]:
-        """The ways that end at each switch, by their places from 0."""
+        """Returns the ways that end at each switch, counted from 0."""
         table: dict[str, list[int]] = {name: [] for name, host in self.hosts.items() if host.is_switch}
         for number, link in enumerate(self.links):
             for end in (0, 1):
@@ -199,7 +215,7 @@ class Description:
         return table
 
     def joined_switches(self) -> dict[str, set[str]]:
-        """The switches that are one segment with each. In a circle of them a broadcast would go round for ever."""
+        """Returns the switches in each switch's segment. Wrong: they form a loop, in which a broadcast would circulate forever."""
         union = {name: {name} for name, host in self.hosts.items() if host.is_switch}
         for link in self.links:
             one, two = link.ends
@@ -211,7 +227,7 @@ class Description:
         return union
 
     def ports(self) -> dict[tuple[int, str], Port]:
-        """The ends of links, by places from 0 and hosts, at which hosts are at switches."""
+        """Returns the links' ends at switches, by link (from 0) and host."""
         union, table, last = self.joined_switches(), dict[tuple[int, str], Port](), dict[str, Port]()
         for number, link in enumerate(self.links):
             for name in link.ends:
@@ -249,11 +265,13 @@ WORDS = sorted({word for kinds in FOLLOWS for word in kinds})
 
 
 def read_description(path: str) -> Description:
-    """The net of a file, in which a line may name what a later one describes. Wrong: a statement is, or no link is there."""
-    net, lines = Description(), list(statements(path))
-    for statement in lines:
+    """Reads a net from a file, in which a line may use names that a later line defines. Wrong: a line is wrong, or there is no
+    link."""
+    net, lines = Description(), list[Statement]()
+    for statement in statements(path):
         if statement.word not in WORDS:
-            raise statement.unknown(statement.word, WORDS, f"no word of a net, which are {', '.join(WORDS)}")
+            raise statement.unknown(statement.word, WORDS, "not a word of a net", f"write one of {', '.join(WORDS)}")
+        lines.append(statement)
     for kinds in FOLLOWS:
         for statement in lines:
             if statement.word in kinds:

@@ -1,4 +1,4 @@
-"""Disks of hosts in simulated time: what was written to one and not synced is lost when its host crashes."""
+"""Disks of hosts in simulated time. If a host crashes, its disks lose all writes that weren't synced."""
 
 from __future__ import annotations
 
@@ -10,7 +10,7 @@ from typing import TYPE_CHECKING, Iterable, NamedTuple
 
 from hinge.border.asking import answer_of
 from hinge.net.statements import Statement
-from hinge.run.system import NEWNS, Missing, is_simulated, join, unshare
+from hinge.run.system import NEWNS, Missing, join, unshare
 from hinge.run.words import Wrong
 
 if TYPE_CHECKING:
@@ -30,7 +30,7 @@ class Disk(NamedTuple):
 
 
 def read_disk(statement: Statement) -> Disk:
-    """As `/data`, or `data 256M` in the folder of the net's file."""
+    """Returns the disk described by `/data`, or by `data 256M` relative to the folder of the net's file."""
     path = os.path.abspath(os.path.join(os.path.dirname(statement.path), statement.take(DISK)))
     word = statement.take(DISK) if statement.peek() else f"{USUAL}M"
     match = re.fullmatch(r"(\d{1,5})([MG])", word, re.ASCII)
@@ -41,22 +41,22 @@ def read_disk(statement: Statement) -> Disk:
     return Disk(path, size)
 
 
-def refuse_disks(path: str, hosts: Iterable[Host]) -> None:
-    """Wrong: the net has disks in real time. Missing: this system lacks the program that makes them."""
+def refuse_disks(path: str, hosts: Iterable[Host], simulated: bool) -> None:
+    """Wrong: the net has disks, but runs in real time. Missing: the program that creates disks isn't installed."""
     if any(host.disks for host in hosts):
-        if not is_simulated():
+        if not simulated:
             raise Wrong(f"{path}: disk: {IN_REAL_TIME}")
         if shutil.which(MAKER, path=MAKERS) is None:
             raise Missing(f"{path}: disk: there is no {MAKER}: apt-get install {PACKAGE}")
 
 
 def opened_mounts() -> list[int]:
-    """The root and the mount namespace of this process."""
+    """Returns descriptors of this process's root and mount namespace."""
     return [os.open("/", os.O_RDONLY | os.O_CLOEXEC), os.open("/proc/thread-self/ns/mnt", os.O_RDONLY | os.O_CLOEXEC)]
 
 
 def enter_mounts(mounts: list[int]) -> None:
-    """Has this process see the files of a mount namespace, in the folder in which it is."""
+    """Moves this process into a mount namespace, and back into its working directory."""
     folder, (root, namespace) = os.getcwd(), mounts
     join(namespace, NEWNS)
     os.fchdir(root)
@@ -65,8 +65,10 @@ def enter_mounts(mounts: list[int]) -> None:
 
 
 class Disks:
-    """Made in the first process, before it begins a thread. A host with disks has mounts of its own, which outlive its
-    processes, so that no end of a process writes to a disk."""
+    """The disks of all hosts. Create it in the first process, before any thread starts.
+
+    A host with disks uses a mount namespace that outlives the host's processes, so a process that ends writes nothing to the disk.
+    """
 
     def __init__(self, hosts: Iterable[Host]) -> None:
         numbers = count(1)
@@ -80,7 +82,7 @@ class Disks:
             enter_mounts(own)
 
     def ask(self, does: str, host: str) -> None:
-        """Has the first process make the disks of a host, or lose what they didn't flush. Missing: it didn't."""
+        """Makes the first process create a host's disks, or drop their unsynced writes. Missing: it failed."""
         for number, disk in self.of[host]:
             answer = answer_of(PLACE, f"{does} {number} {disk.size} {self.mounts[host][1]} {disk.path}")
             if answer != "done":

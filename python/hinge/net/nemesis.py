@@ -1,17 +1,18 @@
-"""A nemesis: faults whose hosts, moments and lengths a seed draws, each as the line `at` that one could write in its
-place."""
+"""A nemesis: faults whose hosts, moments and lengths a seed draws, each an event that an `at` line could request instead."""
 
 from __future__ import annotations
 
-from dataclasses import dataclass
-from typing import Callable, Iterator, NamedTuple, Optional
+from dataclasses import dataclass, replace
+from typing import Callable, Iterator, NamedTuple, Optional, Union
 
 from hinge.captures.random_words import word
+from hinge.events.kinds import Cut, Event, HostAct, spelled_ns
+from hinge.events.parsed import refuse_act
 from hinge.net.description import Description
 from hinge.net.statements import Statement
-from hinge.run.words import SECOND, Wrong, duration
+from hinge.run.words import SECOND, Wrong, duration, placed
 
-FORM = "nemesis KIND every TIME for TIME [until TIME] [of HOST ..]"
+FORM = "nemesis KIND every TIME for TIME [from TIME] [until TIME] [of HOST ..]"
 LASTING = 3600 * SECOND  # without `until`
 MOST_ACTS = 10_000
 STREAM, OF_MOMENTS = 3 << 20, 1 << 19  # of random words, apart from those of the links; that of single moments
@@ -19,20 +20,15 @@ SPAN = ".."
 MS = 10**6  # ns
 
 
-def spelled_ns(ns: int) -> str:
-    """As 1.5s."""
-    return f"{ns / SECOND:.9f}".rstrip("0").rstrip(".") + "s"
-
-
 class Span(NamedTuple):
-    """Times of which one is drawn, in ns."""
+    """The least and greatest time to draw, in ns."""
 
     least: int
     most: int
 
 
 def read_span(text: str) -> Span:
-    """The least and greatest time of 5s, or 5s..20s. Wrong: the first is the greater."""
+    """Reads `5s`, or a range such as `5s..20s`. Wrong: the span starts after its end."""
     least, dots, most = text.partition(SPAN)
     span = Span(duration(least), duration(most if dots else least))
     if span.least > span.most:
@@ -41,7 +37,7 @@ def read_span(text: str) -> Span:
 
 
 class Draw:
-    """What a seed draws for one nemesis."""
+    """The random choices for one nemesis."""
 
     def __init__(self, seed: int, place: int) -> None:
         self.seed, self.stream, self.count = seed, STREAM + place, 0
@@ -51,7 +47,7 @@ class Draw:
         return word(self.seed, self.count, self.stream) % limit
 
     def some(self, names: list[str], count: int) -> list[str]:
-        """So many of the names, in their order."""
+        """Chooses `count` names; returns them in their original order."""
         choice = set(self.shuffled(names)[:count])
         return [name for name in names if name in choice]
 
@@ -60,10 +56,14 @@ class Draw:
         return [rest.pop(self.below(len(rest))) for _ in names]
 
     def time(self, span: Span) -> int:
-        """In whole ms from the least on, if there are some between the two."""
+        """Draws a time, in whole milliseconds after the least time if the range allows several."""
         length = span.most - span.least
         step = MS if length >= MS else 1
         return span.least + (step * self.below(length // step + 1) if length else 0)
+
+
+Fault = Union[Cut, HostAct]  # of a length that is drawn behind it
+Kind = Callable[[Description, list[str], Draw], list[Fault]]
 
 
 @dataclass(frozen=True)
@@ -71,46 +71,51 @@ class Nemesis:
     kind: str
     every: Span
     lasting: Span
+    first: Span  # when the first fault starts
     until: int  # ns
     hosts: list[str]
 
 
 def linked(net: Description, name: str, others: list[str]) -> list[str]:
-    """Those of the others to which a host has a link."""
+    """Returns those hosts among the others that share a link with the host."""
     ends = {link.other(name) for link in net.links if name in link.ends}
     return [other for other in others if other in ends]
 
 
-def cuts(net: Description, pairs: Callable[[str], list[str]], hosts: list[str]) -> list[str]:
-    """The words of cuts between each host and those that `pairs` says of it, each link once."""
-    words, before = [], list[str]()
+def cut(net: Description, one: str, *others: str) -> Cut:
+    return Cut(net.ways_between(one, others), " ".join(["cut", one, *["from"] * bool(others), *others]))
+
+
+def cuts(net: Description, pairs: Callable[[str], list[str]], hosts: list[str]) -> list[Fault]:
+    """Returns the cuts between each host and those that `pairs` returns for it, each link once."""
+    faults, before = list[Fault](), list[str]()
     for one in hosts:
         others = linked(net, one, [other for other in pairs(one) if other not in before])
         before.append(one)
-        words += [f"cut {one} from {' '.join(others)}"] * bool(others)
-    return words
+        faults += [cut(net, one, *others)] * bool(others)
+    return faults
 
 
-def halves(net: Description, hosts: list[str], draw: Draw) -> list[str]:
+def halves(net: Description, hosts: list[str], draw: Draw) -> list[Fault]:
     ones = draw.some(hosts, len(hosts) // 2)
     others = [name for name in hosts if name not in ones]
     return cuts(net, lambda one: others, ones)
 
 
-def one_apart(net: Description, hosts: list[str], draw: Draw) -> list[str]:
+def one_apart(net: Description, hosts: list[str], draw: Draw) -> list[Fault]:
     (one,) = draw.some(hosts, 1)
     return cuts(net, lambda _: [name for name in hosts if name != one], [one])
 
 
-def ring(net: Description, hosts: list[str], draw: Draw) -> list[str]:
-    """Each host reaches the one before it and the one behind it in a drawn order, and no other."""
+def ring(net: Description, hosts: list[str], draw: Draw) -> list[Fault]:
+    """Arranges the hosts in a random ring, in which each reaches only its two neighbours."""
     order = draw.shuffled(hosts)
     near = {one: {order[at - 1], order[(at + 1) % len(order)], one} for at, one in enumerate(order)}
     return cuts(net, lambda one: [name for name in hosts if name not in near[one]], hosts)
 
 
-def majorities(net: Description, hosts: list[str], draw: Draw) -> list[str]:
-    """Links are cut in a drawn order as long as each host still reaches a majority, itself among it."""
+def majorities(net: Description, hosts: list[str], draw: Draw) -> list[Fault]:
+    """Cuts links in random order while each host still reaches a majority, counting itself."""
     table: dict[str, list[str]] = {name: [] for name in hosts}
     spare = len(hosts) - (len(hosts) // 2 + 1)
     for one in draw.shuffled(hosts):
@@ -121,17 +126,24 @@ def majorities(net: Description, hosts: list[str], draw: Draw) -> list[str]:
     return cuts(net, lambda one: [name for name in hosts if name in table[one]], hosts)
 
 
-def of_one(act: str) -> "Kind":
-    return lambda net, hosts, draw: [f"{act} {draw.some(hosts, 1)[0]}"]
+def isolated(net: Description, hosts: list[str], draw: Draw) -> list[Fault]:
+    return [cut(net, *draw.some(hosts, 1))]
 
 
-Kind = Callable[[Description, list[str], Draw], list[str]]  # the words of a fault, without its length
+def of_one(act: str) -> Kind:
+    def drawn(net: Description, hosts: list[str], draw: Draw) -> list[Fault]:
+        (host,) = draw.some(hosts, 1)
+        return [HostAct((host,), f"{act} {host}", word=act)]
+
+    return drawn
+
+
 KINDS: dict[str, Kind] = {
     "partition-halves": halves,
     "partition-one": one_apart,
     "partition-ring": ring,
     "partition-majorities": majorities,
-    "isolate-one": of_one("cut"),
+    "isolate-one": isolated,
     "kill-one": of_one("kill"),
     "crash-one": of_one("crash"),
     "stop-one": of_one("stop"),
@@ -141,12 +153,14 @@ OF_COMMANDS = ("kill-one", "crash-one", "stop-one")
 
 
 def named_hosts(net: Description, statement: Statement, kind: str) -> list[str]:
-    """Those behind `of`, or all that hand nothing on and haven't the main command."""
+    """Returns the hosts after `of`, or by default all hosts except routers and the main command's host."""
     if statement.peek() == "of":
         statement.take(FORM)
         items = []
         while statement.peek():
             items.append((net.room if kind in OF_COMMANDS else net.host)(statement, FORM))
+            if kind in OF_COMMANDS:
+                refuse_act(statement, net, kind.removesuffix("-one"), items[-1], True)
     else:
         items = [
             name
@@ -156,9 +170,11 @@ def named_hosts(net: Description, statement: Statement, kind: str) -> list[str]:
             and (host.command or kind not in OF_COMMANDS)
             and (host.disks or kind != "crash-one")
         ]
+    lonely = [name for name in items if kind == "isolate-one" and not net.ways_between(name, ())]
+    if lonely:
+        raise statement.wrong(lonely[0], "it has no link")
     least = LEAST.get(kind, 1)
-    if len(set(items)) < len(items):
-        raise statement.wrong("of", "it names a host twice")
+    statement.refuse_twice(items)
     if len(items) < least:
         raise statement.wrong(kind, f"it takes {least} host{'s' * (least > 1)} or more")
     if kind in LEAST and not any(linked(net, name, items) for name in items):
@@ -168,38 +184,40 @@ def named_hosts(net: Description, statement: Statement, kind: str) -> list[str]:
     return items
 
 
-def span_behind(statement: Statement, key: str, otherwise: Optional[int] = None) -> Span:
-    """The times behind a word."""
+def span_behind(statement: Statement, key: str, otherwise: Optional[Span] = None) -> Span:
+    """Returns the times after a key word."""
     if statement.peek() != key:
         if otherwise is not None:
-            return Span(otherwise, otherwise)
+            return otherwise
         raise statement.wrong(statement.peek(), f"`{key}` is missing: {FORM}")
     statement.take(FORM)
-    try:
+    with placed(statement.place):
         return read_span(statement.take(FORM))
-    except Wrong as wrong:
-        raise wrong if str(wrong).startswith(statement.place) else Wrong(f"{statement.place}: {wrong}") from None
 
 
 def read_nemesis(net: Description, statement: Statement) -> Nemesis:
     kind = statement.take(FORM)
     if kind not in KINDS:
-        raise statement.unknown(kind, KINDS, f"no nemesis, which are {', '.join(KINDS)}")
+        raise statement.unknown(kind, KINDS, "not a nemesis", f"write one of {', '.join(KINDS)}")
     every, lasting = span_behind(statement, "every"), span_behind(statement, "for")
-    until = span_behind(statement, "until", LASTING).most
+    first, until = span_behind(statement, "from", every), span_behind(statement, "until", Span(LASTING, LASTING)).most
     if not 0 < lasting.least <= lasting.most <= every.least:
-        raise statement.wrong(spelled_ns(lasting.most), "it lasts until the next one at most, and more than 0s")
+        raise statement.wrong(
+            spelled_ns(lasting.most), f"write more than 0s, and at most {spelled_ns(every.least)}, the least time to the next fault"
+        )
+    if first.least > until:
+        raise statement.wrong(kind, f"no fault: the first would start at {spelled_ns(first.least)}, after {spelled_ns(until)}")
     if until // every.least > MOST_ACTS:
         raise statement.wrong(kind, f"more than {MOST_ACTS} faults; write a shorter `until TIME`")
-    return Nemesis(kind, every, lasting, until, named_hosts(net, statement, kind))
+    return Nemesis(kind, every, lasting, first, until, named_hosts(net, statement, kind))
 
 
-def drawn_lines(net: Description, nemesis: Nemesis, seed: int, place: int) -> Iterator[str]:
-    """The lines of the nemesis with this place in the file."""
+def drawn_events(net: Description, nemesis: Nemesis, seed: int, place: int) -> Iterator[tuple[int, Event]]:
+    """Draws a nemesis's events from its place in the file; yields them with their moments in ns."""
     draw = Draw(seed, place)
-    start = draw.time(nemesis.every)
+    start = draw.time(nemesis.first)
     while start <= nemesis.until:
-        lasting = spelled_ns(draw.time(nemesis.lasting))
-        for words in KINDS[nemesis.kind](net, nemesis.hosts, draw):
-            yield f"at {spelled_ns(start)} {words} {lasting}"
+        lasting = draw.time(nemesis.lasting)
+        for fault in KINDS[nemesis.kind](net, nemesis.hosts, draw):
+            yield start, replace(fault, length=lasting, words=f"{fault.words} {spelled_ns(lasting)}")
         start += draw.time(nemesis.every)

@@ -1,14 +1,15 @@
-"""What the control socket of a net asks of it: changes of links, acts of hosts, ways into them, and how it goes."""
+"""The control socket's requests for a net: link changes, acts on hosts, `hinge exec`, and status."""
 
 from __future__ import annotations
 
 from typing import TYPE_CHECKING, Optional
 
-from hinge.border.messages import ObeyedLine
+from hinge.events.kinds import HostAct, Moment
+from hinge.events.parsed import parse
 from hinge.net.clocks import IN_REAL_TIME
-from hinge.net.description import ACTS
+from hinge.net.net_plan import with_place
 from hinge.net.net_summary import net_record
-from hinge.run.control import Control, HostRoom
+from hinge.run.control import Effect, Control, HostRoom
 from hinge.run.doors import Doors
 from hinge.run.words import Wrong
 
@@ -17,12 +18,21 @@ if TYPE_CHECKING:
 
 
 def opened_control(net: NetInside) -> Optional[Control]:
-    """The socket that --control names. Words that change a link are those of a line `at`, without its moment."""
+    """Opens the socket from --control. A change uses the words of an `at` line, without the moment."""
 
-    def event(moment: str, words: str) -> None:
-        net.order.made.at_once(moment, words)
-        if words.split()[0] in ("cut", "heal"):
-            net.lines.ask(f"line remark act,{words}")
+    def obey(words: str, moment: int) -> Effect:
+        plan = net.order.made
+        with with_place(f"'{words}'"):
+            event = parse(words, net.net)
+            new = [] if isinstance(event, HostAct) else plan.happenings(event, moment, plan.plan.changes)
+        if isinstance(event, HostAct) and event.word == "skew":
+            raise Wrong(f"skew: {IN_REAL_TIME}")
+        if isinstance(event, HostAct) and event.word == "cont" and not net.acts.goes_on(event.host, "cont"):
+            raise Wrong(f"cont: {event.host} isn't stopped")
+        if isinstance(event, HostAct):
+            net.lines.ask(f"line remark change,{words}")
+            return net.acts.ask(plan.acts_of(event, Moment(moment, False, "")))
+        return new
 
     def status() -> dict[str, object]:
         endings = {name: net.processes.ended[pid] for name, pid in net.started.items() if pid in net.processes.ended}
@@ -33,19 +43,12 @@ def opened_control(net: NetInside) -> Optional[Control]:
     def enter_host(name: str) -> HostRoom:
         if name not in net.rooms.network:
             raise Wrong(f"{name!r}: no host of this net, which are {', '.join(net.rooms.network)}")
-        return HostRoom(doors.to(net.rooms.network[name], net.disks.mounts.get(name)), net.variables(name))
+        if net.acts.goes_on(name, "cont"):
+            raise Wrong(f"{name} is stopped: `cont {name}` lets it go on")
+        net.lines.ask(f"line remark exec,{name}")
+        cgroup = net.linked.get(name)
+        more = [cgroup.descriptors["cgroup.procs"]] if cgroup else []
+        return HostRoom(doors.to(net.rooms.network[name], net.disks.mounts.get(name)) + more, net.variables(name))
 
-    def act(words: str) -> Optional[ObeyedLine]:
-        if words.split()[:1] and words.split()[0] not in ACTS:
-            return None
-        if words.split()[0] == "skew":
-            raise Wrong(f"skew: {IN_REAL_TIME}")
-        net_plan, timetable = net.order.made, len(net.order.made.acts)
-        net_plan.at_once(f"{net.lines.ask('moment').moment}ns", words)
-        net_plan.told.pop()
-        new = net_plan.acts[timetable:]
-        del net_plan.acts[timetable:]
-        return net.acts.ask(new)
-
-    path = net.order.control
-    return Control(path, net.order.made.plan, net.page, event, status, enter_host, net.lines, act) if path else None
+    path = net.order.options.control
+    return Control(path, net.order.made.plan, net.page, obey, status, enter_host, net.lines) if path else None

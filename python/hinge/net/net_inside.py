@@ -1,159 +1,120 @@
-"""The first process of a net: it makes the rooms, starts the links and the hosts' commands, and reports how they
-went."""
+"""The first process in a net: it creates the rooms, starts the links and the hosts' commands, and reports the result."""
 
 from __future__ import annotations
 
+import math
 import os
 import signal
 import time
+from contextlib import suppress
 from functools import partial
-from typing import NamedTuple, Optional, Sequence
+from typing import Callable, Optional
 
 from hinge.border.files import opened_log
 from hinge.border.terminal import silence
 from hinge.command import say
-from hinge.net.acts import Acts, GroupProcesses, HostProcesses, sees_own_processes
-from hinge.net.cgroups import Cgroups
+from hinge.events.kinds import Act
+from hinge.net.acts import Acts, GroupProcesses, HostProcesses, line_of, sees_own_processes
+from hinge.run.cgroups import FILES, Cgroup, Cgroups
 from hinge.net.clocks import number_of, set_clock, take_clock
-from hinge.net.description import Description
+from hinge.net.description import Wait
 from hinge.net.disks import Disks
-from hinge.net.moments import Act
 from hinge.net.net_control import opened_control
-from hinge.net.net_plan import NetPlan
 from hinge.net.net_rooms import NetRooms
-from hinge.net.net_summary import act_records, net_lines, net_record, of_hosts, of_plan
+from hinge.net.net_summary import NetRan, report, silent, status_without
+from hinge.net.order import LinksPlan, NetOrder
 from hinge.run.host import Link
 from hinge.run.host_lines import HostLines
 from hinge.run.interfaces import something_listens
-from hinge.run.order import status_with_json
 from hinge.run.outside import Outside
-from hinge.run.page import NOT_ALLOWED, Page
-from hinge.run.processes import SIGNALLED, Ended, Mask, Processes
+from hinge.run.page import HAS_IT, NOT_ALLOWED, Page
+from hinge.run.processes import SIGNALLED, Ended, Processes, Ticker
 from hinge.run.rooms import start, this_network
-from hinge.run.summary import VOID, cautions, void
-from hinge.run.system import enter, is_simulated
-from hinge.run.transcripts import told
+from hinge.run.system import enter, is_simulated, try_to_write
 from hinge.run.users import make_terminals
+from hinge.run.verdict import Waits
 
 WATCHED = {signal.SIGCHLD, signal.SIGTERM, signal.SIGHUP}
 LISTEN_POLL = 0.01  # s
+BEGIN_PATIENCE = 60.0  # s, within which all commands begin
+WAITS = "/proc/waits"  # of a simulated machine
 NOBODY = 0  # no process
+BEFORE = 0.1  # s before a kill, within which it may have ended a command
+PRIORITY = 8  # behind the links and the writer of their transcript
 NO_PRIORITY = "the links don't come before other programs, as the system doesn't allow it (as root, or with `ulimit -r 10`)"
 
 
-class NetOrder(NamedTuple):
-    """What is asked of a net."""
-
-    net: Description
-    plan: str  # without what is told of hosts
-    folder: str  # in which the net's file is
-    command: list[str]  # of the command line, for the main host
-    mtu: int
-    seed: int
-    draws: bool
-    limit: Optional[float]  # ms
-    end_wait: float  # s
-    transcript: Optional[str]
-    json: Optional[str]
-    logs: Optional[str]
-    quiet: bool
-    made: NetPlan
-    control: Optional[str]
-    stay: bool  # until a signal comes
-    shell: Optional[str]  # the host that has one as the main command
-    outside: Optional[str]  # the host that leads to the rest of the network
-    mask: Mask  # of what is started
+def nothing() -> None:
+    """Does nothing: a completed act has no remaining work."""
 
 
 class NetInside:
     def __init__(self, order: NetOrder, own_users: bool, outside: Optional[Outside]) -> None:
-        self.order, self.net, self.own_users = order, order.net, own_users
+        self.order, self.options, self.net, self.own_users = order, order.options, order.net, own_users
         self.page = Page(2 * len(self.net.links))
-        self.processes = Processes(WATCHED if self.net.main or order.shell else WATCHED | {signal.SIGINT})
+        self.processes = Processes(WATCHED if self.net.main or self.options.shell else WATCHED | {signal.SIGINT})
         self.network = this_network()  # of no host
-        self.rooms = NetRooms(self.net, order.mtu)
+        self.rooms = NetRooms(self.net, self.options.mtu)
         if outside and order.outside:
             self.rooms.lead_out(outside, order.outside)
         self.disks = Disks(self.net.hosts.values())
         self.started: dict[str, int] = {}
-        self.silent: list[str] = []  # of the ports that were waited for in vain
+        self.silent: list[str] = []  # of the ports that were waited for in vain, and without which the net goes on
+        self.missing = ""  # the one without which it ends
         self.begun = time.monotonic()
         self.lines = HostLines()
-        self.acts, self.cgroups = Acts(order.made.acts, self.lines, self.act), Cgroups()
+        self.cgroups, self.waits = Cgroups(), Waits()
+        hosts = [*self.rooms.network] if self.options.control else list(dict.fromkeys(act.host for act in order.made.acts))
+        self.linked = {name: cgroup for name in hosts for cgroup in [self.cgroups.of(name)] if cgroup}  # whose acts are the links'
+        descriptors = {name: (cgroup.descriptors[FILES[0]], cgroup.descriptors[FILES[1]]) for name, cgroup in self.linked.items()}
+        self.links_plan = LinksPlan(order, self.rooms.ends, descriptors)
+        self.is_of_links = self.links_plan.is_of_links
+        ticker = None if is_simulated() else Ticker(self.look_at_waits)
+        self.acts = Acts(order.made.acts, self.lines, self.act, self.is_of_links, ticker)
         self.main_moment: Optional[int] = None  # ns, of the links
 
-    def plan(self) -> str:
-        """The plan, with what an audit along the paths needs behind the line that opens the transcript."""
-        into = self.net.ways_into_switches()
-        plan = self.order.plan + "".join(f"switch {' '.join(map(str, ways))}\n" for ways in into.values() if ways)
-        if self.order.transcript is None:
-            return plan
-        first, _, rest = plan.partition("\n")
-        hosts = [f"remark host,{name},{','.join(self.rooms.ends.all_of(name))}" for name in self.rooms.network]
-        pipes = [line for number, link in enumerate(self.net.links) for way in (0, 1) for line in self.pipes_of(number, way)]
-        hosts += [f"remark switch,{name}" for name in into]
-        outside = [f"remark outside,{self.order.outside}"] * bool(self.order.outside)
-        draw_lines = [f"remark drawn,{line}" for line in self.order.made.drawn]
-        remarks = [*hosts, *outside, *pipes, *draw_lines]
-        return "\n".join([first, *remarks, "contents", rest.rstrip("\n"), *self.act_remarks(), ""])
-
-    def act_remarks(self) -> list[str]:
-        """Remarks at the moments of the plan's cuts and heals; the other acts are told as they are done."""
-        return [
-            f"{'main ' * message.moment.of_main}at {message.moment.ns} remark act,{message.words}"
-            for message in self.order.made.told
-            if message.words.split()[0] in ("cut", "heal")
-        ]
-
-    def pipes_of(self, number: int, way: int) -> list[str]:
-        """Between which hosts the pipes of a link's way are. Between its first pass and its second one is `START~END`,
-        where the jitter begins."""
-        start, end = self.net.links[number].ends[way], self.net.links[number].ends[1 - way]
-        pipe = 2 * number + way + 1
-        plan = self.order.made.plan
-        second = plan.extras[pipe - 1][1] if pipe - 1 in plan.extras else []
-        model = plan.decided.get(pipe - 1)
-        between = self.rooms.ends.label(start, number).replace(".", "~", 1) if second else end
-        return [
-            f"remark pipe,{pipe},{start},{between}",
-            *(f"remark pipe,{other},{between},{end}" for other in second),
-            *[f"remark copies,{pipe}"] * (pipe - 1 in plan.copied),
-            *[f"remark model,{pipe},{model}"] * bool(model),
-        ]
-
     def started_links(self) -> tuple[Link, Optional[int]]:
-        """The host of all links, and its status where it ended at once. What happens to hosts doesn't happen to it."""
+        """Starts the process that hosts all links. Acts on hosts don't affect it. Returns the links' status too, if they ended at
+        once."""
         enter(self.network)
-        link = Link(
-            self.processes,
-            self.page,
-            ["tun", *map(str, self.rooms.interfaces)],
-            self.rooms.descriptors(),
-            self.plan(),
-            self.order.mask,
-            opened_control(self),
-            self.lines,
-        )
+        of_hosts = [cgroup.descriptors[file] for cgroup in self.linked.values() for file in FILES[:2]]
+        descriptors, words = [*self.rooms.descriptors(), *of_hosts], ["tun", *map(str, self.rooms.interfaces)]
+        more = descriptors, self.links_plan.text(), self.order.mask, opened_control(self), self.lines
+        link = Link(self.processes, self.page, words, *more)
         return link, link.failed()
 
-    def act(self, act: Act) -> None:
-        """What happens to all that runs on a host, or to its clock."""
+    def look_at_waits(self, _: float) -> None:
+        running = {name: process for name, process in self.started.items() if process not in self.processes.ended}
+        self.waits.look(self.cgroups.made, running)
+
+    def act(self, act: Act) -> Callable[[], None]:
+        """Carries out an act on a host's processes or clock, except the links' part. Returns the remaining work, which may wait."""
         if act.word == "skew":
             set_clock(number_of(act.host, self.net.hosts), act.more)
-            return
-        process = self.started.get(act.host)
-        on_host = (
-            HostProcesses(self.rooms.network[act.host], self.cgroups.of(act.host))
-            if sees_own_processes() or process is None
-            else GroupProcesses(process)
-        )
-        does = {"kill": on_host.kill, "crash": on_host.kill, "restart": on_host.kill, "stop": on_host.stop, "cont": on_host.cont}
-        does[act.word]()
+        elif self.is_of_links(act):
+            rest: Callable[[], None] = partial(self.see_gone, self.linked[act.host])
+            return rest if act.word == "kill" else nothing
+        elif act.host in self.linked:
+            self.linked[act.host].empty()
+        else:
+            on_host = self.on_host(act.host)
+            {"stop": on_host.stop, "cont": on_host.cont}.get(act.word, on_host.kill)()
         self.processes.reap()
         if act.word == "crash":
             self.disks.ask("lose", act.host)
         if act.word == "restart":
             self.begin(act.host)
+        return nothing
+
+    def see_gone(self, cgroup: Cgroup) -> None:
+        cgroup.is_empty()
+        self.processes.reap()
+
+    def on_host(self, name: str) -> HostProcesses:
+        process = self.started.get(name)
+        return (
+            GroupProcesses(process) if process is not None and not sees_own_processes() else HostProcesses(self.rooms.network[name])
+        )
 
     def variables(self, name: str) -> dict[str, str]:
         return {"HINGE_HOST": name, "HINGE_NET": self.order.folder}
@@ -164,26 +125,53 @@ class NetInside:
         os.environ.update(self.variables(name))
 
     def begin(self, name: str) -> None:
-        """Starts a host's command, in a process group of its own where it isn't the main one."""
-        is_main, is_first = name == self.net.main, name not in self.started
+        """Starts a host's command. Each command except the main one gets a new process group."""
+        is_main, is_first, cgroup = name == self.net.main, name not in self.started, self.cgroups.of(name)
+        is_stopped = self.acts.goes_on(name, "cont")
 
         def enter_host() -> None:
+            if cgroup:
+                cgroup.join()
             self.disks.enter(name)
             if not is_main:
                 os.setpgid(0, 0)
                 silence(0)
                 if self.own_users:
                     make_terminals()
-            if self.order.logs:
-                log = opened_log(os.path.join(self.order.logs, f"{name}.log"), is_first)
+            if self.options.logs:
+                log = opened_log(os.path.join(self.options.logs, f"{name}.log"), is_first)
                 os.dup2(log, 1), os.dup2(log, 2)
             self.enter(name)
+            if is_stopped and not cgroup:
+                os.kill(os.getpid(), signal.SIGSTOP)
 
-        more = self.order.command if is_main else []
+        more = self.options.command if is_main else []
         self.started[name] = start(["sh", "-c", self.net.hosts[name].command, *more], self.order.mask, enter_host, self.own_users)
+        if is_stopped and not cgroup:
+            os.waitid(os.P_PID, self.started[name], os.WSTOPPED | os.WEXITED | os.WNOWAIT)
+
+    def begin_commands(self) -> Optional[int]:
+        """Starts all commands except the main one, and waits until each has begun; returns an earlier signal, if any. Until then
+        they enter their cgroups one by one, and a due act would wait for all these entries."""
+        read_end, write_end = os.pipe()  # which each holds until it begins
+        os.set_blocking(read_end, False)
+        for name, host in self.net.hosts.items():
+            if host.command and name != self.net.main:
+                self.begin(name)
+        os.close(write_end)
+
+        def have_begun() -> bool:
+            self.acts.tick()
+            with suppress(BlockingIOError):
+                return not os.read(read_end, 1)
+            return False
+
+        came = self.processes.poll(have_begun, BEGIN_PATIENCE, LISTEN_POLL)
+        os.close(read_end)
+        return came
 
     def waited(self) -> Optional[int]:
-        """Waits for the ports that the net waits for; a signal that came before."""
+        """Waits for the net's ports until a required port is missing. Returns an earlier signal, if any."""
         for wait in self.net.waits:
             enter(self.rooms.network[wait.host])
 
@@ -194,50 +182,56 @@ class NetInside:
             came = self.processes.poll(is_over, wait.lasting, LISTEN_POLL)
             if came:
                 return came
-            pid = self.started.get(wait.host)
             if not something_listens(wait.port):
-                endings = (
-                    f"; its command ended with {self.processes.ended[pid]}"
-                    if pid in self.processes.ended
-                    else f" after {wait.lasting:g} s"
-                )
-                self.silent.append(f"{wait.host} doesn't listen at port {wait.port}{endings}")
-                say(self.silent[-1])
+                self.note_silent(wait)
+            if self.missing:
+                return None
         return None
 
+    def note_silent(self, wait: Wait) -> None:
+        text = silent(self.net, wait, self.processes.ended.get(self.started.get(wait.host, NOBODY)))
+        if wait.is_optional:
+            self.silent.append(text)
+            say(text)
+        else:
+            self.missing = text
+
     def has_ended(self, host: str) -> bool:
-        """Whether a host's command has ended for good."""
+        """Returns whether a host's command has ended for good."""
         is_awaited = any(act.host == host and act.word == "restart" for _, act in self.acts.pending)
         return self.started.get(host) in self.processes.ended and not is_awaited
 
     @staticmethod
     def serve(link: Link) -> None:
-        """Nothing is started behind it, since it begins a thread."""
+        """Starts the control thread. Don't start processes after this call."""
         if link.control:
             link.control.serve()
 
     def begin_main(self) -> Optional[int]:
-        """The process of the main command, if there is one."""
-        if self.order.shell or self.net.main:
+        """Starts the main command, if any; returns its process."""
+        if self.options.shell or self.net.main:
             self.main_moment = self.lines.ask("main").moment
             self.acts.begin(True, 0)
-        if self.order.shell:
-            return start([os.environ.get("SHELL", "sh")], self.order.mask, partial(self.enter, self.order.shell), self.own_users)
+        if self.options.shell:
+            return start([os.environ.get("SHELL", "sh")], self.order.mask, partial(self.enter, self.options.shell), self.own_users)
         if self.net.main:
             self.begin(self.net.main)
         return self.started.get(self.net.main or "")
 
     def lasted(self, link: Link) -> int:
-        """Runs until the main command has ended, or all where there is none, or a signal has come; the status."""
-        came = self.waited()
+        """Runs until the main command ends, or all commands if there is no main one, or a signal arrives; returns the status."""
+        came = self.begin_commands() or self.waited()
         if came:
             return SIGNALLED + came
+        if self.missing:
+            return status_without(self.missing)
         main = self.begin_main()
         self.serve(link)
         while not came and link.process not in self.processes.ended and (rest := self.waited_for(main)):
+            try_to_write(WAITS, "1" if self.acts.pending else "0")  # what waits for an act isn't for ever without life
             came = self.processes.wait(rest[0], self.acts.left(), self.acts, link.process)
             self.acts.tick()
-        if self.order.stay and not came:
+        if (self.options.stay or self.options.while_open is not None) and not came:
             came = self.processes.wait(link.process, ticker=self.acts)
         if main in self.processes.ended:
             return self.processes.ended[main]
@@ -247,70 +241,47 @@ class NetInside:
         return next((status for status in statuses if status), 0)
 
     def waited_for(self, main: Optional[int]) -> list[int]:
-        """The processes at whose end the net ends; nobody's where a command only begins again later."""
+        """Returns the processes that the net still waits for, or NOBODY if a command will only be started again later."""
         processes = [*self.started.values()] if main is None else [main]
         rest = [process for process in processes if process not in self.processes.ended]
         return rest or [NOBODY] * (main is None and self.acts.awaited())
 
     def was_killed(self, name: str) -> bool:
-        """Whether a host's command is one that an act has ended."""
-        return self.acts.last(name) in ("kill", "crash")
+        """Whether a host's command is one that an act has ended, and hadn't ended long before."""
+        ended = self.processes.ended_at.get(self.started.get(name, NOBODY), math.inf)
+        return self.acts.goes_on(name, "restart") and ended > self.acts.killed_at.get(name, 0.0) - BEFORE
 
     def run(self) -> int:
         link, fault = self.started_links()
         if fault is not None:
             return fault
-        if self.page.read()["realtime"] == NOT_ALLOWED:
+        if self.page.head("realtime") == NOT_ALLOWED:
             say(NO_PRIORITY)
+        if self.page.head("realtime") == HAS_IT and not is_simulated():
+            with suppress(OSError):  # so that acts aren't late
+                os.sched_setscheduler(0, os.SCHED_FIFO | os.SCHED_RESET_ON_FORK, os.sched_param(PRIORITY))
         self.acts.begin(False, self.lines.ask("moment").moment)
-        for name, host in self.net.hosts.items():
-            if host.command and name != self.net.main:
-                self.begin(name)
         status = self.lasted(link)
         endings = self.ended()
         link.end()
-        return self.report(status, self.rooms.dropped(), endings)
+        counts, drops, unforwarded = self.page.read(), self.rooms.dropped(), self.rooms.unforwarded()
+        ran = NetRan(status, counts, drops, endings, unforwarded, self.acts.done, self.main_moment, self.missing)
+        return report(self.order, ran, None if is_simulated() else self.waits)
 
     def ended(self) -> dict[str, Ended]:
-        """How the hosts' commands ended; stopped ones go on for that."""
+        """Ends the hosts' commands and returns their endings. Stopped processes continue first, so that they can end."""
+        if not is_simulated():
+            self.look_at_waits(0.0)
         self.acts.pending.clear()
-        for name in self.acts.stopped():
-            self.act(Act(self.order.made.moment("0s"), "cont", name))
+        self.acts.tick()
+        names = list(self.acts.stopped())
+        if names:
+            self.lines.ask("line remark ending")
+        for name in names:
+            act = Act(self.order.made.moment("0s"), "cont", name)
+            self.lines.ask(f"line {line_of(act)}") if self.is_of_links(act) else self.act(act)
         endings = self.processes.endings(self.started, self.begun, self.order.end_wait)
         self.cgroups.remove()
         return {
             name: one._replace(by="kill") if one.by == "itself" and self.was_killed(name) else one for name, one in endings.items()
         }
-
-    def report(self, status: int, drops: Sequence[int], endings: dict[str, Ended]) -> int:
-        """Tells how it went, on standard error and in the file that --json names; the status, or that of a void run."""
-        order, counts = self.order, self.page.read()
-        others = {name: one for name, one in endings.items() if name != self.net.main}
-        names = self.net.ways()
-        faults = void(counts, drops, order.limit, names)
-        acts = act_records(order.made.told, self.acts.done, self.main_moment, counts["moment"])
-        if not order.quiet:
-            for line in [
-                *net_lines(self.net, counts, drops),
-                *[f"seed {order.seed}"] * order.draws,
-                *of_plan(order.made.told, self.main_moment, counts["moment"]),
-                *([] if order.limit is not None or is_simulated() else cautions(counts, drops, order.plan, names)),
-            ]:
-                say(line)
-        for line in [
-            *of_hosts(others),
-            *(told(order.transcript, counts["parts"]) if order.transcript else []),
-            *(f"void: {fault}" for fault in faults),
-        ]:
-            say(line)
-        if order.json:
-            told_all = {
-                "status": status,
-                "seed": order.seed,
-                "void": faults,
-                **net_record(self.net, counts, drops, endings),
-                "main": self.main_moment,
-                "acts": acts,
-            }
-            status = status_with_json(order.json, told_all, status)
-        return VOID if faults else status

@@ -1,8 +1,8 @@
-"""The rooms of a net's hosts: a network namespace each, with an interface for each link, names, addresses and ways.
+"""The rooms of a net's hosts: network namespaces with an interface for each link, names, addresses and routes.
 
-A host has an address of each family that is its own, on `lo`, and one for each end of a link. Its name leads to the
-first. A switch is no room: the links end there in their own process. Hosts at switches that are joined are in one
-network of Ethernet."""
+A host's name resolves to its address on `lo`, one for each IP version. Each link end has further addresses. A switch has no
+room: its links end in the switch process. The hosts at connected switches share an Ethernet network.
+"""
 
 from __future__ import annotations
 
@@ -12,7 +12,17 @@ from typing import Callable, Iterator, NamedTuple, Optional
 
 from hinge.net.description import Description
 from hinge.net.ways import Hop, first_hops, links_by_host
-from hinge.run.interfaces import add_address, add_interface_route, add_tun, all_dropped, hand_on, interface_route, know_groups
+from hinge.run.interfaces import (
+    MAIN_TABLE,
+    add_address,
+    add_interface_route,
+    add_tun,
+    all_dropped,
+    hand_on,
+    interface_route,
+    know_groups,
+    unforwarded,
+)
 from hinge.run.outside import Outside
 from hinge.run.rooms import add_names, furnish, see_own_processes
 from hinge.run.rtnetlink import Request, ask_many, index_of, one_socket
@@ -31,23 +41,23 @@ class Addresses(NamedTuple):
 
 
 def own_addresses(place: int) -> Addresses:
-    """Those of the host with this place in the file, from 1."""
+    """Returns the main addresses of the host with this place in the file, from 1."""
     return Addresses(f"10.8.{place >> 8}.{place & 255}", f"fd08::{place:x}")
 
 
 def end_addresses(link: int, end: int) -> Addresses:
-    """Those of an end, from 0, of the link with this place, from 0."""
+    """Returns the addresses of an end (0 or 1) of a link, with both counted from 0."""
     place = link + 1
     return Addresses(f"10.{9 + (place >> 8)}.{place & 255}.{end + 1}", f"fd09:{place:x}::{end + 1}")
 
 
 def mac_of(link: int) -> bytes:
-    """The hardware address of a host on the link with this place, from 0, to a switch: 02:00:00:00:00:01 on the first of a net."""
+    """Returns a host's hardware address on a link to a switch, such as 02:00:00:00:00:01 for link 0."""
     return bytes([2, 0, 0, 0]) + (link + 1).to_bytes(2, "big")
 
 
 class NetEnds:
-    """The names and addresses of a net's hosts and of the ends of its links."""
+    """The names and addresses of a net's hosts and link ends."""
 
     def __init__(self, net: Description) -> None:
         self.net = net
@@ -55,7 +65,7 @@ class NetEnds:
         self.links, self.ports = links_by_host(net), net.ports()
 
     def label(self, name: str, link: int) -> str:
-        """The end of a link at a host: `b.a` is that of b on its link to a, and `b.a.2` on its second one."""
+        """Returns the name of a link's end at a host: `b.a` is b's end on its link to a, and `b.a.2` on the second such link."""
         other = self.net.links[link].other(name)
         place = [number for number, to in self.links[name] if to == other].index(link)
         return f"{name}.{other}" + f".{place + 1}" * (place > 0)
@@ -65,7 +75,7 @@ class NetEnds:
         return label if len(label) <= LONGEST_INTERFACE else f"link{link + 1}"
 
     def place_of_end(self, name: str, link: int) -> tuple[int, int]:
-        """The link or the segment of an end, and the end's place there, both from 0."""
+        """Returns the link or segment of an end, and the end's place there, both counted from 0."""
         if (link, name) in self.ports:
             port = self.ports[link, name]
             return port.segment, port.number - 1
@@ -75,11 +85,11 @@ class NetEnds:
         return end_addresses(*self.place_of_end(name, link))
 
     def of_link(self, name: str, link: int) -> str:
-        """The address of an end that is of its link alone."""
+        """Returns the link-local address of an end."""
         return f"fe80::{self.place_of_end(name, link)[1] + 1:x}"
 
     def gateways(self, to: str, hop: Hop) -> tuple[Optional[str], Optional[str]]:
-        """The addresses of IPv4 and IPv6 of the router at a switch by which a way to another host leads, if any."""
+        """Returns the next router's IPv4 and IPv6 addresses if the route begins at a switch."""
         if hop.host == to or (hop.host_link, hop.host) not in self.ports:
             return None, None
         return self.at_end(hop.host, hop.host_link).four, self.of_link(hop.host, hop.host_link)
@@ -88,24 +98,32 @@ class NetEnds:
         return [*self.own[name], *(text for link, _ in self.links[name] for text in self.at_end(name, link))]
 
     def names(self) -> str:
-        """Lines of /etc/hosts: of IPv4, and names of their own of IPv6."""
+        """Returns the IPv4 lines for /etc/hosts; IPv6 addresses get separate names."""
         lines = [f"{addresses.four} {name}\n{addresses.six} ip6-{name}\n" for name, addresses in self.own.items()]
         return "".join([*lines, *(f"{at.four} {label}\n" for at, label in self.labels())])
 
     def names_of_six(self) -> str:
-        """Lines by which the names of IPv4 lead to IPv6 as well."""
+        """Returns the lines for /etc/hosts that add IPv6 addresses to the plain names."""
         lines = [f"{addresses.six} {name}\n" for name, addresses in self.own.items()]
         return "".join([*lines, *(f"{at.six} {label}\n" for at, label in self.labels())])
 
+    def drops(self, by_host: dict[str, dict[str, int]]) -> list[int]:
+        """Returns the system's drops before the links, by way, from its drops by host and interface."""
+        return [
+            by_host[name].get(self.interface(name, number), 0) if name in by_host else 0
+            for number, link in enumerate(self.net.links)
+            for name in link.ends
+        ]
+
     def labels(self) -> Iterator[tuple[Addresses, str]]:
-        """The addresses and names of the links' ends."""
+        """Yields the addresses and names of all link ends."""
         for name in self.own:
             for link, _ in self.links[name]:
                 yield self.at_end(name, link), self.label(name, link)
 
 
 def in_ipv6(do: Callable[[], None]) -> None:
-    """Does it where the system has IPv6."""
+    """Calls `do`, and ignores a failure if the system lacks IPv6."""
     try:
         do()
     except OSError:
@@ -113,7 +131,7 @@ def in_ipv6(do: Callable[[], None]) -> None:
 
 
 class NetRooms:
-    """Made in the first process."""
+    """The rooms of all hosts. Create them in the first process."""
 
     def __init__(self, net: Description, mtu: int) -> None:
         self.ends = NetEnds(net)
@@ -136,18 +154,18 @@ class NetRooms:
         add_names(self.ends.names() + "127.0.0.1 localhost\n", self.ends.names_of_six(), first, self.ends.own[first].four)
 
     def descriptors(self) -> list[int]:
-        """Those of the interfaces that there are."""
+        """Returns the descriptors of all interfaces."""
         return [interface for interface in self.interfaces if interface != AT_NO_HOST]
 
     def add_own(self, name: str) -> None:
-        """Gives the present network its host's own addresses."""
+        """Adds the host's main addresses to the current namespace."""
         for path in ("all", "default"):
             try_to_write(f"/proc/sys/net/ipv4/conf/{path}/rp_filter", "0")  # a way back may be another one
         add_address("lo", self.ends.own[name].four, 32)
         in_ipv6(lambda: add_address("lo", self.ends.own[name].six, 128))
 
     def add_end(self, name: str, link: int, mtu: int) -> int:
-        """Gives the present network an end of a link; its descriptor."""
+        """Adds a link's end to the current namespace; returns its descriptor."""
         interface, is_port = self.ends.interface(name, link), (link, name) in self.ends.ports
         descriptor = add_tun(
             *self.ends.at_end(name, link), self.ends.net.links[link].mtu or mtu, interface, mac=mac_of(link) if is_port else b""
@@ -158,15 +176,18 @@ class NetRooms:
         return descriptor
 
     def let_forward(self, name: str) -> None:
-        """Lets the present network hand packets on. Its interfaces don't know groups yet: else the kernel would ask
-        routers to one there."""
+        """Turns on forwarding in the current namespace. Multicast is off until then, or the kernel would look for routers
+        there."""
+        try_to_write("/proc/sys/net/ipv4/ip_forward", "1")  # also by interfaces that its programs add, as tunnels
         for link, _ in self.ends.links[name]:
             hand_on(self.ends.interface(name, link), is_asked=False)
         try_to_write("/proc/sys/net/ipv6/conf/all/forwarding", "1")
 
     def ways_of(self, name: str) -> Iterator[Request]:
-        """The routes to all hosts that the present one, of this name, reaches, and to groups. Without routes those to
-        its neighbours are worse than each that a daemon sets."""
+        """Yields routes from the current host to all reachable hosts and to multicast groups.
+
+        If the net leaves routes to a daemon, it yields only routes to neighbours, with a metric worse than any daemon's.
+        """
         own, numbers = self.ends.own[name], dict[int, int]()
         for link, _ in self.ends.links[name]:
             numbers[link] = index_of(self.ends.interface(name, link))
@@ -174,14 +195,8 @@ class NetRooms:
         for to, hop in first_hops(name, self.ends.net, self.ends.links).items():
             for address, source, gateway in zip(self.ends.own.get(to, ()), own, self.ends.gateways(to, hop)):
                 if is_plain or to == hop.host:
-                    yield interface_route(
-                        address,
-                        numbers[hop.link],
-                        source,
-                        metric=None if is_plain else WORST,
-                        may_fail=source == own.six,
-                        gateway=gateway,
-                    )
+                    metric, may_fail = None if is_plain else WORST, source == own.six
+                    yield interface_route(address, numbers[hop.link], source, None, MAIN_TABLE, metric, may_fail, gateway)
         if is_plain and numbers:
             # By the metric it has a next hop of its own: the kernel keeps with that whether a packet is for a group, and
             # would give the next one for a host the time to live of groups.
@@ -193,7 +208,7 @@ class NetRooms:
             know_groups(self.ends.interface(name, link), does)
 
     def lead_out(self, outside: Outside, by: str) -> None:
-        """Joins a host to the rest of the system's network. Where it hands packets on, the others reach that by it."""
+        """Connects a host to the system's network. If the host forwards packets, the other hosts reach the outside through it."""
         interfaces = [self.ends.interface(by, link) for link, _ in self.ends.links[by]] if self.ends.net.hosts[by].forwards else []
         others = (
             [address for name in self.network if name != by for address in self.ends.all_of(name) if ":" in address]
@@ -215,19 +230,22 @@ class NetRooms:
                     in_ipv6(partial(add_interface_route, "::", interface, own.six, 0, gateway=six))
 
     def enter(self, name: str) -> None:
-        """Makes this process one of the host: its network and its name."""
+        """Moves this process into the host's namespace and sets its host name."""
         enter(self.network[name])
         unshare(NEWUTS)
         socket.sethostname(name)
 
     def dropped(self) -> list[int]:
-        """What the system dropped before the links, by their ways."""
         by_host = dict[str, dict[str, int]]()
         for name, network in self.network.items():
             enter(network)
             by_host[name] = all_dropped()
-        return [
-            by_host[name].get(self.ends.interface(name, number), 0) if name in by_host else 0
-            for number, link in enumerate(self.ends.net.links)
-            for name in link.ends
-        ]
+        return self.ends.drops(by_host)
+
+    def unforwarded(self) -> dict[str, dict[str, int]]:
+        """Returns the packets for other hosts that the system didn't forward, by host and the system's counters."""
+        table = {}
+        for name, network in self.network.items():
+            enter(network)
+            table[name] = unforwarded()
+        return {name: counts for name, counts in table.items() if counts}

@@ -1,20 +1,22 @@
-"""A net from Python: its hosts and links, what runs there, and what is done to it while it runs.
+"""A net controlled from Python.
 
     with Net() as net:
         net.host("store", "exec redis-server --save ''", port=6379)
         net.host("client")
         net.link("client", "store", "10Mbit/s 20ms")
-        assert net.run("client", "redis-cli -h store ping").stdout == "PONG\\n"
+        assert net.run("client", "redis-cli -h store ping").stdout == "PONG
+"
         net.cut("store", 2)
 
-It is a process of `hinge net`, which ends with this one, however that ends. Times are seconds, or words as 600ms."""
+The net is a `hinge net` process, which ends when this process ends, even after SIGKILL. Times are seconds, or words such as
+600ms.
+"""
 
 from __future__ import annotations
 
 import os
+import re
 import shlex
-import subprocess
-import tempfile
 import time
 from pathlib import Path
 from types import TracebackType
@@ -23,12 +25,14 @@ from typing import IO, Any, Mapping, NamedTuple, Optional, Sequence, Union
 from hinge.border.asking import ask, is_answered
 from hinge.border.files import read_log, read_object
 from hinge.border.messages import Reply
-from hinge.border.scratch import temporary_place
+from hinge.border.programs import NOTHING, PIPE, CalledProcessError, CompletedProcess, Process, TimeoutExpired, asked, begun
+from hinge.border.scratch import Folder
 from hinge.border.terminal import lines
 from hinge.net.described import Command, Described, NetError, Time, spelled_time
 from hinge.net.description import Description, read_description
 from hinge.net.net_rooms import NetEnds
-from hinge.program import HINGE, dummynet, in_background
+from hinge.program import HINGE, audit_of, in_background
+from hinge.run.processes import SIGNALLED
 from hinge.run.words import Wrong
 from hingetulip_words.explained import explained
 
@@ -39,8 +43,8 @@ END_PATIENCE = 60.0  # s until it has ended
 LAST_LINES = 10  # of what a host printed, where its command failed
 
 
-class CommandFailed(subprocess.CalledProcessError):
-    """A command whose status isn't 0, with what it printed."""
+class CommandFailed(CalledProcessError):
+    """Raised if a command's status isn't 0; contains its output."""
 
     def __str__(self) -> str:
         output = "\n".join(text.rstrip() for text in (self.stdout, self.stderr) if isinstance(text, str) and text.strip())
@@ -48,14 +52,15 @@ class CommandFailed(subprocess.CalledProcessError):
 
 
 class Obeyed(NamedTuple):
-    """A configuration line that the links obey, or what happened to a host, and when, by the links' clock."""
+    """A configuration line or an act that took effect, with its moment on the links' clock."""
 
     seconds: float
     line: str
 
 
-def with_length(lasting: Optional[Time]) -> str:
-    return "" if lasting is None else f" {spelled_time(lasting)}"
+def spelled(*words: str, lasting: Optional[Time] = None) -> str:
+    """Returns words in a line, followed by a length if there is one."""
+    return " ".join(word for word in (*words, "" if lasting is None else spelled_time(lasting)) if word)
 
 
 def shell_words(command: Command) -> list[str]:
@@ -63,7 +68,7 @@ def shell_words(command: Command) -> list[str]:
 
 
 class Net(Described):
-    """What is said before `start` is how it begins. `run`, and a change without a moment, start it where it hasn't begun."""
+    """A net. Describe it, then call `start`; `run` and a change without a moment start the net if needed."""
 
     def __init__(
         self,
@@ -76,15 +81,16 @@ class Net(Described):
         link: str = "",
         back: Optional[str] = None,
     ) -> None:
-        """The folder gets the history, the summary and what the hosts print; without one they are gone after the end.
-        `link` and `back` are the links of which nothing else is said. `outside` is a host that leads to the rest of the
-        system's network."""
-        self.temporary = tempfile.TemporaryDirectory(prefix="hinge-net-", dir=temporary_place()) if folder is None else None
-        super().__init__(Path(self.temporary.name if self.temporary else str(folder)).absolute(), link, back)
+        """`folder` receives the history, the summary and the hosts' output. Without `folder`, they are deleted at the end.
+
+        `link` and `back` are the links without words in a line. `outside` is a host to connect to the system's network.
+        """
+        self.temporary = Folder() if folder is None else None
+        super().__init__(Path(self.temporary.path if self.temporary else str(folder)).absolute(), link, back)
         self.seed, self.mtu, self.late, self.outside = seed, mtu, late, outside
         self.obeyed: list[Obeyed] = []
         self.description: Optional[Description] = None
-        self.process: Optional["subprocess.Popen[bytes]"] = None
+        self.process: Optional["Process[bytes]"] = None
         self.leash = -1
 
     @property
@@ -94,13 +100,13 @@ class Net(Described):
 
     @property
     def socket(self) -> Path:
-        """For `hinge change`, `hinge status` and `hinge exec`."""
+        """The control socket, for `hinge change`, `hinge status` and `hinge exec`."""
         return self.folder / "control"
 
     # What is done to it.
 
     def obey(self, words: str, *, at: Optional[Time] = None) -> list[Obeyed]:
-        """Does what a line `at` says: at a moment, where the net hasn't begun, or now. NetError: a line is refused."""
+        """Applies the words of an `at` line: at a moment if the net hasn't started, otherwise now. NetError: a line is refused."""
         if at is not None:
             self.describe(f"at {spelled_time(at)} {words}")
             return []
@@ -122,42 +128,60 @@ class Net(Described):
         preset: Optional[str] = None,
         at: Optional[Time] = None,
     ) -> list[Obeyed]:
-        """The link has other words from then on."""
+        """Gives a link new words from this moment on; returns the applied lines."""
         return self.obey(f"{one} {two} {self.words(link, back, preset)}", at=at)
 
-    def cut(self, host: str, lasting: Optional[Time] = None, *, off: Sequence[str] = (), at: Optional[Time] = None) -> list[Obeyed]:
-        """The links of a host, or those to some others, lose all packets, for so long or until they are healed."""
-        return self.obey(" ".join(["cut", host, *["from"] * bool(off), *off]) + with_length(lasting), at=at)
+    def cut(
+        self,
+        host: str,
+        lasting: Optional[Time] = None,
+        *,
+        off: Sequence[str] = (),
+        way: str = "",
+        port: str = "",
+        at: Optional[Time] = None,
+    ) -> list[Obeyed]:
+        """Makes the links of a host, or those to some hosts, lose all packets, for a length or until a heal; returns the applied
+        lines. The way "up" contains the packets that the host sends, and "down" the packets that the host receives; a port such as
+        "tcp port 7001" restricts the cut to its packets."""
+        return self.obey(spelled("cut", host, *["from"] * bool(off), *off, way, port, lasting=lasting), at=at)
 
-    def heal(self, host: str, *, off: Sequence[str] = (), at: Optional[Time] = None) -> list[Obeyed]:
-        """Those links lose nothing any more."""
-        return self.obey(" ".join(["heal", host, *["from"] * bool(off), *off]), at=at)
+    def heal(self, host: str, *, off: Sequence[str] = (), way: str = "", port: str = "", at: Optional[Time] = None) -> list[Obeyed]:
+        """Ends a cut of the same links; returns the applied lines."""
+        return self.obey(spelled("heal", host, *["from"] * bool(off), *off, way, port), at=at)
+
+    def act(self, word: str, host: str, lasting: Optional[Time], at: Optional[Time]) -> list[Obeyed]:
+        """Returns the lines applied for a word about a host."""
+        return self.obey(spelled(word, host, lasting=lasting), at=at)
 
     def kill(self, host: str, lasting: Optional[Time] = None, *, at: Optional[Time] = None) -> list[Obeyed]:
-        """All that runs on a host is gone at once. Its command begins again after so long, or by `restart`."""
-        return self.obey(f"kill {host}{with_length(lasting)}", at=at)
+        """Kills all processes on a host; returns the applied acts. The command starts again after this time, or by `restart`."""
+        return self.act("kill", host, lasting, at)
 
     def crash(self, host: str, lasting: Optional[Time] = None, *, at: Optional[Time] = None) -> list[Obeyed]:
-        """All that runs on a host is gone, and what its disks didn't flush. Its command begins again at once, or after
-        so long. In simulated time."""
-        return self.obey(f"crash {host}{with_length(lasting)}", at=at)
+        """Crashes a host: kills its processes and drops its disks' unsynced writes; returns the applied acts.
+
+        The command starts again at once, or after this time. Only in simulated time.
+        """
+        return self.act("crash", host, lasting, at)
 
     def restart(self, host: str, *, at: Optional[Time] = None) -> list[Obeyed]:
-        """A host's command begins again, after a kill or at once."""
-        return self.obey(f"restart {host}", at=at)
+        """Starts a host's command again, after a kill if the command runs; returns the applied act."""
+        return self.act("restart", host, None, at)
 
     def stop(self, host: str, lasting: Optional[Time] = None, *, at: Optional[Time] = None) -> list[Obeyed]:
-        """All that runs on a host stands still, for so long or until `cont`."""
-        return self.obey(f"stop {host}{with_length(lasting)}", at=at)
+        """Pauses all processes on a host, for a time or until `cont`; returns the applied acts."""
+        return self.act("stop", host, lasting, at)
 
     def cont(self, host: str, *, at: Optional[Time] = None) -> list[Obeyed]:
-        """It goes on."""
-        return self.obey(f"cont {host}", at=at)
+        """Continues the processes on a host; returns the applied act."""
+        return self.act("cont", host, None, at)
 
     # What runs there.
 
     def start(self) -> Net:
-        """Begins it, if it hasn't begun, and waits until the ports are there. NetError: it can't begin, or ends before."""
+        """Starts the net if needed, and waits until the ports listen; returns the net. NetError: the net can't start, or ended
+        early."""
         if self.process is not None:
             return self
         self.folder.mkdir(parents=True, exist_ok=True)
@@ -190,25 +214,24 @@ class Net(Described):
         while not is_answered(str(self.socket)) and self.process.poll() is None:
             time.sleep(POLL)
         try:
-            silent = (self.asked(status=True).status or {})["silent"]
+            self.asked(status=True)
         except NetError:
             self.end()
-            raise NetError(self.told() or "the net has ended") from None
-        if silent:
-            self.end()
-            raise NetError("\n".join(f"{line}\n{self.last_lines(line.split()[0])}".rstrip() for line in silent))
+            silent = re.findall(r"^void: ((\S+) doesn't listen at port .*)$", self.told(), re.MULTILINE)
+            text = "\n".join(f"{line}\n{self.last_lines(host)}".rstrip() for line, host in silent)
+            raise NetError(text or self.told() or "the net has ended") from None
 
     def asked(self, change: Optional[str] = None, status: bool = False) -> Reply:
-        """The net's answer. NetError: it refuses the change, or doesn't answer."""
+        """Returns the net's reply to a request. NetError: the net refuses the change, or doesn't reply."""
         try:
             return ask(str(self.socket), PATIENCE, change=change, status=status)
         except Wrong as wrong:
             raise NetError(str(wrong)) from None
 
-    def popen(self, host: str, command: Command, **how: Any) -> "subprocess.Popen[Any]":
-        """A command on a host, which begins now. It ends with the net. What else is given is that of subprocess.Popen."""
+    def popen(self, host: str, command: Command, **how: Any) -> "Process[Any]":
+        """Starts a command on a host, which ends with the net; returns the process. `how` is passed to subprocess.Popen."""
         self.start()
-        return subprocess.Popen([*HINGE, "exec", str(self.socket), host, "--", *shell_words(command)], **how)
+        return begun([*HINGE, "exec", str(self.socket), host, "--", *shell_words(command)], **how)
 
     def run(
         self,
@@ -220,12 +243,10 @@ class Net(Described):
         input: Optional[str] = None,
         env: Optional[Mapping[str, str]] = None,
         cwd: Union[str, Path, None] = None,
-    ) -> "subprocess.CompletedProcess[str]":
-        """What a command on a host printed until it ended, and its status. CommandFailed: the status is checked, and isn't 0."""
-        stdin: Union[int, IO[str]] = subprocess.DEVNULL if input is None else subprocess.PIPE
-        process = self.popen(
-            host, command, stdin=stdin, stdout=subprocess.PIPE, stderr=subprocess.PIPE, text=True, env=env, cwd=cwd
-        )
+    ) -> "CompletedProcess[str]":
+        """Runs a command on a host; returns its output and status. CommandFailed: `check` is on, and the status isn't 0."""
+        stdin: Union[int, IO[str]] = NOTHING if input is None else PIPE
+        process = self.popen(host, command, stdin=stdin, stdout=PIPE, stderr=PIPE, text=True, env=env, cwd=cwd)
         try:
             stdout, stderr = process.communicate(input, timeout)
         except BaseException:
@@ -235,66 +256,64 @@ class Net(Described):
         words = f"{host}: {command if isinstance(command, str) else shlex.join(command)}"
         if check and process.returncode:
             raise CommandFailed(process.returncode, words, stdout, stderr)
-        return subprocess.CompletedProcess(words, process.returncode, stdout, stderr)
+        return CompletedProcess(words, process.returncode, stdout, stderr)
 
     def address(self, host: str, version: int = 4) -> str:
-        """The address of a host, which has one of each version of IP."""
+        """Returns a host's main address for this IP version."""
         self.start()
         return self.addresses()[host][version == 6]
 
     def addresses(self) -> dict[str, list[str]]:
-        """All addresses of the hosts of a net that has begun; the first two are a host's own."""
+        """Returns all addresses of a running net's hosts. The first two are a host's main addresses."""
         ends = NetEnds(self.description) if self.description else None
         return {name: ends.all_of(name) for name in ends.own} if ends else {}
 
     def output(self, host: str) -> str:
-        """What a host's command has printed."""
+        """Returns the output of a host's command so far."""
         return read_log(self.folder / "logs" / f"{host}.log")
 
     def last_lines(self, host: str) -> str:
         return lines("\n".join(f"  {line}" for line in self.output(host).splitlines()[-LAST_LINES:]))
 
     def status(self) -> dict[str, Any]:
-        """The counts up to now, or of the whole run where it has ended."""
+        """Returns the counts so far, or the whole run's after its end."""
         if self.process is not None and self.process.poll() is None:
             return self.asked(status=True).status or {}
         return read_object(self.folder / "net.json", "no summary of hinge net")
 
     def drawn_seed(self) -> int:
-        """The seed of the losses, which `hinge net` draws where none is given."""
+        """The seed for random losses. `hinge net` chooses one if none was set."""
         return int(self.status()["seed"]) if self.seed is None else self.seed
 
     # Its end.
 
     def end(self) -> None:
-        """Ends it: the hosts' commands get SIGTERM, and the summary and the history are whole."""
+        """Ends the net: the hosts' commands get SIGTERM, and the summary and the history are complete."""
         if self.process is None or self.leash < 0:
             return
         os.close(self.leash)
         self.leash = -1
         try:
             self.process.wait(END_PATIENCE)
-        except subprocess.TimeoutExpired:
+        except TimeoutExpired:
             self.process.kill()
             self.process.wait()
 
     def told(self) -> str:
-        """What `hinge net` told, as the summary of each way."""
+        """Returns the messages from `hinge net`, such as the summary of each way."""
         text = read_log(self.folder / "net.log")
         return lines("\n".join(line.replace("hinge net: ", "", 1) for line in text.splitlines()))
 
     def audit(self) -> str:
-        """Ends it; what dummynet says of its links: `lawful N`, or the first entry that isn't."""
-        return self.judged([dummynet(), "audit", str(self.history)])
+        """Ends the net; returns `dummynet audit`'s verdict on the links: `lawful N`, or the first wrong entry."""
+        self.end()
+        return audit_of(str(self.history))
 
     def paths(self) -> str:
-        """Ends it; what `hinge look` says of what is between the links: `lawful between links`, or that it isn't."""
-        return self.judged([*HINGE, "look", str(self.folder)]).rpartition("\n")[2]
-
-    def judged(self, words: list[str]) -> str:
+        """Ends the net; returns `hinge look`'s verdict on the paths between links, such as `lawful between links`."""
         self.end()
-        process = subprocess.run(words, capture_output=True, text=True)
-        return (process.stdout or process.stderr).strip()
+        answer = asked([*HINGE, "look", str(self.folder)], statuses=range(SIGNALLED))
+        return (answer.text.strip() or answer.told).rpartition("\n")[2]
 
     def __enter__(self) -> Net:
         return self
@@ -303,7 +322,7 @@ class Net(Described):
         self.close()
 
     def close(self) -> None:
-        """Ends it, and throws away a folder that nobody gave."""
+        """Ends the net, and deletes the folder if `hinge` created it."""
         self.end()
         if self.temporary:
-            self.temporary.cleanup()
+            self.temporary.remove()

@@ -1,20 +1,30 @@
-"""The lines of a file that describes a net, word by word, and where a wrong word is."""
+"""The lines of a file that describes a net, read word by word, with error messages that point to the wrong word."""
 
 from __future__ import annotations
 
 import difflib
-from typing import Iterable, Iterator
+from itertools import chain
+from typing import Iterable, Iterator, Sequence
 
-from hinge.run.words import Wrong, bare, duration, first_word, read_lines
+from hinge.command import CONFIGURATION
+from hinge.run.words import LONGEST, Wrong, bare, first_word, length_of, placed, read_lines
+from hingetulip_words.advice import net_line
 from hingetulip_words.presets import preset
 
 
+NO_HOST = "no host of this net"
+
+
 class Unobeyed(Wrong):
-    """A configuration line that the links don't take."""
+    """Raised if the links don't accept a configuration line."""
+
+    status = CONFIGURATION
 
 
 class Statement:
-    """A line of the file that says something; lines that end in a backslash are one with the next."""
+    """A line of the file; a line that ends in a backslash continues on the next."""
+
+    __slots__ = ("path", "number", "text", "word", "rest")
 
     def __init__(self, path: str, number: int, text: str) -> None:
         self.path, self.number, self.text = path, number, text
@@ -27,16 +37,29 @@ class Statement:
     def wrong(self, word: str, why: str) -> Wrong:
         return Wrong(f"{self.place}: {word!r}: {why}" if word else f"{self.place}: {why}")
 
-    def unknown(self, word: str, items: Iterable[str], what: str) -> Wrong:
-        near = difflib.get_close_matches(word, items, 1)
-        return self.wrong(word, f"{what}{f'; did you mean {near[0]!r}?' if near else ''}")
+    def unknown(self, word: str, items: Iterable[str], what: str, otherwise: str = "") -> Wrong:
+        near, line = difflib.get_close_matches(word, items, 1) if not word[:1].isdigit() else [], self.meant()
+        right = f"write {line}" if line else f"did you mean {near[0]!r}?" if near else otherwise
+        return self.wrong(word, f"{what}; {right}" if right else what)
+
+    def meant(self) -> str:
+        """Returns the likely intended line if this isn't a net's line; lines for `hinge change` contain no moment."""
+        line = net_line(self.text)
+        return line if self.number else line.removeprefix("at ").partition(" ")[2]
+
+    def refuse_twice(self, names: Sequence[str]) -> None:
+        """Wrong: the line names a host twice."""
+        second = next((name for place, name in enumerate(names) if name in names[:place]), None)
+        if second is not None:
+            before, _, behind = f"{self.text} ".removeprefix("" if self.number else "at ").rpartition(f" {second} ")
+            raise self.wrong(second, f"it stands twice; write {before} {behind}".rstrip())
 
     def peek(self) -> str:
-        """The next word, or nothing."""
+        """Returns the next word, or an empty string at the end."""
         return first_word(self.rest)[0]
 
     def take(self, form: str) -> str:
-        """The next word, which `form` shows in the place where it belongs."""
+        """Returns the next word and moves on. If the word is missing, the error message shows `form`."""
         word, rest = first_word(self.rest)
         if not word:
             raise self.wrong("", f"a word is missing: {form}")
@@ -44,15 +67,15 @@ class Statement:
         return word
 
     def take_time(self, form: str) -> int:
-        """The ns of the next word. Wrong: it is no time."""
+        """Reads a time in ns. Wrong: the next word is no time."""
         word = self.take(form)
-        try:
-            return duration(word)
-        except Wrong as wrong:
-            raise Wrong(f"{self.place}: {wrong}") from None
+        if word == "for" and (line := self.meant()):
+            raise self.wrong(word, f"no word before a length; write {line}")
+        with placed(self.place):
+            return length_of(word)
 
     def both_ways(self, text: str) -> tuple[str, str]:
-        """The words of a link's two ways: `LINK`, `LINK / LINK` or `preset NAME`."""
+        """Returns the words of a link's two ways, from `LINK`, `LINK / LINK` or `preset NAME`."""
         words = text.split()
         if words[:1] == ["preset"]:
             try:
@@ -71,12 +94,31 @@ class Statement:
 TAKES_A_COMMAND = ("host", "main", "router")
 
 
+OFTEN = ("link", "nemesis", "host", "main", "router", "switch")  # a second line is another one, or is refused by its name
+SUBJECTS = {"mtu": -1, "trace": -1, "wait": 4, "disk": 3, "faults": 1, "routes": 1}  # the words that a second line has too
+
+
 def statements(path: str) -> Iterator[Statement]:
-    """Those of a file. A command is the shell's, with its comments; the other lines end where a comment begins."""
+    """Yields the statements of a file. Wrong: two lines set the same value."""
+    before = dict[str, Statement]()
+    for statement in all_statements(path):
+        words = statement.text.split()
+        subject = " ".join(words[: SUBJECTS.get(statement.word)])
+        first = before.setdefault(subject, statement)
+        if first is not statement and statement.word not in OFTEN:
+            raise statement.wrong(subject, f"line {first.number} says this already; leave one of them out")
+        yield statement
+
+
+def all_statements(path: str) -> Iterator[Statement]:
+    """Yields all statements. A command keeps its comments for the shell; other lines end at a comment. Wrong: a line and its
+    continuation lines are too long."""
     before, first = "", 0
-    for number, line in enumerate([*read_lines(path), ""], 1):
+    for number, line in enumerate(chain(read_lines(path), [""]), 1):
         first = first if before else number
         line = before + line.strip()
+        if len(line) > LONGEST:
+            raise Wrong(f"{path} line {first}: with the lines behind it, it has more than {LONGEST:,} letters")
         before = line[:-1].rstrip() + " " if line.endswith("\\") else ""
         if before or line.startswith("#"):
             continue

@@ -1,5 +1,4 @@
-"""The shortest ways between the hosts of a net, over hosts that hand packets on: of those that are as short, by the
-links that come first."""
+"""The shortest routes between the hosts of a net, through hosts that forward packets. Among equal routes, earlier links win."""
 
 from __future__ import annotations
 
@@ -10,7 +9,7 @@ from hinge.net.description import Description
 
 
 def links_by_host(net: Description) -> dict[str, list[tuple[int, str]]]:
-    """The links of each host, by their places, and where they lead."""
+    """Returns each host's links, with their numbers and the host at the other end."""
     table: dict[str, list[tuple[int, str]]] = {name: [] for name in net.hosts}
     for number, link in enumerate(net.links):
         for name in link.ends:
@@ -19,8 +18,10 @@ def links_by_host(net: Description) -> dict[str, list[tuple[int, str]]]:
 
 
 class Hop(NamedTuple):
-    """How a way from a host begins: by a link of it, and to a host that gets the packet there, at the end of a link of
-    its own where switches are between the two."""
+    """The first hop of a route: the link to use, and the host that receives the packet.
+
+    If there are switches between both hosts, `host_link` is the receiver's link to the last switch.
+    """
 
     link: int
     host: str
@@ -28,7 +29,7 @@ class Hop(NamedTuple):
 
 
 def first_hops(start: str, net: Description, links: dict[str, list[tuple[int, str]]]) -> dict[str, Hop]:
-    """How the way from a host to each other one begins; hosts that can't be reached are left out."""
+    """Returns the first hop from a host to each other host; unreachable hosts are missing."""
     table: dict[str, Hop] = {}
     queue = deque([start])
     while queue:
@@ -45,7 +46,7 @@ def first_hops(start: str, net: Description, links: dict[str, list[tuple[int, st
 
 
 class Gap(NamedTuple):
-    """Two hosts between which there is no way, as one with links to both hands nothing on."""
+    """Two hosts without a route between them, since a host with links to both doesn't forward packets."""
 
     start: str
     end: str
@@ -53,7 +54,7 @@ class Gap(NamedTuple):
 
 
 def gap(net: Description) -> Optional[Gap]:
-    """The first one at a host on which nothing runs: it can only have been meant as a router."""
+    """Returns the first gap at a host without a command, which was probably meant as a router."""
     links = links_by_host(net)
     for name, host in net.hosts.items():
         others = list(dict.fromkeys(other for _, other in links[name]))

@@ -1,2 +1,2 @@
-"""`hinge run` and `hinge udp`: programs behind emulated links, in real time. The packets pass through the host
-hinge-link, in C."""
+"""`hinge run` and `hinge udp`: programs behind emulated links, in real time. The host hinge-link, written in C, carries the
+packets."""

@@ -1,60 +1,72 @@
-"""What happens to the links in the course of a run: lines at moments, and outages."""
+"""Changes to links during a run: lines at moments, and outages."""
 
 from __future__ import annotations
 
 from bisect import bisect_right
 from operator import itemgetter
-from typing import Iterator, NamedTuple
+from typing import Iterable, Iterator, NamedTuple, Sequence, Union
 
 from hinge.arguments import is_number
 from hinge.run.traces import outage_rate
-from hinge.run.words import LAST_MOMENT, Target, configures, target_of, with_bandwidth
+from hinge.run.words import LAST_MOMENT, Target, Wrong, configures, target_of, with_bandwidth
 
 
 class Change(NamedTuple):
     moment: int  # ns
     line: str  # that the host follows, of a configuration or of cuts.h, or `outage PIPE LENGTH` as an outage begins
 
-    @property
-    def told(self) -> str:
-        """As people read it."""
-        kind, _, rest = self.line.partition(" ")
-        return f"pipe {rest.split()[0]} {kind}" if kind in ("cut", "open", "heal") else self.line
+
+def refuse_second(new: Sequence[Change], before: set[tuple[int, Target]]) -> None:
+    """Wrong: a change configures the target of another change at the same moment, which would have no effect."""
+    for one in new:
+        subject = one.moment, target_of(one.line)
+        if configures(one.line) and subject in before:
+            raise Wrong(f"a line before changes {subject[1].kind} {subject[1].number} at this moment too; leave one of them out")
+        before.add(subject)
 
 
 class Outage(NamedTuple):
-    """One in which packets wait, and none is lost."""
+    """An outage that delays packets and loses none."""
 
     moment: int
     length: int  # ns
     pipe: int
 
 
+Happening = Union[Change, Outage]
+
+
 class Changes:
-    """All that happens, each kind in the order in which it was given."""
+    """All changes of a run, each kind in the order of the command line."""
 
     def __init__(self, table: dict[Target, str], longest: int, first: int = 1) -> None:
-        """`begun` has the lines that hold from the beginning; a longest packet has so many bytes. Cuts are numbered
-        from the first on, and no two of a run have the same number."""
+        """`table` contains the lines at the start, and `longest` the length of the longest packet in bytes. `first` is the
+        number of the first cut; a number must be unique within a run."""
         self.begun, self.longest, self.latest = table, longest, first - 1
         self.lines: list[Change] = []
         self.outages: list[Outage] = []
 
-    def lose(self, moment: int, length: int, pipe: int) -> None:
-        """A cut: a pipe loses all packets. The host counts cuts by their numbers, and opens a pipe as its last one ends."""
+    def add(self, happenings: Iterable[Happening]) -> None:
+        for one in happenings:
+            if isinstance(one, Outage):
+                self.outages.append(one)
+            else:
+                self.lines.append(one)
+
+    def cut(self, moment: int, length: int, pipe: int, port: str) -> list[Change]:
+        """Returns a cut's lines, for a port if `port` names one. The host counts cuts: a pipe opens when its last cut ends."""
         self.latest += 1
-        self.lines.append(Change(moment, f"cut {pipe} {self.latest}"))
-        if moment + length < LAST_MOMENT:
-            self.lines.append(Change(moment + length, f"open {pipe} {self.latest}"))
+        end = [Change(moment + length, f"open {pipe} {self.latest}")] * (moment + length < LAST_MOMENT)
+        return [Change(moment, f"cut {pipe} {self.latest}{port}"), *end]
 
     def lines_of(self, pipe: int) -> list[Change]:
-        """The lines of a pipe by their moments, as if there were no outages; the first holds from the beginning."""
+        """Returns a pipe's lines, sorted by moment, without its outages. The first line applies from the start."""
         target = Target("pipe", pipe)
         first = [Change(0, self.begun[target])] if target in self.begun else []
         return first + sorted((one for one in self.lines if target_of(one.line) == target), key=lambda one: one.moment)
 
     def shared(self) -> set[int]:
-        """The pipes with queues of their own or with masks, whose packets don't begin in the order in which they came."""
+        """Returns the pipes with queues or masks. Their packets may start in a different order than they arrived."""
         members = set()
         for line in [*self.begun.values(), *(change.line for change in self.lines)]:
             if "mask" not in line and "queue" not in line[: len("ipfw queue")]:
@@ -68,7 +80,7 @@ class Changes:
         return members
 
     def holds(self) -> list[tuple[int, int, int]]:
-        """The outages of pipes of one queue, each with its pipe, beginning and end: those that meet are one."""
+        """Returns the outages of pipes with a single queue, as pipe, start and end. Overlapping outages are merged."""
         items: list[tuple[int, int, int]] = []
         common = self.shared() if self.outages else ()
         for pipe, begin, end in sorted(
@@ -81,7 +93,7 @@ class Changes:
         return items
 
     def of_outage(self, outage: Outage, lines: list[Change], moments: list[int]) -> list[Change]:
-        """What an outage does to a pipe of these lines, which have these moments."""
+        """Returns the changes that an outage makes to a pipe with these lines and moments."""
         before, after = (lines[bisect_right(moments, moment) - 1].line for moment in (outage.moment, outage.moment + outage.length))
         if not configures(before):
             return []  # it was deleted before
@@ -103,5 +115,5 @@ class Changes:
                     yield from self.of_outage(outage, lines, moments)
 
     def all(self) -> list[Change]:
-        """All changes by their moments, and by their order at one moment, at which an outage's come last."""
+        """Returns all changes, sorted by moment. At the same moment, an outage comes after other changes."""
         return sorted([*self.lines, *self.of_outages()], key=itemgetter(0))

@@ -1,18 +1,17 @@
-"""A socket by which a link is changed, asked and entered while it runs: `hinge change`, `hinge status` and `hinge exec`
-speak to it."""
+"""The control socket of a running link, which `hinge change`, `hinge status` and `hinge exec` use."""
 
 from __future__ import annotations
 
 import errno
 import os
 import signal
-import threading
 import time
-from typing import Any, Callable, NamedTuple, Optional
+from typing import Any, Callable, NamedTuple, Optional, Union
 
 from hinge.border.messages import ObeyedLine, Order, Reply
 from hinge.border.serving import PATIENCE, Answer, Client, Server
-from hinge.run.changes import Change
+from hinge.events.forms import OF_LINKS
+from hinge.run.changes import Change, Happening
 from hinge.run.host_lines import LONGEST_LINE, HostLines
 from hinge.run.page import Page
 from hinge.run.plan import Plan
@@ -23,40 +22,42 @@ Record = dict[str, Any]
 
 
 class HostRoom(NamedTuple):
-    """A host's room, as another process enters it."""
+    """A host's room, for another process that enters it."""
 
     doors: list[int]  # of doors.py
     variables: dict[str, str]  # of the environment there
 
 
 Enter = Callable[[str], HostRoom]
-Act = Callable[[str], Optional[ObeyedLine]]
+Effect = Union[ObeyedLine, "list[Happening]"]
+Obey = Callable[[str, int], Effect]
 
 
 def nobody(host: str) -> HostRoom:
-    """Refuses the hosts of a run without rooms. Wrong: always."""
+    """Refuses a host name in a run without rooms. Wrong: always."""
     raise Wrong(f"{host!r}: it has no hosts of its own")
 
 
 class Control:
-    """The socket of a run. It is made before the links, and answers once `serve` was called; then nothing else uses
-    the plan. One order at a time changes it."""
+    """The socket of a run. Create it before the links, and call `serve` to answer clients.
+
+    After that, only this object may use the plan. Requests that change the plan wait for each other.
+    """
 
     def __init__(
         self,
         path: str,
         plan: Plan,
         page: Page,
-        event: Callable[[str, str], None],
+        obey: Obey,
         status: Callable[[], Record],
         enter: Enter = nobody,
         lines: Optional[HostLines] = None,
-        act: Optional[Act] = None,
     ) -> None:
-        """`event` gives the plan what words say of a moment, as 5s; `status` tells how it goes; `enter` opens a
-        host; `act` does what words say where they are of no link, and returns nothing where they are of one."""
-        self.plan, self.page, self.event, self.status, self.enter = plan, page, event, status, enter
-        self.lines, self.act, self.turn = lines or HostLines(), act, threading.Lock()
+        """`obey` carries out words about hosts and reports the links' part, as words with a moment in ns; `status` reports counts;
+        `enter` opens a host."""
+        self.plan, self.page, self.obey, self.status, self.enter = plan, page, obey, status, enter
+        self.lines = lines or HostLines()
         self.until, self.is_wanted = 0.0, lambda: True  # of the order that is obeyed
         try:
             self.server = Server(path)
@@ -85,52 +86,53 @@ class Control:
         return Answer(Reply(status=self.status()))
 
     def change_by(self, words: str, client: Client) -> list[ObeyedLine]:
-        """What a client asks for, after the orders before it. Wrong: it is too long, came to a busy run, or its client has gone."""
-        until = time.monotonic() + PATIENCE
+        """Changes links for a client, after earlier requests; returns the applied lines.
+
+        Wrong: the request is too long, the run is busy, or the client has gone.
+        """
         if len(words) > LONGEST_LINE:
             raise Wrong(f"words of more than {LONGEST_LINE:,} letters")
-        if not self.turn.acquire(timeout=PATIENCE):
+        if time.monotonic() > client.until:
             raise Wrong(f"not obeyed: another order is under way since {PATIENCE:g} s")
-        try:
-            if not client.is_there():
-                raise Wrong("not obeyed: its client has gone")
-            self.until, self.is_wanted = until, client.is_there
-            return self.change(words)
-        finally:
-            self.turn.release()
+        if not client.is_there():
+            raise Wrong("not obeyed: its client has gone")
+        self.until, self.is_wanted = client.until, client.is_there
+        return self.change(words)
 
     def change(self, words: str) -> list[ObeyedLine]:
-        """Has the host obey words: each line with its moment, in ns, and why it is refused. Wrong: no lines say what they ask."""
-        result = self.act(words) if self.act else None
-        if result is not None:
-            return [result]
-        changes, moment = self.plan.changes, self.moment()
-        lines, outages = len(changes.lines), len(changes.outages)
-        try:
-            self.event(f"{moment}ns", words)
-        except Wrong as wrong:
-            raise Wrong(str(wrong).replace(f"{moment}ns: ", f"'{words}': ", 1)) from None
-        new, holds = changes.lines[lines:], changes.outages[outages:]
-        del changes.lines[lines:], changes.outages[outages:]
-        if holds:
+        """Makes the host apply words; returns each line with its moment in ns, or with the reason for a refusal.
+
+        Wrong: the words produce no line.
+        """
+        moment = self.moment()
+        new = self.obey(words, moment)
+        if isinstance(new, ObeyedLine):
+            return [new]
+        changes = [one for one in new if isinstance(one, Change)]
+        if len(changes) < len(new):
             raise Wrong("an outage from now on loses packets: write `outage LENGTH lossy`")
-        return self.followed(new, moment)
+        for kind in ("change", *["act"] * (words.split()[0] in OF_LINKS)):
+            self.lines.ask(f"line remark {kind},{words}", self.until, self.is_wanted)
+        return self.followed(changes, moment)
 
     def followed(self, new: list[Change], moment: int) -> list[ObeyedLine]:
-        """What the host says of lines from now on. A cut and its end are one line for it, so that none lasts whose end isn't
-        taken."""
+        """Returns the host's answers to lines that apply from now on. A cut and its end form a single line, so that no cut stays
+        without an end. Wrong: a heal ends no cut."""
         ends = {one.line.partition(" ")[2]: one.moment for one in new if one.line.startswith("open ")}
         replies = list[ObeyedLine]()
+        is_heal = bool(new) and all(one.line.startswith("heal ") for one in new)
         for one in new:
-            kind, _, cut = one.line.partition(" ")
+            kind, cut = one.line.split(" ", 1)[0], " ".join(one.line.split(" ", 3)[1:3])
             if kind == "cut" and cut in ends:
                 replies += self.cut_for(one.line, ends[cut] - moment)
             elif kind != "open":
                 replies.append(self.asked_of_host(self.plan.lossy(one.line), one.moment - moment))
-        return replies
+        if is_heal and all(one.line.startswith("heal ") and not one.refused for one in replies):
+            raise Wrong("heal: no cut of such a link goes on")
+        return [one for one in replies if not one.line.startswith("heal ") or one.refused]
 
     def cut_for(self, line: str, length: int) -> list[ObeyedLine]:
-        """A cut from now on that ends after so many ns."""
+        """Starts a cut that ends after `length` ns; returns the host's reply."""
         answer = self.lines.ask(f"outage {length} {line}", self.until, self.is_wanted)
         if answer.wrong:
             return [ObeyedLine(answer.moment, line, answer.wrong)]
@@ -138,13 +140,14 @@ class Control:
         return [ObeyedLine(moment, text) for moment, text in zip(moments, answer.line.split("\n"))]
 
     def moment(self) -> int:
-        """Now, by the links' clock. Wrong: they don't answer."""
+        """Returns the present moment on the links' clock. Wrong: the links don't reply."""
         answer = self.lines.ask("moment", self.until, self.is_wanted)
         if answer.wrong:
             raise Wrong(answer.wrong)
         return answer.moment
 
     def asked_of_host(self, line: str, later: int = 0) -> ObeyedLine:
-        """Has it obey a line so many ns later; the line that the pipe gets then, if nothing else comes before."""
+        """Makes the host apply a line after `later` ns; returns the pipe's line from then on, unless another change comes
+        first."""
         answer = self.lines.ask(f"at {later} {line}" if later else f"line {line}", self.until, self.is_wanted)
         return ObeyedLine(answer.moment + later, answer.line or line, answer.wrong)

@@ -1,5 +1,7 @@
-"""The doors of a run's rooms: descriptors of the first process's namespaces and of a room's network, by which another
-process enters that room and runs a command there as the run's own commands do."""
+"""The doors to a run's rooms: descriptors for the first process's namespaces and a room's network.
+
+A process uses them to enter the room and run a command there, like the run's commands.
+"""
 
 from __future__ import annotations
 
@@ -13,32 +15,31 @@ from hinge.run.rooms import start
 from hinge.run.system import NEWNET, NEWNS, NEWPID, NEWUSER, NEWUTS, die_with_parent, join, unshare
 
 KINDS = (("user", NEWUSER), ("mnt", NEWNS), ("pid", NEWPID))  # in the order in which they are entered
-DOORS = len(KINDS) + 2  # with the root and a room's network
+DOORS = len(KINDS) + 2  # with the root and a room's network; and cgroup.procs of its cgroup, where it has one
 
 
 class Doors:
-    """Made in the first process."""
+    """Create the doors in the first process."""
 
     def __init__(self) -> None:
         self.shared = [held("/"), *(held(f"/proc/thread-self/ns/{kind}") for kind, _ in KINDS)]
 
     def to(self, network: int, mounts: Optional[list[int]] = None) -> list[int]:
-        """Those of the room with this network, and with a root and a mount namespace of its own, if it has such."""
+        """Returns the doors of the room with this network, and with the root and mount namespace in `mounts`, if any."""
         root, users, namespace, processes = self.shared
         root, namespace = mounts or (root, namespace)
         return [root, users, namespace, processes, network]
 
 
 def is_here(namespace: int, kind: str) -> bool:
-    """Whether this process is in a namespace already, which can't be entered twice."""
+    """Returns whether this process is already in the namespace. Linux refuses to enter it twice."""
     return os.fstat(namespace).st_ino == os.stat(f"/proc/self/ns/{kind}").st_ino
 
 
 def started_behind(doors: Sequence[int], host: str, words: Sequence[str], mask: Mask) -> int:
-    """Starts a command in a room of a run, and returns its process. This process's later children are in that run too,
-    and end with it."""
+    """Starts a command in a run's room; returns its process. This process's later children also run there, and end with the run."""
     folder = os.getcwd()
-    root, *namespaces, network = doors
+    root, *namespaces, network = doors[:DOORS]
     strange = [(namespace, flag) for (kind, flag), namespace in zip(KINDS, namespaces) if not is_here(namespace, kind)]
     for namespace, flag in strange:
         join(namespace, flag)
@@ -47,6 +48,8 @@ def started_behind(doors: Sequence[int], host: str, words: Sequence[str], mask: 
 
     def enter_room() -> None:
         die_with_parent()
+        for cgroup in doors[DOORS:]:
+            os.write(cgroup, b"0")
         join(network, NEWNET)
         unshare(NEWUTS)
         socket.sethostname(host)

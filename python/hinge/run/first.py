@@ -1,41 +1,36 @@
-"""The first process of the rooms, on which all of them hang, as the process that waits for it sees it."""
+"""The rooms' first process, on which all other processes depend, and the process that waits for it."""
 
 from __future__ import annotations
 
 import os
+import select
 import signal
-import sys
-from typing import Callable, NoReturn
+from typing import Callable, Optional
 
-from hinge.border.terminal import tell
-from hinge.command import Told, say
+from hinge.border.programs import forked
 from hinge.run.system import die_with_parent
 
-REFUSED, INTERRUPTED = 6, 130
-BLOCKED = {signal.SIGCHLD, signal.SIGTERM, signal.SIGHUP, signal.SIGINT}
+INTERRUPTED = 130
+BLOCKED = {signal.SIGCHLD, signal.SIGTERM, signal.SIGHUP, signal.SIGINT, signal.SIGIO}
 
 
-def live(run: Callable[[], int]) -> NoReturn:
-    """The whole life of the first process, which ends with the status that `run` returns."""
-    status = REFUSED
-    try:
+def first_process(run: Callable[[], int]) -> int:
+    """Forks this process; returns the child, which ends with this process, or with the status that `run` returns."""
+    parent = os.pidfd_open(os.getpid())  # since the child sees no number of a process outside its namespace
+
+    def live() -> int:
         die_with_parent()
-        status = run()
-    except Told as told:
-        say(str(told))
-    except OSError as error:
-        say(f"{error.filename or 'the system'}: {error.strerror}")
-    except Exception:  # a defect of the kit, which would be silent below
-        import traceback
+        return INTERRUPTED if select.select([parent], [], [], 0)[0] else run()
 
-        tell(traceback.format_exc(), "")
-    finally:
-        sys.stderr.flush()
-        os._exit(status)
+    first = forked(live)
+    os.close(parent)
+    return first
 
 
-def status_of(first: int) -> int:
-    """The status of the first process, which gets all signals but a terminal's ^C: that came to the command too."""
+def status_of(first: int, leash: Optional[int] = None) -> int:
+    """Returns the first process's status. Signals are passed on to it, except ^C from a terminal, which the command receives too.
+    SIGIO reports that the leash, a pipe, was closed at the other end, which means SIGTERM, or that a byte arrived, after which a
+    close means nothing."""
     is_interrupted = False
     while True:
         came = signal.sigwaitinfo(BLOCKED)
@@ -44,6 +39,11 @@ def status_of(first: int) -> int:
             if process:
                 status = os.WEXITSTATUS(status) if os.WIFEXITED(status) else 128 + os.WTERMSIG(status)
                 return INTERRUPTED if is_interrupted and status == 128 + signal.SIGTERM else status
+        elif came.si_signo == signal.SIGIO:
+            if leash is not None and select.select([leash], [], [], 0)[0]:
+                if not os.read(leash, 1):
+                    os.kill(first, signal.SIGTERM)
+                leash = None
         elif came.si_signo != signal.SIGINT or came.si_code == 0:
             is_interrupted = came.si_signo == signal.SIGINT
             os.kill(first, signal.SIGTERM)

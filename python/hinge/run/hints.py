@@ -1,4 +1,4 @@
-"""What a user of `hinge run` may have meant, told before the command begins."""
+"""Hints about a probable mistake in a `hinge run` command, printed before the command starts."""
 
 from __future__ import annotations
 
@@ -14,26 +14,28 @@ from hingetulip_words.link import corrected
 CLIENTS = """curl dig=bind9-dnsutils host=bind9-host iperf iperf3 mtr=mtr-tiny nc=netcat-openbsd ncat nslookup=bind9-dnsutils
 ping=iputils-ping socat ssh=openssh-client telnet traceroute wget"""
 PACKAGES = {name: package or name for name, _, package in (word.partition("=") for word in CLIENTS.split())}  # of Debian
+SERVERS = {"babeld": "babeld", "bird": "bird2", "etcd": "etcd-server", "keepalived": "keepalived", "redis-server": "redis-server"}
 HOSTS = "/etc/hosts"
-URL = re.compile(r"[a-z][a-z0-9+.-]*://(?:[^@/]*@)?(\[[^]]*\]|[^/:]*).*", re.IGNORECASE)
-HOST = re.compile(r"(?=.*[.:])[\w.:-]+\.?", re.ASCII)
+URL = re.compile(r"[a-z][a-z0-9+.-]*://(?:[^@/]*@)?(\[[^]]*\]|[^/:]*)(?::(\d+))?.*", re.IGNORECASE)
+HOST = re.compile(r"(?=.*[.:])[\w.:-]+\.?|localhost", re.ASCII)
+LOCAL = re.compile(r"localhost|127\..*|::1", re.IGNORECASE)
 OWN = re.compile(r"(server|client|localhost|127\..*|::1|10\.8\..*|fd08:.*)", re.IGNORECASE)
 
 
 def link_as_command(command: Sequence[str]) -> Optional[str]:
-    """What to write where the words of a link stand in the place of the command."""
+    """Returns advice if the command consists of a link's words."""
     words = list(takewhile(lambda word: word != "--", command))
     if not words or len(words) == len(command) or shutil.which(words[0]):
         return None
     link = corrected(" ".join(words))
-    return None if link is None else f"{words[0]!r} is no command; write --link '{link}' -- {' '.join(command[len(words) + 1:])}"
+    return None if link is None else f"{words[0]!r} isn't a command; write --link '{link}' -- {' '.join(command[len(words) + 1:])}"
 
 
 def lacking(command: Sequence[str]) -> Optional[str]:
-    """What the system lacks for a command, and how to get it: its program, and /etc/hosts, over which the name `server` is put."""
+    """Returns advice if the system lacks the command's program, or /etc/hosts, which is needed for the name `server`."""
     names, ways = list[str](), list[str]()
     if command and "/" not in command[0] and shutil.which(command[0], os.F_OK) is None:
-        package = PACKAGES.get(command[0])
+        package = (PACKAGES | SERVERS).get(command[0])
         names.append(command[0] if package else f"{command[0]} on the path")
         ways += [f"apt-get install {package}"] if package else []
     if re.search(r"\bserver\b", " ".join(command)) and not os.path.exists(HOSTS):
@@ -42,23 +44,33 @@ def lacking(command: Sequence[str]) -> Optional[str]:
     return f"there is no {' and no '.join(names)}{': ' * bool(ways)}{'; '.join(ways)}" if names else None
 
 
-def far_host(command: Sequence[str]) -> Optional[str]:
-    """The host that a client asks for, if it isn't one of a run."""
-    if not command or os.path.basename(command[0]) not in PACKAGES:
-        return None
-    for word in command[1:]:
+def asked_hosts(command: Sequence[str]) -> Iterator[tuple[str, str]]:
+    """Yields the hosts that a client requests, with their ports if given."""
+    for place, word in enumerate(command[1:] if command and os.path.basename(command[0]) in PACKAGES else (), 1):
         url = URL.fullmatch(word)
         name = url[1].strip("[]") if url else word if HOST.fullmatch(word) and not word.replace(".", "", 1).isdigit() else ""
-        if name and not word.startswith("-") and not OWN.fullmatch(name) and not os.path.exists(word):
-            return name
-    return None
+        if name and not word.startswith("-") and not os.path.exists(word):
+            behind = "".join(command[place + 1 : place + 2])
+            port = (url[2] or ("443" if word.startswith("https") else "80")) if url else behind if behind.isdigit() else ""
+            yield name, port
+
+
+def far_host(command: Sequence[str]) -> Optional[str]:
+    """Returns the host that a client tries to reach, if it is outside the run."""
+    return next((name for name, _ in asked_hosts(command) if not OWN.fullmatch(name)), None)
 
 
 def hints(run: RunOptions) -> Iterator[str]:
-    if run.quiet:
-        return
-    if not run.has_link():
+    if not (run.quiet or run.has_link()):
         yield "no link is given, so nothing is slowed or lost: --link '10Mbit/s 20ms loss 1%' or --preset lte gives one"
-    far = far_host(run.command)
-    if far is not None and not run.leads_outside() and run.netns is None and run.net is None:
+    far = None if run.quiet else far_host(run.command)
+    if far is not None and not (run.outside or run.outside_loopback) and run.netns is None and run.net is None:
         yield f"{far}: behind the link is the host `server` alone; --outside leads to the rest of the network"
+    for name, port in asked_hosts(run.command):
+        if LOCAL.fullmatch(name) and run.netns is None and port not in map(str, run.to):
+            to = (
+                f"--to {port} brings this system's port {port} behind it"
+                if port
+                else "--to PORT brings a port of this system behind it"
+            )
+            yield f"{name} is the client's own address, before the link: {to}, and `server` is the host at its end"

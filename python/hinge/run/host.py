@@ -1,4 +1,4 @@
-"""The host hinge-link: where it is, and its start."""
+"""The host hinge-link: finding and starting it."""
 
 from __future__ import annotations
 
@@ -7,13 +7,16 @@ import os
 import signal
 import sys
 from pathlib import Path
-from typing import Iterable, Optional, Sequence
+from typing import TYPE_CHECKING, Iterable, Optional, Sequence
 
-from hinge.run.control import Control
+from hinge.border.programs import become, forked
 from hinge.run.host_lines import HostLines
 from hinge.run.page import STARTING, Page
 from hinge.run.processes import SIGNALLED, Mask, Processes
 from hinge.run.system import Missing
+
+if TYPE_CHECKING:
+    from hinge.run.control import Control
 
 NAME = "hinge-link"
 HERE = Path(__file__).resolve().parent
@@ -21,15 +24,16 @@ POLL = 0.0005  # s between looks at the page
 
 
 def program() -> str:
-    """What the variable HINGE_LINK names, else the host beside this module, as it is installed, else that of the
-    repository in which this module lies: the one that tools/release/hosts has built, or the released one.
-    Missing: there is none."""
+    """Returns the path to hinge-link: the variable HINGE_LINK, the installed host beside this module, or the repository's host.
+
+    In a repository, the host from tools/release/hosts precedes the released host. Missing: there is no hinge-link.
+    """
     if sys.platform != "linux":
         raise Missing("the host is a program of Linux")
     repository = HERE.parents[2]
     for place in (os.environ.get("HINGE_LINK"), HERE / NAME, repository / "built" / NAME, repository / "release" / NAME):
         if place and os.access(place, os.X_OK):
-            return str(place)
+            return os.path.abspath(place)
     raise Missing(
         f"there is no host {NAME}: in a clone tools/release/hosts builds it, with a C compiler; the variable HINGE_LINK can"
         " name it"
@@ -37,7 +41,7 @@ def program() -> str:
 
 
 def plan_file(text: str) -> int:
-    """A descriptor from which a plan can be read."""
+    """Returns a descriptor for reading the plan."""
     descriptor = os.memfd_create("plan")
     with os.fdopen(os.dup(descriptor), "wb") as file:
         file.write(os.fsencode(text))  # which may name files of any bytes
@@ -46,7 +50,7 @@ def plan_file(text: str) -> int:
 
 
 class Link:
-    """The host, which runs from when this is made, and its page of counts."""
+    """A running hinge-link and its page of counts. The constructor starts the process."""
 
     def __init__(
         self,
@@ -59,27 +63,31 @@ class Link:
         control: Optional[Control] = None,
         lines: Optional[HostLines] = None,
     ) -> None:
-        """`lines` go to it while packets pass; a socket for commands has some of its own."""
+        """`lines` sends lines to the host during the run; a control socket comes with its lines."""
         self.processes, self.page, self.control = processes, page, control
         lines = control.lines if control else lines
         plan_read = plan_file(plan + lines.line() if lines else plan)
         total = [*descriptors, page.descriptor, *([lines.descriptor()] if lines else [])]
         words = [program(), *words, str(page.descriptor)]
-        self.process = os.fork()
-        if self.process == 0:
-            try:
-                os.dup2(plan_read, 0)
-                for descriptor in total:
-                    os.set_inheritable(descriptor, True)
-                signal.pthread_sigmask(signal.SIG_SETMASK, mask)
-                os.execv(words[0], words)
-            finally:
-                os._exit(127)
+
+        def begin() -> int:
+            os.dup2(plan_read, 0)
+            for descriptor in total:
+                os.set_inheritable(descriptor, True)
+            signal.pthread_sigmask(signal.SIG_SETMASK, mask)
+            return become(words)
+
+        self.process = forked(begin)
 
     def failed(self) -> Optional[int]:
-        """Waits until the link is ready; the status of a host that ended before, which has told why, or that of a
-        signal that came, behind which nothing of the link is left."""
-        came = self.processes.poll(lambda: self.page.state() != STARTING or self.process in self.processes.ended, math.inf, POLL)
+        """Waits until the link is ready. Otherwise returns the status of a host that ended early and printed the reason, or of
+        a signal.
+
+        After a signal, the link is gone.
+        """
+        came = self.processes.poll(
+            lambda: self.page.head("state") != STARTING or self.process in self.processes.ended, math.inf, POLL
+        )
         fault = SIGNALLED + came if came else self.processes.ended.get(self.process)
         if fault is not None:
             self.end()

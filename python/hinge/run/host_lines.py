@@ -1,4 +1,4 @@
-"""Lines to the host hinge-link while packets pass, and its answers (control.h)."""
+"""Lines to the host hinge-link during a run, and the host's replies (control.h)."""
 
 from __future__ import annotations
 
@@ -31,8 +31,10 @@ def always() -> bool:
 
 
 class HostLines:
-    """Lines for the host, which answers each that it takes, in their order. One that it hasn't taken when nobody waits
-    for it any more is taken back, so that it is never obeyed late."""
+    """Sends lines to the host, which replies to each in order.
+
+    A line that the host hasn't read when the client leaves is withdrawn, so the host never applies a line too late.
+    """
 
     def __init__(self) -> None:
         self.own, self.hosts = socket.socketpair(socket.AF_UNIX, socket.SOCK_SEQPACKET)
@@ -41,15 +43,16 @@ class HostLines:
         self.latest = 0  # the last moment that was answered
 
     def descriptor(self) -> int:
-        """The host's end."""
+        """Returns the host's end of the socket."""
         return self.hosts.fileno()
 
     def line(self) -> str:
-        """What a plan says of it."""
+        """Returns the plan's line about the socket."""
         return f"control {self.descriptor()}\n"
 
     def ask(self, text: str, until: Optional[float] = None, is_wanted: Callable[[], bool] = always) -> Answer:
-        """The host's answer to a line that it takes by a moment and while it is wanted. Wrong: the line is too long."""
+        """Sends a line and returns the host's reply. The host must read it before `until`, while the client stays. Wrong: the
+        line is too long."""
         if len(os.fsencode(text)) > LONGEST_LINE:
             raise Wrong("a line of more than 4,000 bytes")
         with self.lock:
@@ -72,7 +75,7 @@ class HostLines:
             return f"{self.latest} the links don't answer"
 
     def has_answered(self, patience: float) -> bool:
-        """Whether the answer to the last line is there; the answers that were owed go."""
+        """Returns whether the latest reply has arrived; earlier replies are dropped."""
         while select.select([self.own], [], [], patience)[0]:
             if not self.owed:
                 return True
@@ -81,7 +84,7 @@ class HostLines:
         return False
 
     def is_taken_back(self) -> bool:
-        """Whether a line was still at the host's end, which is read here, so that the host doesn't get it."""
+        """Withdraws a line that the host hasn't read yet; returns whether that worked."""
         try:
             return bool(self.hosts.recv(2 * LONGEST_LINE, socket.MSG_DONTWAIT))
         except BlockingIOError:

@@ -1,13 +1,13 @@
-"""The first process of the rooms: it starts the server, the link and the command, and reports how the run went."""
+"""The rooms' first process: it starts the server, the link and the command, and reports the run."""
 
 from __future__ import annotations
 
 import signal
 import time
-from typing import Optional
+from typing import TYPE_CHECKING, Optional, Sequence
 
 from hinge.command import say
-from hinge.run.control import Enter, HostRoom
+from hinge.run.cgroups import Cgroups
 from hinge.run.doors import Doors
 from hinge.run.host import Link
 from hinge.run.interfaces import NAME, something_listens
@@ -15,14 +15,19 @@ from hinge.run.joined import Joined
 from hinge.run.order import Order, note_realtime, report
 from hinge.run.outside import Outside
 from hinge.run.page import Page
+from hinge.run.ports import Ports
 from hinge.run.processes import SIGNALLED, Ended, Processes, Ticker, name_of
 from hinge.run.rooms import Rooms
 from hinge.run.settings import RunOptions
 from hinge.run.summary import record
-from hinge.run.system import enter
+from hinge.run.system import enter, is_simulated
 from hinge.run.two_hosts import ends_of
+from hinge.run.verdict import Waits
 from hinge.run.watch import Watch
 from hinge.run.words import Wrong
+
+if TYPE_CHECKING:
+    from hinge.run.control import Enter, HostRoom
 
 HOSTS = ("client", "server")
 WATCHED = {signal.SIGCHLD, signal.SIGTERM, signal.SIGHUP}
@@ -32,20 +37,40 @@ LISTEN_POLL, QUIET_POLL = 0.01, 0.02  # s
 
 class Inside:
     def __init__(
-        self, options: RunOptions, order: Order, own_users: bool, outside: Optional[Outside], network: Optional[int]
+        self,
+        options: RunOptions,
+        order: Order,
+        own_users: bool,
+        outside: Optional[Outside],
+        network: Optional[int],
+        ports: Optional[Ports] = None,
     ) -> None:
-        """`network` is one that is there already."""
-        self.options, self.order, self.outside, self.page = options, order, outside, Page()
+        """`network` is an existing network to join, if any."""
+        self.options, self.order, self.outside, self.ports, self.page = options, order, outside, ports, Page()
         self.processes = Processes(WATCHED if options.command else WATCHED | {signal.SIGINT})
         self.joined = None if network is None else Joined(network, options.mtu, own_users)
         self.rooms = self.joined or Rooms(options.mtu, own_users, ends_of(options.net))
         self.begun = time.monotonic()
+        self.cgroups, self.waits = Cgroups(), Waits()
+        self.started: dict[str, int] = {}  # processes, by hosts
+
+    def start(self, host: str, words: Sequence[str]) -> int:
+        """Starts a host's command; returns its process."""
+        is_server = host == HOSTS[1]
+        room, cgroup = self.rooms.server if is_server else self.rooms.client, None if is_simulated() else self.cgroups.of(host)
+        self.started[host] = self.rooms.start(room, words, self.order.mask, cgroup, is_server)
+        return self.started[host]
+
+    def look_at_waits(self) -> None:
+        if not is_simulated():
+            self.waits.look(self.cgroups.made, self.started)
 
     def started_server(self) -> tuple[Optional[int], Optional[int]]:
-        """The server's process, once something listens in its room, or its time is over; and a signal that came before."""
+        """Starts the server and waits until it listens, or until the time is over. Returns its process, and a signal that
+        arrived before."""
         if not self.options.server:
             return None, None
-        server = self.rooms.start_server(self.options.server, self.order.mask)
+        server = self.start(HOSTS[1], ["sh", "-c", self.options.server])
         enter(self.rooms.server)
         came = self.processes.poll(
             lambda: something_listens() or server in self.processes.ended, self.order.server_wait, LISTEN_POLL
@@ -57,15 +82,20 @@ class Inside:
         return server, came
 
     def commanded(self, link: Link) -> tuple[int, bool]:
-        """Runs the command, as long as the link is there; its status, and whether it was ended from outside."""
-        watch = Watch(self.page, self.order.changes) if self.options.watch else None
+        """Runs the command while the link is up. Returns the command's status, and whether an outside cause ended the command."""
+        watch = Watch(self.page) if self.options.watch else None
         words = self.options.command
-        command = self.rooms.start(self.rooms.client, words, self.order.mask) if words else link.process
+        command = self.start(HOSTS[0], words) if words else link.process
+
+        def tick(seconds: float) -> None:
+            self.look_at_waits()
+            if watch:
+                watch.tick(seconds)
+
         if link.control:
             link.control.serve()
-        came = self.processes.wait(command, ticker=Ticker(watch.tick) if watch else None, needed=link.process)
-        if watch:
-            watch.end()
+        came = self.processes.wait(command, ticker=Ticker(tick) if watch or not is_simulated() else None, needed=link.process)
+        self.look_at_waits()
         if not words:
             return 0, True
         if command in self.processes.ended:
@@ -74,7 +104,7 @@ class Inside:
         return SIGNALLED + (came or signal.SIGTERM), True
 
     def let_last_packets_pass(self, server: int) -> None:
-        """Lets a server end by itself: until the link has carried nothing for a while."""
+        """Lets a server end by itself: waits until the link has been quiet for a moment."""
         passages, since = -1, time.monotonic()
 
         def is_over() -> bool:
@@ -87,7 +117,7 @@ class Inside:
         self.processes.poll(is_over, LAST_PACKETS, QUIET_POLL)
 
     def ended_server(self, server: int, is_interrupted: bool) -> Ended:
-        """Ends the server: how it ended. Tells where it had crashed or had to be killed."""
+        """Ends the server and returns its ending; warns if the server crashed or had to be killed."""
         self.processes.reap()
         if server in self.processes.ended and self.processes.ended[server]:
             say(f"the server ended with {name_of(self.processes.ended[server])} before the command did")
@@ -99,34 +129,37 @@ class Inside:
         return endings
 
     def doors(self) -> Enter:
-        """What opens the rooms to `hinge exec`."""
+        """Returns a function that opens the rooms for `hinge exec`."""
         doors = Doors()
 
         def enter_host(host: str) -> HostRoom:
             if host not in HOSTS:
                 raise Wrong(f"{host!r}: the hosts are {' and '.join(HOSTS)}")
+            from hinge.run.control import HostRoom
+
             return HostRoom(doors.to(self.rooms.client if host == HOSTS[0] else self.rooms.server), {})
 
         return enter_host
 
     def run(self) -> int:
+        try:
+            return self.whole_run()
+        finally:
+            self.cgroups.remove()
+
+    def whole_run(self) -> int:
         if self.outside:  # before the server has mounts of its own
             self.rooms.lead_out(self.outside.join(self.rooms.server, [NAME], [self.rooms.ends.client6]))
         server, came = self.started_server()
         if came:
             return SIGNALLED + came
+        if self.ports:  # behind the server, for which its room must not listen before
+            self.ports.put_doors(self.rooms)
         control = self.order.control(
             self.page, lambda: record(self.page.read(), self.rooms.dropped(), None, self.order.seed, []), self.doors()
         )
-        link = Link(
-            self.processes,
-            self.page,
-            ["tun", *map(str, self.rooms.interfaces)],
-            self.rooms.interfaces,
-            self.order.plan,
-            self.order.mask,
-            control,
-        )
+        interfaces, order = self.rooms.interfaces, self.order
+        link = Link(self.processes, self.page, ["tun", *map(str, interfaces)], interfaces, order.plan, order.mask, control)
         fault = link.failed()
         if fault is not None:
             return fault
@@ -137,4 +170,4 @@ class Inside:
         drops = self.rooms.dropped()
         if self.joined:
             self.joined.end()
-        return report(self.order, self.page, drops, status, endings)
+        return report(self.order, self.page, drops, status, endings, self.waits)

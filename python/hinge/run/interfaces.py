@@ -1,4 +1,5 @@
-"""Interfaces of the present network namespace: what ip(8) would do with them, by rtnetlink(7), and what they count."""
+"""The network interfaces of the current namespace. Like ip(8), this module changes them through rtnetlink(7), and reads their
+counters."""
 
 from __future__ import annotations
 
@@ -7,10 +8,13 @@ import fcntl
 import os
 import socket
 import struct
+from contextlib import suppress
+from functools import lru_cache
 from typing import Iterable, Optional
 
 from hinge.border.files import read_system
 from hinge.run.rtnetlink import Request, ask_kernel, ask_many, index_of, packed
+from hinge.run.steps import kept_as_step
 from hinge.run.system import Missing, try_to_write
 
 NAME = "link"  # of the tun interface in each namespace
@@ -29,7 +33,11 @@ DESTINATION, OUT_BY, METRIC, PREFERRED, ROUTE_TABLE, LINK_SCOPE = 1, 4, 6, 7, 15
 TUNSETIFF, TUN, TAP, WITH_NOTE = 0x400454CA, 1, 2, 0x5000  # IFF_TUN, IFF_TAP, IFF_NO_PI | IFF_VNET_HDR
 TUNSETOFFLOAD, LEFT_TO_A_CARD = 0x400454D0, 7  # TUN_F_CSUM | TUN_F_TSO4 | TUN_F_TSO6
 TUNSETPERSIST = 0x400454CB
+OWN_NETWORK = "/proc/thread-self/net/"
 DROPPED_OUT = 11  # the column of /proc/net/dev
+OF_IPV4 = ("Ip:", "IpExt:")  # of the lines of /proc/net/snmp and netstat
+# Of what leads nowhere, and of what is too long for the next link; not of what came to a host that forwards nothing (InAddrErrors).
+UNFORWARDED = ("IpInNoRoutes", "IpFragFails", "Ip6InNoRoutes", "Ip6InTooBigErrors")
 LISTENS = (("tcp", "0A"), ("tcp6", "0A"), ("udp", "07"), ("udp6", "07"))  # in /proc/net, and the state there
 QUIET = (("accept_dad", "0"), ("accept_ra", "0"), ("router_solicitations", "0"))  # of IPv6
 # IFLA_AF_SPEC, IFLA_INET_CONF, IFLA_INET6_ADDR_GEN_MODE, IN6_ADDR_GEN_MODE_NONE
@@ -42,7 +50,7 @@ TUN_ADVICE = {
 
 
 def change(name: str, flags: int, mask: int, attributes: Iterable[tuple[int, bytes]]) -> None:
-    """Changes an interface: which flags it has of those that are to change, and its attributes."""
+    """Changes an interface's flags and attributes. Only the flags in `mask` change."""
     ask_kernel(SETLINK, struct.pack("BxHiII", 0, 0, index_of(name), flags, mask), attributes)
 
 
@@ -51,7 +59,7 @@ def set_up(name: str, mask: int = UP, attributes: tuple[tuple[int, int], ...] = 
 
 
 def know_groups(name: str, does: bool = True) -> None:
-    """Lets programs be members of groups at an interface, or not."""
+    """Turns multicast on an interface on or off."""
     change(name, MULTICAST * does, MULTICAST, ())
 
 
@@ -60,14 +68,13 @@ def of_family(family: int, settings: bytes) -> list[tuple[int, bytes]]:
 
 
 def hand_on(name: str, does: bool = True, is_asked: bool = True) -> None:
-    """Lets an interface take packets of IPv4 for others, and be asked for their addresses, or not. It asks as /proc/sys
-    would, which a container may not let write."""
+    """Turns IPv4 forwarding and proxy ARP on an interface on or off, like /proc/sys, which may be read-only in a container."""
     settings = packed([(FORWARDING, struct.pack("I", does)), (PROXY_ARP, struct.pack("I", does and is_asked))])
     change(name, 0, 0, of_family(socket.AF_INET, packed([(INET_CONF, settings)])))
 
 
 def be_silent(name: str) -> None:
-    """Gives an interface no address of IPv6 by itself, so that the kernel says nothing there."""
+    """Stops an interface from choosing an IPv6 address, so that the kernel sends no packets there."""
     for setting, value in QUIET:
         try_to_write(f"/proc/sys/net/ipv6/conf/{name}/{setting}", value)
     try:
@@ -76,6 +83,7 @@ def be_silent(name: str) -> None:
         pass  # a system without IPv6
 
 
+@lru_cache(maxsize=4096)
 def family_and_bytes(text: str) -> tuple[int, bytes]:
     family = socket.AF_INET6 if ":" in text else socket.AF_INET
     return family, socket.inet_pton(family, text)
@@ -87,9 +95,26 @@ def add_address(name: str, text: str, bits: int) -> None:
 
 
 def add_route(gateway: str) -> None:
-    """The way to all other networks of the gateway's family."""
+    """Adds a default route for the gateway's IP version."""
     family, data = family_and_bytes(gateway)
     ask_kernel(NEWROUTE, struct.pack("BBBBBBBBI", family, 0, 0, 0, MAIN_TABLE, BY_BOOT, 0, UNICAST, 0), [(GATEWAY, data)])
+
+
+@lru_cache(maxsize=4096)
+def around_address(
+    family: int, index: int, source: str, bits: int, table: int, metric: Optional[int], gateway: Optional[str]
+) -> tuple[bytes, bytes]:
+    """Returns the text before and after the address in a query for a way, which is the same for most hosts in a net."""
+    scope, length = 0 if gateway or family == socket.AF_INET6 else LINK_SCOPE, 16 if family == socket.AF_INET6 else 4
+    before = struct.pack("BBBBBBBBIHH", family, bits, 0, 0, 0, BY_BOOT, scope, UNICAST, 0, 4 + length, DESTINATION)
+    attributes = [
+        (OUT_BY, struct.pack("I", index)),
+        (PREFERRED, family_and_bytes(source)[1]),
+        (ROUTE_TABLE, struct.pack("I", table)),
+        *([] if metric is None else [(METRIC, struct.pack("I", metric))]),
+        *([(GATEWAY, family_and_bytes(gateway)[1])] if gateway else []),
+    ]
+    return before, packed(attributes)
 
 
 def interface_route(
@@ -102,21 +127,13 @@ def interface_route(
     may_fail: bool = False,
     gateway: Optional[str] = None,
 ) -> Request:
-    """The way to one address, or to all with so many bits of it, by an interface, for packets that have the source
-    where they have no other. A lower metric goes first."""
+    """Returns a route through an interface, to an address or to a network with `bits` bits.
+
+    `source` is the source address for packets without an address. The route with the lowest metric wins.
+    """
     family, data = family_and_bytes(text)
-    bits, scope = 8 * len(data) if bits is None else bits, 0 if gateway or family == socket.AF_INET6 else LINK_SCOPE
-    attributes = [
-        (DESTINATION, data),
-        (OUT_BY, struct.pack("I", index)),
-        (PREFERRED, family_and_bytes(source)[1]),
-        (ROUTE_TABLE, struct.pack("I", table)),
-        *([] if metric is None else [(METRIC, struct.pack("I", metric))]),
-        *([(GATEWAY, family_and_bytes(gateway)[1])] if gateway else []),
-    ]
-    return Request(
-        NEWROUTE, struct.pack("BBBBBBBBI", family, bits, 0, 0, 0, BY_BOOT, scope, UNICAST, 0) + packed(attributes), may_fail
-    )
+    before, behind = around_address(family, index, source, 8 * len(data) if bits is None else bits, table, metric, gateway)
+    return Request(NEWROUTE, before + data + behind, may_fail)
 
 
 def add_interface_route(
@@ -126,8 +143,7 @@ def add_interface_route(
 
 
 def announce(name: str, text: str) -> None:
-    """Tells those at an interface that an IPv6 address, which lies behind another one, is reached by it: a neighbour
-    advertisement from there."""
+    """Announces an IPv6 address behind another interface to the neighbours on this one, with a neighbour advertisement."""
     index = index_of(name)
     with socket.socket(socket.AF_INET6, socket.SOCK_RAW, socket.IPPROTO_ICMPV6) as teller:
         teller.setsockopt(socket.IPPROTO_IPV6, FREEBIND, 1)
@@ -140,7 +156,7 @@ def announce(name: str, text: str) -> None:
 
 
 def leads_out_in_ipv6() -> bool:
-    """Whether the present namespace has a way to all other networks of IPv6."""
+    """Returns whether the current namespace has an IPv6 default route."""
     try:
         rows = [line.split() for line in read_system("/proc/thread-self/net/ipv6_route").splitlines()]
         return any(int(row[1], 16) == 0 and not int(row[8], 16) & REJECTS for row in rows)
@@ -148,22 +164,29 @@ def leads_out_in_ipv6() -> bool:
         return False
 
 
-def add_tun(
-    address: str, address6: str, mtu: int, name: str = NAME, bits: int = 24, persists: bool = True, mac: bytes = b""
-) -> int:
-    """Makes an interface of this namespace, and returns its descriptor. It has no multicast, so the kernel says nothing
-    by itself on it, and packet 1 is the command's. With a hardware address it is one of Ethernet (tap), whose frames
-    are whole, with their checksums. Missing: the system gives none."""
+@kept_as_step
+def open_tun(name: str, flags: int, offload: int, persists: bool) -> int:
+    """A descriptor of a new interface. Missing: the system refuses an interface."""
     try:
         descriptor = os.open("/dev/net/tun", os.O_RDWR | os.O_CLOEXEC)
     except OSError as error:
         advice = TUN_ADVICE.get(error.errno or 0, "the container or the system keeps this user from it")
-        raise Missing(f"/dev/net/tun: {error.strerror}: {advice}") from None
-    fcntl.ioctl(descriptor, TUNSETIFF, struct.pack("16sH22x", name.encode(), WITH_NOTE | (TAP if mac else TUN)))
-    fcntl.ioctl(descriptor, TUNSETOFFLOAD, 0 if mac else LEFT_TO_A_CARD)
+        raise Missing(f"/dev/net/tun: {error.strerror}: {advice}; or add --simulated, which needs none") from None
+    fcntl.ioctl(descriptor, TUNSETIFF, struct.pack("16sH22x", name.encode(), flags))
+    fcntl.ioctl(descriptor, TUNSETOFFLOAD, offload)
     # One that persists goes with its namespace: the kernel takes all of one away at once, and each closed one by
     # itself.
     fcntl.ioctl(descriptor, TUNSETPERSIST, int(persists))
+    return descriptor
+
+
+def add_tun(
+    address: str, address6: str, mtu: int, name: str = NAME, bits: int = 24, persists: bool = True, mac: bytes = b""
+) -> int:
+    """Makes an interface in this namespace, and returns its descriptor. The interface sends no multicast, so the kernel sends no
+    packets there by itself, and packet 1 is the command's. With a hardware address the interface is an Ethernet interface (tap),
+    whose frames are whole, with checksums."""
+    descriptor = open_tun(name, WITH_NOTE | (TAP if mac else TUN), 0 if mac else LEFT_TO_A_CARD, persists)
     be_silent(name)
     if mac:
         change(name, 0, 0, [(HARDWARE_ADDRESS, mac)])
@@ -176,10 +199,23 @@ def add_tun(
     return descriptor
 
 
-def all_dropped() -> dict[str, int]:
-    """Packets that the system dropped on the way into the host, since its queue was full, by the interfaces of this namespace."""
-    rows = [line.partition(":") for line in read_system("/proc/thread-self/net/dev").splitlines()[2:]]
+def all_dropped(place: str = OWN_NETWORK) -> dict[str, int]:
+    """Returns, by interface in a namespace, the packets that the system dropped on the way in because of a full queue."""
+    rows = [line.partition(":") for line in read_system(place + "dev").splitlines()[2:]]
     return {name.strip(): int(counts.split()[DROPPED_OUT]) for name, _, counts in rows}
+
+
+def unforwarded(place: str = OWN_NETWORK) -> dict[str, int]:
+    """Returns the packets for other hosts that a namespace's system received and didn't send on, from its counters of RFC 4293,
+    which exclude packets from local programs."""
+    texts = dict.fromkeys(("snmp", "netstat", "snmp6"), "")
+    for name in texts:
+        with suppress(OSError):  # a system without IPv6
+            texts[name] = read_system(place + name)
+    rows = [line.split() for line in (texts["snmp"] + texts["netstat"]).splitlines()]
+    four = [pair for names, counts in zip(rows[::2], rows[1::2]) if names[0] in OF_IPV4 for pair in zip(names[1:], counts[1:])]
+    counts = {f"Ip{key}": count for key, count in four} | dict(line.split() for line in texts["snmp6"].splitlines())
+    return {key: int(counts[key]) for key in UNFORWARDED if int(counts.get(key, 0))}
 
 
 def dropped(name: str = NAME) -> int:
@@ -187,7 +223,7 @@ def dropped(name: str = NAME) -> int:
 
 
 def something_listens(port: Optional[int] = None) -> bool:
-    """Whether a socket in this namespace waits for a connection or a datagram, at that port where one is named."""
+    """Returns whether a socket in this namespace waits for connections or datagrams, on `port` if one is named."""
     for name, state in LISTENS:
         try:
             rows = [line.split() for line in read_system("/proc/thread-self/net/" + name).splitlines()[1:]]

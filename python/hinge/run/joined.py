@@ -1,9 +1,10 @@
-"""A link inside a network that is there already, as a container's: between its programs and its interface, in IPv4, by
-rules of routing.
+"""A link inside an existing network such as a container's: between its programs and its interface, for IPv4, with routing
+rules.
 
-What its programs send goes into one interface and, behind the link, out of the other one to where it went before. What
-comes goes the other way. The interfaces go with the host of the link, however that ends, and their ways with them: then
-all goes by the rules that are left as it went before. Those are taken away at the end, or by the next run there."""
+Packets from its programs enter a tun interface, pass the link, leave through a second tun interface, and continue on their old
+route. Packets to its programs pass the other way. When the host ends, for any reason, its interfaces and their routes
+disappear, and the remaining rules send all packets the old way. The end of the run, or the next run there, removes these rules.
+"""
 
 from __future__ import annotations
 
@@ -37,7 +38,8 @@ OF_INTERFACES, OF_ALL = {"rp_filter": "0", "accept_local": "1"}, {"ip_early_demu
 
 
 def network_of(text: str) -> int:
-    """The network of a process, or the one at a path. Wrong: it is none, or this system's. Missing: root is needed."""
+    """Returns the network of a process, or the network at a path. Wrong: there is none, or it is the system's. Missing: this needs
+    root."""
     try:
         network = held(f"/proc/{text}/ns/net" if text.isdecimal() else text)
         if os.path.samestat(os.fstat(network), os.stat("/proc/self/ns/net")):
@@ -59,7 +61,7 @@ class WayOut(NamedTuple):
 
 
 def way_out() -> WayOut:
-    """The interface of the way to all other networks, and the address of packets there. Missing: there is no way."""
+    """Returns the default route's interface and source address. Missing: there is no default route."""
     rows = [line.split() for line in read_system("/proc/thread-self/net/route").splitlines()[1:]]
     result = [row for row in rows if row[1] == row[7] == "00000000"]
     if not result:
@@ -79,12 +81,12 @@ def rule(kind: int, priority: int, table: int, comes_by: str = "") -> None:
 
 
 def rules(by: str) -> list[tuple[int, str]]:
-    """Tables, and by which interface a packet comes, in their order."""
+    """Returns the routing tables in order, each with the interface on which packets arrive."""
     return [(OF_DOWN, by), (LOCAL, UP), (MAIN, DOWN), (LOCAL, ""), (OF_UP, "lo")]
 
 
 def without_rules(by: str) -> None:
-    """Takes away all that a run has made here, and lets packets to itself be the first again."""
+    """Removes all rules of a run, and makes the rule for local addresses the first again."""
     try:
         rule(DELRULE, 0, LOCAL)
     except OSError:
@@ -101,7 +103,7 @@ def without_rules(by: str) -> None:
 
 
 class Joined(Rooms):
-    """Made in the first process, which is in that network from then on. Client and server are there both."""
+    """Moves the first process into the existing network, which contains the client and the server. Create it there."""
 
     def __init__(self, network: int, mtu: int, own_users: bool) -> None:
         see_own_processes()
@@ -110,20 +112,16 @@ class Joined(Rooms):
         try:
             enter(network)
         except OSError as error:
-            raise Missing(TAKES_ROOT if error.errno == errno.EPERM else f"--netns: {error.strerror}: it is no network") from None
+            raise Missing(TAKES_ROOT if error.errno == errno.EPERM else f"--netns: {error.strerror}: it isn't a network") from None
         self.out = way_out()
         without_rules(self.out.interface)
         self.interfaces = (add_tun(*ENDS[UP], mtu, UP, persists=False), add_tun(*ENDS[DOWN], mtu, DOWN, persists=False))
-        need = {
-            **{
-                f"conf/{name}/{key}": value
-                for name in ("all", self.out.interface, UP, DOWN)
-                for key, value in OF_INTERFACES.items()
-            },
-            **OF_ALL,
-        }
+        names = ("all", self.out.interface, UP, DOWN)
+        need = {f"conf/{name}/{key}": value for name in names for key, value in OF_INTERFACES.items()} | OF_ALL
         self.before = {name: read_setting(name) for name in need}
-        self.handed_on = read_setting(f"conf/{self.out.interface}/forwarding") == "1"
+        self.handed_on, self.was_asked = (
+            read_setting(f"conf/{self.out.interface}/{name}") == "1" for name in ("forwarding", "proxy_arp")
+        )
         for name, value in need.items():
             try_to_write(SETTINGS + name, value)
         for name in (DOWN, self.out.interface):
@@ -142,4 +140,4 @@ class Joined(Rooms):
         without_rules(self.out.interface)
         for name, value in self.before.items():
             try_to_write(SETTINGS + name, value)
-        hand_on(self.out.interface, self.handed_on)
+        hand_on(self.out.interface, self.handed_on, self.was_asked)

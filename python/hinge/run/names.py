@@ -1,4 +1,4 @@
-"""The sockets of runs that have a name: where they are, and how a name is told from a path."""
+"""The sockets of runs with names: their folder, and the difference between a name and a path."""
 
 from __future__ import annotations
 
@@ -13,14 +13,14 @@ NAME = re.compile(r"[A-Za-z0-9][A-Za-z0-9._-]{0,99}", re.ASCII)
 
 
 def folder_of_names() -> str:
-    """That of this user's names, which may not be there."""
+    """Returns this user's folder for names, which may not exist yet."""
     if os.environ.get("XDG_RUNTIME_DIR"):
         return os.path.join(os.environ["XDG_RUNTIME_DIR"], "hinge")
     return "/run/hinge" if os.geteuid() == 0 else os.path.join(temporary_place(), f"hinge-{os.geteuid()}")
 
 
 def socket_of(text: str) -> str:
-    """A path as it is, and the socket of a name."""
+    """Returns the path itself, or the socket of a name."""
     if not NAME.fullmatch(text) or os.path.exists(text) or not os.path.lexists(folder_of_names()):
         return text
     path = os.path.join(own_folder(), text)
@@ -28,7 +28,7 @@ def socket_of(text: str) -> str:
 
 
 def own_folder() -> str:
-    """The folder of names, which is there. Wrong: it isn't this user's alone, so that another one could answer."""
+    """Creates the folder for names, and returns it. Wrong: other users may write there, and could answer in the run's place."""
     place = folder_of_names()
     result = os.lstat(place)
     if not stat.S_ISDIR(result.st_mode) or result.st_uid != os.geteuid():
@@ -37,7 +37,7 @@ def own_folder() -> str:
 
 
 def new_socket(name: str) -> str:
-    """Where a run gets a socket by name, in a folder of this user alone. Wrong: the name has other letters."""
+    """Returns the path for a new socket, in a folder that only this user can use. Wrong: the name contains other characters."""
     if not NAME.fullmatch(name):
         raise Wrong(f"--name {name}: a name has letters, digits, dots and hyphens")
     os.makedirs(folder_of_names(), 0o700, exist_ok=True)

@@ -1,4 +1,4 @@
-"""The counts of links that run in the text format of OpenMetrics, for a monitor."""
+"""The counts of running links in OpenMetrics text format, for a monitor."""
 
 from __future__ import annotations
 
@@ -11,7 +11,7 @@ QUANTILES = {"p50": "0.5", "p99": "0.99", "p99.9": "0.999", "max": "1"}
 
 
 class Family(NamedTuple):
-    """A metric, and the key of a way's record that has it."""
+    """A metric, and its key in a way's record."""
 
     name: str
     kind: str
@@ -50,12 +50,12 @@ FAMILIES = [
 
 
 def labels(**values: object) -> str:
-    """Names and what they have: hosts, numbers and quantiles, whose letters need no quotes."""
+    """Formats labels. Returns them unquoted, since hosts, numbers and quantiles contain no special characters."""
     return ",".join(f'{name.rstrip("_")}="{value}"' for name, value in values.items())
 
 
 def ways_of(status: dict[str, Any]) -> list[tuple[str, dict[str, Any]]]:
-    """The labels of each way, and its record."""
+    """Returns the labels and the record of each way."""
     if "ways" in status:
         return [(labels(from_=way["from"], to=way["to"], pipe=way["pipe"]), way) for way in status["ways"]]
     return [(labels(way=name), status[name]) for name in NAMES]
@@ -78,7 +78,7 @@ def head(name: str, kind: str, unit: str, text: str) -> Iterator[str]:
 
 
 def openmetrics(status: dict[str, Any]) -> str:
-    """What `hinge status` has, as a monitor takes it."""
+    """Returns a `hinge status` record in OpenMetrics format."""
     lines, ways = list[str](), ways_of(status)
     for family in FAMILIES:
         lines += head(family.name, family.kind, family.unit, family.help)

@@ -1,28 +1,38 @@
-"""What a link is to do and what is to be told of it, as the command line says, and the report of how it went."""
+"""The order for a run: the link's plan, its outputs and its limits, according to the command line; and the report at the end.
+"""
 
 from __future__ import annotations
 
 import os
-from typing import Callable, NamedTuple, Optional, Sequence
+from typing import TYPE_CHECKING, Any, Callable, Iterable, NamedTuple, Optional, Protocol, Sequence
 
-from hinge.command import FILES, say
+from hinge.command import FILES, NOT_FOUND, say
 from hinge.outputs import write_json
-from hinge.run.control import Control, Enter, Record, nobody
-from hinge.run.options import draws, drawn_seed, limit_of, plan_of
-from hinge.run.page import NOT_ALLOWED, Page
+from hinge.run.plan_of_options import draws, drawn_seed, limit_of, plan_of
+from hinge.run.page import NOT_ALLOWED, Counts, Page
 from hinge.run.plan import Plan
 from hinge.run.processes import Ended, Mask
-from hinge.run.settings import LiveOptions
-from hinge.run.summary import VOID, cautions, lines, record, void
+from hinge.run.settings import LiveOptions, RecordOptions
+from hinge.run.summary import VOID, line, record
 from hinge.run.system import is_simulated
 from hinge.run.transcripts import told
+from hinge.run.verdict import Waits, verdict
 from hinge.run.words import duration
+
+if TYPE_CHECKING:
+    from hinge.run.control import Control, Enter, Record
+
+
+class CountedPage(Protocol):
+    """A source for a link's counts, during the run or at its end."""
+
+    def read(self) -> Counts:
+        ...
 
 
 class Order(NamedTuple):
     options: LiveOptions
     plan: str
-    changes: list[tuple[int, str]]  # for --watch: moments in ns, and what happens then
     limit: Optional[float]  # ms
     seed: int
     draws: bool
@@ -31,61 +41,65 @@ class Order(NamedTuple):
     server_end: float  # s that it has to end after SIGTERM
     made: Plan
 
-    def control(self, page: Page, status: Callable[[], Record], enter: Enter = nobody) -> Optional[Control]:
-        """The socket that --control names."""
+    def control(self, page: Page, status: Callable[[], Record], enter: Optional[Enter] = None) -> Optional[Control]:
+        """Opens the socket from --control, if any, and returns it."""
+        if not self.options.control:
+            return None
+        from hinge.run.control import Control  # which other runs don't load, as they start sooner
 
-        def event(moment: str, words: str) -> None:
-            self.made.event([moment, *words.split()])
-
-        path = self.options.control
-        return Control(path, self.made, page, event, status, enter) if path else None
+        words = self.options.control, self.made, page, self.made.read, status
+        return Control(*words, enter) if enter else Control(*words)
 
 
 def order_of(options: LiveOptions, longest: int, mask: Mask, server_wait: str = "0", server_end: str = "0") -> Order:
-    """For packets of at most so many bytes."""
+    """Returns the order for packets of at most `longest` bytes."""
     plan, seed = plan_of(options, longest), drawn_seed(options.seed)
     transcript = os.path.abspath(options.transcript) if options.transcript else None
     text = plan.text(seed, transcript, options.realtime, options.most, is_simulated())
-    changes = [(change.moment, change.told) for change in plan.changes.all()] if options.watch else []
     limit = limit_of(options.late)
     wait, end = duration(server_wait, "--server-wait") / 1e9, duration(server_end, "--server-end") / 1e9
-    return Order(options, text, changes, limit, seed, draws(plan), mask, wait, end, plan)
+    return Order(options, text, limit, seed, draws(plan), mask, wait, end, plan)
 
 
 def note_realtime(page: Page) -> None:
-    if page.read()["realtime"] == NOT_ALLOWED:
+    if page.head("realtime") == NOT_ALLOWED:
         say("--realtime: the system doesn't allow it (as root, or with `ulimit -r 10`)")
 
 
-def report(order: Order, page: Page, drops: Sequence[int], status: int, server: Optional[Ended] = None) -> int:
-    """Tells how it went, on standard error and in the file that --json names; the status, or that of a void run."""
+def report(
+    order: Order,
+    page: CountedPage,
+    drops: Sequence[int],
+    status: int,
+    server: Optional[Ended] = None,
+    waits: Optional[Waits] = None,
+) -> int:
+    """Reports the run, on standard error and in the --json file; returns the status, or VOID for a void run."""
     options, counts = order.options, page.read()
-    faults = void(counts, drops, order.limit)
-    if not options.quiet:
-        for line in [*lines(counts, drops), *[f"seed {order.seed}"] * order.draws]:
-            say(line)
-        is_real = not is_simulated()
-        for line in cautions(counts, drops, order.plan) if order.limit is None and is_real and status != 127 else ():
-            say(line)
-    for line in [
-        *(told(options.transcript, counts["parts"]) if options.transcript else []),
-        *(f"void: {fault}" for fault in faults),
-    ]:
-        say(line)
-    if options.json:
-        told_all = {
-            **record(counts, drops, status, order.seed, faults),
-            **({"server": server._asdict()} if server else {}),
-        }
-        status = status_with_json(options.json, told_all, status)
-    return VOID if faults else status
+    of_programs = waits.over if waits else lambda limit: []
+    awaited, may_be_late = order.made.awaited(), waits is not None
+    faults, warnings = verdict(counts, drops, order.plan, order.limit, of_programs, awaited=awaited, may_be_late=may_be_late)
+    lines = [line(counts, drops) + f"; seed {order.seed}" * order.draws, *(warnings if status != NOT_FOUND else ())]
+    told_all = {
+        **record(counts, drops, status, order.seed, faults),
+        **({"server": server._asdict()} if server else {}),
+        **({"late_limit_ms": order.limit, "waited_ms": waits.record()} if waits else {}),
+    }
+    return told_status(options, [] if options.quiet else lines, counts["parts"], told_all, status, say)
 
 
-def status_with_json(path: str, record: dict[str, object], status: int) -> int:
-    """Writes the file that --json names; the status, or where all was well that of a file that can't be written."""
+def told_status(
+    options: RecordOptions, lines: Iterable[str], parts: int, record: dict[str, Any], status: int, tell: Callable[[str], None]
+) -> int:
+    """Tells how a run went, also in the --json file; returns the status, which is VOID for a void run, or a failure if the run succeeded
+    but the file can't be written."""
+    of_transcript = told(options.transcript, parts) if options.transcript else ()
+    for text in [*lines, *of_transcript, *(f"void: {fault}" for fault in record["void"])]:
+        tell(text)
     try:
-        write_json(path, record)
+        if options.json:
+            write_json(options.json, record)
     except OSError as error:
-        say(f"--json {path}: {error.strerror}")
-        return status or FILES
-    return status
+        say(f"--json {options.json}: {error.strerror}")
+        status = status or FILES
+    return VOID if record["void"] else status

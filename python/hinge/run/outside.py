@@ -1,5 +1,7 @@
-"""The rest of the network behind a host, by pasta or slirp4netns: it stays in the system's network and joins the host's
-room to it. IPv6 is led out where the system has a way out in it."""
+"""The outside network behind a host. pasta or slirp4netns runs in the system's network and connects the host's room to the outside.
+
+IPv6 is connected if the system has an IPv6 route.
+"""
 
 from __future__ import annotations
 
@@ -13,13 +15,14 @@ import time
 from typing import Callable, NamedTuple, Sequence
 
 from hinge.border.files import read_system
+from hinge.border.programs import become, forked
 from hinge.run.interfaces import add_address, add_route, announce, hand_on, leads_out_in_ipv6
 from hinge.run.rooms import put_over
 from hinge.run.system import Missing, die_with_parent, enter, try_to_write, write
 
 
 class Side(NamedTuple):
-    """Addresses of the outer side: slirp4netns takes these of a network by itself."""
+    """Addresses on the outer side, where slirp4netns chooses an address within a network."""
 
     net: str
     own: str
@@ -28,7 +31,7 @@ class Side(NamedTuple):
 
 
 def side(front: str) -> Side:
-    """By the first three numbers of a network of /24."""
+    """Returns the addresses for a /24 network, from its first three numbers."""
     return Side(f"{front}.0/24", f"{front}.100", f"{front}.2", f"{front}.3")
 
 
@@ -40,31 +43,21 @@ PATIENCE = 20  # s
 
 
 def side_beside(network: str) -> Side:
-    """One that the hosts' network has no part in."""
+    """Returns a network that doesn't overlap with the hosts' network."""
     overlaps = ipaddress.IPv4Network(FIRST.net).overlaps(ipaddress.IPv4Network(network))
     return SECOND if overlaps else FIRST
 
 
 def words_for(process: str, own_users: bool, ipv6: bool, loopback: bool, outer: Side) -> list[str]:
-    """The command that joins the network of a process to this one's: slirp4netns where it is there, else pasta, which
-    serves no root.
+    """Returns the command that connects a process's network to this one: slirp4netns if installed, otherwise pasta, which
+    refuses root.
 
-    Both lead the gateway to the system's own loopback unless they are asked not to. What listens there takes its
-    callers for this machine."""
+    Unless told otherwise, both map the gateway to the system's loopback, and servers there would see local callers.
+    """
     network, users = f"/proc/{process}/ns/net", f"/proc/{process}/ns/user"
     if shutil.which("slirp4netns"):
-        return [
-            "slirp4netns",
-            "--configure",
-            "--mtu=1500",
-            f"--cidr={outer.net}",
-            *["--enable-ipv6"] * ipv6,
-            "--netns-type=path",
-            *["--disable-host-loopback"] * (not loopback),
-            *[f"--userns-path={users}"] * own_users,
-            network,
-            INTERFACE,
-        ]
+        more = [*["--enable-ipv6"] * ipv6, *["--disable-host-loopback"] * (not loopback), *[f"--userns-path={users}"] * own_users]
+        return ["slirp4netns", "--configure", "--mtu=1500", f"--cidr={outer.net}", "--netns-type=path", *more, network, INTERFACE]
     more = ["--address", OWN6, "--gateway", GATEWAY6] if ipv6 else ["--ipv4-only"]
     return [
         *("pasta", "--foreground", "--quiet", "--config-net", "--ns-ifname", INTERFACE, *more, "--mtu", "1500"),
@@ -76,16 +69,16 @@ def words_for(process: str, own_users: bool, ipv6: bool, loopback: bool, outer: 
 
 
 def unless_there(error: OSError) -> None:
-    """Takes the refusal of an address or a way that there is."""
+    """Ignores the error if the address or the route already exists."""
     if error.errno != errno.EEXIST:
         raise error
 
 
 class Outside:
-    """Made before this process leaves the system's network; waits until it is told whose room to join."""
+    """Starts before this process leaves the system's network, and waits for the name of the room to connect."""
 
     def __init__(self, loopback: bool, network: str) -> None:
-        """`network` is that of the hosts."""
+        """`network` is the hosts' network."""
         self.loopback, self.outer = loopback, side_beside(network)
         if not shutil.which("slirp4netns") and (os.geteuid() == 0 or not shutil.which("pasta")):
             raise Missing(
@@ -94,32 +87,32 @@ class Outside:
         self.ipv6 = leads_out_in_ipv6()
         self.said = os.memfd_create("said")  # what the joining program says: told where there is no way out
         read_end, self.write_end = os.pipe()
-        if os.fork() == 0:
-            die_with_parent()
-            os.close(self.write_end)
-            self.join_what_is_told(read_end)
+        forked(lambda: self.join_what_is_told(read_end))
         os.close(read_end)
 
-    def join_what_is_told(self, read_end: int) -> None:
-        """`PROCESS OWN!`: that of the first process of the rooms, once it is in the host's."""
+    def join_what_is_told(self, read_end: int) -> int:
+        """Reads `PROCESS OWN!` from the pipe, the first process of the rooms once that process is in the host's room, and becomes
+        the program that connects the room; returns the status on failure."""
+        die_with_parent()
+        os.close(self.write_end)
         text = b""
         while not text.endswith(b"!"):
             more = os.read(read_end, 100)
             if not more:
-                os._exit(0)
+                return 0
             text += more
         process, own_users = text[:-1].decode().split()
         words = words_for(process, own_users == "True", self.ipv6, self.loopback, self.outer)
         os.dup2(self.said, 1)
         os.dup2(self.said, 2)
         signal.signal(signal.SIGPIPE, signal.SIG_DFL)  # pasta refuses to begin where it is ignored
-        os.execvp(words[0], words)
+        return become(words)
 
     def tell(self, first: int, own_users: bool) -> None:
         os.write(self.write_end, f"{first} {own_users}".encode())
 
     def joined(self) -> bool:
-        """Whether the present room has a way out."""
+        """Returns whether the current room has a default route."""
         try:
             socket.if_nametoindex(INTERFACE)
             rows = read_system("/proc/thread-self/net/route").splitlines()
@@ -128,9 +121,10 @@ class Outside:
             return False
 
     def join(self, network: int, interfaces: Sequence[str], others: Sequence[str]) -> bool:
-        """In the first process: waits for the interface, and lets the room with this network hand packets on between it
-        and these interfaces, behind which others with these addresses of IPv6 are. Whether IPv6 leads out too.
-        Missing: there is no way out."""
+        """Waits for the interface, then forwards packets between it and `interfaces`. Runs in the first process.
+
+        `others` are the IPv6 addresses behind these interfaces. Returns whether IPv6 works too. Missing: there is no way out.
+        """
         enter(network)
         for name in ("accept_dad", "accept_ra"):
             # else it asks for a second whether its address is another's
@@ -149,8 +143,8 @@ class Outside:
         return self.ipv6 and self.hands_on_ipv6(others)
 
     def hands_on_ipv6(self, others: Sequence[str]) -> bool:
-        """The same of the other family, where the system lets it be changed; whether it does. pasta has given the
-        address and the way out, and slirp4netns hasn't."""
+        """Turns on IPv6 forwarding if the system permits; returns whether that worked. pasta has already set the address and
+        the route."""
         try:
             write("/proc/sys/net/ipv6/conf/all/forwarding", "1")
         except OSError:

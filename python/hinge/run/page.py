@@ -1,11 +1,11 @@
-"""The page of counts that the host writes while it runs: memory that both share, so that reading it costs the host
-nothing."""
+"""The page of counts: memory shared with the host, which writes it during the run. Reading costs the host no time."""
 
 from __future__ import annotations
 
 import mmap
 import os
 import struct
+import time
 
 BINS = 480  # of times in us: 16 for each power of two; page.h has the same
 HEAD = ("state", "moment", "wakes", "turns", "underway", "realtime", "parts")
@@ -16,21 +16,24 @@ COUNTS = (
 KINDS = 4  # of bins: packets late and unread, and the time in which some were
 WAY = len(COUNTS) + KINDS * BINS
 STARTING, RUNNING, ENDED_WELL = range(3)  # the states
-NOT_ALLOWED = 2  # of `realtime`
+LOOKS = 5
+MET = 16  # numbers behind the ways, with a bit for each of the first rules
+HAS_IT, NOT_ALLOWED = 1, 2  # of `realtime`
 
 
 class Times:
-    """How many packets had which time, or how many ns; and the longest."""
+    """A histogram of times, counting packets or ns, and the longest time."""
 
     def __init__(self, bins: tuple[int, ...], most: int) -> None:
         self.bins, self.most = bins, most
 
     def within(self, share: float) -> float:
-        """The ms within which that share of the packets or the time was: the upper end of its bin, and at most what was seen."""
+        """Returns the ms within which this share of the packets or the time lies: the bin's upper end, at most the longest
+        time."""
         total, below = sum(self.bins), 0
-        for index, count in enumerate(self.bins):
+        for index, count in enumerate(self.bins if total else ()):
             below += count
-            if total and below >= share * total:
+            if below >= share * total:
                 power, us = (0, index) if index < 32 else ((index - 16) // 16, 16 + index % 16)
                 return min(((us + 1) << power) / 1e3, self.most / 1e6)
         return 0.0
@@ -40,7 +43,7 @@ class Way:
     """The counts of a direction."""
 
     def __init__(self, numbers: tuple[int, ...], moment: int) -> None:
-        """Up to a moment of the links. In the time that isn't counted nothing was late."""
+        """`moment` is on the links' clock. Uncounted time counts as time without late packets."""
         self.counts = dict(zip(COUNTS, numbers))
         late, unread, *times = (numbers[at : at + BINS] for at in range(len(COUNTS), WAY, BINS))
         self.late, self.unread = Times(late, self["late_most"]), Times(unread, self["unread_most"])
@@ -58,25 +61,46 @@ class Way:
 
 
 class Counts:
-    """What the page told at a moment."""
+    """The page's contents at a moment."""
 
-    def __init__(self, numbers: tuple[int, ...]) -> None:
+    def __init__(self, numbers: tuple[int, ...], slept: int = 0) -> None:
+        """`slept` is for how many ns the machine was suspended since the page was made."""
+        self.slept = slept
         self.head = dict(zip(HEAD, numbers))
-        self.ways = [Way(numbers[at : at + WAY], self["moment"]) for at in range(len(HEAD), len(numbers), WAY)]
+        end = len(numbers) - (len(numbers) - len(HEAD)) % WAY
+        self.ways = [Way(numbers[at : at + WAY], self["moment"]) for at in range(len(HEAD), end, WAY)]
+        self.met = numbers[end:]
 
     def __getitem__(self, name: str) -> int:
         return self.head[name]
 
+    def has_met(self, rule: int) -> bool:
+        """Returns whether a packet matched a rule, by the rule's place among the plan's lines. Of those behind the last bit that
+        isn't known."""
+        return rule >= 64 * len(self.met) or bool(self.met[rule // 64] >> rule % 64 & 1)
+
+
+def asleep() -> int:
+    """Returns for how many ns this machine was suspended since its start: the minimum difference between two clocks over a few
+    readings. The clock that stands still meanwhile is read first, so that a pause between both only adds to a difference."""
+    return min(-time.clock_gettime_ns(time.CLOCK_MONOTONIC) + time.clock_gettime_ns(time.CLOCK_BOOTTIME) for _ in range(LOOKS))
+
+
+def size_of_page(ways: int) -> int:
+    return 8 * (len(HEAD) + ways * WAY + MET)
+
 
 class Page:
     def __init__(self, ways: int = 2) -> None:
-        self.size = 8 * (len(HEAD) + ways * WAY)
+        self.asleep = asleep()
+        self.size = size_of_page(ways)
         self.descriptor = os.memfd_create("hinge-run")
         os.ftruncate(self.descriptor, self.size)
         self.memory = mmap.mmap(self.descriptor, self.size)
 
     def read(self) -> Counts:
-        return Counts(struct.unpack(f"{self.size // 8}Q", self.memory[: self.size]))
+        return Counts(struct.unpack(f"{self.size // 8}Q", self.memory[: self.size]), asleep() - self.asleep)
 
-    def state(self) -> int:
-        return int(struct.unpack_from("Q", self.memory)[0])
+    def head(self, name: str) -> int:
+        """Returns a count that is of no way, without a look at the others."""
+        return int(struct.unpack_from("Q", self.memory, 8 * HEAD.index(name))[0])

@@ -1,90 +1,54 @@
-"""What the host hinge-link shall do, from the words of the command line: a text with a line for each thing. Nothing
-here asks the system for more than files to read.
+"""The plan for the host hinge-link, as text with a line for each item, whose forms hosts/link/plan.c lists. This module reads files, and
+needs no other system call.
 
-    transcript BYTES FILE              where the calls and replies go, in parts of so many bytes where the link is ever
-                                       idle
-    seed WAY N; gilbert WAY TO_BAD TO_GOOD LOST_IN_GOOD LOST_IN_BAD (of 2^31); list WAY N ..
-                                       which packets are lost
-    map WAY KIND NUMBER PROTO DSCP SRC MASK DST MASK SPORT SPORT DPORT DPORT
-                                       KIND 0 pipe, 1 queue; -1 any; addresses of IPv6 in hex
-    line LINE                          a configuration line, before the first packet
-    at NS LINE                         one at a moment, or a line of cuts.h: `cut PIPE N`, `open PIPE N`, `heal PIPE`,
-                                       `remark WORDS`
-    outage NS PIPE LENGTH              where nothing waits for a pipe, a packet of so many bytes that nobody sent
-    hold PIPE FROM TO                  what would begin between these moments leaves at the second
-    main LINE                          such a line, whose moments begin with the main command
-    slots PIPE MS ..                   moments at each of which 1,500 bytes may leave; the last is the period
-    realtime                           before all other programs, where the system allows
-    simulated                          time passes only while all wait: behind `realtime` the clock is read once a turn
-
-    jitter WAY FIRST COUNT SEED        what has left its pipe goes through one of so many pipes from FIRST on, drawn by
-                                       the seed
-    copies WAY CHANCE SEED             the chance of 2^31 that a packet enters twice
-    fault WAY KIND N VALUE             of packet N: KIND 1 enters twice, 2 is late, by the pipe VALUE for its second pass
-    switch WAY WAY ..                  the ways that end at a switch, which carry frames (switches.h)
-    control DESCRIPTOR                 a socket from which lines come while packets pass (control.h)
-    epoch NS                           the time of the monotonic clock at which moments begin; else the beginning of the
-                                       host
-    remark WORDS; contents             a remark in the transcript; by what each packet is known again on another link,
-                                       as remarks
-
-WAY 0 is up, from the client through pipe 1; WAY 1 is down, from the server through pipe 2. A second link has ways 2
-and 3 and pipes 3 and 4, and so on. What a link is given names its own pipes 1 and 2."""
+WAY 0 is up, from the client through pipe 1, and WAY 1 is down, from the server through pipe 2. A second link uses ways 2 and 3 and
+pipes 3 and 4, and so on. The words for a link always call its pipes 1 and 2.
+"""
 
 from __future__ import annotations
 
 import gc
+import os
+import re
+import shlex
 from contextlib import contextmanager
-from typing import Iterable, Iterator, Optional, Sequence
+from typing import TYPE_CHECKING, Iterable, Iterator, Optional, Sequence
 
 from hinge.arguments import is_number
 from hinge.border.files import untrusted
-from hinge.checks.lines import Placed, refuse_wrong
-from hinge.fault_lines import IS_LATE, IS_LOST, IS_TWICE, Fault, faults_in
-from hinge.run.changes import Change, Changes, Outage
-from hinge.run.losses import loss_lines, model_name
-from hinge.run.rules import Rule
-from hinge.run.traces import MAHIMAHI_BYTES, MOST_BINS, MS, Rate, counted, read_trace
+from hinge.run.changes import Change, Changes, Happening, Outage, refuse_second
+from hinge.run.options import MOST
+from hinge.run.traces import MAHIMAHI_BYTES, MOST_BINS, MS, Moments, Rate, counted, read_trace, spelled
+from hinge.run.verdict import Awaited
 from hinge.run.words import (
     LAST_MOMENT,
-    WAYS,
+    SECOND,
     Target,
     Wrong,
     bare,
     configures,
     duration,
     is_line,
-    link_of,
     of_link,
+    placed,
     read_lines,
     target_of,
     with_bandwidth,
 )
-from hingetulip_words.link import NO_WORDS, Extra
+from hingetulip_words.link import Extra, Link, WordError, read_link, refusal
+
+if TYPE_CHECKING:
+    from hinge.events.kinds import Event, NewWords, TimedEvent
+    from hinge.fault_lines import Act, Fault
 
 TRACE_BIN = 100 * 10**6  # ns
 LAST_PIPE = 65535
 FIRST_BEHIND_MAIN = 2**31  # the number of the first cut by a moment of the main command
-MOST = 250_000_000  # bytes of a part of a transcript: an audit reads at most 268,435,456
-
-
-def ways_and_rest(text: str) -> tuple[list[int], str]:
-    """Whether one way is meant, and what of it, of words with single blanks."""
-    word, _, rest = text.partition(" ")
-    return ([WAYS[word]], rest) if word in WAYS else ([0, 1], text)
-
-
-def lines_meant(ways: list[int], rest: str, link: int, option: str) -> list[str]:
-    """The lines of `[up|down] LINK`. Wrong: there is no word; the option says where."""
-    if not rest:
-        raise Wrong(NO_WORDS)
-    words = link_of(rest, option)
-    return [words.line(2 * link + way + 1) for way in ways]
 
 
 @contextmanager
 def uncollected() -> Iterator[None]:
-    """Long lists of events have no circles, and the collector would go through all of them again and again."""
+    """Turns off the garbage collector, which would scan long lists of events repeatedly, although they contain no cycles."""
     was_enabled = gc.isenabled()
     gc.disable()
     try:
@@ -96,8 +60,12 @@ def uncollected() -> Iterator[None]:
 
 class Plan:
     def __init__(self, longest: int = MAHIMAHI_BYTES, links: int = 1) -> None:
-        """A plan of so many links, whose longest packet has so many bytes."""
+        """Creates a plan for `links` links, with packets of at most `longest` bytes."""
         self.ways = 2 * links
+        self.asked: list[str] = []  # remarks: the words of the command line and of its files, by which `hinge look` judges a run
+        self.is_noted = False
+        self.moments: list[tuple[int, str]] = []  # ns, and the line that says what is to happen then
+        self.chosen: list[tuple[int, int]] = []  # packets, each with its way before it; of a range the first
         self.configured: list[str] = []
         self.rest: list[str] = []
         self.decided: dict[int, str] = {}  # the ways on which a model decides about losses, and its name
@@ -107,16 +75,64 @@ class Plan:
         self.behind_main = Changes(self.current, longest, FIRST_BEHIND_MAIN)  # by moments of the main command
         self.extras: dict[int, tuple[Extra, list[int]]] = {}  # by ways, with the pipes of the second pass, those of jitter first
         self.copied: set[int] = set()  # the ways that packets may enter twice
+        self.losses: dict[int, str] = {}  # of words of ways, at any moment
+        self.silent: set[Target] = set()  # queues of which a line says nothing of a loss
+        self.mapped: dict[int, set[Target]] = {}  # where rules send packets of each way
+        self.rules: list[str] = []  # the words of each line of a rule
+        self.events: list[TimedEvent] = []  # of a run, in which they change the link
         self.last_free = LAST_PIPE
+        self.has_moments = self.has_bins = False  # of mahimahi's traces, and whether they are counted over bins
+
+    def words(self, way: int, link: Link) -> None:
+        """Reads the properties in a way's first words that its line can't express."""
+        self.lose(way, link)
+        self.extra(way, link.extra)
+
+    def lose(self, way: int, link: Link) -> None:
+        """Notes a loss in the words of a way. Wrong: rules send packets of the way to a queue with a line without `plr`."""
+        loss = link.options.get("plr", "0")
+        if float(loss):
+            self.refuse_unlost(loss, self.mapped.get(way, set()) & self.silent)
+            self.losses[way] = loss
+
+    def begun(self, way: int) -> dict[str, str]:
+        """Returns the options of a way's pipe at the beginning; empty for a wrong line, which is refused separately."""
+        try:
+            return read_link(self.current.get(Target("pipe", way + 1), "").partition(" config")[2])
+        except WordError:
+            return {}
+
+    def refuse_left_out(self, way: int, words: Link, event: NewWords) -> None:
+        """Wrong: a change leaves out an option that the link has at its beginning."""
+        is_alike = len({str(self.begun(way)) for way in event.ways}) == 1
+        side = event.side or ("" if is_alike else ("up", "down")[event.ways.index(way)])
+        if why := refusal(self.begun(way), words.options, " ".join(filter(None, (event.ends, side, "{}")))):
+            raise Wrong(f"'{event.words}': {why}")
+
+    def take_queue(self, line: str) -> None:
+        """Notes a queue's line without `plr`. Wrong: a way whose words lose packets sends some to the queue."""
+        target = target_of(line)
+        if target.kind == "queue" and configures(line) and "plr" not in line.split():
+            for way, targets in self.mapped.items():
+                self.refuse_unlost(self.losses.get(way, "0"), targets & {target})
+            self.silent.add(target)
+
+    @staticmethod
+    def refuse_unlost(loss: str, queues: set[Target]) -> None:
+        if float(loss) and queues:
+            raise Wrong(
+                "the link's loss isn't that of a queue, to which a rule sends packets:"
+                f" write `plr {loss}`, or `plr 0`, in the queue's line"
+            )
 
     def extra(self, way: int, extra: Extra) -> None:
-        """Jitter and duplicates of a way."""
+        """Adds a way's jitter and duplicates."""
         if extra != Extra():
             self.extras[way] = extra, self.second_pipes(range(extra.pipes))
             self.copied |= {way} if extra.duplicate else set()
 
     def second_pipes(self, delays: Sequence[int]) -> list[int]:
-        """The pipes of second passes, by their delays, with the greatest free numbers. Wrong: these pipes are others'."""
+        """Returns pipes for second passes with these delays, using the highest free numbers. Wrong: the numbers are in use."""
         pipes = list(range(self.last_free - len(delays) + 1, self.last_free + 1))
         others = {target.number for target in self.current if target.kind == "pipe"}
         if pipes and (pipes[0] <= self.ways or others & set(pipes)):
@@ -126,21 +142,62 @@ class Plan:
             self.link(f"pipe {pipe} config delay {delay}" if delay else f"pipe {pipe} config")
         return pipes
 
-    def faults(self, path: str, names: Iterable[str]) -> None:
-        """The faults of a file, which decide about all losses. The ways have these names. Wrong: a line of the file isn't a fault of one."""
+    def noted(self, option: str, lines: Iterable[str]) -> Iterator[str]:
+        """Remarks the lines from an option, or from its file, as they are read."""
+        for number, line in enumerate(lines, 1):
+            self.note(option, number, line)
+            yield line
+
+    def note(self, option: str, number: int, line: str) -> None:
+        text = bare(line) if self.is_noted else ""
+        self.asked += [f"asked,{option},{number},{text}"] * bool(text)
+
+    def faults(self, path: str, names: Iterable[str], is_net: bool = False) -> None:
+        """Adds the faults in a file, which then decide all losses. `names` are the names of the ways. Wrong: a line is no fault
+        for a way."""
+        from hinge.fault_lines import faults_in
+
         by_names: dict[str, list[Fault]] = {name: [] for name in names}
         try:
-            for fault in faults_in(path, read_lines(path)):
+            faults = faults_in(path, self.noted("--faults", read_lines(path)))
+            for fault in faults.packets:
                 if fault.link not in by_names:
                     raise ValueError(f"{path}: '{fault}': no such link; write {' or '.join(list(by_names)[:2])}")
                 by_names[fault.link].append(fault)
+            for act in faults.acts:
+                self.act(path, act, [] if is_net else list(by_names))
         except ValueError as error:
             raise Wrong(str(error)) from None
-        for way, faults in enumerate(by_names.values()):
-            self.faults_of(way, sorted(faults))
+        for way, of_way in enumerate(by_names.values()):
+            self.faults_of(way, sorted(of_way))
+
+    def act(self, path: str, act: Act, names: Sequence[str]) -> None:
+        """Adds a cut or a hold of a way. ValueError: the act concerns a host, or the file is a net's with separate `at` lines."""
+        from hinge.events.link_words import link_event
+        from hinge.fault_lines import CUT, HOLD, spelled as spelled_time
+
+        if act.kind not in (CUT, HOLD) or act.of not in names:
+            hint = (
+                f"write `at {spelled_time(act.moment)} cut {names[0]} 2s` or `hold`"
+                if names
+                else "write it as a line `at` of the net"
+            )
+            raise ValueError(f"{path}: '{act}': no cut or hold of a link; {hint}")
+        way = "up" if act.of == names[0] else "down"
+        event = link_event(f"{way} outage {spelled_time(act.seconds)}{' lossy' * (act.kind == CUT)}", path)
+        self.happen(event, round(act.moment * SECOND), str(act))
 
     def faults_of(self, way: int, faults: Sequence[Fault]) -> None:
-        """A way with late packets gives all others a second pass without a delay, so that each takes as many."""
+        """A way with late packets gives all others a second pass without a delay, so that each takes as many. Wrong: a model decides
+        about the losses of a way with faults."""
+        from hinge.fault_lines import IS_LATE, IS_LOST, IS_TWICE
+
+        model = self.decided.get(way, "list")
+        if model not in ("list", "faults"):
+            if faults:
+                raise Wrong(f"'{faults[0]}': {model} decides about each packet of that way; leave one of them out")
+            return
+        self.chosen += [(way, fault.packet) for fault in faults]
         packets = {kind: [fault.packet for fault in faults if fault.kind == kind] for kind in (IS_LOST, IS_TWICE)}
         late = {fault.packet: fault.ms for fault in faults if fault.kind == IS_LATE}
         extra, pipes = self.extras.get(way, (Extra(), []))
@@ -152,6 +209,30 @@ class Plan:
         self.rest.append(f"list {way} {' '.join(map(str, packets[IS_LOST]))}")
         self.rest += [f"fault {way} 1 {packet} 1" for packet in packets[IS_TWICE]]
         self.rest += [f"fault {way} 2 {packet} {pipe_of[delay]}" for packet, delay in late.items()]
+
+    def happen(self, event: Event, moment: int, text: str) -> None:
+        """Adds an event of a run."""
+        from hinge.events.kinds import Moment, TimedEvent
+
+        self.changes.add(self.happenings(event, moment, self.changes))
+        self.events.append(TimedEvent(Moment(moment, False, ""), event))
+        self.moments.append((moment, text))
+
+    def awaited(self) -> Awaited:
+        queues = [f"queue {one.number}" for one in self.unruled()]
+        return Awaited(self.moments, self.chosen, self.idle(), self.rules, queues)
+
+    def idle(self) -> list[tuple[TimedEvent, TimedEvent]]:
+        if not self.events:
+            return []
+        from hinge.events.idle import idle_events
+
+        return [*idle_events(self.events, True)]
+
+    def unruled(self) -> list[Target]:
+        """Returns the queues to which no rule sends a packet."""
+        targets = set[Target]().union(*self.mapped.values())
+        return [one for one in self.current if one.kind == "queue" and one not in targets]
 
     def extra_lines(self, seed: int) -> list[str]:
         items = []
@@ -165,9 +246,10 @@ class Plan:
         if line:
             self.configured.append(line)
             self.current[target_of(line)] = line
+            self.take_queue(line)
 
     def way_of(self, target: Target) -> Optional[int]:
-        """The way of a pipe, or of a queue by its pipe."""
+        """Returns the way through a pipe, or through a queue's pipe."""
         number = target.number
         if target.kind == "queue":
             words = self.current.get(target, "").split()
@@ -175,86 +257,138 @@ class Plan:
             number = int(result) if is_number(result) else 0
         return number - 1 if 1 <= number <= self.ways else None
 
-    def rule(self, text: str, link: int = 0) -> None:
+    def rule(self, text: str, link: int = 0, said: str = "") -> None:
+        """Adds a rule, which is of a line with the words `said`. Wrong: the text is no rule, or its target isn't configured."""
+        from hinge.run.rules import Rule
+
         rule = Rule(text)
         if rule.target not in self.current:
             raise Wrong(f"--map {text}: {rule.target.kind} {rule.target.number} isn't configured")
         way = self.way_of(rule.target) if rule.way is None else 2 * link + rule.way
         if way is None:
             raise Wrong(f"--map {text}: say `up` or `down`, since {rule.target.kind} {rule.target.number} isn't of pipe 1 or 2")
-        self.rest += rule.lines(way)
+        lines = rule.lines(way)
+        if {*lines} <= {*self.rest}:
+            raise Wrong(f"--map {text}: the same rule stands before it; leave one of them out")
+        self.rest += lines
+        self.rules += [said or f"--map {text}"] * len(lines)
+        self.mapped.setdefault(way, set()).add(rule.target)
+        self.refuse_unlost(self.losses.get(way, "0"), {rule.target} & self.silent)
 
     def loss(self, text: str, link: int = 0) -> None:
+        from hinge.run.losses import loss_lines, model_name
+
         lines = loss_lines(text, link)
+        for first in re.findall(r"(\d+)(?:-\d+)?", text) if "list:" in text else ():
+            self.chosen += [(way, int(first)) for way in lines]
+        if any(self.decided.get(way, "faults") != "faults" for way in lines):
+            raise Wrong(f"--loss {text}: a second model for the same packets; write one of them")
         self.rest += lines.values()
         self.decided |= dict.fromkeys(lines, model_name(text))
 
     def lossy(self, line: str) -> str:
-        """A line by which words decide about losses, where a model draws them."""
+        """Returns the line in the form that lets random words decide losses, unless a model decides."""
         is_decided = self.decided and configures(line) and self.way_of(target_of(line)) in self.decided
         return f"{line} plr 0.5" if is_decided and "plr" not in line.split() else line
 
-    def outage(self, moment: int, ways: list[int], words: list[str], changes: Changes) -> None:
-        if not words or words[1:] not in ([], ["lossy"]):
-            raise Wrong("`[up|down] outage LENGTH [lossy]`, LENGTH as 600ms")
-        length = duration(words[0])
-        for pipe in (way + 1 for way in ways):
+    def refuse_unheld(self, pipe: int) -> None:
+        """Wrong: rules send packets past the pipe that an outage holds."""
+        others = [target for target in self.mapped.get(pipe - 1, ()) if self.way_of(target) != pipe - 1]
+        if others:
+            it = f"{others[0].kind} {others[0].number}"
+            raise Wrong(f"rules send packets to {it}, which aren't held: write `outage LENGTH lossy`")
+
+    def happenings(self, event: Event, moment: int, changes: Changes) -> list[Happening]:
+        """Returns the links' actions for an event; `changes` numbers its cuts. Wrong: the links can't carry it out."""
+        from hinge.events.kinds import Heal, NewLine, NewWords
+
+        if isinstance(event, NewLine):
+            self.take_queue(line := of_link(event.line, event.ways[0] // 2))
+            return [Change(moment, line)]
+        if isinstance(event, NewWords):
+            for way, words in zip(event.ways, event.links):
+                self.lose(way, words)
+                self.refuse_left_out(way, words, event)
+            return [Change(moment, words.line(way + 1)) for way, words in sorted(zip(event.ways, event.links))]
+        pipes, new = sorted(way + 1 for way in event.ways), list[Happening]()
+        port = f" {event.port.protocol} {event.port.number}" if event.port else ""
+        for pipe in pipes:
             if Target("pipe", pipe) not in self.current:
                 raise Wrong(f"pipe {pipe} isn't configured")
-            if words[1:]:
-                changes.lose(moment, length, pipe)
+            if isinstance(event, Heal):
+                new.append(Change(moment, f"heal {pipe}{port}"))
+            elif event.ending:
+                new += changes.cut(moment, event.length, pipe, port)
             else:
-                changes.outages.append(Outage(moment, length, pipe))
+                self.refuse_unheld(pipe)
+                new.append(Outage(moment, event.length, pipe))
+        return new
 
-    def event(self, words: list[str], link: int = 0, changes: Optional[Changes] = None) -> None:
-        """`MOMENT LINE`, `MOMENT [up|down] LINK` or `MOMENT [up|down] outage LENGTH [lossy]`, MOMENT as 5s."""
-        word, _, text = bare(" ".join(words)).partition(" ")
-        changes = changes or self.changes
-        if is_line(text):
-            changes.lines.append(Change(duration(word), of_link(text, link)))
-        else:
-            self.happens(word, text, link, changes)
+    def read(self, words: str, moment: int) -> list[Happening]:
+        """Returns the actions of the links for the words of `hinge change`."""
+        from hinge.events.link_words import link_event
 
-    def happens(self, word: str, text: str, link: int, changes: Changes) -> None:
-        """An event of the words of a link."""
-        moment = duration(word)
-        ways, rest = ways_and_rest(text)
-        if rest == "outage" or rest.startswith("outage "):
-            self.outage(moment, [2 * link + way for way in ways], rest.split()[1:], changes)
-        else:
-            changes.lines += [Change(moment, line) for line in lines_meant(ways, rest, link, word)]
+        return self.happenings(link_event(words, f"'{words}'"), moment, self.changes)
 
     @uncollected()
     def timeline(self, path: str) -> None:
+        from hinge.checks.lines import Placed, refuse_wrong
+        from hinge.events.link_words import link_event
+
+        if " " in path.strip() and not os.path.exists(path):
+            raise Wrong(f"--timeline is a file of lines: {self.as_file(path)}, and --timeline changes")
         with untrusted(path):
-            lines = [bare(line).partition(" ") for line in read_lines(path)]
-            plain = {number: text for number, (_, _, text) in enumerate(lines, 1) if is_line(text)}
-            refuse_wrong([Placed(f"{path}:{number}", text) for number, text in plain.items()])
-            for number, (word, _, text) in enumerate(lines, 1):
-                try:
-                    if number in plain:
-                        self.changes.lines.append(Change(duration(word), text))
-                    elif word:
-                        self.happens(word, text, 0, self.changes)
-                except Wrong as wrong:
-                    raise Wrong(f"{path} line {number}: {wrong}") from None
+            plain = dict[str, int]()  # the configuration lines, each with the number of the first one that is alike
+            before, is_empty = set[tuple[int, Target]](), True
+            for number, line in enumerate(self.noted("--timeline", read_lines(path)), 1):
+                word, _, text = bare(line).partition(" ")
+                count = len(self.changes.lines)
+                if not word:
+                    continue
+                with placed(f"{path} line {number}"):
+                    is_empty, moment = False, duration(word)
+                    if is_line(text):
+                        plain.setdefault(text, number)
+                    self.happen(link_event(text, word), moment, bare(line))
+                    refuse_second(self.changes.lines[count:], before)
+            if is_empty:
+                raise Wrong(f"{path}: no line of a change (example: 5s 1Mbit/s 20ms)")
+            refuse_wrong([Placed(f"{path}:{number}", text) for text, number in plain.items()])
+
+    def as_file(self, text: str) -> str:
+        """Returns the command that writes lines into a file, used in place of the file's name. Wrong: the file can't contain them."""
+        from hinge.events.link_words import link_event
+
+        parts = [re.sub(r" (down|off|cut)$", " outage 5s lossy", bare(part)) for part in re.split("[,;]", text)]
+        try:
+            for word, _, words in (part.partition(" ") for part in parts):
+                self.happenings(link_event(words, word), duration(word), self.changes)
+        except Wrong as wrong:
+            raise Wrong(f"--timeline is a file of lines as 5s outage 2s (hinge docs LINKS); {wrong}") from None
+        return f"printf '%s\\n' {shlex.join(parts)} >changes"
 
     @uncollected()
     def trace(self, way: int, path: str, bin_ns: Optional[int], lasting: int) -> None:
-        """The bandwidth of a way by a file. mahimahi's moments are obeyed each, where no bin is given and the pipe is
-        one queue; else they are counted over bins, which begin anew for so many ns. Wrong: the pipe isn't configured."""
+        """Makes a way's bandwidth follow a file. Wrong: the pipe isn't configured.
+
+        mahimahi's moments apply separately if there is no bin length and the pipe is a single queue. Otherwise they are counted
+        in bins, which repeat for `lasting` ns.
+        """
         line = self.current.get(Target("pipe", way + 1))
         if line is None:
             raise Wrong(f"{path}: pipe {way + 1} isn't configured")
-        result = read_trace(path)
+        result = read_trace(path, lambda lines: self.noted(f"--{'down' if way else 'up'}-trace", lines))
+        self.has_moments |= bool(result.moments)
+        self.moments.append((result.moments[0] * MS if result.moments else result.rates[0].moment, f"the first row of {path}"))
         if result.moments and bin_ns is None and way + 1 not in self.changes.shared():
-            self.rest.append(f"slots {way + 1} {' '.join(map(str, result.moments))}")
+            self.rest.append(f"slots {way + 1} {spelled(result.moments)}")
         elif result.moments:
             self.bins(line, path, result.moments, min(TRACE_BIN, result.moments[-1] * MS) if bin_ns is None else bin_ns, lasting)
         else:
             self.rates(way, line, result.rates)
 
-    def bins(self, line: str, path: str, moments: list[int], bin_ns: int, lasting: int) -> None:
+    def bins(self, line: str, path: str, moments: Moments, bin_ns: int, lasting: int) -> None:
+        self.has_bins = True
         rates, period = counted(path, moments, bin_ns, self.longest), moments[-1] * MS
         if len(rates) > 1 and len(rates) * (lasting // period) > MOST_BINS:
             raise Wrong(
@@ -265,32 +399,25 @@ class Plan:
             self.changes.lines += [Change(base + moment, with_bandwidth(line, rate)) for moment, rate in rates]
 
     def rates(self, way: int, line: str, rates: list[Rate]) -> None:
-        """A rate of 0 is an outage up to the next one."""
+        """Adds the rates to a way. A rate of 0 is an outage until the next rate."""
         for (moment, rate), end in zip(rates, [*(following.moment for following in rates[1:]), LAST_MOMENT]):
             if rate:
                 self.changes.lines.append(Change(moment, with_bandwidth(line, rate)))
             elif end > moment:
                 self.changes.outages.append(Outage(moment, end - moment, way + 1))
 
-    @staticmethod
-    def hold_lines(changes: Changes) -> list[str]:
-        return [f"hold {pipe} {begin} {end}" for pipe, begin, end in changes.holds()]
-
-    def change_lines(self, changes: Changes) -> list[str]:
-        return [
-            f"outage {moment} {line.partition(' ')[2]}" if line.startswith("outage ") else f"at {moment} {self.lossy(line)}"
-            for moment, line in changes.all()
-        ]
+    def change_line(self, moment: int, line: str) -> str:
+        return f"outage {moment} {line.partition(' ')[2]}" if line.startswith("outage ") else f"at {moment} {self.lossy(line)}"
 
     @uncollected()
     def text(
         self, seed: int, transcript: Optional[str] = None, realtime: bool = False, most: int = MOST, in_simulated_time: bool = False
     ) -> str:
         out = [f"transcript {most} {transcript}"] if transcript else []
-        out += [f"seed {way} {seed}" for way in range(self.ways)] + self.rest + self.extra_lines(seed)
-        out += self.hold_lines(self.changes)
-        out += [f"main {line}" for line in self.hold_lines(self.behind_main)]
+        out += [f"seed {way} {seed}" for way in range(self.ways)] + [f"remark {text}" for text in self.asked]
+        out += self.rest + self.extra_lines(seed)
+        of_bases = ("", self.changes), ("main ", self.behind_main)
+        out += [f"{base}hold {pipe} {begin} {end}" for base, changes in of_bases for pipe, begin, end in changes.holds()]
         out += [f"line {self.lossy(line)}" for line in self.configured]
-        out += self.change_lines(self.changes)
-        out += [f"main {line}" for line in self.change_lines(self.behind_main)]
+        out += [base + self.change_line(*change) for base, changes in of_bases for change in changes.all()]
         return "\n".join([*out, *["realtime"] * realtime, *["simulated"] * in_simulated_time, ""])

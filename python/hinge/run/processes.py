@@ -1,4 +1,4 @@
-"""The processes that this one started, and the wait for their ends and for signals."""
+"""The processes that this one starts, and waiting for them and for signals."""
 
 from __future__ import annotations
 
@@ -21,7 +21,7 @@ class Ended(NamedTuple):
 
 
 def name_of(status: int) -> str:
-    """A status as a sentence ends with it."""
+    """Returns words for a status, to end a sentence."""
     try:
         return signal.Signals(status - SIGNALLED).name if status > SIGNALLED else str(status)
     except ValueError:
@@ -29,10 +29,10 @@ def name_of(status: int) -> str:
 
 
 class Ticker:
-    """Something that is to be done each second while a process is waited for."""
+    """Calls a function each second during a wait."""
 
     def __init__(self, do: Callable[[float], None]) -> None:
-        """`do` gets the seconds since the beginning."""
+        """`do` receives the seconds since the start."""
         self.do, self.begun = do, time.monotonic()
         self.count = 0
 
@@ -46,7 +46,7 @@ class Ticker:
 
 
 def signal_group(process: int, number: int) -> None:
-    """Sends a signal to a process group, or to a process that leads none."""
+    """Sends a signal to a process group, or only to the process if it leads no group."""
     for send in (os.killpg, os.kill):
         try:
             send(process, number)
@@ -56,7 +56,7 @@ def signal_group(process: int, number: int) -> None:
 
 
 class Processes:
-    """All of `signals` must be blocked."""
+    """Child processes. All of `signals` must be blocked."""
 
     def __init__(self, signals: set[signal.Signals]) -> None:
         self.signals = signals
@@ -77,7 +77,7 @@ class Processes:
     def wait(
         self, process: int, lasting: Optional[float] = None, ticker: Optional[Ticker] = None, needed: Optional[int] = None
     ) -> Optional[int]:
-        """Waits until a process has ended, or one that it needs, or so many seconds; a signal that came before."""
+        """Waits until a process ends, or `needed` ends, or `lasting` seconds pass; returns a signal that arrived first."""
         until = None if lasting is None else time.monotonic() + lasting
         self.reap()
         while process not in self.ended and needed not in self.ended:
@@ -85,28 +85,33 @@ class Processes:
             if until is not None and now >= until:
                 return None
             remainder = [3600.0] if until is None else [until - now]
-            came = signal.sigtimedwait(self.signals, min([*remainder, *([ticker.left()] if ticker else [])]))
-            if came and came.si_signo != signal.SIGCHLD:
-                return came.si_signo
+            came = self.signal_within(min([*remainder, *([ticker.left()] if ticker else [])]))
+            if came:
+                return came
             self.reap()
             if ticker:
                 ticker.tick()
         return None
 
     def poll(self, holds: Callable[[], bool], lasting: float, interval: float) -> Optional[int]:
-        """Waits until something holds, looked at in intervals, or so many seconds; a signal that came before."""
+        """Waits until `holds` is true, checked at intervals, or `lasting` seconds pass; returns a signal that arrived first."""
         until = time.monotonic() + lasting
         self.reap()
         while not holds() and time.monotonic() < until:
-            came = signal.sigtimedwait(self.signals, interval)
-            if came and came.si_signo != signal.SIGCHLD:
-                return came.si_signo
+            came = self.signal_within(interval)
+            if came:
+                return came
             self.reap()
         return None
 
+    def signal_within(self, seconds: float) -> Optional[int]:
+        """Waits up to some seconds for a signal; returns it, or None. The end of a process doesn't count. If this process was
+        stopped for longer, Python may return a random signal that never came."""
+        came = signal.sigtimedwait(self.signals, seconds)
+        return came.si_signo if came and came.si_signo in self.signals - {signal.SIGCHLD} else None
+
     def end_all(self, processes: list[int], patience: float) -> set[int]:
-        """Has processes end with their groups, where they have some of their own, and kills those that are there after
-        so many seconds; which these are."""
+        """Ends processes and their groups, and kills those that remain after `patience` seconds; returns the killed processes."""
         self.reap()
         rest = [process for process in processes if process not in self.ended]
         for process in rest:
@@ -120,8 +125,7 @@ class Processes:
         return victims
 
     def endings(self, processes: dict[str, int], start: float, patience: float) -> dict[str, Ended]:
-        """How commands ended, which are all ended now: those by names and processes that didn't end by themselves.
-        `begun` is when they began, by the monotonic clock."""
+        """Ends all commands, by name and process, and returns how each ended. `start` is their start on the monotonic clock."""
         self.reap()
         themselves = {name for name, process in processes.items() if process in self.ended}
         victims = self.end_all([process for name, process in processes.items() if name not in themselves], patience)
@@ -135,7 +139,7 @@ class Processes:
         }
 
     def is_there(self, process: int) -> bool:
-        """Whether a process or one of its group is there."""
+        """Returns whether the process, or a member of its group, exists."""
         self.reap()
         try:
             os.killpg(process, 0)
@@ -144,14 +148,14 @@ class Processes:
             return process not in self.ended
 
     def end(self, process: int, patience: float) -> None:
-        """Has a process end, and waits for that so many seconds."""
+        """Ends a process, and waits up to `patience` seconds."""
         self.reap()
         if process not in self.ended:
             os.kill(process, signal.SIGTERM)
             self.wait_for_end(process, patience)
 
     def wait_for_end(self, process: int, patience: float) -> None:
-        """Waits so many seconds for a process that was told to end; a signal that comes meanwhile asks for no more."""
+        """Waits up to `patience` seconds for a process that was asked to end; ignores further signals."""
         until = time.monotonic() + patience
         while process not in self.ended and (remainder := until - time.monotonic()) > 0:
             signal.sigtimedwait({signal.SIGCHLD}, remainder)

@@ -1,9 +1,9 @@
-"""Two rooms, which are network namespaces: the client's and the server's, joined by nothing but the host between two
-tun interfaces.
+"""Two rooms, which are network namespaces for the client and the server. Only the host connects them, through two tun
+interfaces.
 
-All of it hangs on one process, the first of a namespace of processes: when that ends, by itself or because `hinge run`
-was killed, the kernel ends everything in the rooms and takes the rooms away. No root is needed where users may make
-namespaces. Linux alone.
+Everything depends on one process, the first in a PID namespace. When the process ends, for example because `hinge run` was
+killed, the kernel ends all processes in the rooms and removes the rooms. No root is needed if users may create namespaces.
+Linux only.
 """
 
 from __future__ import annotations
@@ -12,16 +12,18 @@ import errno
 import os
 import shutil
 import signal
-import sys
 from contextlib import suppress
 from typing import Callable, Optional, Sequence
 
 from hinge.border.files import read_front, read_system
+from hinge.border.programs import become, forked
 from hinge.border.scratch import held, temporary_place
 from hinge.border.terminal import silence
 from hinge.command import say
+from hinge.run.cgroups import Cgroup
 from hinge.run.interfaces import add_route, add_tun, dropped, set_up
 from hinge.run.processes import Mask
+from hinge.run.steps import at_root, kept_as_step
 from hinge.run.system import (
     BIND,
     NEWNET,
@@ -42,7 +44,6 @@ from hinge.run.system import (
 from hinge.run.two_hosts import Ends
 from hinge.run.users import Users, make_terminals
 
-CANNOT_EXECUTE, NOT_FOUND = 126, 127
 PAUSES = "/proc/pauses"  # there is one in a simulated machine alone
 ELF32 = b"\x7fELF\x01"  # the front of a program
 ORDER_OF_ADDRESSES = "/etc/gai.conf"
@@ -54,15 +55,18 @@ OWN_LAST = "precedence fd08::/15 1\n"
 
 
 def is_chrooted() -> bool:
-    """As far as a user can see: the root of a chroot is seldom that of a file system."""
+    """Returns whether the root is probably a chroot: its root is seldom a file system's root."""
     try:
         return all(line.split()[4] != "/" for line in read_system("/proc/self/mountinfo").splitlines())
     except OSError:
         return False
 
 
+INSTEAD = "or add --simulated, which needs neither namespaces nor /dev/net/tun"
+
+
 def advice(number: Optional[int]) -> str:
-    """What to do where namespaces are refused."""
+    """Returns advice for refused namespaces."""
     if number == errno.EPERM and is_chrooted():
         return "in a chroot the kernel gives them to root alone: run it as root"
     if setting("kernel/apparmor_restrict_unprivileged_userns") == "1":
@@ -78,7 +82,7 @@ def advice(number: Optional[int]) -> str:
 
 
 def unshared() -> bool:
-    """Leaves the system's namespaces, as root with its users where that is allowed; whether it has users of its own."""
+    """Leaves the system's namespaces, keeping the system's users if root may; returns whether there is a new user namespace."""
     flags = NEWNS | NEWPID | NEWNET
     if os.geteuid() == 0:
         try:
@@ -90,13 +94,25 @@ def unshared() -> bool:
     return True
 
 
+class System:
+    """Whether this process still has the mounts of the system, in which no run may put anything over a user's file."""
+
+    is_left = False
+
+
+def refuse_system() -> None:
+    if not System.is_left:
+        raise RuntimeError("this process has the system's own mounts")
+
+
 def leave_the_system() -> bool:
-    """Puts this process into namespaces; whether they have users of their own. Missing: the system allows none."""
+    """Moves this process into new namespaces; returns whether there is a new user namespace. Missing: the system refuses
+    namespaces."""
     users = Users()
     try:
         own = unshared()
     except OSError as error:
-        raise Missing(f"no namespaces ({error.strerror}): {advice(error.errno)}") from None
+        raise Missing(f"no namespaces ({error.strerror}): {advice(error.errno)}; {INSTEAD}") from None
     users.map(own)
     try:
         keep_mounts_to_itself()
@@ -104,15 +120,19 @@ def leave_the_system() -> bool:
         raise Missing(
             f"{error.filename or 'mounts'}: {error.strerror}: in a chroot mount /proc there first: mount -t proc proc" " /proc"
         ) from None
+    System.is_left = True
     return own
 
 
+@kept_as_step
 def this_network() -> int:
     return held("/proc/thread-self/ns/net")
 
 
+@kept_as_step
 def see_own_processes() -> None:
-    """Has /proc show the processes of this namespace."""
+    """Makes /proc show the processes in this namespace."""
+    refuse_system()
     try:
         mount("proc", "/proc", "proc", 0)
     except OSError:
@@ -120,16 +140,20 @@ def see_own_processes() -> None:
 
 
 def furnish() -> int:
-    """Furnishes the present network with what each room has; its descriptor."""
+    """Prepares the current network namespace as a room; returns its descriptor."""
     set_up("lo")
     try_to_write("/proc/sys/net/ipv4/ping_group_range", f"{os.getegid()} {os.getegid()}")
     try_to_write("/proc/sys/net/ipv4/ip_unprivileged_port_start", "0")
     return this_network()
 
 
+@kept_as_step
 def put_over(path: str, text: str) -> None:
-    """Puts a text in the place of a file, in these namespaces alone. Its file system is in no folder, so that nothing
-    outlives the run; and its file has a name there, so that a run inside this one can do the same."""
+    """Replaces a file in these namespaces only. The text is on an unnamed file system, so nothing remains after the run.
+
+    The file keeps a name there, so that a nested run can do the same.
+    """
+    refuse_system()
     folder = temporary_place()
     product = os.path.join(folder, "made")
     mount("none", folder, "tmpfs", 0)
@@ -142,10 +166,10 @@ def put_over(path: str, text: str) -> None:
 
 
 def prefer_ipv4() -> bool:
-    """Has the C library give a host's address of IPv4 first, as not every program listens in both families. Whether
-    the system has a file that can say so."""
+    """Makes the C library return IPv4 addresses first, since some programs don't listen on IPv6. Returns whether the system
+    permits this."""
     try:
-        rules = read_system(ORDER_OF_ADDRESSES)
+        rules = read_system(at_root(ORDER_OF_ADDRESSES))
         is_default = not any(line.split()[:1] == ["precedence"] for line in rules.splitlines())
         put_over(ORDER_OF_ADDRESSES, rules + "\n" + DEFAULT_ORDER * is_default + OWN_LAST)
         return True
@@ -154,11 +178,13 @@ def prefer_ipv4() -> bool:
 
 
 def add_names(names: str, of_six: str, example: str, address: str) -> None:
-    """Lets hosts be found by name, in these namespaces alone: `names` has lines of /etc/hosts, one of them for the
-    example. With those of `of_six` names lead to IPv6 as well, where IPv4 goes first."""
+    """Makes hosts known by name in these namespaces. `names` contains lines for /etc/hosts, including one for `example`.
+
+    `of_six` adds IPv6 addresses to the names, if the C library prefers IPv4.
+    """
     names += of_six * prefer_ipv4()
     try:
-        all_names = names + read_system("/etc/hosts")
+        all_names = names + read_system(at_root("/etc/hosts"))
     except OSError:
         all_names = names
     try:
@@ -169,7 +195,7 @@ def add_names(names: str, of_six: str, example: str, address: str) -> None:
 
 
 def why_not(name: str, error: OSError) -> str:
-    """Why a command isn't started."""
+    """Returns why a command can't be started."""
     path = shutil.which(name)
     if error.errno == errno.ENOEXEC and path and os.path.exists(PAUSES):
         with suppress(OSError):
@@ -179,30 +205,24 @@ def why_not(name: str, error: OSError) -> str:
 
 
 def start(words: Sequence[str], mask: Mask, enter_room: Callable[[], None], own_users: bool) -> int:
-    """Starts a command in the room that `enter_room` enters, and returns its process. The command has what signals
-    `mask` blocks, and no others."""
-    process = os.fork()
-    if process:
-        return process
-    try:
+    """Starts a command in the room that `enter_room` enters; returns its process. The command blocks the signals in `mask`
+    only."""
+
+    def enter_and_execute() -> int:
         enter_room()
         if own_users and os.geteuid() != 0:
             keep_network_rights()
-        signal.signal(signal.SIGPIPE, signal.SIG_DFL)
-        signal.signal(signal.SIGINT, signal.SIG_DFL)
+        for number in (signal.SIGPIPE, signal.SIGXFSZ, signal.SIGINT):  # of which Python ignores two
+            signal.signal(number, signal.SIG_DFL)
         signal.pthread_sigmask(signal.SIG_SETMASK, mask)
         try_to_write(PAUSES, "1")
-        os.execvp(words[0], list(words))
-    except OSError as error:
-        say(f"{error.filename or words[0]}: {why_not(words[0], error)}")
-        sys.stderr.flush()
-        os._exit(NOT_FOUND if error.errno == errno.ENOENT else CANNOT_EXECUTE)
-    finally:
-        os._exit(CANNOT_EXECUTE)
+        return become(words, lambda error: why_not(words[0], error))
+
+    return forked(enter_and_execute)
 
 
 class Rooms:
-    """Made in the first process; the server's room is the one in which it stays."""
+    """Both rooms. Create them in the first process, which stays in the server's room."""
 
     def __init__(self, mtu: int, own_users: bool, ends: Ends) -> None:
         self.own_users, self.ends = own_users, ends
@@ -214,33 +234,33 @@ class Rooms:
         add_names(ends.names(), ends.names_of_six(), "server", ends.server)
 
     def lead_out(self, ipv6: bool) -> None:
-        """Sends what the client has for other networks to the server's room."""
+        """Sends the client's packets for other networks to the server's room."""
         enter(self.client)
         add_route(self.ends.server)
         if ipv6:
             add_route(self.ends.server6)
 
     def dropped(self) -> list[int]:
-        """What the system dropped before the host, by ways."""
+        """Returns how many packets the system dropped before the host, for each way."""
         items = []
         for room in (self.client, self.server):
             enter(room)
             items.append(dropped())
         return items
 
-    def start(self, room: int, words: Sequence[str], mask: Mask) -> int:
-        """Starts a command in a room, and returns its process."""
-        return start(words, mask, lambda: enter(room), self.own_users)
-
-    def start_server(self, command: str, mask: Mask) -> int:
-        """Starts a command of the shell in the server's room; its process, whose own group a terminal doesn't let read."""
+    def start(self, room: int, words: Sequence[str], mask: Mask, cgroup: Optional[Cgroup], is_behind: bool = False) -> int:
+        """Starts a command in a room and a cgroup; returns its process. A command behind others is in a process group that can't
+        read from the terminal."""
 
         def enter_room() -> None:
-            os.setpgid(0, 0)
-            if os.isatty(0):
-                silence(0)
-            if self.own_users:
-                make_terminals()
-            enter(self.server)
+            if cgroup:
+                cgroup.join()
+            if is_behind:
+                os.setpgid(0, 0)
+                if os.isatty(0):
+                    silence(0)
+                if self.own_users:
+                    make_terminals()
+            enter(room)
 
-        return start(["sh", "-c", command], mask, enter_room, self.own_users)
+        return start(words, mask, enter_room, self.own_users)

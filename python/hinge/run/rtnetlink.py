@@ -1,4 +1,4 @@
-"""What the kernel is asked of the present network by rtnetlink(7): a change by itself, or many in a few messages."""
+"""Requests to the kernel about the current network namespace through rtnetlink(7), one by one or many in a few messages."""
 
 from __future__ import annotations
 
@@ -7,13 +7,16 @@ import os
 import socket
 import struct
 from contextlib import contextmanager
-from typing import Iterable, Iterator, NamedTuple, Optional
+from typing import Iterable, Iterator, NamedTuple
+
+from hinge.run.steps import kept_as_step
 
 REQUEST, ACKNOWLEDGED, CREATE = 1, 4, 0x400  # NLM_F_REQUEST, NLM_F_ACK and NLM_F_CREATE
 OF_NETLINK, SHORT_ANSWERS = 270, 10  # SOL_NETLINK, NETLINK_CAP_ACK: those of errors don't repeat the request
 SIOCGIFINDEX = 0x8933
 MOST_AT_ONCE = 8192  # bytes of a message, so that answers about all of it have room
 HEADER = struct.Struct("IHHII")
+SHARED = list[socket.socket]()  # the one for all requests in a `one_socket` block, if any
 
 
 class Request(NamedTuple):
@@ -22,20 +25,14 @@ class Request(NamedTuple):
     may_fail: bool = False  # as where the system has no IPv6
 
 
-class Shared:
-    """The socket that all requests take meanwhile, if there is one."""
-
-    line: Optional[socket.socket] = None
-
-
 def packed(attributes: Iterable[tuple[int, bytes]]) -> bytes:
     return b"".join(struct.pack("HH", 4 + len(data), number) + data + bytes(-len(data) % 4) for number, data in attributes)
 
 
 @contextmanager
 def a_line() -> Iterator[socket.socket]:
-    if Shared.line:
-        yield Shared.line
+    if SHARED:
+        yield SHARED[0]
         return
     with socket.socket(socket.AF_NETLINK, socket.SOCK_RAW, 0) as line:
         line.setsockopt(OF_NETLINK, SHORT_ANSWERS, 1)
@@ -44,23 +41,25 @@ def a_line() -> Iterator[socket.socket]:
 
 @contextmanager
 def one_socket() -> Iterator[None]:
-    """All that is asked meanwhile is of the present network, and goes by one socket."""
-    with a_line() as Shared.line:
+    """Uses a single socket for all requests in the block, which must stay in the current namespace."""
+    with a_line() as line:
+        SHARED.append(line)
         try:
             yield
         finally:
-            Shared.line = None
+            SHARED.clear()
 
 
+@kept_as_step
 def index_of(name: str) -> int:
-    """The number of an interface."""
+    """Returns an interface's number."""
     with a_line() as line:
         options = struct.pack("16s24x", name.encode())
         return int(struct.unpack_from("i", fcntl.ioctl(line, SIOCGIFINDEX, options), 16)[0])
 
 
 def answers(line: socket.socket, last: int) -> Iterator[tuple[int, int]]:
-    """The number of each request that is answered, and its error, up to the last one."""
+    """Yields the number and the error of each reply, up to request `last`."""
     number = 0
     while number != last:
         data = line.recv(1 << 16)
@@ -70,23 +69,37 @@ def answers(line: socket.socket, last: int) -> Iterator[tuple[int, int]]:
             data = data[length + -length % 4 :]
 
 
+def messages(requests: list[Request]) -> bytes:
+    """Returns the messages of requests, which ask for an answer where one fails, and behind the last one."""
+    return b"".join(
+        HEADER.pack(HEADER.size + len(body), kind, REQUEST | CREATE | ACKNOWLEDGED * (number == len(requests)), number, 0) + body
+        for number, (kind, body, _) in enumerate(requests, 1)
+    )
+
+
+@kept_as_step
+def send_batch(data: bytes, requests: list[Request]) -> None:
+    """Sends messages; only the last message is acknowledged. OSError: one failed that may not."""
+    with a_line() as line:
+        line.send(data)
+        errors = [error for number, error in answers(line, len(requests)) if error and not requests[number - 1].may_fail]
+    if errors:
+        raise OSError(errors[0], os.strerror(errors[0]))
+
+
 def ask_many(requests: Iterable[Request]) -> None:
-    """Asks the kernel for changes, in their order; an OSError is of the first that failed and may not."""
-    waiting = list(requests)
-    while waiting:
-        packet, data = list[Request](), b""
-        while waiting and (not packet or len(data) < MOST_AT_ONCE):
-            packet.append(waiting.pop(0))
-            is_last = not waiting or len(data) + HEADER.size + len(packet[-1].body) >= MOST_AT_ONCE
-            flags, length = REQUEST | CREATE | ACKNOWLEDGED * is_last, HEADER.size + len(packet[-1].body)
-            data += HEADER.pack(length, packet[-1].kind, flags, len(packet), 0) + packet[-1].body
-        with a_line() as line:
-            line.send(data)
-            errors = [error for number, error in answers(line, len(packet)) if error and not packet[number - 1].may_fail]
-        if errors:
-            raise OSError(errors[0], os.strerror(errors[0]))
+    """Sends requests in order. Raises the OSError of the first failed request, unless that request may fail."""
+    batch, size = list[Request](), 0
+    for request in requests:
+        batch.append(request)
+        size += HEADER.size + len(request.body)
+        if size >= MOST_AT_ONCE:
+            send_batch(messages(batch), batch)
+            batch, size = [], 0
+    if batch:
+        send_batch(messages(batch), batch)
 
 
 def ask_kernel(kind: int, body: bytes, attributes: Iterable[tuple[int, bytes]]) -> None:
-    """Asks the kernel for a change. An ioctl would take root for some."""
+    """Sends a single request. An ioctl would need root in some cases."""
     ask_many([Request(kind, body + packed(attributes))])

@@ -1,11 +1,11 @@
-"""The rules of `--map` as lines of a plan: which packets of a live link go to which pipe or queue."""
+"""`--map` rules as lines of a plan: they select a pipe or queue for the packets of a live link."""
 
 from __future__ import annotations
 
 from itertools import product
 from typing import Iterator, Optional
 
-from hinge.captures.rule_words import EVERY_PORT, BadRule, Net, Span, is_like_a_filter, parted, short_of
+from hinge.captures.rule_words import EVERY_PORT, BadRule, Net, Span, parted, short_of
 from hinge.run.words import Target, Wrong
 
 MAPPED = 0xFFFF << 32  # where IPv4 lies in the addresses of IPv6
@@ -14,7 +14,7 @@ ENDS = (("src", "dst"), ("sport", "dport"))
 
 
 def net_words(net: Optional[Net]) -> str:
-    """A network's address and mask, in hexadecimal digits of IPv6."""
+    """Returns a network's address and mask as IPv6 hex digits."""
     if net is None:
         return EVERYWHERE
     address, mask = int(net.network_address), int(net.netmask)
@@ -24,7 +24,7 @@ def net_words(net: Optional[Net]) -> str:
 
 
 def narrower(one: Optional[Net], other: Net) -> Optional[Net]:
-    """The network that two share, None if they share nothing."""
+    """Returns the network that two networks share, or None if they are disjoint."""
     if one is None:
         return other
     if one.version != other.version or not one.overlaps(other):
@@ -33,20 +33,18 @@ def narrower(one: Optional[Net], other: Net) -> Optional[Net]:
 
 
 class Rule:
-    """A rule in short words; Wrong if it is none."""
+    """A rule in short form. Wrong: the text is no rule."""
 
     def __init__(self, text: str) -> None:
-        before = ""
         try:
-            before, target = parted(text)
-            self.short = short_of(before)
+            words, target = parted(text)
+            self.short = short_of(words)
         except BadRule as bad:
-            also = "; display filters are for captures alone" if is_like_a_filter(before) else ""
-            raise Wrong(f"--map {text}: {bad}{also}") from None
+            raise Wrong(f"--map {text}: {bad}") from None
         self.target, self.way = Target(*target), self.short.way
 
     def nets(self) -> Iterator[tuple[Optional[Net], Optional[Net]]]:
-        """The networks of both ends, in each way in which `host` can hold."""
+        """Yields the networks of both ends, for each way to satisfy `host`."""
         inputs, host = self.short.nets, self.short.nets.get("host")
         if host is None:
             yield inputs.get("src"), inputs.get("dst")
@@ -57,7 +55,7 @@ class Rule:
                 yield both.get("src"), both.get("dst")
 
     def spans(self) -> Iterator[tuple[Span, Span]]:
-        """The ports of both ends, in each way in which `port` can hold."""
+        """Yields the ports of both ends, for each way to satisfy `port`."""
         inputs, either = {end: self.short.ports.get(end, EVERY_PORT) for end in ENDS[1]}, self.short.ports.get("port")
         if either is None:
             yield inputs["sport"], inputs["dport"]
@@ -69,7 +67,7 @@ class Rule:
                 yield ends["sport"], ends["dport"]
 
     def lines(self, way: int) -> list[str]:
-        """The lines of a plan that say the same of a way."""
+        """Returns the equivalent lines in the plan of a way."""
         head, dscp = (
             f"map {way} {int(self.target.kind == 'queue')} {self.target.number}",
             -1 if self.short.dscp is None else self.short.dscp,

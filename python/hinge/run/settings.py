@@ -1,16 +1,24 @@
-"""What the command lines of live links say, with a type for each option. The commands alone make these, of argparse's
-namespaces, and each field has the name of its option."""
+"""The command lines of live links, with a type for each option. Commands create these objects from argparse's namespaces, and each
+field bears its option's name. Dataclasses would load too slowly for a help."""
 
 from __future__ import annotations
 
-from dataclasses import dataclass
-from pathlib import Path
-from typing import Optional, Sequence
+from types import SimpleNamespace
+from typing import Any, Optional, Sequence, TypeVar
+
+Some = TypeVar("Some", bound="Options")
 
 
-@dataclass(frozen=True)
-class LinkOptions:
-    """The link, and what changes while it runs."""
+class Options(SimpleNamespace):
+    """The options of a command line."""
+
+    def but(self: Some, **others: Any) -> Some:
+        """Returns a copy with some options replaced."""
+        return type(self)(**vars(self) | others)
+
+
+class LinkOptions(Options):
+    """The link, and its changes during the run."""
 
     up: Optional[str]
     down: Optional[str]
@@ -23,23 +31,22 @@ class LinkOptions:
     up_trace: Optional[str]
     down_trace: Optional[str]
     bin: Optional[str]
-    trace_for: str
+    trace_for: Optional[str]
     loss: Sequence[str]
     more_files: Sequence[str]  # from which some of the lines were read
 
     def files(self) -> Sequence[Optional[str]]:
-        """The files that are read."""
+        """Returns all files to read."""
         return self.config, self.timeline, self.faults, self.up_trace, self.down_trace, *self.more_files
 
     def has_link(self) -> bool:
-        """Whether anything is said of what packets meet."""
+        """Returns whether any option describes the link."""
         words = (self.up, self.down, self.preset, *self.files(), *self.line, *self.map, *self.loss)
         return any(one is not None for one in words)
 
 
-@dataclass(frozen=True)
-class RecordOptions:
-    """What is drawn, what is written of a run, and how it is reached."""
+class RecordOptions(Options):
+    """Random seeds, outputs, and the control socket."""
 
     seed: Optional[int]
     transcript: Optional[str]
@@ -50,17 +57,15 @@ class RecordOptions:
     realtime: bool
 
 
-@dataclass(frozen=True)
 class LiveOptions(RecordOptions, LinkOptions):
-    """What `hinge run` and `hinge udp` share."""
+    """The options of both `hinge run` and `hinge udp`."""
 
     most: int  # bytes of a part of the transcript
     watch: bool
 
 
-@dataclass(frozen=True)
 class SimulatedOptions(RecordOptions):
-    """What can run in simulated time."""
+    """The options of commands that can run in simulated time."""
 
     simulated: bool
     twice: bool
@@ -68,8 +73,10 @@ class SimulatedOptions(RecordOptions):
     at: Optional[int]  # s since 1970
     memory: Optional[int]  # bytes
     cpu: Optional[str]
-    kept: Optional[Path]
+    kept: Optional[str]
     real_limit: Optional[str]
+    limit: Optional[str]  # of simulated time
+    root: Optional[str]  # a folder
     pauses: Optional[str]
     clean_env: bool
     like: Optional[str]  # an earlier run's summary
@@ -80,25 +87,25 @@ class SimulatedOptions(RecordOptions):
         return False
 
 
-@dataclass(frozen=True)
 class RunOptions(SimulatedOptions, LiveOptions):
-    """`hinge run`."""
+    """The options of `hinge run`."""
 
     net: Optional[str]
     netns: Optional[str]
+    container: Optional[str]
     server: Optional[str]
     server_wait: str
     server_end: str
     outside: bool
     outside_loopback: bool
+    to: Sequence[int]  # ports of this system
 
     def leads_outside(self) -> bool:
-        return self.outside or self.outside_loopback
+        return self.outside or self.outside_loopback or bool(self.to)
 
 
-@dataclass(frozen=True)
 class NetOptions(SimulatedOptions):
-    """`hinge net`."""
+    """The options of `hinge net`."""
 
     file: str
     transcripts: Optional[str]

@@ -1,12 +1,14 @@
-"""Recorded bandwidth: files of `seconds,bit/s`, or of mahimahi's milliseconds, each of which lets 1,500 bytes leave."""
+"""Recorded bandwidth: files with `seconds,bit/s`, or with mahimahi's milliseconds, at each of which 1,500 bytes may leave."""
 
 from __future__ import annotations
 
 import math
-from typing import Iterator, NamedTuple, Optional
+from array import array
+from itertools import chain
+from typing import Callable, Iterable, Iterator, NamedTuple, Optional, Sequence
 
 from hinge.arguments import is_number
-from hinge.border.files import untrusted
+from hinge.border.files import MOST_LINES, untrusted
 from hinge.run.words import LAST_MOMENT, SECOND, Wrong, read_lines
 
 MAHIMAHI_BYTES = 1500
@@ -14,6 +16,9 @@ MOST = 10**12  # bit/s of a pipe
 MS = 10**6  # ns
 MOST_MS = 2**32 - 1  # of a moment
 MOST_BINS = 10**6
+PIECE = 1 << 12  # moments
+Row = tuple[int, list[str]]  # of a line, its number and fields
+Moments = Sequence[int]
 
 
 class Rate(NamedTuple):
@@ -22,15 +27,17 @@ class Rate(NamedTuple):
 
 
 class Trace(NamedTuple):
-    """Either rates, of which the last stays, or moments in ms, at each of which so many bytes may leave."""
+    """Either rates, with the last one kept, or moments in ms, with the bytes that may leave at each."""
 
     rates: list[Rate]
-    moments: list[int]
+    moments: Moments
 
 
 def outage_rate(length: int, longest: int) -> int:
-    """The rate at which the longest packet takes an outage's length, in ns: a packet keeps the rate at which it began,
-    so with a lower one the first packet of the outage would go on behind its end."""
+    """Returns the rate at which the longest packet lasts as long as an outage of `length` ns.
+
+    A packet keeps its rate. At a lower rate, the outage's first packet would still be on its way after the outage.
+    """
     return max(1, longest * 8 * SECOND // max(1, length))
 
 
@@ -41,10 +48,10 @@ def number(text: str) -> Optional[float]:
         return None
 
 
-def rows_of(path: str) -> Iterator[tuple[int, list[str]]]:
-    """The numbers of the lines that say something, and their fields, without a header."""
+def rows_of(lines: Iterable[str]) -> Iterator[Row]:
+    """Yields the number and the fields of each line with contents, except a header."""
     first = True
-    for at, line in enumerate(read_lines(path), 1):
+    for at, line in enumerate(lines, 1):
         fields = line.split("#", 1)[0].strip().split(",")
         if fields == [""]:
             continue
@@ -60,9 +67,11 @@ def rate_of(fields: list[str]) -> Rate:
     return Rate(round(seconds * SECOND), round(rate))
 
 
-def rates_of_rows(path: str, rows: list[tuple[int, list[str]]]) -> list[Rate]:
+def rates_of_rows(path: str, rows: Iterable[Row]) -> list[Rate]:
     rates: list[Rate] = []
     for at, fields in rows:
+        if at > MOST_LINES:
+            raise Wrong(f"{path}: it has more than {MOST_LINES:,} lines")
         try:
             rates.append(rate_of(fields))
         except ValueError:
@@ -72,21 +81,33 @@ def rates_of_rows(path: str, rows: list[tuple[int, list[str]]]) -> list[Rate]:
     return rates
 
 
-def read_moments(path: str, rows: list[tuple[int, list[str]]]) -> list[int]:
-    """mahimahi's moments, in ms, of which the last is the period. Wrong: a line is none, or is earlier than the one before."""
-    numbers: list[int] = []
-    for at, [text] in rows:
-        if not (is_number(text) and int(text) <= MOST_MS):
+def read_moments(path: str, rows: Iterable[Row]) -> Moments:
+    """Reads mahimahi's moments in ms; returns them, and the last is the period. Wrong: a line is no moment, or is earlier than
+    the line before."""
+    numbers = array("I")
+    for at, fields in rows:
+        if len(fields) > 1:
+            raise Wrong(f"{path}: lines of seconds,bit/s and of milliseconds")
+        if not (is_number(fields[0]) and int(fields[0]) <= MOST_MS):
             raise Wrong(f"{path} line {at}: not a number of milliseconds, up to {MOST_MS}")
-        numbers.append(int(text))
+        numbers.append(int(fields[0]))
         if len(numbers) > 1 and numbers[-1] < numbers[-2]:
             raise Wrong(f"{path} line {at}: earlier than the line before it")
-    return numbers if numbers[-1] else [*numbers[:-1], 1]
+    numbers[-1] = numbers[-1] or 1
+    return numbers
 
 
-def counted(path: str, moments: list[int], bin_ns: int, longest: int) -> list[Rate]:
-    """The rate of each bin of moments, those of equal bins as one; the last bin ends with the period. A bin without a
-    moment lets the longest packet leave in as long as there is none. Wrong: bins are too long or too many."""
+def spelled(moments: Moments) -> str:
+    """Returns the words for moments, joined step by step, since each object needs far more memory than its letters."""
+    return " ".join(" ".join(map(str, moments[at : at + PIECE])) for at in range(0, len(moments), PIECE))
+
+
+def counted(path: str, moments: Moments, bin_ns: int, longest: int) -> list[Rate]:
+    """Returns a rate for each bin of moments; equal rates in a row are merged, and the last bin ends with the period.
+
+    Within bins that contain no moment, the longest packet leaves in as much time as they last. Wrong: bins are too long or too
+    many.
+    """
     period = moments[-1] * MS
     if bin_ns > period:
         raise Wrong(f"{path}: the bin is longer than the trace, which begins anew after {moments[-1]} ms")
@@ -107,17 +128,13 @@ def counted(path: str, moments: list[int], bin_ns: int, longest: int) -> list[Ra
     return result
 
 
-def read_trace(path: str) -> Trace:
-    """The trace of a file."""
+def read_trace(path: str, noted: Callable[[Iterable[str]], Iterable[str]]) -> Trace:
+    """The trace of a file, whose lines are noted. Wrong: the file contains no rows of a trace."""
     with untrusted(path):
-        return trace_of(path, list(rows_of(path)))
-
-
-def trace_of(path: str, rows: list[tuple[int, list[str]]]) -> Trace:
-    if not rows:
-        raise Wrong(f"{path}: it has no moments")
-    if len(rows[0][1]) > 1:
-        return Trace(rates_of_rows(path, rows), [])
-    if any(len(fields) > 1 for _, fields in rows):
-        raise Wrong(f"{path}: lines of seconds,bit/s and of milliseconds")
-    return Trace([], read_moments(path, rows))
+        rows = rows_of(noted(read_lines(path, None)))
+        first = next(rows, None)
+        if first is None:
+            raise Wrong(f"{path}: no rows of a trace (examples: 0.5,1000000 and, of mahimahi, 500)")
+        if len(first[1]) > 1:
+            return Trace(rates_of_rows(path, chain([first], rows)), [])
+        return Trace([], read_moments(path, chain([first], rows)))

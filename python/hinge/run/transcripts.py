@@ -1,11 +1,11 @@
-"""The files of a transcript: it goes on in another one where it is longer than an audit reads."""
+"""The files of a transcript. A transcript continues in another file before the audit's limit."""
 
 from __future__ import annotations
 
 import os
 from typing import Iterable, Iterator, Optional
 
-from hinge.outputs import is_file, place
+from hinge.outputs import is_file, is_planted, place
 from hinge.run.words import Wrong
 
 KEPT = "/run/kept"  # in a simulated machine: what outlives it, which the launcher tells of
@@ -13,7 +13,7 @@ AUDITED = 268_435_456  # bytes: the most that an audit reads without being told
 
 
 def refuse_own_input(option: str, path: Optional[str], others: Iterable[Optional[str]]) -> None:
-    """Wrong: a file that is written is read too, or is written twice, which would empty it."""
+    """Wrong: an output file is also read, or written twice, and would be emptied."""
     if path is None:
         return
     if "\n" in os.path.abspath(path):
@@ -24,11 +24,15 @@ def refuse_own_input(option: str, path: Optional[str], others: Iterable[Optional
 
 
 def refuse_lost(option: str, path: Optional[str], others: Iterable[Optional[str]]) -> None:
-    """Wrong: the same, or the file can't be written, which is told before the run."""
+    """Wrong: the same, or the file can't be written; found out before the run."""
     refuse_own_input(option, path, others)
     if path is None or path == "-":
         return
-    if os.path.isdir(path) or not os.access(path if os.path.exists(path) else os.path.dirname(path) or ".", os.W_OK):
+    if (
+        os.path.isdir(path)
+        or is_planted(path)
+        or not os.access(path if os.path.exists(path) else os.path.dirname(path) or ".", os.W_OK)
+    ):
         raise Wrong(f"{option} {path}: it can't be written")
 
 
@@ -37,7 +41,7 @@ def parts_of(transcript: str, count: int) -> list[str]:
 
 
 def files_of(transcript: str) -> list[str]:
-    """The files of a transcript that are there; the first is, or is found missing as it is read."""
+    """Returns the existing files of a transcript. The first is always included, and reported as missing when it is read."""
     result = [transcript]
     while os.path.exists(following := f"{transcript}.{len(result)}"):
         result.append(following)
@@ -45,7 +49,7 @@ def files_of(transcript: str) -> list[str]:
 
 
 def told(transcript: str, count: int) -> Iterator[str]:
-    """What a user should know of the files."""
+    """Yields lines about the files for the user."""
     parts = [] if transcript.startswith(f"{KEPT}/") else parts_of(transcript, count)
     if len(parts) > 1:
         yield (

@@ -1,4 +1,4 @@
-"""The addresses of a run's two hosts, by the network that --net names."""
+"""The addresses of a run's two hosts, in the network from --net."""
 
 from __future__ import annotations
 
@@ -19,11 +19,11 @@ class Ends(NamedTuple):
     bits: int  # of the addresses of IPv4 that are the network's
 
     def names(self) -> str:
-        """Lines of /etc/hosts."""
+        """Returns lines for /etc/hosts."""
         return f"{self.server} server\n{self.client} client\n{self.server6} server6\n{self.client6} client6\n"
 
     def names_of_six(self) -> str:
-        """Lines by which `server` and `client` lead to IPv6 as well."""
+        """Returns lines that add IPv6 addresses to `server` and `client`."""
         return f"{self.server6} server\n{self.client6} client\n"
 
 
@@ -31,7 +31,10 @@ OWN = Ends("10.8.0.1", "10.8.0.2", "fd08::1", "fd08::2", "10.8.0.0/24", 24)
 
 
 def ends_of(text: str | None) -> Ends:
-    """The first two addresses of a network; of IPv6 in fd08::, by the network's number. Wrong: it is no such network."""
+    """Returns the first two addresses of a network. Their IPv6 addresses are in fd08::, numbered like the network.
+
+    Wrong: the text is no such network.
+    """
     if text is None:
         return OWN
     try:

@@ -1,5 +1,7 @@
-"""The users of the rooms: this process's own, and subordinate ones if the system gives it some (subuid(5)), so that a
-server finds groups there that it gives files to, as that of terminals."""
+"""The users of the rooms: this process's user, and subordinate users if the system provides some (subuid(5)).
+
+Servers then find the groups to which they assign files, such as the group of terminals.
+"""
 
 from __future__ import annotations
 
@@ -10,6 +12,7 @@ import shutil
 from typing import NamedTuple, Optional
 
 from hinge.border.files import read_system
+from hinge.border.programs import asked, forked
 from hinge.border.terminal import silence
 from hinge.run.system import BIND, NEWNS, mount, unshare, write
 
@@ -24,7 +27,7 @@ class Subordinate(NamedTuple):
 
 
 def subordinate(path: str, user: int) -> Optional[Subordinate]:
-    """The first range that a file gives to a user, by its name or number."""
+    """Returns the first range for a user in a file, which lists names or numbers."""
     names = {str(user)}
     try:
         names.add(pwd.getpwuid(user).pw_name)
@@ -39,15 +42,17 @@ def subordinate(path: str, user: int) -> Optional[Subordinate]:
 
 
 def mapping(own: int, span: Subordinate) -> list[str]:
-    """The words of newuidmap: an id is itself, and the others from 0 on are subordinate ones."""
+    """Returns the arguments for newuidmap: the user keeps its number, and all other users, from 0 on, are subordinate."""
     below = min(own, span.length)
     parts = [(0, span.first, below), (own, own, 1), (own + 1, span.first + below, span.length - below if own < span.length else 0)]
     return [str(number) for part in parts if part[2] for number in part]
 
 
 class Users:
-    """Made before the process leaves the users of the system: a child stays there, and maps those of the new namespace
-    when it is told."""
+    """Maps users. Create it before the process leaves the system's users.
+
+    A child process stays behind, and maps the new namespace's users on request.
+    """
 
     def __init__(self) -> None:
         self.child, self.own = 0, {"uid": os.geteuid(), "gid": os.getegid()}
@@ -58,19 +63,16 @@ class Users:
         if len(words) < len(FILES) or not all(map(shutil.which, PROGRAMS.values())):
             return
         read_end, self.write_end = os.pipe()
-        self.child = os.fork()
-        if self.child == 0:
-            os.close(self.write_end)
-            silence(2)  # where it refuses, the user is alone there
-            os._exit(
-                0
-                if os.read(read_end, 1) and all(os.spawnvp(os.P_WAIT, message[0], message) == 0 for message in words.values())
-                else 1
-            )
+        self.child = forked(lambda: self.map_when_told(read_end, list(words.values())))
         os.close(read_end)
 
+    def map_when_told(self, read_end: int, programs: list[list[str]]) -> int:
+        os.close(self.write_end)
+        silence(2)  # where one of them refuses, the user is alone there
+        return 0 if os.read(read_end, 1) and [asked(words) for words in programs] else 1
+
     def map(self, is_new: bool) -> None:
-        """Maps the users of the present namespace, if it is a new one: its own user alone where there are no others."""
+        """Maps the users of a new namespace; without subordinate users, only this user."""
         has_others = False
         if self.child:
             if is_new:
@@ -92,8 +94,10 @@ class Users:
 
 
 def make_terminals() -> None:
-    """Gives this process terminals of its own, which the group of terminals has, as a login wants it. Where that isn't
-    allowed it has the system's."""
+    """Gives this process a new set of terminals that belongs to the terminals' group, as a login requires.
+
+    If the system refuses, the process keeps the system's terminals.
+    """
     try:
         group = grp.getgrnam("tty").gr_gid
         unshare(NEWNS)

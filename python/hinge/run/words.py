@@ -1,19 +1,21 @@
-"""Words of the command line and of files: moments, links, and what a configuration line concerns."""
+"""Words of command lines and files: moments, links, and targets of configuration lines."""
 
 from __future__ import annotations
 
 import re
+from contextlib import contextmanager
 from functools import lru_cache
-from typing import Callable, NamedTuple, Optional
+from typing import Callable, Iterator, NamedTuple, Optional
 
 from hinge.arguments import is_number
-from hinge.border.files import read_text
-from hinge.command import Fault, Told
+from hinge.border.files import MOST_LINES, MOST_SAID, lines_in
+from hinge.command import USAGE, Fault
 from hingetulip_words.link import Extra, Link, Place, WordError, corrected, read_words
 
 WAYS = {"up": 0, "down": 1}
 LINES = ("pipe", "queue", "ipfw")  # what a configuration line begins with
 SECOND = 1_000_000_000  # ns
+LONGEST = 1 << 16  # letters of a line of a file
 LAST_MOMENT = 2**62  # ns, of the links
 MTU_LEAST, MTU_MOST = 576, 65535  # bytes
 KEPT = 1 << 16  # texts whose meaning is remembered, since long files say the same again and again
@@ -22,17 +24,28 @@ SCALE = {"ns": 1, "us": 10**3, "ms": 10**6, "s": SECOND, "min": 60 * SECOND, "h"
 NO_EXTRA = Extra()
 
 
-class Wrong(Told):
-    """A word of the command line or of a file that can't be obeyed."""
+class Wrong(Fault):
+    """Raised for a wrong word in the command line or a file."""
+
+    status = USAGE
+
+
+@contextmanager
+def placed(place: str) -> Iterator[None]:
+    """Adds its place to the error of a wrong word, unless the error names the place."""
+    try:
+        yield
+    except Wrong as wrong:
+        raise wrong if str(wrong).startswith(f"{place}: ") else Wrong(f"{place}: {wrong}") from None
 
 
 def duration(text: str, option: str = "") -> int:
-    """The ns of a time as 5s, 600ms, 2min; without a unit it is in seconds. Wrong: it is none, or too long; the option of the
-    command line is named."""
+    """Returns a time such as 5s, 600ms or 2min in ns; the default unit is seconds. Wrong: no time, or too long; the message
+    names `option`."""
     match = TIME.fullmatch(text)
     place = f"{option} {text}".lstrip()
     if not match:
-        raise Wrong(f"{place}: no time, as 5s or 600ms")
+        raise Wrong(f"{place}: not a duration (example: 600ms)")
     number, unit = match.groups("s")
     ns = float(number) * SCALE[unit]
     if ns > LAST_MOMENT:
@@ -40,27 +53,35 @@ def duration(text: str, option: str = "") -> int:
     return round(ns)
 
 
+def length_of(text: str, option: str = "") -> int:
+    """Returns the ns of a length. Wrong: the text is no time, or 0."""
+    result = duration(text, option)
+    if not result:
+        raise Wrong(f"{f'{option} {text}'.lstrip()}: nothing happens in no time; write a duration above 0 (example: 600ms)")
+    return result
+
+
 def bytes_of_mtu(text: str) -> int:
     if not (text.isascii() and text.isdecimal() and MTU_LEAST <= int(text) <= MTU_MOST):
-        raise Wrong(f"{text!r} is no number from {MTU_LEAST} to {MTU_MOST}")
+        raise Wrong(f"{text!r} isn't a number from {MTU_LEAST} to {MTU_MOST}")
     return int(text)
 
 
 def bare(line: str) -> str:
-    """A line without its comment and with single blanks."""
+    """Returns a line without its comment, with single blanks."""
     return " ".join(line.partition("#")[0].split())
 
 
 def first_word(text: str) -> tuple[str, str]:
-    """The first word of a text, or nothing, and what is behind it."""
+    """Returns the first word, or an empty text, and the rest."""
     word, rest = (*text.split(None, 1), "", "")[:2]
     return word, rest.strip()
 
 
-def read_lines(path: str) -> list[str]:
-    """The lines of a text file; a byte order mark at its front is none of them. Wrong: it can't be read."""
+def read_lines(path: str, lines: Optional[int] = MOST_LINES) -> Iterator[str]:
+    """Yields the lines of a text file. Wrong: the file can't be read, or has too many lines."""
     try:
-        return read_text(path).splitlines()
+        yield from lines_in(path, LONGEST, lines, said=lines and MOST_SAID)
     except Fault as fault:
         raise Wrong(str(fault)) from None
     except OSError as error:
@@ -72,7 +93,8 @@ read_once = lru_cache(KEPT)(read_words)
 
 @lru_cache(KEPT)
 def read_alone(word: str) -> dict[str, str]:
-    """The options of a word that is a link by itself at every place, as 10Mbit/s or 20ms; none of another one."""
+    """Returns the options of a word that alone describes a link everywhere, such as 10Mbit/s or 20ms; an empty dict for other
+    words."""
     try:
         return read_words(word, Place.CHANGE).options
     except WordError:
@@ -80,8 +102,8 @@ def read_alone(word: str) -> dict[str, str]:
 
 
 def of_such_words(text: str) -> Optional[Link]:
-    """The link of words of which each is one by itself, and no two ask for the same. Long files say nothing else, and hardly
-    say it twice in the same words."""
+    """Returns the link if each word describes a property by itself, without repetitions. Long files consist mostly of such links,
+    and seldom repeat a text."""
     options: dict[str, str] = {}
     for word in text.split(" "):
         more = read_alone(word)
@@ -92,8 +114,8 @@ def of_such_words(text: str) -> Optional[Link]:
 
 
 def link_of(text: str, option: str, place: Place = Place.CHANGE) -> Link:
-    """What `10Mbit/s 20ms queue 100 loss 1%` asks for. Wrong: it is no link; the option of the command line is named, and all
-    that was typed of it corrected."""
+    """Returns the link for `10Mbit/s 20ms queue 100 loss 1%`. Wrong: the text is no link; the message names `option` and
+    corrects the whole text."""
     try:
         return of_such_words(text) or read_once(text, place)
     except WordError as wrong:
@@ -102,7 +124,7 @@ def link_of(text: str, option: str, place: Place = Place.CHANGE) -> Link:
 
 
 class Target(NamedTuple):
-    """What a line concerns: `pipe` or `queue`, and its number; 0 where there is none."""
+    """The target of a line: `pipe` or `queue`, and its number, or 0 without one."""
 
     kind: str
     number: int
@@ -115,7 +137,7 @@ def target_of(line: str) -> Target:
 
 
 def renumbered(line: str, pipe: Callable[[int], int], queue: Callable[[int], int]) -> str:
-    """A line for the pipes 1 and 2 and the queues of one link, with the numbers that these have among all links."""
+    """Replaces a link's pipe numbers 1 and 2, and its queue numbers, with those among all links; returns the line."""
     words = bare(line).split()
     words = words[words[:1] == ["ipfw"] :]
     kinds = {"pipe": pipe, "queue": queue}
@@ -128,12 +150,12 @@ def renumbered(line: str, pipe: Callable[[int], int], queue: Callable[[int], int
 
 
 def of_link(line: str, link: int) -> str:
-    """A line that names the pipes 1 and 2 of a link, counted from 0, as the plan of all links has it."""
+    """Translates a line from pipes 1 and 2 of a link, counted from 0, to the plan's pipes; returns the line."""
     return renumbered(line, lambda pipe: pipe + 2 * link * (pipe in (1, 2)), int) if link else line
 
 
 def is_line(text: str) -> bool:
-    """Whether this is a configuration line, and not words of a link, as `queue 7` is."""
+    """Returns whether the text is a configuration line; `queue 7` alone is a link's words."""
     if not text.startswith(LINES):
         return False
     first, *words = text.split(None, 3)[:3]
@@ -146,7 +168,7 @@ def configures(line: str) -> bool:
 
 @lru_cache(KEPT)
 def around_bandwidth(line: str) -> tuple[str, str]:
-    """What the line of a pipe has before its bandwidth, and behind it."""
+    """Returns the parts of a pipe's line before and after the bandwidth."""
     words = line.split()
     while "bw" in words:
         at = words.index("bw")
@@ -156,6 +178,6 @@ def around_bandwidth(line: str) -> tuple[str, str]:
 
 
 def with_bandwidth(line: str, rate: int) -> str:
-    """The line of a pipe with another bandwidth, in bit/s."""
+    """Returns a pipe's line with another bandwidth in bit/s."""
     front, back = around_bandwidth(line)
     return f"{front} bw {max(1, rate)}bit/s{back}"

@@ -1,0 +1,51 @@
+"""The parser of a link's events in `hinge run` and in nets."""
+
+from __future__ import annotations
+
+from typing import Callable, Optional
+
+from hinge.arguments import is_number
+from hinge.events.forms import OUTAGE, PROTOCOLS
+from hinge.events.kinds import Event, HoldingOutage, LossyOutage, NewLine, NewWords, Port
+from hinge.run.words import WAYS, Wrong, bare, first_word, is_line, length_of, link_of
+from hingetulip_words.link import NO_WORDS
+
+BothWays = Callable[[str], "tuple[str, str]"]
+
+
+def port_of(words: "list[str]") -> Optional[Port]:
+    """Returns the port of `tcp port N` or `udp port N`, or None without words. Wrong: the words are others."""
+    if not words:
+        return None
+    protocol, port, number = words
+    if protocol not in PROTOCOLS or port != "port" or not is_number(number) or not 1 <= int(number) <= 65535:
+        raise Wrong(f"'{' '.join(words)}': no port from 1 to 65535 (example: tcp port 7001)")
+    return Port(PROTOCOLS[protocol], int(number))
+
+
+def alike(text: str) -> "tuple[str, str]":
+    """Returns the same words for both ways."""
+    return text, text
+
+
+def link_event(text: str, option: str, ends: str = "", link: int = 0, is_back: bool = False, both_ways: BothWays = alike) -> Event:
+    """Returns the event of `[up|down] LINK`, `[up|down] outage LENGTH [lossy]` or a configuration line. If `is_back`, the words
+    name the link's second end first. Wrong: the text isn't a link's event; `option` is its place."""
+    text, typed = bare(text), bare(f"{ends} {text}")
+    first, behind = first_word(text)
+    side, rest = (first, behind) if first in WAYS else ("", text)
+    ways = tuple(2 * link + (way ^ is_back) for way in ([WAYS[side]] if side else [0, 1]))  # the first from the end named first
+    if rest in ("cut", "off"):
+        raise Wrong(f"'{rest}': a cut has a length (example: outage 5s lossy)")
+    if first_word(rest)[0] == "outage":
+        words = rest.split()
+        if len(words) == 1 or words[2:3] not in ([], ["lossy"]) or len(words) not in (2, 3, 6):
+            raise Wrong(f"`{OUTAGE}`, LENGTH as 600ms")
+        kind = LossyOutage if words[2:] else HoldingOutage
+        return kind(ways, typed, port_of(words[3:]), length_of(words[1]))
+    if is_line(rest) and not side:
+        return NewLine(ways, typed, line=rest)
+    if not rest:
+        raise Wrong(NO_WORDS)
+    links = tuple(link_of(words, option) for _, words in zip(ways, both_ways(rest)))
+    return NewWords(ways, typed, links=links, ends=ends, side=side)

@@ -1,0 +1,97 @@
+"""The parser of a net's events: the words after the moment in an `at` line, or in `hinge change`."""
+
+from __future__ import annotations
+
+from typing import TYPE_CHECKING
+
+from hinge.events.forms import ACTS, ENDS, OF_LINKS, OUTAGE, PROTOCOLS, WORDS
+from hinge.events.kinds import Cut, Event, Heal, HostAct
+from hinge.events.link_words import link_event, port_of
+from hinge.net.clocks import MOST_CLOCKS, number_of, read_skew
+from hinge.net.disks import DISK
+from hinge.net.statements import NO_HOST, Statement
+from hinge.run.words import LAST_MOMENT, WAYS, bare, placed
+
+if TYPE_CHECKING:
+    from hinge.net.description import Description
+
+OF_LINK = f"A B [N] {OUTAGE}, or LINK, or a line"
+
+
+def parse(words: str, net: Description) -> Event:
+    """Returns the event of words without a file. Wrong: the words describe no event of the net."""
+    return read_event(Statement(f"'{words}'", 0, f"at {words}"), net)
+
+
+def read_event(statement: Statement, net: Description) -> Event:
+    """Returns the event in a statement, after its moment. Wrong: the words describe no event."""
+    word = statement.peek()
+    if word in ACTS:
+        return read_act(statement, net)
+    if word in OF_LINKS:
+        return read_cut(statement, net)
+    if word and word not in net.hosts:
+        raise statement.unknown(word, [*net.hosts, *WORDS], NO_HOST)
+    whole = statement.rest
+    link, is_back = net.between(statement, f"at TIME {OF_LINK}")
+    ends = " ".join(whole[: len(whole) - len(statement.rest)].split())
+    return link_event(statement.rest, statement.place, ends, link, is_back, statement.both_ways)
+
+
+def read_length(statement: Statement, form: str) -> int:
+    """Returns the length of a fault in ns; without a length, the fault never ends."""
+    return statement.take_time(form) if statement.peek() else LAST_MOMENT
+
+
+def read_act(statement: Statement, net: Description) -> Event:
+    """Returns the event on a host."""
+    word, typed, skew = statement.peek(), bare(statement.rest), ""
+    form = f"at TIME {WORDS[word].form}"
+    statement.take(form)
+    host = net.room(statement, form)
+    if word == "skew":
+        if not number_of(host, net.hosts):
+            raise statement.wrong(host, f"the first {MOST_CLOCKS} hosts have clocks of their own")
+        skew = read_skew(statement).text()
+    length = 0 if word == "crash" and not statement.peek() else read_length(statement, form) if word in ENDS else LAST_MOMENT
+    statement.done(form)
+    if word != "skew":
+        refuse_act(statement, net, word, host, word == "restart" or length < LAST_MOMENT)
+    return HostAct((host,), typed, None, word, length, skew)
+
+
+def refuse_act(statement: Statement, net: Description, word: str, host: str, ends: bool) -> None:
+    """Wrong: the host can't be killed, stopped or begun again, or a fault that ends can't end."""
+    if host == net.main:
+        raise statement.wrong(host, "it has the main command, whose end is the end")
+    if ends and "restart" in (word, ENDS.get(word)) and not net.hosts[host].command:
+        raise statement.wrong(host, "it has no command that could begin again")
+    if word == "crash" and not net.hosts[host].disks:
+        raise statement.wrong(host, f"it has no disk: {DISK}")
+
+
+def read_cut(statement: Statement, net: Description) -> Event:
+    """Returns the cut or the heal of a statement."""
+    word, typed = statement.peek(), bare(statement.rest)
+    form = f"at TIME {WORDS[word].form}"
+    statement.take(form)
+    host, others = net.host(statement, form), tuple[str, ...]()
+    if statement.peek() == "from":
+        statement.take(form)
+        others = (net.host(statement, form),)
+        while statement.peek() in net.hosts:
+            others += (statement.take(form),)
+        statement.refuse_twice(others)
+        if lonely := [other for other in others if not net.ways_between(host, (other,))]:
+            raise statement.wrong(lonely[0], f"{host} has no link to it")
+    side = statement.take(form) if statement.peek() in {*WAYS} - {*net.hosts} else ""
+    ways = net.ways_between(host, others, side)
+    if not ways:
+        raise statement.wrong(host, "it has no such link")
+    if statement.peek() in net.hosts:
+        raise statement.wrong(statement.peek(), f"write `from {statement.peek()}`: {form}")
+    with placed(statement.place):
+        port = port_of([statement.take(form) for _ in range(3)] if statement.peek() in {*PROTOCOLS} - {*net.hosts} else [])
+    length = read_length(statement, form) if word == "cut" else LAST_MOMENT
+    statement.done(form)
+    return Cut(ways, typed, port, length) if word == "cut" else Heal(ways, typed, port)

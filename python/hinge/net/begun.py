@@ -1,0 +1,157 @@
+"""The command `hinge net` after its command line is parsed."""
+
+from __future__ import annotations
+
+import fcntl
+import os
+import resource
+import select
+import shutil
+import signal
+import sys
+from typing import NoReturn
+
+from hinge.border.terminal import show
+from hinge.checks.lines import twice
+from hinge.command import say
+from hinge.net.description import Description, read_description
+from hinge.net.net_inside import NetInside
+from hinge.net.net_plan import NetPlan
+from hinge.net.net_rooms import NETWORK, NetEnds
+from hinge.net.order import end_wait_of, net_of, net_order, outside_of
+from hinge.net.statements import Unobeyed
+from hinge.net.ways import gap
+from hinge.paths.folder import HISTORY, NET, SUMMARY
+from hinge.run.changes import Change, refuse_second
+from hinge.run.first import BLOCKED, first_process, status_of
+from hinge.run.host import program
+from hinge.run.idle import refuse_idle, refuse_idle_seed
+from hinge.run.plan_of_options import draws, drawn_seed, limit_of
+from hinge.run.outside import Outside
+from hinge.run.rooms import leave_the_system
+from hinge.run.settings import NetOptions
+from hinge.run.system import is_simulated
+from hinge.run.transcripts import refuse_lost, refuse_own_input
+from hinge.run.words import Target, Wrong, placed
+from hinge.simulated import start
+
+
+def with_files(options: NetOptions) -> NetOptions:
+    """Returns the options with transcript and summary in a folder for both, if it is writable."""
+    refuse_own_input("--transcripts", options.transcripts, [options.file])
+    for path in (options.transcripts, options.logs):
+        if path:
+            os.makedirs(path, exist_ok=True)
+    if options.transcripts:
+        history, summary, net = (os.path.join(options.transcripts, name) for name in (HISTORY, SUMMARY, NET))
+        options = options.but(transcript=options.transcript or history, json=options.json or summary)
+        if os.path.realpath(options.file) != os.path.realpath(net):
+            shutil.copyfile(options.file, net)  # by which `hinge look` judges the session
+    refuse_lost("--transcript", options.transcript, [options.file])
+    refuse_lost("--json", options.json, [options.file, options.transcript])
+    refuse_lost("--control", options.control, [options.file, options.transcript, options.json])
+    return options
+
+
+def refuse_idle_lines(net_plan: NetPlan, is_open: bool) -> None:
+    """Refuses idle lines. Wrong: other lines leave a line of the file without effect. Unobeyed: a line repeats an option. If the
+    net is open to others, a later change may need the line."""
+    before = dict[bool, set[tuple[int, Target]]]()
+    for of_main, moment, line, statement in net_plan.places:
+        if statement.word == "at":
+            with placed(statement.place):
+                refuse_second([Change(moment, line)], before.setdefault(of_main, set()))
+        if option := twice(line.split()):
+            raise Unobeyed(f"{statement.place}: {option} stands twice; write one of them")
+    if net_plan.net.waits and not net_plan.has_main and not is_open:
+        raise Wrong(f"wait {net_plan.net.waits[0].host}: no command waits; write a line `main NAME COMMAND`, which begins then")
+
+
+def show_net(net: Description) -> None:
+    """Hosts with their addresses and links."""
+    ends = NetEnds(net)
+    for name, host in net.hosts.items():
+        show(
+            f"{name} switch"
+            if host.is_switch
+            else f"{name} {' '.join(ends.own[name])}{' router' * host.forwards}{' main' * (name == net.main)}"
+            f"{f': {host.command}' if host.command else ''}"
+        )
+    for number, link in enumerate(net.links):
+        for pipe, (one, two, words) in enumerate(((*link.ends, link.ways[0]), (*link.ends[::-1], link.ways[1])), 2 * number + 1):
+            at = [f"{name} {ends.at_end(name, number).four}" if name in ends.own else name for name in (one, two)]
+            show(f"pipe {pipe}: {at[0]} > {at[1]}: {words or 'open'}")
+
+
+def show_drawn(net_plan: NetPlan, seed: int) -> None:
+    """Prints the `at` lines that a nemesis stands for."""
+    for line in [*[f"# by seed {seed}"] * bool(net_plan.drawn), *net_plan.drawn]:
+        show(line)
+
+
+def refuse_gap(net: Description, options: NetOptions) -> None:
+    """Checks routers. Wrong: a host that forwards packets has no command. With --control it may get one later, so the net only
+    warns."""
+    hole = gap(net)
+    if hole is None or hole.between == options.shell:
+        return
+    text = f"{hole.start} has no way to {hole.end}: {hole.between} hands nothing on; write router {hole.between}"
+    if not options.control:
+        raise Wrong(f"{options.file}: {text}, or give it a command")
+    if not options.quiet:
+        say(text)
+
+
+def run(arguments: NetOptions) -> None:
+    """Checks the options and runs the net."""
+    refuse_gap(read_description(arguments.file), arguments)
+    net = net_of(arguments)
+    seed = drawn_seed(arguments.seed)
+    net_plan = NetPlan(net, net.longest(arguments.mtu), seed)  # so that a wrong word is told before folders are made
+    limit_of(arguments.late), end_wait_of(arguments), outside_of(arguments, net)
+    refuse_idle_lines(net_plan, bool(arguments.control or arguments.stay or arguments.while_open is not None))
+    refuse_idle(net_plan.plan, [link.statement.place for link in net.links for _ in link.ways], bool(arguments.control))
+    is_of_links = arguments.seed is not None and not (arguments.simulated or arguments.control)
+    refuse_idle_seed(is_of_links, draws(net_plan.plan) or bool(net_plan.drawn))
+    if arguments.dry_run:
+        show_net(net)
+        show_drawn(net_plan, seed)
+        return
+    arguments = with_files(arguments)
+    if arguments.simulated:
+        refuse_staying(arguments)
+        sys.exit(start.run_simulated("net", arguments))
+    begin(arguments)
+
+
+def refuse_staying(options: NetOptions) -> None:
+    if options.stay or options.while_open is not None:
+        raise Wrong("--stay, --while-open: nobody can end a machine of its own; simulated time ends with its commands")
+
+
+def begin(options: NetOptions) -> NoReturn:
+    """Runs the command here, on this system's clock."""
+    mask = signal.pthread_sigmask(signal.SIG_BLOCK, ())
+    program()
+    order = net_order(options, net_of(options), mask, is_simulated())
+    signal.pthread_sigmask(signal.SIG_BLOCK, BLOCKED)  # once all files are read, which a FIFO may put off for ever
+    most = resource.getrlimit(resource.RLIMIT_NOFILE)[1]
+    resource.setrlimit(resource.RLIMIT_NOFILE, (most, most))  # two descriptors for each link
+    sys.stdout.flush()
+    # Before this process leaves the network that it joins.
+    outside = Outside(bool(options.outside_loopback), NETWORK) if order.outside else None
+    own_users = leave_the_system()
+    first = first_process(lambda: NetInside(order, own_users, outside).run())
+    if outside:
+        outside.tell(first, own_users)
+    if options.while_open is not None:
+        look_at(options.while_open)
+    sys.exit(status_of(first, options.while_open))
+
+
+def look_at(pipe: int) -> None:
+    """Makes the system send SIGIO to this process when a pipe can be read. The process can't start a thread for that any more."""
+    fcntl.fcntl(pipe, fcntl.F_SETOWN, os.getpid())
+    fcntl.fcntl(pipe, fcntl.F_SETFL, fcntl.fcntl(pipe, fcntl.F_GETFL) | os.O_ASYNC)
+    if select.select([pipe], [], [], 0)[0]:
+        os.kill(os.getpid(), signal.SIGIO)

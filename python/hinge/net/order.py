@@ -1,0 +1,156 @@
+"""The options of a net, and the plan that its links read."""
+
+from __future__ import annotations
+
+import os
+from typing import Mapping, NamedTuple, Optional
+
+from hinge.events.kinds import Act, Cut, Heal
+from hinge.net.acts import line_of
+from hinge.net.clocks import IN_REAL_TIME
+from hinge.net.description import Description, read_description
+from hinge.net.disks import refuse_disks
+from hinge.net.net_plan import NetPlan
+from hinge.net.net_rooms import NetEnds
+from hinge.run.options import MOST
+from hinge.run.plan_of_options import draws, drawn_seed, limit_of
+from hinge.run.processes import Mask
+from hinge.run.settings import NetOptions
+from hinge.run.words import Wrong, duration
+
+BY_LINKS = ("stop", "cont", "kill")  # the acts that are a write each, on hosts with cgroups
+Linked = Mapping[str, "tuple[int, int]"]  # the descriptors that freeze and that kill a host, whose acts are the links'
+
+
+class NetOrder(NamedTuple):
+    """A net's run: the command line's options, and their meanings."""
+
+    options: NetOptions
+    net: Description
+    plan: str  # without what is told of hosts
+    seed: int
+    draws: bool
+    limit: Optional[float]  # ms
+    end_wait: float  # s
+    made: NetPlan
+    outside: Optional[str]  # the host that leads to the rest of the network
+    mask: Mask  # of what is started
+
+    @property
+    def folder(self) -> str:
+        """Returns the folder of the net's file."""
+        return os.path.dirname(os.path.abspath(self.options.file))
+
+
+class LinksPlan:
+    """The text that the host of all links reads."""
+
+    def __init__(self, order: NetOrder, ends: NetEnds, linked: Linked) -> None:
+        self.order, self.net, self.ends, self.linked = order, order.net, ends, linked
+
+    def text(self) -> str:
+        """Returns the plan, with the lines for an audit along the paths after the line that opens the transcript."""
+        into = self.net.ways_into_switches()
+        plan = self.order.plan + "".join(f"switch {' '.join(map(str, ways))}\n" for ways in into.values() if ways)
+        if self.order.options.transcript is None:
+            return "\n".join([plan.rstrip("\n"), *self.act_lines(), ""])
+        first, _, rest = plan.partition("\n")
+        hosts = [f"remark host,{name},{','.join(self.ends.all_of(name))}" for name in self.ends.own]
+        pipes = [line for number, link in enumerate(self.net.links) for way in (0, 1) for line in self.pipes_of(number, way)]
+        hosts += [f"remark switch,{name}" for name in into]
+        outside = [f"remark outside,{self.order.outside}"] * bool(self.order.outside)
+        draw_lines = [f"remark drawn,{line}" for line in self.order.made.drawn]
+        remarks = [*hosts, *outside, *["remark routes,none"] * (not self.net.has_routes), *pipes, *draw_lines]
+        return "\n".join(
+            [first, "remark format,3", *remarks, "contents", rest.rstrip("\n"), *self.act_remarks(), *self.act_lines(), ""]
+        )
+
+    def is_of_links(self, act: Act) -> bool:
+        return act.host in self.linked and act.word in BY_LINKS
+
+    def act_lines(self) -> list[str]:
+        """Returns the hosts and their acts that the links carry out, in the file's order, after all events of links."""
+        lines = [
+            f"{'main ' * act.moment.of_main}at {act.moment.ns} {line_of(act)}"
+            for act in self.order.made.acts
+            if self.is_of_links(act)
+        ]
+        return [*(f"host {name} {freeze} {kill}" for name, (freeze, kill) in self.linked.items()), *lines]
+
+    def act_remarks(self) -> list[str]:
+        """Returns remarks for the scheduled cuts and heals; other acts are recorded when they happen."""
+        return [
+            f"{'main ' * moment.of_main}at {moment.ns} remark act,{event.words}"
+            for moment, event, _ in self.order.made.events
+            if isinstance(event, (Cut, Heal))
+        ]
+
+    def pipes_of(self, number: int, way: int) -> list[str]:
+        """Returns remarks with the hosts at both ends for each of the way's pipes.
+
+        With jitter, packets pass twice: a point `START~END` separates both passes.
+        """
+        start, end = self.net.links[number].ends[way], self.net.links[number].ends[1 - way]
+        pipe = 2 * number + way + 1
+        plan = self.order.made.plan
+        second = plan.extras[pipe - 1][1] if pipe - 1 in plan.extras else []
+        model = plan.decided.get(pipe - 1)
+        between = self.ends.label(start, number).replace(".", "~", 1) if second else end
+        return [
+            f"remark pipe,{pipe},{start},{between}",
+            *(f"remark pipe,{other},{between},{end}" for other in second),
+            *[f"remark copies,{pipe}"] * (pipe - 1 in plan.copied),
+            *[f"remark model,{pipe},{model}"] * bool(model),
+        ]
+
+
+def with_command(net: Description, command: list[str], path: str, shell: Optional[str]) -> Description:
+    """Returns the net with the main command of the command line. Wrong: the file and the command line both name one, or neither
+    does."""
+    if shell is not None:
+        if not net.is_room(shell) or command:
+            raise Wrong(
+                f"--shell {shell}: no host of {path}"
+                if not net.is_room(shell)
+                else "--shell: the command behind -- is the main one already"
+            )
+        if net.main:
+            net.hosts[net.main].command = ""
+        net.main, net.has_shell = None, True
+    elif command:
+        if net.main is None or net.hosts[net.main].command:
+            raise Wrong(f"{path}: a command behind -- takes a line `main NAME` that has none")
+        net.hosts[net.main].command = 'exec "$0" "$@"'
+    elif net.main is not None and not net.hosts[net.main].command:
+        raise Wrong(f"{path}: main {net.main} has no command, and none is behind --")
+    return net
+
+
+def net_of(options: NetOptions) -> Description:
+    return with_command(read_description(options.file), options.command, options.file, options.shell)
+
+
+def outside_of(options: NetOptions, net: Description) -> Optional[str]:
+    """Returns the host of --outside. Wrong: the net doesn't contain it."""
+    result = options.outside_loopback or options.outside
+    if result is not None and not net.is_room(result):
+        raise Wrong(f"--outside {result}: no host of {options.file}")
+    return result
+
+
+def end_wait_of(options: NetOptions) -> float:
+    """Returns the seconds of --end-wait."""
+    return duration(options.end_wait, "--end-wait") / 1e9
+
+
+def net_order(options: NetOptions, net: Description, mask: Mask, simulated: bool) -> NetOrder:
+    """Wrong, Missing: the net needs something that its time or this system lacks."""
+    seed = drawn_seed(options.seed)
+    net_plan = NetPlan(net, net.longest(options.mtu), seed)
+    if not simulated and any(act.word == "skew" for act in net_plan.acts):
+        raise Wrong(f"{options.file}: skew: {IN_REAL_TIME}")
+    refuse_disks(options.file, net.hosts.values(), simulated)
+    plan, path = net_plan.plan, options.transcript and os.path.abspath(options.transcript)
+    text, is_drawn = plan.text(seed, path, options.realtime, MOST, simulated), draws(plan) or bool(net_plan.drawn)
+    limit, wait = limit_of(options.late), end_wait_of(options)
+    return NetOrder(options, net, text, seed, is_drawn, limit, wait, net_plan, outside_of(options, net), mask)

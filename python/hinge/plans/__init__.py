@@ -1,0 +1,1 @@
+"""Returns the cut or the heal."""

@@ -1,0 +1,44 @@
+"""Configuration lines as dummynet spells them, and what they say."""
+
+from __future__ import annotations
+
+import re
+from fractions import Fraction
+from functools import lru_cache
+from typing import Optional
+
+from hinge.program import asked_of_dummynet
+
+OPTIONS = ("bw", "delay", "queue", "plr", "weight", "buckets", "pipe", "mask")
+Target = tuple[str, int]  # pipe or queue, and its number
+Options = Optional[dict[str, str]]  # of a line; none where it deletes
+
+
+class Unread(ValueError):
+    """Raised for lines that this module can't read, so that the net isn't judged."""
+
+
+def spelled(lines: list[str]) -> list[str]:
+    """Returns configuration lines in dummynet's spelling. Unread: dummynet refuses one."""
+    answer = asked_of_dummynet("live", data="".join(f" {line}\n" for line in lines).encode())
+    found = re.findall(r"^c,0,configure,(.*)$", answer.text, re.M)
+    if len(found) != len(lines):
+        raise Unread("dummynet doesn't take a line of the file")
+    return found
+
+
+@lru_cache(1 << 16)
+def options_of(line: str) -> tuple[Target, Options]:
+    """Returns the target and the options of a line in dummynet's spelling."""
+    words = line.split()
+    if words[1] == "delete":
+        return (words[0], int(words[2])), None
+    options: dict[str, str] = {}
+    for word in words[3:]:
+        if word in OPTIONS:
+            options[last:=word] = ""
+        else:
+            options[last] = f"{options[last]} {word}".strip()
+    if "plr" in options:
+        options["plr"] = str(Fraction(options["plr"]))
+    return (words[0], int(words[1])), options

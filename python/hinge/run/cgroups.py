@@ -1,0 +1,138 @@
+"""Cgroups for hosts, if this user may create cgroups.
+
+All processes in a cgroup are frozen or killed at the same moment, and no program notices through a signal.
+"""
+
+from __future__ import annotations
+
+import contextlib
+import fcntl
+import os
+import re
+import time
+from pathlib import Path
+from typing import Optional
+
+from hinge.border.files import read_text
+from hinge.border.scratch import held, holding
+from hinge.run.system import write
+
+MOUNT = re.compile(r"^\d+ \d+ \S+ (\S+) (\S+) .* - cgroup2 ", re.MULTILINE)  # what is mounted, and where
+PATIENCE, POLL = 2.0, 0.001  # s
+FILES = ("cgroup.freeze", "cgroup.kill", "cgroup.procs")  # in which the links and `hinge exec` write
+NAME, MARK = "hinge-", "user.hinge"  # by which a cgroup is the kit's
+
+
+class Cgroup:
+    """A cgroup. Its process locks the folder before marking it, so that later runs recognize cgroups from killed processes."""
+
+    def __init__(self, folder: Path) -> None:
+        self.folder = folder
+        folder.mkdir()
+        self.lock = held(folder)
+        fcntl.flock(self.lock, fcntl.LOCK_EX)
+        with contextlib.suppress(OSError):  # a system without marks
+            os.setxattr(self.lock, MARK, b"")
+        self.tells = (folder / "cpu.pressure").exists()
+        self.descriptors = {name: os.open(folder / name, os.O_WRONLY) for name in FILES}
+
+    def write(self, name: str, text: str) -> bool:
+        """Returns whether the kernel accepted the text."""
+        try:
+            write(str(self.folder / name), text)
+            return True
+        except OSError:
+            return False
+
+    def is_so(self, event: str) -> bool:
+        """Returns whether cgroup.events contains the line, now or within a short wait."""
+        until = time.monotonic() + PATIENCE
+        while event not in read_text(self.folder / "cgroup.events").splitlines():
+            if time.monotonic() > until:
+                return False
+            time.sleep(POLL)
+        return True
+
+    def hold(self) -> bool:
+        """Freezes all processes. Each stops when the kernel has finished its current call."""
+        return self.write("cgroup.freeze", "1")
+
+    def kill(self) -> bool:
+        return self.write("cgroup.kill", "1")
+
+    def is_empty(self) -> bool:
+        """Returns whether no process remains after a kill."""
+        return self.is_so("populated 0")
+
+    def empty(self) -> None:
+        """Kills all processes, frozen, so that none sees another's end. Later processes stay frozen."""
+        if "populated 0" in read_text(self.folder / "cgroup.events").splitlines():
+            return  # each write would hold up the links' acts
+        was_held = read_text(self.folder / "cgroup.freeze").strip()
+        if self.hold() and self.kill():
+            self.is_empty()
+        self.write("cgroup.freeze", was_held)
+
+    def waited(self) -> Optional[float]:
+        """Returns the time in ms for which processes waited for a processor, if the system reports it."""
+        match = re.search(r"^some .*total=(\d+)$", read_text(self.folder / "cpu.pressure"), re.MULTILINE) if self.tells else None
+        return int(match[1]) / 1e3 if match else None
+
+    def join(self) -> None:
+        """Takes this process."""
+        self.write("cgroup.procs", "0")
+
+    def remove(self) -> None:
+        """Removes the cgroup and kills its processes, when the net ends."""
+        self.kill()
+        self.is_empty()
+        with contextlib.suppress(OSError):  # something of another one's is there
+            self.folder.rmdir()
+        for descriptor in (self.lock, *self.descriptors.values()):
+            os.close(descriptor)
+
+
+def remove_left(folder: Path) -> None:
+    """Removes the marked cgroups whose processes are no more."""
+    for path in folder.glob(f"{NAME}*"):
+        with contextlib.suppress(OSError), holding(path) as place:
+            os.getxattr(place, MARK)
+            fcntl.flock(place, fcntl.LOCK_EX | fcntl.LOCK_NB)
+            path.rmdir()
+
+
+def own_folder() -> Optional[Path]:
+    """Returns the folder of this process's cgroup, if visible here."""
+    mount = MOUNT.search(read_text("/proc/self/mountinfo"))
+    path = re.search(r"^0::(\S+)$", read_text("/proc/self/cgroup"), re.MULTILINE) if mount else None
+    if not mount or not path or not f"{path[1]}/".startswith(mount[1].rstrip("/") + "/"):
+        return None
+    return Path(mount[2]) / os.path.relpath(path[1], mount[1])
+
+
+class Cgroups:
+    """A cgroup for each host, from its first command or act to the end."""
+
+    def __init__(self) -> None:
+        self.made: dict[str, Cgroup] = {}
+        self.mark = os.urandom(6).hex()
+        self.folder: Optional[Path] = None
+
+    def of(self, host: str) -> Optional[Cgroup]:
+        """Returns the host's cgroup, or None if this user can't create one."""
+        if host not in self.made:
+            try:
+                if self.folder is None:
+                    self.folder = own_folder()
+                    if self.folder is None:
+                        return None
+                    remove_left(self.folder)
+                self.made[host] = Cgroup(self.folder / f"{NAME}{self.mark}-{host}")
+            except OSError:
+                return None
+        return self.made[host]
+
+    def remove(self) -> None:
+        for cgroup in self.made.values():
+            cgroup.remove()
+        self.made.clear()

@@ -1,0 +1,150 @@
+"""The plan that the options of `hinge run` and `hinge udp` make."""
+
+from __future__ import annotations
+
+import random
+from itertools import chain
+from typing import TYPE_CHECKING, Iterable, Iterator, Optional
+
+from hinge.run.idle import refuse_idle, refuse_idle_options
+from hinge.run.plan import Plan
+from hinge.run.settings import LinkOptions, LiveOptions
+from hinge.run.transcripts import refuse_lost
+from hinge.run.words import WAYS, Target, Wrong, bare, duration, link_of, read_lines, target_of
+from hingetulip_words.link import Link, Place
+from hingetulip_words.presets import Preset, preset
+
+if TYPE_CHECKING:
+    from hinge.checks.lines import Placed
+
+BIN_LEAST, TRACE_LASTING = 10**6, "1h"  # ns, and how long traces are begun anew
+LINKS = "client > server", "server > client"  # the names of ways 0 and 1 in a file of faults
+
+
+def preset_of(name: Optional[str]) -> Optional[Preset]:
+    try:
+        return None if name is None else preset(name)
+    except ValueError as unknown:
+        raise Wrong(f"--preset: {unknown}") from None
+
+
+def own_link(text: str, option: str) -> Link:
+    """Returns a link of the command line. Wrong: the text is no link, or empty."""
+    if not bare(text):
+        raise Wrong(f"{option} {text!r}: no words of a link (example: 10Mbit/s 20ms); an open one is 'bw 0'")
+    return link_of(text, option, Place.RUN)
+
+
+def asking(option: str, lines: Iterable[Placed]) -> Iterator[Placed]:
+    """Yields the lines that contain a request. Wrong: no line does."""
+    result = (line for line in lines if bare(line.text))
+    first = next(result, None)
+    if first is None:
+        raise Wrong(f"{option}: no line of a configuration (example: pipe 1 config bw 10Mbit/s)")
+    return chain([first], result)
+
+
+def placed_lines(options: LinkOptions) -> Iterator[Placed]:
+    """Yields the lines of --config and --line. Wrong: an option contains no line."""
+    from hinge.checks.lines import Placed  # as in plan.py, what few runs need is loaded where it is needed
+
+    if options.config:
+        lines = enumerate(read_lines(options.config), 1)
+        yield from asking("--config", (Placed(f"{options.config}:{number}", line) for number, line in lines))
+    for text in options.line:
+        yield from asking("--line", (Placed("--line", part) for part in text.splitlines()))
+
+
+def lines_of(options: LinkOptions, placed: Iterable[Placed]) -> list[str]:
+    """Returns the configuration lines in order. Lines from --up and --down follow lines that configure the same pipe, or otherwise
+    precede all lines, which may configure its queues. A direction without words is the preset's, or open. Wrong: a link or a line
+    is wrong, or the preset has no effect."""
+    path = preset_of(options.preset)
+    texts: dict[str, Placed] = {}  # with the first place of each, as long files say the same again and again
+    inputs = [texts.setdefault(line.text, line).text for line in placed]
+    if texts:
+        from hinge.checks.lines import refuse_wrong
+
+        refuse_wrong([*texts.values()])
+    targets = {target_of(bare(line)) for line in inputs}
+    first, last = list[str](), list[str]()
+    ways = (("up", options.up, path and path.up), ("down", options.down, path and path.down))
+    for number, (option, text, preset_text) in enumerate(ways, 1):
+        is_given = Target("pipe", number) in targets
+        if text is None and not is_given:
+            text = preset_text
+        link = None if text is None else own_link(text, f"--{option}")
+        if link is not None and (link.options or not is_given):
+            (last if is_given else first).append(link.line(number))
+        elif not is_given:
+            last.append(f"pipe {number} config")
+    if path is not None and {Target("pipe", 1), Target("pipe", 2)} <= targets:
+        raise Wrong("--preset does nothing beside lines of the pipes 1 and 2")
+    return [*first, *inputs, *last]
+
+
+def limit_of(late: Optional[str]) -> Optional[float]:
+    """Returns the limit of --late in ms. Wrong: the limit lacks a unit, and could mean ms or s."""
+    if late is None:
+        return None
+    if late.replace(".", "", 1).isdecimal():
+        raise Wrong(f"--late {late}: it has no unit; write {late}ms or {late}s")
+    return duration(late, "--late") / 1e6
+
+
+def noted(plan: Plan, lines: Iterable[Placed]) -> Iterator[Placed]:
+    """Yields configuration lines, and notes each for the transcript. Long files are never whole in memory."""
+    for placed in lines:
+        file, _, number = placed.place.rpartition(":")
+        plan.note("--config" if file else "--line", int(number) if file else 0, placed.text)
+        yield placed
+
+
+def plan_of(options: LiveOptions, longest: int) -> Plan:
+    """Returns the link's plan for packets of at most `longest` bytes."""
+    refuse_lost("--transcript", options.transcript, options.files())
+    refuse_lost("--json", options.json, [*options.files(), options.transcript])
+    refuse_lost("--control", options.control, [*options.files(), options.transcript, options.json])
+    plan = Plan(longest)
+    plan.is_noted = options.transcript is not None
+    for option in ("up", "down", "preset", "map", "loss"):
+        value = getattr(options, option)
+        for text in [value] if isinstance(value, str) else value or ():
+            plan.note(f"--{option}", 0, text)
+    placed = noted(plan, placed_lines(options)) if options.config or options.line else ()
+    for line in lines_of(options, placed):
+        plan.link(line)
+    preset = preset_of(options.preset)
+    texts = (("up", options.up, preset and preset.up), ("down", options.down, preset and preset.down))
+    for way, (option, text, preset_text) in enumerate(texts):
+        plan.words(way, link_of((preset_text or "") if text is None else text, f"--{option}", Place.RUN))
+    for rule in options.map:
+        plan.rule(rule)
+    for model in options.loss:
+        plan.loss(model)
+    if options.faults:
+        plan.faults(options.faults, LINKS)
+    if options.timeline:
+        plan.timeline(options.timeline)
+    for way, path in enumerate((options.up_trace, options.down_trace)):
+        if path:
+            bin_ns = max(BIN_LEAST, duration(options.bin, "--bin")) if options.bin else None
+            plan.trace(way, path, bin_ns, duration(options.trace_for or TRACE_LASTING, "--trace-for"))
+    refuse_idle(
+        plan,
+        [f"--{name}" if getattr(options, name) is not None else f"pipe {way + 1}" for name, way in WAYS.items()],
+        bool(options.control),
+    )
+    refuse_idle_options(options, plan, draws(plan))
+    return plan
+
+
+def drawn_seed(seed_of_user: Optional[int]) -> int:
+    """Returns the user's seed, or a random one."""
+    return random.SystemRandom().getrandbits(32) if seed_of_user is None else seed_of_user
+
+
+def draws(plan: Plan) -> bool:
+    """Returns whether the run depends on the seed."""
+    lines = [*plan.configured, *(change.line for change in plan.changes.lines)]
+    return bool(plan.decided or plan.extras) or any("plr" in line for line in lines)

@@ -1,0 +1,86 @@
+"""The actions that make rooms, recorded as steps: a simulated machine's first process performs them (rooms.c)."""
+
+from __future__ import annotations
+
+import threading
+from functools import wraps
+from typing import Any, Callable, Optional, TypeVar, cast
+
+OF_EACH = ("", "lo", "sit0")  # the interfaces that a network of the machine has from the beginning, by their numbers from 1
+Call = TypeVar("Call", bound=Callable[..., Any])
+
+
+class Steps:
+    """The calls while this is the present one. Networks and interfaces are numbers; network 0 belongs to the first process."""
+
+    def __init__(self, root: str) -> None:
+        """`root` is the folder that the machine has at /."""
+        self.root, self.texts = root, list[str]()
+        self.inside, self.interfaces = 0, 0
+        self.names = [[*OF_EACH]]  # of the interfaces of each network
+
+    def __enter__(self) -> Steps:
+        PRESENT.steps = self
+        return self
+
+    def __exit__(self, *_: object) -> None:
+        PRESENT.steps = None
+
+    def see_own_processes(self) -> None:
+        """Nothing: the machine's first process sees no others."""
+
+    def unshare(self, _: int) -> None:
+        self.inside = len(self.names)
+        self.names.append([*OF_EACH])
+        self.texts.append("room")
+
+    def this_network(self) -> int:
+        return self.inside
+
+    def enter(self, network: int) -> None:
+        self.inside = network
+        self.texts += ["enter", str(network)]
+
+    def try_to_write(self, path: str, text: str) -> None:
+        self.texts += ["set", path, text]
+
+    def put_over(self, path: str, text: str) -> None:
+        self.texts += ["over", path, text]
+
+    def open_tun(self, name: str, flags: int, offload: int, persists: bool) -> int:
+        self.names[self.inside].append(name)
+        self.interfaces += 1
+        self.texts += ["tun", name, str(flags), str(offload), str(self.index_of(name))]
+        return self.interfaces - 1
+
+    def index_of(self, name: str) -> int:
+        return self.names[self.inside].index(name)
+
+    def send_batch(self, data: bytes, requests: "list[Any]") -> None:
+        self.texts += ["ask", str(len(requests)), data.hex()]
+
+
+class Present(threading.local):
+    """Each thread's steps, as a search plans several machines at a time: the end of another thread must not perform this thread's
+    calls here."""
+
+    steps: Optional[Steps] = None
+
+
+PRESENT = Present()
+
+
+def kept_as_step(do: Call) -> Call:
+    """A call that the present steps keep, where there are some."""
+
+    @wraps(do)
+    def either(*words: Any, **more: Any) -> Any:
+        steps = PRESENT.steps
+        return getattr(steps, do.__name__)(*words, **more) if steps else do(*words, **more)
+
+    return cast(Call, either)
+
+
+def at_root(path: str) -> str:
+    """Where a file of the rooms' system is here."""
+    return (PRESENT.steps.root if PRESENT.steps else "") + path
