@@ -1,1 +1,1 @@
-"""The kit round dummynet, as one command: `hinge`."""
+"""The kit around dummynet as a single command: `hinge`."""

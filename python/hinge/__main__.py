@@ -1,8 +1,9 @@
-"""`hinge COMMAND ..`: each command is a module of `hinge.commands`."""
+"""The command line `hinge COMMAND ..`. Each command is a module of `hinge.commands`."""
 
 from __future__ import annotations
 
 import _signal  # type: ignore[import]  # which Python has loaded, unlike signal
+import gc
 import os
 import sys
 
@@ -15,7 +16,6 @@ COMMANDS = {
     "packets": "a capture as a packet file",
     "ipfw": "configuration lines from files of ipfw and dnctl",
     "why": "what happened to a packet of a replay",
-    "sweep": "many configurations and seeds over one packet file",
     "check": "what is wrong with configurations, packet files and histories, and what to write",
     "run": "a command behind an emulated link, in real or simulated time",
     "net": "many hosts on any links, as a file describes them",
@@ -37,7 +37,7 @@ HELP, VERSION = ("help", "-h", "--help"), ("--version", "-V")
 
 
 def list_of_commands() -> str:
-    """What `hinge help` prints: the commands, and where more is told."""
+    """Returns the output of `hinge help`: the commands, and where to read more."""
     rows = "".join(f"  {name:<12}{what}\n" for name, what in COMMANDS.items())
     return (
         f"usage: hinge COMMAND ..\n\nThe kit round dummynet: captures, pictures, tables and live links.\n\n{rows}"
@@ -47,14 +47,17 @@ def list_of_commands() -> str:
 
 
 def refuse(words: list[str], program: str = "hinge") -> None:
-    """Ends the kit because the first word is no command of it or of dummynet, with what to type."""
+    """Refuses an unknown first word with advice, and ends the process."""
     import difflib  # which a wrong word alone needs
 
     from hinge.border import terminal
-    from hinge.elsewhere import answer_of
+    from hinge.foreign import answer_of
 
     answer, near = answer_of(words), difflib.get_close_matches(words[0], COMMANDS, 1)
-    if words[0] in COMMANDS:
+    files = [word for word in words if os.path.isfile(word)]
+    if program == "dummynet" and len(files) == 2 and files == words[-2:]:
+        text = f"write dummynet replay {' '.join(files)}"
+    elif words[0] in COMMANDS:
         text = f"write hinge {' '.join(words)}"
     elif answer is not None:
         text = answer.text()
@@ -65,37 +68,61 @@ def refuse(words: list[str], program: str = "hinge") -> None:
 
 
 def run_module(word: str) -> None:
-    """Runs a command over the words behind it."""
+    """Runs a command with its words."""
     import importlib
 
     importlib.import_module(f"hinge.commands.{word.replace('-', '_')}").main()
 
 
-def main() -> None:
-    if _signal.getsignal(_signal.SIGINT) is _signal.default_int_handler:
-        _signal.signal(_signal.SIGINT, _signal.SIG_DFL)  # ends it without a word, until `command.run` has its own
+def inherit_nothing() -> None:
+    """Signals behave as in a program that a shell starts, whatever the parent ignores or blocks: while SIGCHLD is ignored, ends of
+    processes go unnoticed. SIGINT and SIGHUP stay ignored, as by `&` and nohup. Files from this process belong to its user,
+    whatever the umask. No module on PYTHONPATH replaces a module of the standard library, and no warning replaces an answer."""
+    _signal.signal(_signal.SIGCHLD, _signal.SIG_DFL)
+    _signal.pthread_sigmask(_signal.SIG_SETMASK, ())
+    os.umask(os.umask(0o077) & 0o077)
+    standard = os.path.dirname(os.__file__)
+    sys.path.sort(key=lambda place: place not in (standard, f"{standard}/lib-dynload"))
+    if sys.warnoptions:
+        import warnings
+
+        warnings.simplefilter("ignore")
+
+
+def obey(words: list[str]) -> None:
+    """Carries out a command line."""
     from hinge import command
     from hinge.border import terminal
     from hinge.version import version
 
-    command.open_closed_streams()
-    words = sys.argv[1:]
     if words[:1] == ["help"] and len(words) > 1:
         words = [words[1], "--help"]
     if not words:
         terminal.tell(list_of_commands(), "")
         sys.exit(USAGE)
     if words[0] in HELP:
-        command.run(lambda: terminal.show(list_of_commands(), ""))
-    if words[0] in VERSION:
-        command.run(lambda: terminal.show(f"hinge {version()}"))
-    if words[0] == NOT_OF_DUMMYNET and len(words) > 1:
+        terminal.show(list_of_commands(), "")
+    elif words[0] in VERSION:
+        terminal.show(f"hinge {version()}")
+    elif words[0] == NOT_OF_DUMMYNET and len(words) > 1:
         refuse(words[1:], "dummynet")
-    if words[0] not in COMMANDS:
+    elif words[0] not in COMMANDS:
         refuse(words)
-    sys.argv[1:] = words[1:]
-    command.NAME[0] = f"hinge {words[0]}"
-    command.run(lambda: run_module(words[0]))
+    else:
+        sys.argv[1:] = words[1:]
+        command.NAME[0] = f"hinge {words[0]}"
+        run_module(words[0])
+
+
+def main() -> None:
+    inherit_nothing()
+    gc.set_threshold(20_000)  # modules that load are many objects, of which none goes
+    if _signal.getsignal(_signal.SIGINT) is _signal.default_int_handler:
+        _signal.signal(_signal.SIGINT, _signal.SIG_DFL)  # ends it without a word, until `command.run` has its own
+    from hinge import command
+
+    command.open_closed_streams()
+    command.run(lambda: obey(sys.argv[1:]))
 
 
 if __name__ == "__main__":

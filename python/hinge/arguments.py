@@ -1,71 +1,80 @@
-"""What the command lines have in common: their inputs, and numbers of a range. A help needs nothing else, so numbers and names of other
-modules stand here."""
+"""The common parts of command lines: inputs and bounded numbers. A help needs no other module, so some numbers and names of other
+modules are here."""
 
 from __future__ import annotations
 
 import argparse
 from types import SimpleNamespace
-from typing import Callable, Optional
+from typing import TYPE_CHECKING, Callable, Optional
 
-from hinge.outputs import Format, format_of
+if TYPE_CHECKING:
+    from hinge.outputs import Format
 
 SOURCE = (
     "a history or the transcript of a live session, or a packet file and the report that dummynet wrote of it; "
     "`-` is standard input"
 )
+RULE = (
+    "[up|down] [tcp|udp|icmp|icmp6|proto N] [src|dst|host NET] [port|sport|dport N[-M]] [dscp N]"  # that says where a packet goes
+)
+MODEL_NAMES = ("register", "cas", "set", "queue", "list", "lock")  # of what clients' operations are on
 WAYS = ("tuple", "flow", "target")  # that tell flows apart
 TABLE_FLOWS, PICTURE_FLOWS = 40, 8  # the most
 MOST_DIGITS = 20  # of a number: none that the kit reads is longer, and Python refuses to read one of thousands
 
 
 def is_number(text: str) -> bool:
-    """Whether a text is a whole number in digits, and of a length that can be read."""
+    """Returns whether a text consists of digits, and isn't too long to be read."""
     return len(text) <= MOST_DIGITS and text.isascii() and text.isdecimal()
 
 
 def bounded(low: int, high: int) -> Callable[[str], int]:
-    """The reader of a number of a range, for argparse."""
+    """Returns argparse's reader of a number within bounds."""
 
     def number(text: str) -> int:
         if not (is_number(text) and low <= int(text) <= high):
-            raise argparse.ArgumentTypeError(f"{text!r} is no number from {low} to {high}")
+            raise argparse.ArgumentTypeError(f"{text!r} isn't a number from {low} to {high}")
         return int(text)
 
     return number
 
 
+def seeds(text: str) -> list[int]:
+    """Returns the seeds in `7`, `1-5` or a list of them. ArgumentTypeError: there are none."""
+    numbers: list[int] = []
+    for part in text.split(","):
+        low, _, high = part.partition("-")
+        number = bounded(0, 10**6)
+        numbers.extend(range(number(low), number(high or low) + 1))
+    if not numbers:
+        raise argparse.ArgumentTypeError(f"{text!r} has no seed")
+    return numbers
+
+
 def file_of(*formats: Format) -> Callable[[str], str]:
-    """The reader of a name that ends as one of these formats does, for argparse."""
+    """Returns argparse's reader for a file name in one of these formats."""
 
     def name(text: str) -> str:
         if not text.lower().endswith(endings):
-            raise argparse.ArgumentTypeError(f"{text!r} doesn't end in {', '.join(endings)}")
+            also = "; --csv prints the table" * text.endswith((".csv", ".txt"))
+            raise argparse.ArgumentTypeError(f"{text!r} doesn't end in {', '.join(endings)}{also}")
         return text
 
     endings = tuple(one.value for one in formats)
     return name
 
 
-def rows_between(text: str) -> range:
-    """The reader of rows, as 17 or 1-40, for argparse. ArgumentTypeError: the text is neither."""
-    first, _, last = text.partition("-")
-    last = last or first
-    if not (is_number(first) and is_number(last) and 1 <= int(first) <= int(last)):
-        raise argparse.ArgumentTypeError(f"{text!r} is neither a row, as 17, nor rows, as 1-40")
-    return range(int(first), int(last) + 1)
-
-
 def add_source(
     line: argparse.ArgumentParser, form: str = "(HISTORY | PACKETS REPORT)", words: str = "SOURCE", told: str = SOURCE
 ) -> None:
-    """What a table, a picture or a paragraph is made of, and how the usage shows it."""
+    """Adds the inputs of tables, pictures and paragraphs, with their usage."""
     line.usage = f"{line.prog} [OPTION ..] {form}"
     line.add_argument("source", nargs="+", metavar=words, help=told)
     line.add_argument("--config", metavar="FILE", help="the configuration of the packet file's replay; a history has its own")
 
 
 def add_flows(line: argparse.ArgumentParser, most: int, default: Optional[int], text: str) -> None:
-    """What a flow is, and how many of them are told apart."""
+    """Adds the options that group flows and set the number of groups."""
     line.add_argument(
         "--by",
         choices=WAYS,
@@ -78,7 +87,7 @@ def add_flows(line: argparse.ArgumentParser, most: int, default: Optional[int], 
 
 
 class LookOptions(SimpleNamespace):
-    """What `hinge look` is told, each field by the name of its option. A dataclass takes longer to load than a help may."""
+    """The options of `hinge look`. A dataclass would load too slowly for a help."""
 
     source: list[str]
     config: Optional[str]
@@ -89,13 +98,11 @@ class LookOptions(SimpleNamespace):
     title: str
     csv: bool
     diff: bool
-    why: list[int]
-    audit: bool
     json: Optional[str]
     capture: Optional[str]
     index: Optional[str]
     end: int  # ms
-    ladder: Optional[range]
+    model: Optional[str]
 
     @property
     def outputs(self) -> list[str]:
@@ -103,5 +110,7 @@ class LookOptions(SimpleNamespace):
         return [*self.o, *([self.json] if self.json else [])]
 
     def files(self, *formats: Format) -> list[str]:
-        """Those of -o in some formats."""
+        """Returns the files of -o in some formats."""
+        from hinge.outputs import format_of
+
         return [name for name in self.o if format_of(name) in formats]

@@ -1,83 +1,72 @@
-"""The frame of every command: its help, its faults as one line, its exit status, and progress on a terminal."""
+"""The frame around every command: help, one-line faults, the exit status, and progress on a terminal."""
 
 from __future__ import annotations
 
-import argparse
+import _signal  # type: ignore[import]  # which Python has loaded, unlike signal
 import errno
-import importlib
 import os
-import shutil
-import signal
 import sys
-import textwrap
-import threading
 import time
 from contextlib import contextmanager
 from types import ModuleType
-from typing import Callable, Iterator, NoReturn, Optional
+from typing import TYPE_CHECKING, Callable, Iterator, NoReturn, Optional
 
-from hinge.border.terminal import printable, silence, tell, tell_over
+if TYPE_CHECKING:
+    from hinge.command_line import Parser
 
-USAGE, CONFIGURATION, ROWS, FILES, MISSING = 2, 3, 4, 6, 7
+from hinge.border.terminal import note_defect, printable, silence, tell, tell_over
+
+USAGE, CONFIGURATION, ROWS, FILES, MISSING, NOT_FOUND = 2, 3, 4, 6, 7, 127
+DEFECT, INTERRUPTED = 70, 130
 STATUSES = "0 done, 2 command line, 3 configuration, 4 packet file, report or capture, 6 files, 7 a package is missing"
 WIDTH = 80  # columns of a help
 FULL = (errno.ENOSPC, errno.EFBIG, errno.EDQUOT)  # of a write alone
 WRITING = (*FULL, errno.EIO, errno.EBADF)  # of a write, whose file has no name where it is standard output
 PROGRESS_AFTER = 2  # seconds
 LONGEST, MOST_TOLD = 4000, 200  # letters of a line, and of an exception
-NEAR, OUTPUT = 0.82, ("--out", "--output")  # of what was typed, and of what is meant
+NO_THREAD = "can't start new thread"  # Python's RuntimeError has no kind of its own for this
 NAME = ["hinge"]  # as the user typed it, with the command
 CLOSED = list[int]()  # the standard streams that were closed at first
 
 
-class Told(Exception):
-    """One whose text is a line for the user."""
+class Fault(Exception):
+    """Raised when a command can't continue; contains one line and the exit status, which may be that of its class."""
 
+    status: int
 
-class Parser(argparse.ArgumentParser):
-    """A command line that names the option which an unknown one may mean."""
-
-    def error(self, message: str) -> NoReturn:
-        import difflib  # which takes longer to load than a help may
-
-        option = message.partition("unrecognized arguments: ")[2].partition(" ")[0].partition("=")[0]
-        names = [name for name, action in self._option_string_actions.items() if action.help is not argparse.SUPPRESS]
-        near = ["-o"] if option in OUTPUT and "-o" in names else difflib.get_close_matches(option, names, 1, NEAR)
-        super().error(message + (f"; did you mean {near[0]}?" if near and option.startswith("--") else ""))
-
-
-class Fault(Told):
-    """Why a command can't go on, as one line, and its exit status."""
-
-    def __init__(self, line: str, status: int) -> None:
+    def __init__(self, line: str, status: Optional[int] = None) -> None:
         super().__init__(line, status)  # both, so that it can come from another process
-        self.status = status
+        self.status = self.status if status is None else status
 
     def __str__(self) -> str:
         return str(self.args[0])
 
 
 def filled(text: str) -> str:
-    """Paragraphs as wide as a help."""
+    """Returns paragraphs wrapped to a help's width."""
+    import textwrap
+
     return "\n\n".join(textwrap.fill(" ".join(part.split()), WIDTH - 1) for part in text.strip().split("\n\n"))
 
 
-def parser(
-    what: str, example: str, statuses: str = STATUSES, usage: Optional[str] = None, words: str = ""
-) -> argparse.ArgumentParser:
-    """A command line whose help says what the command does and what it takes, and ends in an example and the exit statuses.
-    `words` are of a file, in lines of their own."""
+def parser(what: str, example: str, statuses: str = STATUSES, usage: Optional[str] = None, words: str = "") -> Parser:
+    """Returns a parser whose help describes the command and its options, followed by an example and the exit statuses. `words`
+    describe a file's format, in separate lines."""
+    from argparse import RawDescriptionHelpFormatter  # which the list of commands doesn't need
+
+    from hinge.command_line import Parser
+
     return Parser(
         prog=NAME[0],
         usage=usage,
         description=filled(what),
-        epilog=f"{words}example:\n  {example.strip()}\n\n{filled(f'exit status: {statuses}')}",
-        formatter_class=argparse.RawDescriptionHelpFormatter,
+        epilog=f"{words}example:\n  {example.strip()}\n\n{filled(f'exit status: {statuses}, {DEFECT} a defect of hinge')}",
+        formatter_class=RawDescriptionHelpFormatter,
     )
 
 
 def open_closed_streams() -> None:
-    """Where a standard stream was closed, /dev/null takes its place, as a file that is opened later would."""
+    """Opens /dev/null for closed standard streams, so that no later file takes their descriptors."""
     for number, name in enumerate(("stdin", "stdout", "stderr")):
         try:
             os.fstat(number)
@@ -89,33 +78,57 @@ def open_closed_streams() -> None:
 
 
 def say(line: str) -> None:
-    """One line on standard error, which may quote some of what others wrote."""
+    """Prints a line on standard error, which may quote others' text."""
     tell(f"{NAME[0]}: {printable(line[:LONGEST])}" + " .." * (len(line) > LONGEST))
 
 
-def run(main: Callable[[], object]) -> NoReturn:
-    """Runs a command. A fault is one line on standard error; a reader that went away is none."""
-    if signal.getsignal(signal.SIGINT) == signal.SIG_DFL:
-        signal.signal(signal.SIGINT, signal.default_int_handler)
+def outcome(main: Callable[[], object]) -> tuple[int, str]:
+    """Returns a command's status, and the line with the reason for a failure. A closed output pipe is no failure."""
     try:
         main()
         sys.stdout.flush()
     except Fault as fault:
-        say(str(fault))
-        sys.exit(fault.status)
+        return fault.status, str(fault)
+    except SystemExit as end:
+        return (end.code, "") if isinstance(end.code, int) else (USAGE if end.code else 0, end.code or "")
     except BrokenPipeError:
         silence(sys.stdout.fileno())
     except OSError as error:
         what = error.filename or ("standard output" if error.errno in WRITING else "the system")
-        say(f"{what}: {error.strerror}")
-        sys.exit(FILES)
+        return FILES, f"{what}: {error.strerror}"
     except KeyboardInterrupt:
-        sys.exit(130)
-    sys.exit(0)
+        return INTERRUPTED, ""
+    except MemoryError:
+        return FILES, "the system: there is no memory for this"
+    except Exception as error:
+        if str(error) == NO_THREAD:
+            return FILES, f"the system: {error}"
+        note_defect()
+        why = f"{type(error).__name__}: {error}"[:MOST_TOLD]
+        return DEFECT, f"a defect of hinge ({why}); with HINGE_TRACEBACK=1 it shows where"
+    return 0, ""
+
+
+def run(main: Callable[[], object]) -> NoReturn:
+    """Runs a command and ends the process; no exception passes. A fault is a line on standard error. If the output can't be
+    written, except to a closed pipe, the status is that of files."""
+    if _signal.getsignal(_signal.SIGINT) == _signal.SIG_DFL:
+        _signal.signal(_signal.SIGINT, _signal.default_int_handler)
+    status, line = outcome(main)
+    writes: list[tuple[int, Callable[[], None]]] = [(2, lambda: say(line) if line else None), (1, sys.stdout.flush)]
+    for stream, write in writes:
+        try:
+            write()
+        except OSError as error:
+            status = status if isinstance(error, BrokenPipeError) else FILES
+            silence(stream)
+    sys.exit(status)
 
 
 def path_of_program(name: str, package: str) -> str:
-    """The path of a program that a Debian package brings. Fault: it isn't installed."""
+    """Returns the path of a program from a Debian package. Fault: it isn't installed."""
+    import shutil
+
     path = shutil.which(name)
     if path is None:
         raise Fault(f"needs {name}: apt-get install {package}", MISSING)
@@ -123,7 +136,9 @@ def path_of_program(name: str, package: str) -> str:
 
 
 def module(name: str, package: str) -> ModuleType:
-    """A Python module that pip or a Debian package brings. Fault: it isn't installed, or can't be loaded."""
+    """Returns a Python module from pip or a Debian package. Fault: it isn't installed, or can't be loaded."""
+    import importlib
+
     try:
         return importlib.import_module(name)
     except ImportError as fault:
@@ -138,10 +153,12 @@ def numpy() -> ModuleType:
 
 @contextmanager
 def working(what: str) -> Iterator[None]:
-    """Tells on standard error, where that is a terminal, what a command is doing that takes more than two seconds."""
+    """Reports on standard error, if that is a terminal, a command's work that lasts more than two seconds."""
     if not sys.stderr.isatty():
         yield
         return
+    import threading
+
     teller = threading.Timer(PROGRESS_AFTER, tell_over, (f"{what} ..",))
     teller.start()
     try:
@@ -174,8 +191,7 @@ class Progress:
 
 
 class Bar:
-    """Tells how far a command of so many steps is, and when it will be done, on standard error, where that is a
-    terminal, after two seconds."""
+    """Prints a command's progress and expected end on standard error, if that is a terminal, after two seconds."""
 
     def __init__(self, what: str, total: int) -> None:
         self.what, self.total, self.done, self.failed = what, total, 0, 0
@@ -191,7 +207,7 @@ class Bar:
         self.told, self.shown = now, True
 
     def clear(self) -> None:
-        """Takes the line away, so that another one can be told."""
+        """Clears the line for other messages."""
         if self.shown:
             tell_over()
             self.shown = False

@@ -1,8 +1,13 @@
-"""Faults that are chosen: which packets of a link are lost, come twice, or come late.
+"""Chosen faults: the packets that a link loses, doubles or delays, and acts on hosts and links at given moments.
 
     client > server packet 3 lost
     server > client packet 1 twice
     client > server packet 4 late 80ms
+    at 1.5s cut server 2s
+    at 2s cut client > server 300ms
+    at 4s hold server 1s
+    at 5s crash server 1s
+    at 6s skew client -2s
 
 A file has one a line, for `pytest --link-faults FILE`, `hinge run --faults FILE`, and a line `faults FILE` of a net."""
 
@@ -11,18 +16,22 @@ from __future__ import annotations
 import re
 from dataclasses import dataclass
 from pathlib import Path
-from typing import Iterable, Tuple, Union
+from typing import Iterable, List, Tuple, Union
 
-from hinge.border.files import read_text
+from hinge.border.files import lines_in
 
 IS_LOST, IS_TWICE, IS_LATE = "lost", "twice", "late"
-LINE = re.compile(r"(?P<link>\S.* > .*\S) packet (?P<packet>[1-9]\d{0,17}) (?:(?P<kind>lost|twice)|late (?P<ms>\d{1,7})ms)")
+CUT, HOLD, CRASH, SKEW = ACTS = "cut", "hold", "crash", "skew"
+LINE = re.compile(r"(?P<link>\S.* > .*\S) packet (?P<packet>[1-9]\d{0,17}) (?:(?P<kind>lost|twice)|late (?P<ms>[1-9]\d{0,6})ms)")
+TIME = r"\d{1,9}(?:\.\d{1,9})?(?:ms|s)"
+ACT = re.compile(rf"at (?P<moment>{TIME}) (?P<kind>{'|'.join(ACTS)}) (?P<of>\S(?:.*\S)?) (?P<sign>[+-]?)(?P<length>{TIME})")
 LATEST = 3_600_000  # ms that a pipe can delay
+NO_FAULT = "not a fault; write `client > server packet 3 lost`, `twice` or `late 80ms`, or `at 1.5s cut server 2s`, `hold`, `crash` or `skew`"
 
 
 @dataclass(frozen=True, order=True)
 class Fault:
-    """What happens to a packet of a link: it is lost, comes twice, or is late by some ms."""
+    """A fault on a link's packet: a loss, a copy, or a delay by some ms."""
 
     link: str  # its hosts, as `client > server`
     packet: int  # by its place among those that come to the link, from 1
@@ -33,20 +42,67 @@ class Fault:
         return f"{self.link} packet {self.packet} {self.kind}{f' {self.ms}ms' if self.kind == IS_LATE else ''}"
 
 
-def read_fault(line: str) -> Fault:
-    """ValueError: the line is none."""
+@dataclass(frozen=True, order=True)
+class Act:
+    """An act on a host or link: its moment, and its length in seconds, or a clock's offset in seconds."""
+
+    moment: float  # s since the beginning
+    kind: str
+    of: str  # a host, or for a cut or a hold a link as `client > server`
+    seconds: float
+
+    def __str__(self) -> str:
+        sign = "+" * (self.kind == SKEW and self.seconds >= 0)
+        return f"at {spelled(self.moment)} {self.kind} {self.of} {sign}{spelled(self.seconds)}"
+
+
+Either = Union[Fault, Act]
+
+
+def spelled(seconds: float) -> str:
+    """Returns a text such as 1.5s."""
+    return f"{seconds:.9f}".rstrip("0").rstrip(".") + "s"
+
+
+def seconds_of(text: str) -> float:
+    return float(text[:-2]) / 1000 if text.endswith("ms") else float(text[:-1])
+
+
+def read_act(line: str) -> Act:
+    """Returns the act of a line. ValueError: the line is malformed."""
+    match = ACT.fullmatch(line)
+    if match is None or (match["kind"] == SKEW) != bool(match["sign"]) or match["kind"] in (CRASH, SKEW) and " > " in match["of"]:
+        raise ValueError(f"{line!r}: {NO_FAULT}")
+    seconds = seconds_of(match["length"]) * (-1 if match["sign"] == "-" else 1)
+    return Act(seconds_of(match["moment"]), match["kind"], match["of"], seconds)
+
+
+def read_fault(line: str) -> Either:
+    """Returns the fault of a line. ValueError: the line is malformed."""
     match = LINE.fullmatch(line)
+    if match is None and line.startswith("at "):
+        return read_act(line)
     if match is None or int(match["ms"] or 0) > LATEST:
-        raise ValueError(f"{line!r}: no fault; write `client > server packet 3 lost`, `twice` or `late 80ms`")
+        raise ValueError(f"{line!r}: {NO_FAULT}")
     return Fault(match["link"], int(match["packet"]), match["kind"] or IS_LATE, int(match["ms"] or 0))
 
 
-class Faults(Tuple[Fault, ...]):
+class Faults(Tuple[Either, ...]):
     """Faults, by their lines."""
 
-    def __new__(cls, *lines: Union[str, Fault]) -> Faults:
+    def __new__(cls, *lines: Union[str, Either]) -> Faults:
         faults = (read_fault(line) if isinstance(line, str) else line for line in lines)
         return super().__new__(cls, faults)  # type: ignore[arg-type]
+
+    @property
+    def packets(self) -> List[Fault]:
+        """Those of packets."""
+        return [it for it in self if isinstance(it, Fault)]
+
+    @property
+    def acts(self) -> List[Act]:
+        """Returns the acts on hosts and links."""
+        return [it for it in self if isinstance(it, Act)]
 
     def __repr__(self) -> str:
         return f"Faults({', '.join(repr(str(fault)) for fault in self)})"
@@ -55,18 +111,25 @@ class Faults(Tuple[Fault, ...]):
         return "".join(f"{fault}\n" for fault in self)
 
 
+class Drawn(Faults):
+    """Faults that hypothesis draws or a shrinking tries: their links are there, and a packet may never come."""
+
+
 def faults_in(path: Union[str, Path], lines: Iterable[str]) -> Faults:
-    """The faults of a file's lines, in which comments begin with `#`. ValueError: a line is none."""
-    faults = list[Fault]()
+    """Returns the faults in a file's lines; comments begin with `#`. ValueError: a line is malformed."""
+    faults = dict[object, Either]()
     for number, line in enumerate(lines, 1):
         text = line.partition("#")[0].strip()
         try:
-            faults += [read_fault(text)] if text else []
+            fault = read_fault(text) if text else None
+            subject = (fault.link, fault.packet, fault.kind) if isinstance(fault, Fault) else fault
+            if fault and faults.setdefault(subject, fault) is not fault:
+                raise ValueError(f"{text!r}: a line before says this; leave one of them out")
         except ValueError as error:
             raise ValueError(f"{path} line {number}: {error}") from None
-    return Faults(*faults)
+    return Faults(*faults.values())
 
 
 def read_faults(path: Union[str, Path]) -> Faults:
-    """The faults of a file. ValueError: a line is none."""
-    return faults_in(path, read_text(path).splitlines())
+    """Returns the faults in a file. ValueError: a line is malformed."""
+    return faults_in(path, lines_in(path))

@@ -7,89 +7,109 @@
 
 from __future__ import annotations
 
-from typing import TYPE_CHECKING, Any, Callable, Coroutine, Iterable, Optional, TypeVar
+from typing import TYPE_CHECKING, Any, Coroutine, Iterable, Optional, Sequence, TypeVar
 
-from hinge.fault_lines import IS_LATE, IS_LOST, IS_TWICE, Fault, Faults
-from hinge.loss import KEPT, LOST
-from hingetulip.aio import Datagram, Host, Link, Network
-from hingetulip.aio.jitter import DelayOf
+from hinge.fault_lines import ACTS, CRASH, CUT, HOLD, IS_LATE, IS_LOST, IS_TWICE, SKEW, Act, Drawn, Either, Fault, Faults
+from hinge.loss import Listed
+from hingetulip.aio import Host, Link, Network
+from hingetulip.aio.extra import IsTwice, LateOf
 from hingetulip.aio.options import BY_MODEL
 
 if TYPE_CHECKING:
     from hypothesis.strategies import SearchStrategy
 
+    from hingetulip.aio import Disturbance
+
 T = TypeVar("T")
 DELAYS = (5, 20, 50, 100, 300, 1000)  # ms, of packets that hypothesis draws as late
-MOST_TRAINS, MOST_OF_TRAIN, MOST_APART = 3, 8, 12
-
-
-class Plan:
-    """What a link does to its packets by its faults: their words, how often each enters, and how late it is."""
-
-    def __init__(self, faults: Iterable[Fault], copies: Optional[Callable[[Datagram], int]], jitter: Optional[DelayOf]) -> None:
-        kinds: dict[str, dict[int, int]] = {IS_LOST: {}, IS_TWICE: {}, IS_LATE: {}}
-        for fault in faults:
-            kinds[fault.kind][fault.packet] = fault.ms
-        self.lost, self.twice, self.late = kinds[IS_LOST], kinds[IS_TWICE], kinds[IS_LATE]
-        self.own_copies, self.own_jitter = copies, jitter
-        self.number = 0  # of packets that came
-        self.coming = range(0)  # the numbers of a datagram that enters now
-        self.is_second = False  # of a packet that comes twice, and counts once
-        self.delayed: dict[int, tuple[Datagram, int]] = {}  # by identity, since equal datagrams may have other delays
-
-    def copies(self, it: Datagram) -> int:
-        count = 1 if self.own_copies is None else self.own_copies(it)
-        self.coming = range(self.number + 1, self.number + 1 + count)
-        if delay := sum(self.late.get(number, 0) for number in self.coming):
-            self.delayed[id(it)] = it, delay
-        return count + sum(number in self.twice for number in self.coming)
-
-    def next(self) -> int:
-        if self.is_second:
-            self.is_second = False
-            return KEPT
-        self.number += 1
-        self.is_second = self.number in self.twice and self.number in self.coming
-        return LOST if self.number in self.lost else KEPT
-
-    def jitter(self, it: Datagram) -> float:
-        own = 0 if self.own_jitter is None else self.own_jitter(it)
-        return own + self.delayed[id(it)][1] if id(it) in self.delayed else own
+LASTING = (0.2, 1.0, 3.0, 10.0)  # s, of acts that it draws
+MOST_TRAINS, MOST_OF_TRAIN, MOST_APART, MOST_ACTS = 3, 8, 12, 2
 
 
 class FaultyNetwork(Network):
-    """A network whose links have these faults and lose nothing else, or, without faults, what their own rates say."""
+    """A network whose links lose packets only through these faults, or, without faults, at their own rates."""
 
-    def __init__(self, faults: Optional[Iterable[Fault]] = None, **more: Any) -> None:
+    def __init__(self, faults: Optional[Iterable[Either]] = None, **more: Any) -> None:
         super().__init__(**more)
-        self.chosen = None if faults is None else Faults(*faults)
-        self.plans: dict[str, Plan] = {}
+        self.chosen = faults if faults is None or isinstance(faults, Faults) else Faults(*faults)
+        self.acted: dict[Act, Disturbance] = {}
+        self.refused_acts: dict[Act, str] = {}
+        for act in () if self.chosen is None else self.chosen.acts:
+            self.loop.call_at(act.moment, self._act, act)
+
+    def _act(self, act: Act) -> None:
+        if not self.closing:
+            try:
+                self.acted[act] = self.act(act)
+                self.acted[act].is_drawn = isinstance(self.chosen, Drawn)
+            except ValueError as error:
+                self.refused_acts[act] = str(error)
+
+    def act(self, act: Act) -> Disturbance:
+        """Does an act now. ValueError: there is no such host or link."""
+        do = {CUT: self.cut, HOLD: self.hold, CRASH: self.crash, SKEW: self.skew}[act.kind]
+        return do(act.of, act.seconds)
+
+    def of_link(self, name: str, kind: str) -> dict[int, int]:
+        """Returns a link's packets with faults of this kind, with their delays in ms."""
+        faults = () if self.chosen is None else self.chosen.packets
+        return {fault.packet: fault.ms for fault in faults if fault.link == name and fault.kind == kind}
 
     def link(self, near: Host, far: Host, options: Optional[str] = None, **more: Any) -> Link:
         if self.chosen is not None:
             name = f"{getattr(near, 'name', near)} > {getattr(far, 'name', far)}"
-            faults = [fault for fault in self.chosen if fault.link == name]
-            plan = self.plans[name] = Plan(faults, more.get("copies"), more.get("jitter"))
-            more.update(loss=plan, copies=plan.copies, jitter=plan.jitter)
+            more.update(loss=Listed(self.of_link(name, IS_LOST)))
         link = super().link(near, far, options, **more)
         if self.chosen is not None and not float(link.options.settings["plr"]):  # under which no word loses a packet
             link.change(f"{link.options.without('plr')} plr {BY_MODEL}")
         return link
 
+    def drawn_of(self, link: Link) -> tuple[Optional[LateOf], Optional[IsTwice]]:
+        if self.chosen is None:
+            return super().drawn_of(link)
+        late, twice = (self.of_link(link.name, kind) for kind in (IS_LATE, IS_TWICE))
+        return (lambda number: late.get(number, 0)) if late else None, twice.__contains__ if twice else None
+
+    def faults_met(self) -> list[Either]:
+        """Returns as faults what happened to packets: those lost, then those doubled, then those late."""
+        faults = [
+            Fault(link.name, number, kind, link.late.get(number, 0) * (kind == IS_LATE)) for link, kind, number in self.happened
+        ]
+        return [*(it for it in faults if it.kind != IS_LATE), *sorted(it for it in faults if it.kind == IS_LATE)]
+
     def unmet(self) -> Faults:
-        """The faults whose packet never came."""
-        return Faults(*(it for it in self.chosen or () if it.link not in self.plans or self.plans[it.link].number < it.packet))
+        """Returns the faults whose packets never arrived, and those without effect."""
+        faults, came = Faults() if self.chosen is None else self.chosen, {it.name: it.came for it in self.links.values()}
+        packets = (it for it in faults.packets if came.get(it.link, 0) < it.packet)
+        return Faults(*packets, *(it for it in faults.acts if it not in self.acted or not self.acted[it].met))
+
+    def unmet_faults(self) -> list[str]:
+        """Returns the faults of missing links, and listed faults whose packets never came."""
+        lines, names = super().unmet_faults(), [it.name for it in self.links.values()]
+        is_drawn, unmet = isinstance(self.chosen, Drawn), self.unmet()
+        for fault in unmet.packets:
+            if fault.link not in names:
+                lines.append(f"{fault}: there is no such link; there are {', '.join(names) or 'none'}")
+            elif not is_drawn:
+                lines.append(f"{fault}: it came to no packet")
+        lines += [f"{act}: {text}" for act, text in self.refused_acts.items()]
+        behind = [act for act in unmet.acts if act not in self.acted and act not in self.refused_acts and not is_drawn]
+        return lines + [f"{act}: the run ended before, at {self.loop.time():.6f} s" for act in behind]
 
 
-def run(main: Coroutine[Any, Any, T], faults: Iterable[Fault], *, seed: int = 1, timeout: Optional[float] = None) -> T:
-    """Runs a coroutine in a new network with these faults, as `hingetulip.aio.run` does in one without. Returns its value."""
+def run(main: Coroutine[Any, Any, T], faults: Iterable[Either], *, seed: int = 1, timeout: Optional[float] = None) -> T:
+    """Runs a coroutine in a new network with these faults, like `hingetulip.aio.run`; returns its value. Unmet: a fault's link or
+    host doesn't exist, or a fault not drawn by `some_faults` had no effect."""
     with FaultyNetwork(faults, seed=seed) as net:
-        return net.run(main, timeout=timeout)
+        value = net.run(main, timeout=timeout)
+        net.check()
+        return value
 
 
-def some_faults(*links: str, packets: int = 60) -> SearchStrategy[Faults]:
-    """A strategy of hypothesis: faults of the first packets of these links. Some are drawn together, in even distances, since a
-    repetition is often what must be lost too. They shrink to the fewest, the earliest and the simplest."""
+def some_faults(*links: str, packets: int = 60, hosts: Sequence[str] = (), seconds: int = 0) -> SearchStrategy[Faults]:
+    """Returns a hypothesis strategy for faults of these links' first packets. Some faults have equal distances, since often the
+    repetitions must be lost too. During the first `seconds`, links are also cut and held, in one direction each, and `hosts` are
+    cut, held, crashed or given another time. Everything shrinks to the fewest, earliest and simplest faults."""
     from hypothesis import strategies
 
     def train(link: str, packet: int, kind: str, ms: int, apart: int, are_there: list[bool]) -> list[Fault]:
@@ -106,4 +126,15 @@ def some_faults(*links: str, packets: int = 60) -> SearchStrategy[Faults]:
         strategies.lists(strategies.sampled_from((False, True, True, True)), min_size=1, max_size=MOST_OF_TRAIN),
     )
     several = strategies.lists(trains, max_size=MOST_TRAINS)
-    return several.map(lambda them: Faults(*sorted({fault for one in them for fault in one})))
+    of_packets = several.map(lambda them: Drawn(*sorted({fault for one in them for fault in one})))
+    if not seconds:
+        return of_packets
+    targets = [(kind, link) for link in links for kind in (CUT, HOLD)] + [(kind, host) for host in hosts for kind in ACTS]
+    acts = strategies.builds(
+        lambda tenths, target, lasting: Act(tenths / 10, target[0], target[1], lasting),
+        strategies.integers(0, 10 * seconds),
+        strategies.sampled_from(targets),
+        strategies.sampled_from(LASTING),
+    )
+    of_hosts = strategies.lists(acts, max_size=MOST_ACTS, unique=True)
+    return strategies.builds(lambda packets, acts: Drawn(*packets, *sorted(acts)), of_packets, of_hosts)

@@ -1,5 +1,5 @@
-"""numpy, which is loaded when something of it is first asked for, so that a command's help and its faults need no numpy; its few
-functions that tables and paragraphs call, which `hinge.plain` has too; and its arrays."""
+"""numpy, loaded at first use, so that a command's help and faults don't need it, with the functions that tables and paragraphs use
+(also in `hinge.plain`), and the array types."""
 
 from __future__ import annotations
 
@@ -11,7 +11,7 @@ from hinge.command import Fault, numpy
 
 
 class Lazy(ModuleType):
-    """numpy, which isn't loaded yet, and the module that stands for it where it can't be, if there is one."""
+    """numpy before it is loaded, and the module that replaces a missing numpy, if any."""
 
     def __init__(self, other: str = "") -> None:
         super().__init__("numpy")

@@ -1,8 +1,8 @@
-"""Which packets of a direction a link loses: models that give each packet its word.
+"""Loss models, which determine the word for each packet in a direction.
 
-A packet is lost where the low 31 bits of its word are below the loss rate of its pipe or queue. Under `plr 0.5` the
-words LOST and KEPT lose exactly those packets that a model says. Each direction has a model of its own, so that its
-words never depend on the other one.
+A packet is lost if the low 31 bits of its word are below the loss rate of the pipe or queue. Under `plr 0.5` the words LOST and
+KEPT lose exactly the packets that a model chooses. Each direction uses a separate model, so that its words never depend on the
+other direction.
 
     words = GilbertElliott(to_bad=0.01, to_good=0.3, seed=7, direction=1)
     first, second = words.next(), words.next()
@@ -25,15 +25,15 @@ Rate = Union[float, Fraction]
 
 
 class Words(Protocol):
-    """The words of the packets of one direction, in their order."""
+    """The words of a direction's packets, in order."""
 
     def next(self) -> int:
-        """The word of the next packet, 0 to 2^31 - 1."""
+        """Returns the next packet's word, 0 to 2^31 - 1."""
 
 
 @dataclass
 class Bernoulli:
-    """Each packet by itself: random words, of which a link loses the part that its own loss rate names."""
+    """Independent losses: random words, from which a link loses the share that its loss rate states."""
 
     seed: int = 1
     direction: int = 1
@@ -45,17 +45,16 @@ class Bernoulli:
 
 
 def parts(rate: Rate) -> int:
-    """A rate from 0 to 1 as a count of 2^31, to the nearest one; ValueError is raised where it is none."""
+    """Returns a rate from 0 to 1 in units of 2^-31, rounded. ValueError: the number is no rate."""
     if not 0 <= rate <= 1:
-        raise ValueError(f"{rate} is no rate from 0 to 1")
+        raise ValueError(f"{rate} isn't a rate from 0 to 1")
     return int(Fraction(rate) * PARTS + Fraction(1, 2))
 
 
 @dataclass
 class GilbertElliott:
-    """Losses that come together: the link is in a good or in a bad state, at first in the good one. A packet is lost at
-    the rate of the state in which it finds the link, `in_good` or `in_bad`; then the state changes, at the rate
-    `to_bad` or `to_good`."""
+    """Losses in clusters: the link is in a good or in a bad state, at first in the good state. A packet is lost at the rate of the
+    state in which it finds the link, `in_good` or `in_bad`; then the state changes, at the rate `to_bad` or `to_good`."""
 
     to_bad: Rate
     to_good: Rate
@@ -72,7 +71,7 @@ class GilbertElliott:
         self.bind(1, 1)
 
     def bind(self, seed: int, direction: int) -> None:
-        """Takes the seed and the direction of the link that has this model, unless the model has its own."""
+        """Sets the seed and direction from the model's link, unless the model sets them."""
         own = (seed if self.seed is None else self.seed, direction if self.direction is None else self.direction)
         self.random = Bernoulli(*own)
 
@@ -84,8 +83,8 @@ class GilbertElliott:
 
 @dataclass
 class BurstsByTime:
-    """Losses that come together in time, however many packets come: a link is good for `good` seconds on average and then bad for `bad`
-    seconds, in which it loses all. A link of hingetulip.aio gives its clock."""
+    """Losses in bursts of time, regardless of the number of packets: a link works for `good` seconds on average, then loses all
+    packets for `bad` seconds. A link of hingetulip.aio sets its clock."""
 
     good: float
     bad: float
@@ -101,7 +100,7 @@ class BurstsByTime:
         self.bind(1, 1)
 
     def bind(self, seed: int, direction: int) -> None:
-        """As that of GilbertElliott."""
+        """Does the same as that of GilbertElliott."""
         own = (seed if self.seed is None else self.seed, direction if self.direction is None else self.direction)
         self.random = Bernoulli(*own)
 
@@ -135,19 +134,21 @@ class Listed(Chosen):
 
 
 def read_numbers(text: str) -> list[int]:
-    """The numbers of `3,17-20`. ValueError: a part is no number from 1 and no range."""
+    """Returns the numbers in a text such as `3,17-20`. ValueError: a part is neither a number from 1 nor a range."""
     numbers: list[int] = []
     for part in text.split(","):
         ends = re.fullmatch(r"(\d{1,9})(?:-(\d{1,9}))?", part)
         low, high = (int(ends[1]), int(ends[2] or ends[1])) if ends else (0, 0)
         if not 1 <= low <= high < low + MOST_LISTED:
-            raise ValueError(f"{part!r} is no packet number and no range of them, from 1")
+            raise ValueError(f"{part!r} isn't the number of a packet or a range (examples: 3, 17-20)")
         numbers.extend(range(low, high + 1))
+    if len(set(numbers)) < len(numbers):
+        raise ValueError(f"{text} names a packet twice")
     return numbers
 
 
 def read_rates(text: str) -> list[Fraction]:
-    """The four rates of a Gilbert-Elliott model; the text may lack two. ValueError: it has another form."""
+    """Returns the four rates of a Gilbert-Elliott model; two are optional. ValueError: the text has another form."""
     texts = text.split(",")
     if not 2 <= len(texts) <= 4 or not all(re.fullmatch(r"\d+(\.\d+)?|\.\d+", rate) for rate in texts):
         raise ValueError(f"{text!r} isn't of the form TO_BAD,TO_GOOD[,IN_BAD[,IN_GOOD]], rates from 0 to 1")
@@ -161,8 +162,8 @@ Maker = Callable[[int, int], Words]  # of a seed and a direction
 
 
 def read_model(text: str) -> Maker:
-    """What makes the model of a direction, by `gilbert:0.01,0.3` or `list:3,17-20`; ValueError is raised where the text
-    is neither."""
+    """Returns a function that creates a direction's model, for a text such as `gilbert:0.01,0.3` or `list:3,17-20`. ValueError: the
+    text has another form."""
     kind, _, rest = text.partition(":")
     if kind == "gilbert":
         to_bad, to_good, in_bad, in_good = read_rates(rest)

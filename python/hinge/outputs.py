@@ -2,6 +2,7 @@
 
 from __future__ import annotations
 
+import errno
 import os
 import signal
 import stat
@@ -10,7 +11,7 @@ from enum import Enum
 from pathlib import Path
 from typing import Iterable, Iterator, Mapping, Optional, TextIO, Union
 
-from hinge.border.scratch import held
+from hinge.border.scratch import holding
 from hinge.border.terminal import standard_output
 from hinge.command import FULL, WRITING, Fault
 
@@ -19,39 +20,32 @@ Name = Union[str, Path, None]
 
 
 class Format(Enum):
-    """How a file is written, by the ending of its name."""
+    """An output file's format, chosen by its extension."""
 
     PNG = ".png"
     SVG = ".svg"
     PDF = ".pdf"
     PAGE = ".html"
-    CSV = ".csv"
-    TEXT = ".txt"
     ARRIVED = ".pcap"
     COMMENTED = ".pcapng"
 
     @property
-    def is_picture(self) -> bool:
-        return self in PICTURES
-
-    @property
     def kind(self) -> str:
-        """As png, of .png."""
+        """Returns the extension without its dot, such as png."""
         return self.value[1:]
 
 
 PICTURES = (Format.PNG, Format.SVG, Format.PDF)
-CAPTURES, TABLES = (Format.ARRIVED, Format.COMMENTED), (Format.CSV, Format.TEXT)
+CAPTURES = (Format.ARRIVED, Format.COMMENTED)
 
 
 def format_of(name: str) -> Format:
-    """The format of a name. ValueError: there is none for its ending."""
+    """Returns the format for a name. ValueError: the extension is unknown."""
     return Format(Path(name).suffix.lower())
 
 
 def refuse_inputs(outputs: Iterable[Name], inputs: Iterable[Name]) -> None:
-    """Fault: an output is one of the inputs, or another output, under whatever name. It comes before anything is
-    read."""
+    """Fault: an output is also an input or another output, under any name. Call this before reading."""
     names = {place(name): str(name) for name in inputs if is_file(name)}
     for name in outputs:
         if is_file(name):
@@ -61,12 +55,12 @@ def refuse_inputs(outputs: Iterable[Name], inputs: Iterable[Name]) -> None:
 
 
 def is_file(name: Name) -> bool:
-    """Whether a name of the command line means a file, and not a standard stream or a device."""
+    """Returns whether a name refers to a file, rather than a standard stream or a device."""
     return name not in (None, "-") and (not Path(str(name)).exists() or Path(str(name)).is_file())
 
 
 def place(name: Name) -> tuple[object, ...]:
-    """By what a file is known: its number on its device, or its path if there is none yet."""
+    """Returns a file's identity: its device and number, or its path if the file doesn't exist."""
     path = Path(str(name))
     if path.exists():
         result = path.stat()
@@ -74,12 +68,27 @@ def place(name: Name) -> tuple[object, ...]:
     return (os.path.realpath(path),)
 
 
+def is_planted(name: Union[str, Path]) -> bool:
+    """Returns whether a name belongs to a third user, in a folder such as /tmp: a link there could lead to any file of this user.
+    The kernel refuses these only with the settings protected_symlinks and protected_fifos of proc(5)."""
+    try:
+        entry, folder = os.lstat(name), os.stat(os.path.dirname(name) or ".")
+    except OSError:
+        return False
+    is_for_all = folder.st_mode & stat.S_ISVTX and folder.st_mode & stat.S_IWOTH
+    return bool(is_for_all) and entry.st_uid not in (os.geteuid(), folder.st_uid)
+
+
 @contextmanager
 def written(name: Union[str, Path]) -> Iterator[Path]:
-    """A place to write a file to, which gets its name when it is whole. Until then it has none where the file system
-    allows that, so that nothing is left of it however this process ends. An older file stays where it isn't whole."""
+    """Yields a path for writing a file, which gets its name when complete. Before that the file is unnamed if the file system
+    allows that, so that an interrupted process leaves no file. An older file stays until then. PermissionError: the name is
+    planted."""
+    if is_planted(name):
+        raise PermissionError(errno.EACCES, "another user made it, in a folder for all users", str(name))
     if not is_file(name):
-        yield Path(name)
+        with read_by_somebody(Path(name)):
+            yield Path(name)
         return
     path = Path(os.path.realpath(name))
     if not os.access(path.parent, os.W_OK):
@@ -108,8 +117,19 @@ def written(name: Union[str, Path]) -> Iterator[Path]:
             os.close(nameless)
 
 
+@contextmanager
+def read_by_somebody(path: Path) -> Iterator[None]:
+    """Keeps a FIFO open for writing. OSError: there is no reader, so a writer might wait forever without a signal."""
+    file = os.open(path, os.O_WRONLY | os.O_NONBLOCK | os.O_CLOEXEC) if path.is_fifo() else None
+    try:
+        yield
+    finally:
+        if file is not None:
+            os.close(file)
+
+
 def unnamed_file(folder: Path) -> Optional[int]:
-    """A new file without a name in a folder, None where its file system has no such files."""
+    """Returns a new file without a name, or None if the folder's file system doesn't support that."""
     try:
         descriptor = os.open(folder, os.O_TMPFILE | os.O_RDWR | os.O_CLOEXEC, 0o666)
     except OSError:
@@ -121,8 +141,8 @@ def unnamed_file(folder: Path) -> Optional[int]:
 
 
 def give_name(place: Path, path: Path, beside: Path) -> None:
-    """The system gives a name to a file at once only if no other file has it. So one that takes the place of another is
-    first beside it, for a moment in which no signal but SIGKILL ends this process."""
+    """Gives a file its name. The system can do that atomically only for a free name, so a replacement gets another name first, for
+    a moment in which only SIGKILL ends this process."""
     try:
         link(place, path)
         return
@@ -138,17 +158,14 @@ def give_name(place: Path, path: Path, beside: Path) -> None:
 
 
 def link(place: Path, name: Path) -> None:
-    """Python has the system follow the name behind /proc only where a folder is given as a descriptor."""
-    folder = held(name.parent)
-    try:
+    """Links a file to a name. Python follows the name in /proc only if a folder's descriptor is given."""
+    with holding(name.parent) as folder:
         os.link(place, name.name, dst_dir_fd=folder, follow_symlinks=True)
-    finally:
-        os.close(folder)
 
 
 @contextmanager
 def writing(name: Optional[str]) -> Iterator[TextIO]:
-    """The file that is written, or standard output if none is named or its name is `-`."""
+    """Yields the named output file, or standard output for None or `-`."""
     if name is None or name == "-":
         yield standard_output()
         return
@@ -157,7 +174,7 @@ def writing(name: Optional[str]) -> Iterator[TextIO]:
 
 
 def write_json(path: str, record: Mapping[str, object]) -> None:
-    """A record for a program, as a file or on standard output."""
+    """Writes a JSON record, to a file or to standard output."""
     import json  # which takes longer to load than a help may
 
     with writing(path) as file:

@@ -3,15 +3,17 @@
 from __future__ import annotations
 
 import operator
+from array import array as array_of_python
 from bisect import bisect_left, bisect_right
 from itertools import accumulate, chain, compress, repeat
 from typing import Any, Callable, Iterable, Iterator, Optional, Sequence
 
 int64, uint8 = int, int
+CODES = {"i1": "b", "i4": "i", "u4": "I", "i8": "q"}  # of numpy's names of numbers
 
 
 class Array:
-    """A row of numbers, or of truth values, which choose among the places of another one."""
+    """A row of numbers, or of truth values that select places in another row."""
 
     dtype = int
 
@@ -74,7 +76,7 @@ def is_mask(row: Array) -> bool:
 
 
 def each(value: Any) -> Iterable[Any]:
-    """The items of a row; those of a number are that number for ever."""
+    """Yields the items of a row, or a number repeated forever."""
     return value if isinstance(value, (Array, list)) else repeat(value)
 
 
@@ -96,8 +98,8 @@ def array(items: Iterable[Any], dtype: object = None) -> Array:
     return Array(items)
 
 
-def frombuffer(data: bytes, dtype: object = None) -> Array:
-    return Array(data)
+def frombuffer(data: bytearray, width: str) -> Array:
+    return Array(array_of_python(CODES[width], bytes(data)))
 
 
 def full(count: int, value: Any, dtype: object = None) -> Array:
@@ -139,6 +141,9 @@ def maximum(one: Array, other: Any) -> Array:
     return Array(map(max, one, each(other)))
 
 
+setattr(maximum, "accumulate", lambda row: Array(accumulate(row, max)))
+
+
 def flatnonzero(row: Array) -> Array:
     return Array(compress(range(len(row)), row))
 
@@ -163,7 +168,7 @@ def bincount(row: Array, weights: Optional[Array] = None, minlength: int = 0) ->
 
 
 def partition(row: Array, places: Iterable[int]) -> Array:
-    """All in order, and so also those at the places."""
+    """Returns the row sorted, so that the items at the places are right, too."""
     return Array(sorted(row))
 
 

@@ -1,4 +1,4 @@
-"""Fixtures of pytest: emulated links in a test, and what they did in the report of one that fails.
+"""pytest fixtures: emulated links for tests, with a report when a test fails.
 
     def test_sync(udp_path):                       # real time, real sockets on the loopback
         path = udp_path(server_port, "8Mbit/s 20ms plr 0.05")
@@ -21,29 +21,29 @@
     @pytest.mark.link("8Mbit/s 20ms")
     def test_programs(): ..
 
-A test that is no coroutine runs one by `sim_net.run(main())`. The fixture `link_seed` has the seed: --link-seed N, 1 if
-it isn't given, or what a test parametrizes it with.
+Tests that aren't coroutines run one with `sim_net.run(main())`. The fixture `link_seed` contains the seed: --link-seed N (default
+1), or a test's parameter.
 """
 
 from __future__ import annotations
 
+import argparse
 import functools
 import inspect
 import os
+from datetime import datetime, timezone
 from pathlib import Path
 from typing import TYPE_CHECKING, Callable, Coroutine, Generator, Optional, Protocol, Union
 
 import pytest
 
-from hinge.border.terminal import lines
 from hinge.testing import async_fixtures, table
-from hinge.testing.marks import fault_of, link_of, unused, vary_of
-from hingetulip_words.presets import either_way
+from hinge.testing.marks import fault_of, link_of, own_words, unused, vary_of
 
 if TYPE_CHECKING:
-    from hinge.fault_lines import Faults
     from hinge.net import Net
     from hinge.testing.emulated import Emulated, UdpPath
+    from hinge.testing.least import Trial
     from hingetulip.aio import Network
 
 MARKS = (
@@ -51,7 +51,9 @@ MARKS = (
         'link(options, back=options, preset=name): the link of a test, as "8Mbit/s 20ms plr 0.05", and that of the'
         " way back if it is another"
     ),
-    "vary(delay, jitter, phase, drift, cuts): what the seed varies in sim_net, as delay='5..100ms', drift='100ppm'",
+    "vary(delay, jitter, phase, drift, skew, duplicates, cuts, one_way_cuts, holds, crashes): what the seed varies in sim_net,"
+    " as delay='5..100ms', drift='100ppm'",
+    "real(name, ..): what may be real in simulated time, by a part of its name, as real('libpq'); other real calls fail the test",
     ("simulated(**options): the test runs in a simulated machine of its own, with options of `hinge run`, as" " server=COMMAND"),
 )
 INSIDE = "HINGE_TEST_REPORTS"  # in a simulated machine: the file that the reports of its test go to
@@ -72,11 +74,33 @@ class MakeUdpPath(Protocol):
         ...
 
 
+def faults_file(path: str) -> str:
+    """Returns the path to a faults file. ArgumentTypeError: the file is missing, or a line is malformed."""
+    from hinge.fault_lines import read_faults
+
+    try:
+        read_faults(path)
+    except (OSError, ValueError) as error:
+        raise argparse.ArgumentTypeError(str(error)) from None
+    return path
+
+
 def pytest_addoption(parser: pytest.Parser) -> None:
     group = parser.getgroup("hingetulip")
     group.addoption("--link-seed", type=int, default=1, metavar="N", help="seed of emulated links (default: 1)")
-    group.addoption("--link-faults", metavar="FILE", help="the faults of sim_net's links, in the place of their losses")
-    group.addoption("--link-shrink", action="store_true", help="tell the fewest losses with which a test with sim_net fails")
+    group.addoption(
+        "--link-faults", type=faults_file, metavar="FILE", help="the faults of sim_net's links, in the place of their losses"
+    )
+    group.addoption("--link-shrink", action="store_true", help="tell the fewest faults with which a test with sim_net fails")
+    group.addoption(
+        "--link-search",
+        action="store_true",
+        help="look for faults with which a test with sim_net fails, by hypothesis and by seeds",
+    )
+    group.addoption(
+        "--link-runs", type=int, default=60, metavar="N", help="how many runs of each kind --link-search tries (default: 60)"
+    )
+    parser.addini("link_start", "when simulated time begins, as 2026-11-30 or 2026-11-30T08:00", default="")
 
 
 def pytest_configure(config: pytest.Config) -> None:
@@ -92,13 +116,13 @@ def pytest_configure(config: pytest.Config) -> None:
 
 @pytest.fixture
 def link_seed(request: pytest.FixtureRequest) -> int:
-    """The seed of the links of this test."""
+    """Returns the seed of this test's links."""
     return int(request.config.getoption("--link-seed"))
 
 
 @pytest.fixture
 def emulated_links(request: pytest.FixtureRequest) -> Generator[list[Emulated], None, None]:
-    """The links of this test. One whose history isn't lawful is an error."""
+    """Yields this test's links. An unlawful history is an error."""
     links: list[Emulated] = []
     request.node.stash[LINKS] = links
     yield links
@@ -107,27 +131,23 @@ def emulated_links(request: pytest.FixtureRequest) -> Generator[list[Emulated], 
     unlawful = [link for link in links if not (link.verdict or "").startswith("lawful")]
     wrong = [f"the history {link.history} isn't lawful: {link.verdict}" for link in unlawful]
     wrong += [f"nobody took an exception: {it}" for link in links for it in link.faults]
+    if request.node.stash.get(PASSED, False):  # of links in real time, since those of sim_net were judged with the test
+        wrong += [f"{UNMET} {line}" for link in links if not hasattr(link, "is_disturbed") for line in link.unmet()]
+        wrong += [f"{UNMET} the mark link: the test made no link"] * (not links and "link" in own_words(request.node))
     if wrong:
         pytest.fail("\n".join(wrong), pytrace=False)
 
 
-LINKS, TRIED = pytest.StashKey["list[Emulated]"](), pytest.StashKey["Faults"]()
-
-
-def faults_for(item: pytest.Item) -> Optional[Faults]:
-    """The faults by which a test runs, if it is given any: those that a shrinking tries, else those of the command line."""
-    from hinge.fault_lines import read_faults
-
-    if TRIED in item.stash:
-        return item.stash[TRIED]
-    path = item.config.getoption("--link-faults")
-    return None if path is None else read_faults(path)
+LINKS, PASSED = pytest.StashKey["list[Emulated]"](), pytest.StashKey[bool]()
+TRIED: pytest.StashKey[Trial] = pytest.StashKey()
+UNMET = "what met nothing:"
 
 
 @pytest.fixture
 def udp_path(request: pytest.FixtureRequest, emulated_links: list[Emulated], link_seed: int, tmp_path: Path) -> MakeUdpPath:
     """Makes UDP paths in real time: `udp_path(server, there, back=there)`, of a port or HOST:PORT and the options of two links."""
     from hinge.testing.emulated import UdpPath
+    from hingetulip_words.presets import either_way
 
     def make(
         server: Union[int, str],
@@ -137,18 +157,14 @@ def udp_path(request: pytest.FixtureRequest, emulated_links: list[Emulated], lin
         preset: Optional[str] = None,
         seed: Optional[int] = None,
     ) -> UdpPath:
+        own = frozenset[str]()
         if preset is not None:
             there, back = either_way(preset, there, back)
         elif there is None:
-            there, back = link_of(request.node)
-        history = tmp_path / f"link{len(emulated_links) + 1}.history"
-        product = UdpPath(
-            f"127.0.0.1:{server}" if isinstance(server, int) else server,
-            there,
-            there if back is None else back,
-            link_seed if seed is None else seed,
-            history,
-        )
+            (there, back), own = link_of(request.node), own_words(request.node)
+        address, history = f"127.0.0.1:{server}" if isinstance(server, int) else server, f"link{len(emulated_links) + 1}.history"
+        ways, drawn = (there, there if back is None else back), link_seed if seed is None else seed
+        product = UdpPath(address, *ways, drawn, tmp_path / history, own)
         emulated_links.append(product)
         return product
 
@@ -157,38 +173,42 @@ def udp_path(request: pytest.FixtureRequest, emulated_links: list[Emulated], lin
 
 @pytest.fixture
 def sim_net(request: pytest.FixtureRequest, emulated_links: list[Emulated], link_seed: int, tmp_path: Path) -> Network:
-    """A network of hosts in simulated time."""
+    """Returns a network of hosts in simulated time."""
     from hinge.testing.emulated import SimulatedPath
+    from hinge.testing.least import trial_of
     from hinge.testing.varied import VariedNetwork
 
     history, item = tmp_path / "link.history", request.node
-    there, back = link_of(item)
-    product = VariedNetwork(vary_of(item), faults_for(item), seed=link_seed, history=history, options=there, back=back)
-    emulated_links.append(SimulatedPath(product, history))
+    (there, back), trial = link_of(item), trial_of(item)
+    seed = link_seed if trial.seed is None else trial.seed
+    product = VariedNetwork(trial.variation or vary_of(item), trial.faults, seed=seed, history=history, options=there, back=back)
+    if begins := str(item.config.getini("link_start")):
+        product.start = datetime.fromisoformat(begins).replace(tzinfo=timezone.utc).timestamp()
+    emulated_links.append(SimulatedPath(product, history, own_words(item)))
     return product
 
 
 @pytest.fixture
 def net(request: pytest.FixtureRequest, emulated_links: list[Emulated], link_seed: int, tmp_path: Path) -> Net:
-    """A net of hosts with any programs, in real time, or in simulated time in a test with the mark `simulated`. Its
-    links are those of the mark `link`, where nothing else is said of them."""
+    """Returns a net whose hosts run any programs, in real time, or in simulated time for tests with the mark `simulated`. Links
+    without words use the mark `link`."""
     from hinge.net import Net
     from hinge.testing.emulated import NetOfTest
 
     there, back = link_of(request.node)
     product = Net(tmp_path / "net", seed=link_seed, link=there, back=back)
-    emulated_links.append(NetOfTest(product))
+    emulated_links.append(NetOfTest(product, own_words(request.node)))
     return product
 
 
 @pytest.fixture
 def simulated_net(net: Net) -> Net:
-    """The same in simulated time: a test that has it runs in a machine of its own, and one seed gives one run."""
+    """Returns a net in simulated time. Its test runs in a separate machine, and equal seeds give equal runs."""
     return net
 
 
 def in_simulated_time(test: Callable[..., Coroutine[object, object, None]]) -> Callable[..., None]:
-    """A coroutine as a test that runs it in its network."""
+    """Returns a test that runs a coroutine in its network."""
 
     @functools.wraps(test)
     def run(*words: object, sim_net: Network, **keywords: object) -> None:
@@ -199,8 +219,7 @@ def in_simulated_time(test: Callable[..., Coroutine[object, object, None]]) -> C
 
 @pytest.hookimpl(tryfirst=True)  # type: ignore[misc]
 def pytest_pycollect_makeitem(collector: pytest.Collector, name: str, obj: object) -> None:
-    """A coroutine that has the fixture sim_net runs in simulated time. It is collected as a plain test, so that no
-    other plugin runs it."""
+    """Collects coroutines with the fixture sim_net as plain tests in simulated time, so that no other plugin runs them."""
     if not inspect.iscoroutinefunction(obj) or "sim_net" not in inspect.signature(obj).parameters:
         return
     is_test = getattr(collector, "istestfunction", None)  # of modules and classes
@@ -210,7 +229,7 @@ def pytest_pycollect_makeitem(collector: pytest.Collector, name: str, obj: objec
 
 @pytest.hookimpl(tryfirst=True)  # type: ignore[misc]
 def pytest_runtest_setup(item: pytest.Item) -> None:
-    """A mark that says what it doesn't take would leave a test without its link, and so would one that nothing takes."""
+    """Refuses marks with wrong words and marks without effect, which would leave a test without its link."""
     fault = fault_of(item)
     if fault is not None:
         pytest.fail(fault, pytrace=False)
@@ -223,9 +242,22 @@ def pytest_runtest_makereport(item: pytest.Item, call: pytest.CallInfo[None]) ->
     outcome = yield
     report = outcome.get_result()
     links: list[Emulated] = item.stash.get(LINKS, [])
+    is_tried = TRIED in item.stash
+    own_links = [link for link in links if hasattr(link, "is_disturbed")]
+    if report.when == "call" and report.passed and not is_tried and (unmet := [line for it in own_links for line in it.unmet()]):
+        report.outcome, report.longrepr = "failed", "\n".join([UNMET, *unmet])
     if report.when == "call":
-        report.user_properties += table.row_of(item, seed_of(item), links)
-    if report.when == "call" and report.failed:
+        item.stash[PASSED] = report.passed
+        report.user_properties += table.row_of(item, seed_of(item), links) + table.met_of(item, links)
+    if report.when != "setup":
+        report.user_properties += (reals := table.reals())
+        report.sections += [("real", table.told(it["calls"])) for _, it in reals if report.passed]
+        refusals = [text for _, it in reals if (text := table.refused_reals(item, it["calls"]))]
+        if refusals and report.passed and not is_tried:
+            report.outcome, report.longrepr = "failed", refusals[0]
+    if report.when == "call" and report.failed and links:
+        from hinge.border.terminal import lines
+
         for link in links:
             try:
                 link.finish()
@@ -235,43 +267,55 @@ def pytest_runtest_makereport(item: pytest.Item, call: pytest.CallInfo[None]) ->
 
                 text = no_report(fault)
             report.sections.append(("emulated link", lines(text)))
+    if report.when == "teardown" and links and not repeats(item):
+        del item.stash[LINKS]  # else each test's network stays until the session ends
+
+
+def repeats(item: pytest.Item) -> bool:
+    """Returns whether a test may run again in the same process."""
+    return any(item.config.getoption(option) for option in ("--link-shrink", "--link-search"))
 
 
 def seed_of(item: pytest.Item) -> int:
-    """The seed of a test: the one that it parametrizes, or that of the command line."""
+    """Returns a test's seed, from its parameter or the command line."""
     parameters = getattr(getattr(item, "callspec", None), "params", {})
     return int(parameters.get("link_seed", item.config.getoption("--link-seed")))
 
 
 def links_of(item: pytest.Item) -> list[str]:
-    """The options of the mark `link` for `hinge run`."""
+    """Returns the options of the mark `link` for `hinge run`."""
     there, back = link_of(item)
-    return ["--up", there, "--down", there if back is None else back]
+    ways = ("--up", there), ("--down", there if back is None else back)
+    return [word for option, text in ways if text.strip() for word in (option, text)]
 
 
 @pytest.hookimpl(tryfirst=True)  # type: ignore[misc]
 def pytest_runtest_protocol(item: pytest.Item, nextitem: Optional[pytest.Item]) -> Optional[bool]:
-    """A test with the mark or the net `simulated` runs in a machine of its own, and there as any other. With --link-shrink one that
-    fails runs again with fewer losses."""
+    """Runs a test with the mark or the net `simulated` in a separate machine; inside the machine, runs the test as usual. With
+    --link-shrink and --link-search, tests with sim_net run again with other faults."""
     mark, names = item.get_closest_marker("simulated"), getattr(item, "fixturenames", ())
     if mark is None and "simulated_net" in names:
         mark = pytest.mark.simulated.mark
     is_in_machine = mark is not None and INSIDE not in os.environ and fault_of(item) is None
-    if not is_in_machine and not ("sim_net" in names and item.config.getoption("--link-shrink")):
+    if not is_in_machine and not ("sim_net" in names and repeats(item)):
         return None  # a wrong mark is told by the test's setup
     item.ihook.pytest_runtest_logstart(nodeid=item.nodeid, location=item.location)
     for report in reports_of(item, nextitem, mark if is_in_machine else None):
         item.ihook.pytest_runtest_logreport(report=report)
+    if LINKS in item.stash:
+        del item.stash[LINKS]
     item.ihook.pytest_runtest_logfinish(nodeid=item.nodeid, location=item.location)
     return True
 
 
 def reports_of(item: pytest.Item, nextitem: Optional[pytest.Item], mark: Optional[pytest.Mark]) -> list[pytest.TestReport]:
-    """Those of a test in a machine, by its mark, or of one that is shrunk if it fails."""
+    """Returns the reports on a test in a machine, or on a test that is shrunk when it fails."""
     if mark is not None:
         from hinge.simulated.one_test import reports
 
         return reports(item, mark, links_of(item), seed_of(item))
-    from hinge.testing.least import reports_with_least
+    from hinge.testing.least import reports_of_search, reports_with_least
 
+    if item.config.getoption("--link-search"):
+        return reports_of_search(item, nextitem, item.config.getoption("--link-runs"))
     return reports_with_least(item, nextitem)

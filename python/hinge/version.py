@@ -1,13 +1,14 @@
-"""The version of the kit, which is that of the program and the library beside it."""
+"""The kit's version, equal to the versions of the program and the library beside it."""
 
 from __future__ import annotations
 
-from pathlib import Path
+import os
 
-PACKAGE = Path(__file__).resolve().parent
-PLACES = (PACKAGE / "VERSION", PACKAGE.parents[1] / "VERSION")  # where it is installed, and in a clone
+PACKAGE = os.path.dirname(os.path.realpath(__file__))
+PLACES = [os.path.join(PACKAGE, *up, "VERSION") for up in ((), ("..", ".."))]  # where it is installed, and in a clone
 
 
 def version() -> str:
-    """The version, as `1.7.0`."""
-    return next(place for place in PLACES if place.is_file()).read_text(encoding="ascii").strip()
+    """Returns the version, such as `1.7.0`."""
+    with open(next(filter(os.path.isfile, PLACES)), encoding="ascii") as file:
+        return file.read().strip()

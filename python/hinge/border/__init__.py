@@ -1,2 +1,2 @@
-"""The border of the kit: what others wrote comes in by `files` and by the two ends of a control socket, `serving` and
-`asking`; text goes out by `terminal`, and files by `hinge.outputs`."""
+"""The border of the kit: data from others enters through `files` and the two ends of a control socket, `serving` and `asking`; text
+leaves through `terminal`, and files through `hinge.outputs`."""

@@ -23,7 +23,7 @@ NUMBERS = count(1)
 
 @contextmanager
 def connected(path: str, patience: float = PATIENCE) -> Iterator[socket.socket]:
-    """A line to this user's run, by its socket or by its name. Wrong: there is no such run, or it is another user's."""
+    """Connects to this user's run, by its socket or name. Wrong: there is no such run, or it belongs to another user."""
     path = socket_of(path)
     with socket.socket(socket.AF_UNIX, socket.SOCK_STREAM) as line:
         try:
@@ -40,7 +40,7 @@ def connected(path: str, patience: float = PATIENCE) -> Iterator[socket.socket]:
 
 
 def asked_at(path: str, order: Order, patience: float = PATIENCE) -> tuple[Reply, list[int]]:
-    """What a run answers, and the doors that it opens. Wrong: it refuses the order."""
+    """Returns a run's reply and the doors that it opens. Wrong: the run refuses the order."""
     order = replace(order, number=next(NUMBERS))
     with connected(path, patience) as line:
         line.sendall(line_of(order))
@@ -64,18 +64,23 @@ def ask(path: str, patience: float = PATIENCE, *, change: str | None = None, sta
 
 
 def process_at(path: str) -> int:
-    """A descriptor of the process that answers."""
+    """Returns a descriptor of the run's process."""
     with connected(path) as line:
         return os.pidfd_open(process_and_user(line)[0])
 
 
+def reached(path: str) -> int:
+    """0 where somebody listens, else the error: ECONNREFUSED where nobody does."""
+    with socket.socket(socket.AF_UNIX, socket.SOCK_STREAM | socket.SOCK_NONBLOCK) as sock, within(path) as near:
+        return sock.connect_ex(near)
+
+
 def is_answered(path: str) -> bool:
-    with socket.socket(socket.AF_UNIX, socket.SOCK_STREAM) as sock, within(path) as near:
-        return sock.connect_ex(near) == 0
+    return reached(path) == 0
 
 
 def answer_of(path: str, words: str) -> str:
-    """What the first process of a simulated machine answers to a line."""
+    """Returns the reply of a simulated machine's first process to a line."""
     with socket.socket(socket.AF_UNIX, socket.SOCK_STREAM) as line:
         line.connect(path)
         line.sendall(os.fsencode(f"{words}\n"))

@@ -1,5 +1,4 @@
-"""The messages of a control socket: each is a JSON object in a line, of one of these kinds, and is refused where a part
-of it is unknown or of another type."""
+"""The messages of a control socket. Each message is a JSON object in a line; unknown kinds, parts or types are refused."""
 
 from __future__ import annotations
 
@@ -15,7 +14,7 @@ Kind = TypeVar("Kind")
 
 @dataclass(frozen=True)
 class Order:
-    """What a client asks for: one of these. The reply has its number."""
+    """The base of a client's requests. The reply repeats the number."""
 
     number: int = 0
     change: Optional[str] = None  # words, as those of a timeline
@@ -26,7 +25,7 @@ class Order:
 
 @dataclass(frozen=True)
 class ObeyedLine:
-    """A configuration line, its moment in ns, and why it is refused, if it is."""
+    """A configuration line, its moment in ns, and the reason for a refusal."""
 
     moment: int
     line: str
@@ -47,11 +46,11 @@ hints_of = lru_cache(get_type_hints)  # which evaluates them anew each time
 
 
 class Strange(Exception):
-    """A message of no known form, or of too great a length."""
+    """Raised for a message of unknown form or excessive length."""
 
 
 def fitted(value: object, kind: Any) -> Any:
-    """A value of JSON as one of a type. Strange: it has another type."""
+    """Returns a JSON value converted to a type. Strange: the value has another type."""
     origin, parts = get_origin(kind), get_args(kind)
     if kind is Any or (kind in (int, str, bool, type(None)) and type(value) is kind):
         return value
@@ -76,19 +75,19 @@ def read_message(kind: type[Kind], text: bytes) -> Kind:
 
 
 def line_of(message: Union[Order, Reply]) -> bytes:
-    """A message as a line, without the parts that it hasn't."""
+    """Returns a message as a line, without its absent parts."""
     return json.dumps({key: value for key, value in asdict(message).items() if value not in (None, False)}).encode() + b"\n"
 
 
 class Lines:
-    """The lines that come by a socket: each has a greatest length and a time within which it comes whole."""
+    """Reads lines from a socket. Each has a maximum length and a time limit."""
 
     def __init__(self, line: socket.socket, longest: int, most_doors: int = 0) -> None:
         self.line, self.longest, self.most_doors = line, longest, most_doors
         self.rest, self.doors = b"", list[int]()
 
     def next(self, patience: float) -> Optional[bytes]:
-        """The next message, None after the last. Strange: a line is too long. TimeoutError: none came in time."""
+        """Returns the next message, or None after the last. Strange: a line is too long. TimeoutError: no message came in time."""
         until = time.monotonic() + patience
         while b"\n" not in self.rest:
             if len(self.rest) > self.longest:

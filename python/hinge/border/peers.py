@@ -1,4 +1,4 @@
-"""Who is at the other end of a socket, and its name in the file system."""
+"""The process at the other end of a socket, and the socket's name in the file system."""
 
 from __future__ import annotations
 
@@ -8,13 +8,13 @@ import struct
 from contextlib import contextmanager
 from typing import Iterator
 
-from hinge.border.scratch import held
+from hinge.border.scratch import holding
 
 CREDENTIALS = struct.Struct("3i")
 
 
 def process_and_user(line: socket.socket) -> tuple[int, int]:
-    """The process that made the other end, and its user, as the system says."""
+    """Returns the process that created the other end, and its user, as reported by the system."""
     process, user, _ = CREDENTIALS.unpack(line.getsockopt(socket.SOL_SOCKET, socket.SO_PEERCRED, CREDENTIALS.size))
     return process, user
 
@@ -25,9 +25,6 @@ def is_own(line: socket.socket) -> bool:
 
 @contextmanager
 def within(path: str) -> Iterator[str]:
-    """A name of a socket that is short, however long its folder's is: the system takes 107 bytes."""
-    folder = held(os.path.dirname(path) or ".")
-    try:
+    """Yields a short name for a socket, even in a folder with a long name: the system allows 107 bytes."""
+    with holding(os.path.dirname(path) or ".") as folder:
         yield f"/proc/self/fd/{folder}/{os.path.basename(path)}"
-    finally:
-        os.close(folder)

@@ -1,5 +1,5 @@
-"""Files and folders that a process has for a while. Nothing is left of a file, since it has no name. A folder goes with SIGTERM
-and SIGHUP too; where its process was killed, the next one that makes such a folder removes it."""
+"""Temporary files and folders. Files are unnamed, so no file remains. A folder is also removed on SIGTERM and SIGHUP; if its
+process was killed, the next process that creates such a folder recognizes the old folder by its mark and removes it."""
 
 from __future__ import annotations
 
@@ -16,22 +16,33 @@ from types import FrameType
 from typing import IO, ContextManager, Iterator, Optional, Union
 
 PREFIX = ".hinge-"
-YOUNG, TOGETHER = 60.0, 1.0  # s: the process of a folder may not have locked it yet, and signals are one
+MARK = ".mark"  # the file by which a folder is the kit's; a name alone says nothing
+TOGETHER = 1.0  # s in which signals are one
 # The signals that end a process, with what Python has them do at first.
 USUAL = {signal.SIGINT: signal.default_int_handler, signal.SIGTERM: signal.SIG_DFL, signal.SIGHUP: signal.SIG_DFL}
 
 
 def held(path: Union[str, Path]) -> int:
-    """A descriptor of a folder or a namespace, which stays for that."""
+    """Returns a descriptor that keeps a folder or namespace alive."""
     return os.open(path, os.O_RDONLY | os.O_NONBLOCK | os.O_CLOEXEC)
 
 
+@contextmanager
+def holding(path: Union[str, Path]) -> Iterator[int]:
+    """Yields such a descriptor, and closes it afterwards."""
+    descriptor = held(path)
+    try:
+        yield descriptor
+    finally:
+        os.close(descriptor)
+
+
 class Ended(BaseException):
-    """A signal came that ends this process."""
+    """Raised when a signal ends this process."""
 
 
 def takes_files(folder: str) -> bool:
-    """Whether a file without a name can be written there, or perhaps one with a name where the file system has no others."""
+    """Returns whether a folder allows an unnamed file, or a named file if the file system supports only those."""
     try:
         with open(os.open(folder, os.O_TMPFILE | os.O_WRONLY | os.O_CLOEXEC, 0o600), "wb") as file:
             file.write(b"x")
@@ -41,7 +52,8 @@ def takes_files(folder: str) -> bool:
 
 
 def temporary_place() -> str:
-    """The folder for temporary files, which `tempfile` would try by a file with a name, and leave that file where it is killed."""
+    """Returns the folder for temporary files. `tempfile` would test the folder with a named file, which a killed process would
+    leave."""
     import tempfile  # which takes longer to load than a help may
 
     if tempfile.tempdir is None:
@@ -53,7 +65,7 @@ def temporary_place() -> str:
 
 @contextmanager
 def unnamed() -> Iterator[tuple[IO[bytes], str]]:
-    """A file without a name, and the path by which other programs reach it meanwhile."""
+    """Yields a file without a name, and a path for other programs."""
     import tempfile
 
     with tempfile.TemporaryFile(dir=temporary_place()) as file:
@@ -61,50 +73,85 @@ def unnamed() -> Iterator[tuple[IO[bytes], str]]:
 
 
 class Folder:
-    """A folder that is locked as long as this process, or one that it has forked, lives."""
+    """A folder whose mark stays locked as long as this process, or a fork, lives."""
 
-    def __init__(self, within: Union[str, Path, None] = None, prefix: str = PREFIX) -> None:
+    def __init__(self, within: Union[str, Path, None] = None) -> None:
         import tempfile
 
         place = str(within or temporary_place())
-        remove_left(place, prefix)
-        self.path = Path(tempfile.mkdtemp(prefix=prefix, dir=place))
-        self.lock = held(self.path)
-        fcntl.flock(self.lock, fcntl.LOCK_EX)
+        remove_left(place)
+        self.path, self.lock = Path(tempfile.mkdtemp(prefix=PREFIX, dir=place)), -1
+        try:
+            self.lock = marked(self.path)
+        except OSError:
+            self.remove()
+            raise
 
     def remove(self) -> None:
-        """A second time it does what a signal kept from being done."""
-        shutil.rmtree(self.path, ignore_errors=True)
+        """Removes the folder. A second call completes a removal that a signal interrupted."""
+        remove_all(self.path)
         lock, self.lock = self.lock, -1
         if lock >= 0:
             os.close(lock)
 
 
-def remove_left(within: Union[str, Path], prefix: str) -> None:
-    """Removes the folders of this user's processes that are no more."""
+def mark_of(folder: Union[str, Path]) -> bytes:
+    """Returns the content of a folder's mark, which is wrong in a copy or after renaming."""
+    result = os.lstat(folder)
+    return f"a temporary folder of hinge: {result.st_dev}:{result.st_ino} {os.path.basename(folder)}\n".encode()
+
+
+def marked(folder: Path) -> int:
+    """Marks a folder; returns a descriptor. The mark is complete and locked before it gets its name."""
+    beside = folder / f"{MARK}.new"
+    lock = os.open(beside, os.O_WRONLY | os.O_CREAT | os.O_EXCL | os.O_CLOEXEC, 0o600)
+    try:
+        fcntl.flock(lock, fcntl.LOCK_EX)
+        os.write(lock, mark_of(folder))
+        beside.rename(folder / MARK)
+    except OSError:
+        os.close(lock)
+        raise
+    return lock
+
+
+def remove_all(folder: Union[str, Path]) -> None:
+    """Removes a folder with its mark last, so that another process can complete an interrupted removal."""
+    with suppress(OSError), os.scandir(folder) as entries:
+        for one in entries:
+            if one.is_dir(follow_symlinks=False):
+                shutil.rmtree(one.path, ignore_errors=True)
+            elif one.name != MARK:
+                with suppress(OSError):
+                    os.unlink(one.path)
+    shutil.rmtree(folder, ignore_errors=True)
+
+
+def remove_left(within: Union[str, Path]) -> None:
+    """Removes the marked folders whose processes are no more."""
     with os.scandir(within) as entries:
         for one in entries:
-            if one.name.startswith(prefix):
+            if one.name.startswith(PREFIX):
                 with suppress(OSError):
                     remove_unlocked(one.path)
 
 
-def remove_unlocked(path: str) -> None:
-    """OSError: it is no folder, or its process is there."""
-    place = os.open(path, os.O_RDONLY | os.O_DIRECTORY | os.O_NOFOLLOW | os.O_CLOEXEC)
+def remove_unlocked(folder: str) -> None:
+    """Removes a folder. OSError: the folder has no mark, or its process is running."""
+    mark = os.open(os.path.join(folder, MARK), os.O_RDONLY | os.O_NOFOLLOW | os.O_NONBLOCK | os.O_CLOEXEC)
     try:
-        of = os.fstat(place)
-        if of.st_uid == os.geteuid() and time.time() - of.st_mtime > YOUNG:
-            fcntl.flock(place, fcntl.LOCK_EX | fcntl.LOCK_NB)
-            shutil.rmtree(path, ignore_errors=True)
+        own_mark = mark_of(folder)
+        if os.fstat(mark).st_uid == os.geteuid() and os.read(mark, len(own_mark) + 1) == own_mark:
+            fcntl.flock(mark, fcntl.LOCK_EX | fcntl.LOCK_NB)
+            remove_all(folder)
     finally:
-        os.close(place)
+        os.close(mark)
 
 
 @contextmanager
 def noted(numbers: list[int], cuts: bool) -> Iterator[None]:
-    """Notes these signals, which come behind it as ever, and has them be exceptions meanwhile if they cut short what is within. Those
-    that come together are one, and one that comes later is another, since some of Python's own code drops an exception."""
+    """Notes these signals, which take effect afterwards, and raises exceptions meanwhile if `cuts`. Simultaneous signals count as
+    one; a later signal counts again, since some Python code drops exceptions."""
     came, before, until = list[int](), {number: signal.getsignal(number) for number in numbers}, 0.0
 
     def note(number: int, frame: Optional[FrameType]) -> None:
@@ -127,7 +174,7 @@ def noted(numbers: list[int], cuts: bool) -> Iterator[None]:
 
 
 def clean_end() -> ContextManager[None]:
-    """Within it SIGTERM and SIGHUP are exceptions, as SIGINT is, behind which they end this process as ever."""
+    """Turns SIGTERM and SIGHUP into exceptions, like SIGINT; afterwards they end this process as usual."""
     is_main = threading.current_thread() is threading.main_thread()
     return noted([one for one, usual in USUAL.items() if is_main and signal.getsignal(one) == usual], cuts=True)
 
@@ -139,13 +186,13 @@ def undisturbed() -> ContextManager[None]:
 
 
 @contextmanager
-def scratch(within: Union[str, Path, None] = None, prefix: str = PREFIX) -> Iterator[Path]:
-    """A folder for a while, of which a signal leaves nothing."""
+def scratch(within: Union[str, Path, None] = None) -> Iterator[Path]:
+    """Yields a temporary folder, which even a signal removes."""
     folder: Optional[Folder] = None
     with clean_end():
         try:
             with undisturbed():
-                folder = Folder(within, prefix)
+                folder = Folder(within)
             yield folder.path
         finally:
             if folder:

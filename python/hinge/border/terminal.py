@@ -1,4 +1,4 @@
-"""Text that leaves for a terminal: nothing in it is obeyed there but the ends of its lines."""
+"""Text for a terminal, which can't contain control sequences, only line ends."""
 
 from __future__ import annotations
 
@@ -11,22 +11,22 @@ BLOCKS, ASCII_BLOCKS = "\u2581\u2582\u2583\u2584\u2585\u2586\u2587\u2588", ".:-=
 
 
 def printable(text: str) -> str:
-    """A line that may name a file or quote one, without what a terminal would obey."""
+    """Returns a line, possibly with quoted names, without characters that control a terminal."""
     return text if text.isprintable() else "".join(letter if letter.isprintable() else f"\\x{ord(letter):02x}" for letter in text)
 
 
 def lines(text: str) -> str:
-    """The same of several lines."""
+    """Returns several lines without such characters."""
     return text if text.isprintable() else "\n".join(map(printable, text.split("\n")))
 
 
 def several(count: int, name: str) -> str:
-    """As 1 fault, and 2 faults."""
+    """Returns a count with its noun, such as `1 fault` or `2 faults`."""
     return f"{count:,} {name}{'s' * (count != 1)}"
 
 
 def blocks() -> str:
-    """Eight letters of growing height, or darkness where standard output has no others than ASCII."""
+    """Returns eight characters of growing height, or of growing darkness if standard output is ASCII."""
     try:
         BLOCKS.encode(sys.stdout.encoding or "ascii")
         return BLOCKS
@@ -55,7 +55,7 @@ def silence(stream: int) -> None:
 
 
 def note_defect() -> None:
-    """Shows where an exception came from that is told as a line, for who looks for a defect of the kit."""
+    """Prints the origin of an exception that users see as a line, for debugging the kit."""
     if "HINGE_TRACEBACK" in os.environ:
         import traceback  # which takes longer to load than a help may
 
@@ -63,18 +63,13 @@ def note_defect() -> None:
 
 
 def tell_over(text: str = "") -> None:
-    """A line on a terminal that takes the place of the one before; without words that one goes."""
-    tell_codes(f"\r\x1b[K{printable(text)}")
-
-
-def tell_codes(codes: str) -> None:
-    """What a terminal is to obey; it quotes nobody."""
-    sys.stderr.write(codes)
+    """Replaces the current line on a terminal; without a text, clears the line."""
+    sys.stderr.write(f"\r\x1b[K{printable(text)}")
     sys.stderr.flush()
 
 
 class Shown(io.TextIOBase):
-    """Standard output as a file of text."""
+    """Standard output as a text file."""
 
     def write(self, text: str) -> int:
         show(text, "")
@@ -84,7 +79,7 @@ class Shown(io.TextIOBase):
         sys.stdout.flush()
 
     def fileno(self) -> int:
-        """For a program that writes nothing which a terminal would obey."""
+        """Returns the descriptor, for programs that write no control sequences."""
         return sys.stdout.fileno()
 
 

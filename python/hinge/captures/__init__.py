@@ -1,1 +1,1 @@
-"""Captures: what is read of one as a packet file, and what is written of one."""
+"""Captures as input for packet files, and captures as output."""

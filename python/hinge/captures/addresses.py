@@ -1,13 +1,12 @@
-"""The IPv6 addresses for which IPv4 addresses stand in a packet file, in a file beside it: `packets.csv.addresses`."""
+"""The IPv6 addresses behind a packet file's IPv4 stand-ins, in a file beside it: `packets.csv.addresses`."""
 
 from __future__ import annotations
 
 import csv
-import io
 import ipaddress
 from pathlib import Path
 
-from hinge.border.files import read_front, read_text, untrusted
+from hinge.border.files import read_front, lines_in, untrusted
 from hinge.command import FILES, ROWS, Fault
 from hinge.outputs import written
 
@@ -17,7 +16,7 @@ FIRST_OF_240 = 0xF0000001
 
 
 class StandIns:
-    """IPv4 addresses for a packet file, which has no others: each IPv6 address gets the next one of 240.0.0.0/4."""
+    """IPv4 addresses for packet files without IPv6: each IPv6 address gets the next address from 240.0.0.0/4."""
 
     def __init__(self) -> None:
         self.stand_ins: dict[str, str] = {}
@@ -31,13 +30,13 @@ class StandIns:
 
 
 def addresses_file(packets: str) -> Path:
-    """The file beside a packet file."""
+    """Returns the path to the file beside a packet file."""
     return Path(f"{packets}.addresses")
 
 
 def write_addresses(packets: str, addresses: StandIns) -> None:
-    """Writes the file beside a packet file. If there are no such addresses, one of an earlier packet file is taken
-    away. Fault: a file of that name is there that has others."""
+    """Writes the file beside a packet file. Without IPv6 addresses, an old file is removed. Fault: a file of that name has other
+    content."""
     path, head = addresses_file(packets), f"{','.join(NAMES)}\n"
     is_ours = path.is_file() and read_front(path, len(head)) == head.encode()
     if not addresses.stand_ins:
@@ -51,20 +50,20 @@ def write_addresses(packets: str, addresses: StandIns) -> None:
 
 
 def address_of_six(text: str) -> str:
-    """An address of IPv6 as it is written; ValueError: it is none, or has a zone, which may be any text."""
+    """Returns an IPv6 address in its canonical form. ValueError: the text is none, or contains a zone, which may be any text."""
     if "%" in text:
         raise ValueError(text)
     return str(ipaddress.IPv6Address(text))
 
 
 def read_addresses(packets: str) -> dict[str, str]:
-    """The IPv6 address of each stand-in, none where there is no such file. Fault: a line is something else."""
+    """Returns the IPv6 address for each stand-in; an empty dict without a file. Fault: a line is malformed."""
     path = addresses_file(packets)
     if not path.is_file():
         return {}
     table: dict[str, str] = {}
     with untrusted(path):
-        rows = csv.reader(io.StringIO(read_text(path, "replace"), newline=""))
+        rows = csv.reader(lines_in(path, errors="replace", said=None))
         if next(rows, []) != NAMES:
             raise Fault(f"{path}: {FORM}", ROWS)
         for row in rows:
@@ -78,5 +77,5 @@ def checked_address(path: Path, address: str) -> str:
     try:
         address_of_six(address)
     except ValueError:
-        raise Fault(f"{path}: {address!r} is no address of IPv6", ROWS) from None
+        raise Fault(f"{path}: {address!r} isn't an address of IPv6", ROWS) from None
     return address

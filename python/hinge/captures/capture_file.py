@@ -1,17 +1,19 @@
-"""Frames as bytes, for captures that are written: the records of a classic pcap file with nanoseconds."""
+"""Frames as bytes, for writing classic pcap files with nanoseconds."""
 
 from __future__ import annotations
 
 import mmap
 import os
 import struct
-import subprocess
-from contextlib import contextmanager
+from contextlib import ExitStack, contextmanager
 from dataclasses import dataclass
 from typing import IO, BinaryIO, Iterator, NamedTuple
 
 from hinge.border.files import read_again, untrusted
+from hinge.border.programs import asked
 from hinge.border.scratch import unnamed
+from hinge.captures.capture_reader import OF_EDITCAP, counted_alike
+from hinge.captures.frames import frame_count
 from hinge.command import ROWS, Fault, path_of_program
 
 FILE_HEADER, RECORD = struct.Struct("<IHHiIII"), struct.Struct("<IIII")
@@ -20,7 +22,7 @@ NS_PER_S, SECONDS_END = 10**9, 2**32
 
 
 class Record(NamedTuple):
-    """A frame: its time in ns since 1970, the length that it had, and where its bytes stand in the file."""
+    """A frame: its time in ns since 1970, its original length, and its bytes' place in the file."""
 
     time: int
     length: int
@@ -30,7 +32,7 @@ class Record(NamedTuple):
 
 @dataclass(frozen=True)
 class CaptureFile:
-    """The frames of a capture, in its order."""
+    """The frames of a capture, in order."""
 
     link_type: int
     data: mmap.mmap
@@ -51,16 +53,20 @@ def read_frames(file: IO[bytes]) -> CaptureFile:
 
 @contextmanager
 def capture_file(name: str) -> Iterator[CaptureFile]:
-    """A capture of any form, which editcap writes as a classic pcap file with nanoseconds first. Fault: editcap can't."""
-    with read_again(name) as capture, unnamed() as (plain, place):
-        process = subprocess.run(
-            [path_of_program("editcap", "wireshark-common"), "-F", "nsecpcap", capture.path, place], capture_output=True, text=True
-        )
+    """Yields a capture of any format, converted by editcap to a classic pcap file with nanoseconds. Fault: editcap fails, or counts
+    frames differently."""
+    with read_again(name, None) as capture, unnamed() as (plain, place), ExitStack() as files:
+        editcap = path_of_program("editcap", "wireshark-common")
+        with untrusted(capture.name):
+            words = [editcap, "-F", "nsecpcap", counted_alike(capture, files), place]
+        answer = asked(words, statuses=OF_EDITCAP)
         is_there = os.fstat(plain.fileno()).st_size >= FILE_HEADER.size
-        if not is_there or (process.returncode != 0 and "cut short" not in process.stderr):
-            raise Fault(f"{capture.name}: {' '.join(process.stderr.split())[:300]}", ROWS)
+        if not is_there or (answer.status != 0 and "cut short" not in answer.told):
+            raise Fault(f"{capture.name}: {' '.join(answer.told.split())[:300]}", ROWS)
         with untrusted(capture.name):
             frames = read_frames(plain)
+        if len(frames.records) != (count := frame_count(capture)):
+            raise Fault(f"{capture.name}: it has {count:,} frames, and editcap writes {len(frames.records):,}", ROWS)
         yield frames
 
 

@@ -2,31 +2,50 @@
 
 from __future__ import annotations
 
+import mmap
+import os
 import shutil
-import subprocess
 from contextlib import ExitStack
-from typing import IO, BinaryIO, cast
+from typing import IO, BinaryIO, Iterator, cast
 
 from hinge.border.files import GZIP, Input, Unpacked, opened
+from hinge.border.programs import asked
 from hinge.border.scratch import unnamed
 from hinge.command import ROWS, Fault
 
 # the fronts of pcapng, and of pcap in us, in ns and of Kuznetzov in each byte order
 FRONTS = ("0a0d0d0a", "a1b2c3d4", "a1b23c4d", "a1b2cd34", "d4c3b2a1", "4d3cb2a1", "34cdb2a1")
+SECTION, LITTLE, SHORTEST = 0x0A0D0D0A, b"\x4d\x3c\x2b\x1a", 12
+KNOWN = (SECTION, 1, 2, 3, 4, 5, 6, 10)  # and interfaces, packets, names, statistics and secrets
+OF_EDITCAP = range(128)  # the statuses of a refusal
 FRONT, PART = 4, 1 << 16  # bytes of a front, and those that are unpacked at once
 
 
 def as_pcapng(capture: Input, files: ExitStack) -> IO[bytes]:
-    """A capture of another form, by Wireshark's editcap. Fault: editcap is missing, or can't read the capture."""
+    """Converts a capture to pcapng with Wireshark's editcap; returns the file. Fault: editcap is missing, or can't read the
+    capture."""
     editcap = shutil.which("editcap")
     if editcap is None:
         needs = "and other captures need editcap: apt-get install wireshark-common"
         raise Fault(f"{capture.name}: neither pcap nor pcapng, {needs}", ROWS)
     product, path = files.enter_context(unnamed())
-    process = subprocess.run([editcap, "-F", "pcapng", capture.path, path], capture_output=True, text=True)
-    if process.returncode != 0:
-        raise Fault(f"{capture.name}: neither pcap nor pcapng; {' '.join(process.stderr.split())[:300]}", ROWS)
+    answer = asked([editcap, "-F", "pcapng", capture.path, path], statuses=OF_EDITCAP)
+    if answer.status != 0:
+        raise Fault(f"{capture.name}: neither pcap nor pcapng; {' '.join(answer.told.split())[:300]}", ROWS)
     return product
+
+
+def blocks_of(data: mmap.mmap) -> Iterator[tuple[int, int, int]]:
+    """Yields the blocks of a pcapng file: kind, start and end. Invalid data counts as part of the last block."""
+    at, order = 0, "little"
+    while at + SHORTEST <= len(data):
+        kind = int.from_bytes(data[at : at + 4], order)  # type: ignore[arg-type]
+        if kind == SECTION:
+            order = "little" if data[at + 8 : at + 12] == LITTLE else "big"
+        length = int.from_bytes(data[at + 4 : at + 8], order)  # type: ignore[arg-type]
+        end = at + length if length >= SHORTEST else len(data)
+        yield kind, at, min(end, len(data))
+        at = end
 
 
 def front_of(file: IO[bytes]) -> bytes:
@@ -48,8 +67,8 @@ def unpack(name: str, archive: BinaryIO, plain: IO[bytes]) -> bool:
 
 
 def plain_capture(capture: Input, files: ExitStack) -> tuple[IO[bytes], bool]:
-    """A capture of any form, and whether the archive is whole where it is one. Fault: the file is empty."""
-    file: IO[bytes] = files.enter_context(opened(capture.path))
+    """Opens a capture in any format; returns the file, and whether a compressed capture is complete. Fault: the file is empty."""
+    file: IO[bytes] = files.enter_context(opened(capture.path, None))
     front, is_whole = front_of(file), True
     if front[:2] == GZIP:
         archive, (file, _) = file, files.enter_context(unnamed())
@@ -59,3 +78,15 @@ def plain_capture(capture: Input, files: ExitStack) -> tuple[IO[bytes], bool]:
         raise Fault(f"{capture.name}: an empty file, and no capture", ROWS)
     is_known = front.hex() in FRONTS or not is_whole and len(front) < FRONT
     return (file if is_known else as_pcapng(capture, files)), is_whole
+
+
+def counted_alike(capture: Input, files: ExitStack) -> str:
+    """Returns the path of a capture without those pcapng blocks that some programs count as frames, unlike the kit."""
+    file, _ = plain_capture(capture, files)
+    if front_of(file).hex() == FRONTS[0]:
+        data = files.enter_context(mmap.mmap(file.fileno(), 0, access=mmap.ACCESS_READ))
+        if any(kind not in KNOWN for kind, _, _ in blocks_of(data)):
+            file, _ = files.enter_context(unnamed())
+            file.writelines(data[begin:end] for kind, begin, end in blocks_of(data) if kind in KNOWN)
+            file.flush()
+    return f"/proc/{os.getpid()}/fd/{file.fileno()}"

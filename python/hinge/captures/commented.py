@@ -1,4 +1,4 @@
-"""A capture with comments on its frames, as pcapng, in which Wireshark and tshark show and find them."""
+"""A capture with comments on its frames, as pcapng, in which Wireshark and tshark show and find the comments."""
 
 from __future__ import annotations
 
@@ -17,7 +17,7 @@ MOST_COMMENTS = 3  # of a frame that was split into more packets
 
 
 def block(kind: int, body: bytes) -> bytes:
-    """A block of pcapng: its kind and length, what it has in whole words of 32 bits, and its length."""
+    """Returns a pcapng block: its kind and length, its content padded to 32 bits, and the length again."""
     body += bytes(-len(body) % 4)
     length = struct.pack("<I", 12 + len(body))
     return struct.pack("<I", kind) + length + body + length
@@ -28,7 +28,7 @@ def option(code: int, data: bytes) -> bytes:
 
 
 def comment(text: str) -> bytes:
-    """A comment, cut after a whole letter if it is too long."""
+    """Returns a comment, truncated after a whole letter if it is too long."""
     return option(COMMENT, text.encode()[:MOST_BYTES].decode(errors="ignore").encode())
 
 
@@ -38,7 +38,7 @@ def write_head(out: BinaryIO, link_type: int) -> None:
 
 
 def write_commented(capture: CaptureFile, frames: Integers, tell: Callable[[int], str], out: BinaryIO) -> int:
-    """Writes all frames at their own moments, each with what is told of its rows; returns how many have a comment."""
+    """Writes all frames at their original times, each with a comment on its rows; returns the number of comments."""
     rows: dict[int, list[int]] = {}
     for row, frame in enumerate(frames.tolist(), 1):
         rows.setdefault(frame, []).append(row)

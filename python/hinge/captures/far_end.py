@@ -1,4 +1,4 @@
-"""Which frames of a capture come through a link, and when."""
+"""The frames of a capture that pass a link, and their moments."""
 
 from __future__ import annotations
 
@@ -6,14 +6,13 @@ from hinge.captures.capture_file import CaptureFile, write_frame, write_header
 from hinge.command import ROWS, Fault
 from hinge.lazy import Integers, np
 from hinge.outputs import written
-from hinge.replays.columns import Number
+from hinge.replays.columns import read_index
 from hinge.replays.replay import Replay
-from hinge.replays.tables import read_columns
 
 
 def frames_of_rows(path: str, replay: Replay) -> Integers:
-    """The frame of each row, by the index that hinge packets wrote. Fault: the index is of other rows."""
-    table = read_columns(path, {"row": Number(), "frame": Number()})
+    """Returns the frame of each row from the index of `hinge packets`. Fault: the index is of other rows."""
+    table = read_index(path)
     if not np.array_equal(table["row"], np.arange(1, len(replay.packets) + 1)):
         raise Fault(f"{path}: its rows aren't those of {replay.packets.path}", ROWS)
     if (table["frame"] < 1).any():
@@ -22,9 +21,9 @@ def frames_of_rows(path: str, replay: Replay) -> Integers:
 
 
 def arrivals(replay: Replay, frames: Integers) -> list[tuple[int, int]]:
-    """The moment and the number of each frame that arrives, in order of arrival.
+    """Returns the moment and number of each frame that arrives, in order of arrival.
 
-    A frame that was split into packets arrives with the last of them, and not at all where one of them doesn't leave.
+    A frame that was split into packets arrives with its last packet, or never if a packet doesn't leave.
     """
     count = int(frames.max()) + 1 if len(frames) else 0
     last, rows, departures = np.zeros(count, np.int64), np.bincount(frames, minlength=count), np.zeros(count, np.int64)

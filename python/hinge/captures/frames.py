@@ -1,16 +1,17 @@
-"""The IP packets of a capture, as the program hinge-packets finds them; hosts/packets/main.c says how it answers."""
+"""A capture's IP packets from the program hinge-packets; hosts/packets/main.c describes the answers."""
 
 from __future__ import annotations
 
 import os
 import socket
-import subprocess
 from array import array
 from contextlib import ExitStack, contextmanager, suppress
 from struct import Struct
-from typing import BinaryIO, Iterator, NamedTuple, Optional, cast
+from typing import BinaryIO, Iterator, NamedTuple, Optional, Sequence, cast
 
 from hinge.border.files import Input, untrusted
+from hinge.border.programs import PIPE, Process, begun, how_ended
+from hinge.border.scratch import unnamed
 from hinge.captures.capture_reader import plain_capture
 from hinge.command import ROWS, Fault, say
 from hinge.program import packets
@@ -19,12 +20,13 @@ NAME = "hinge-packets"
 PORTED = {6: "tcp", 17: "udp", 132: "sctp", 136: "udp", 33: "dccp"}
 HEAD, ADDRESS, FLOW, FRAME, COUNTS = map(Struct, ("=6Q", "=16sQ", "=IIHHBBxx", "=QqQII", "=6Q"))
 NOT_VALID = "a block of the capture isn't valid"
+MAPPED = 0xFFFF << 32  # what is above an address of IPv4 in a number of IPv6
 FASTEST = 1 << 62  # bit/s, at which any packet takes 1 ns
 FAULT, SYSTEM = 4, (5, 6)  # the statuses with which it ends in a fault, and where the system refuses something
 
 
 class Frame(NamedTuple):
-    """What rules ask of a frame. Those of one flow differ by their numbers alone."""
+    """The properties of a frame that rules use. A flow's frames differ only in their numbers."""
 
     number: int
     src: str
@@ -33,6 +35,18 @@ class Frame(NamedTuple):
     sport: int
     dport: int
     dscp: int
+
+
+class Asked(NamedTuple):
+    """The properties of many frames in columns. Addresses are indices into a list of IPv6 numbers."""
+
+    addresses: Sequence[int]
+    src: Sequence[int]
+    dst: Sequence[int]
+    proto: Sequence[int]
+    sport: Sequence[int]
+    dport: Sequence[int]
+    dscp: Sequence[int]
 
 
 class Packet(NamedTuple):
@@ -45,7 +59,7 @@ class Packet(NamedTuple):
 
 
 class Counts(NamedTuple):
-    """What became of the packets."""
+    """The counts of packets by result."""
 
     rows: int
     bytes: int
@@ -56,8 +70,8 @@ class Counts(NamedTuple):
 
 
 class Plan(NamedTuple):
-    """How rows are written: `mtu` is the most bytes of a packet that a card cuts of a segment, 0 where none is cut, and `rate`
-    that of the card in bit/s, 0 where it sends them at once; the link adds `l2` bytes."""
+    """How rows are written: `mtu` is the longest packet that a card cuts from a segment, in bytes, or 0 without segmentation;
+    `rate` is the card's rate in bit/s, or 0 if the card sends the packets at once; the link adds `l2` bytes."""
 
     mtu: int = 0
     rate: int = 0
@@ -68,7 +82,7 @@ class Plan(NamedTuple):
 class Capture:
     """A capture that the program has read, and whose rows it will write. Its flows are in the order in which they begin."""
 
-    def __init__(self, name: str, program: "subprocess.Popen[bytes]", by_frame: bool) -> None:
+    def __init__(self, name: str, program: "Process[bytes]", by_frame: bool) -> None:
         self.name, self.program, self.read = name, program, cast(BinaryIO, program.stdout).read
         self.frame_count, self.packet_count, self.long, self.is_cut, addresses, flows = HEAD.unpack(
             self.whole(HEAD.size, f"{name}: ")
@@ -78,18 +92,21 @@ class Capture:
             socket.inet_ntop(*((socket.AF_INET6, it) if six else (socket.AF_INET, it[12:])))
             for it, six in ADDRESS.iter_unpack(data)
         ]
+        self.keys = [
+            int.from_bytes(it, "big") if six else MAPPED | int.from_bytes(it[12:], "big") for it, six in ADDRESS.iter_unpack(data)
+        ]
         self.flows = self.whole(FLOW.size * flows)
         self.items = self.whole(FRAME.size * self.packet_count) if by_frame else None
 
     def whole(self, size: int, prefix: str = "") -> bytes:
-        """So many bytes that the program answers. Fault, or the OSError that the program met: the program has ended before."""
+        """Returns `size` bytes of the program's answer. Fault, or the program's OSError: the program ended before."""
         data = self.read(size)
         if len(data) < size:
             text = cast(BinaryIO, self.program.stderr).read().decode(errors="replace")
             status = self.program.wait()
             if status in SYSTEM:
                 raise OSError(int(text), os.strerror(int(text)))
-            raise Fault(prefix + (text if status == FAULT else f"{NAME} ended with status {status}"), ROWS)
+            raise Fault(prefix + (text if status == FAULT else f"{NAME} {how_ended(status)}"), ROWS)
         return data
 
     def frame(self, number: int, flow: int) -> Frame:
@@ -97,18 +114,17 @@ class Capture:
         return Frame(number, self.addresses[src], self.addresses[dst], proto, sport, dport, dscp)
 
     def packets(self) -> Iterator[Packet]:
-        """All packets, in order of time, if the program was asked by frame."""
+        """Yields all packets in order of time, if the program answered by frame."""
         for low, high, number, flow, length in FRAME.iter_unpack(self.items or b""):
             yield Packet(self.frame(number & (1 << 48) - 1, flow), (high << 64) + low, length, number >> 48)
 
-    def frames(self) -> Iterator[Frame]:
-        """A frame of each flow, or all frames if the program was asked by frame."""
-        if self.items is not None:
-            return (packet.frame for packet in self.packets())
-        return (self.frame(0, flow) for flow in range(len(self.flows) // FLOW.size))
+    def asked(self) -> Asked:
+        """Returns a frame of each flow."""
+        flows, halves, words = self.flows, array("H", self.flows), array("I", self.flows)
+        return Asked(self.keys, words[0::4], words[1::4], flows[12::16], halves[4::8], halves[5::8], flows[13::16])
 
     def write(self, targets: "array[int]") -> tuple[Counts, list[str]]:
-        """Writes the rows of `frames` that go to these targets, 0 for none. Returns the counts, and the IPv6 addresses behind stand-ins."""
+        """Writes the rows of `frames` for these targets (0: no target). Returns the counts, and the stand-ins' IPv6 addresses."""
         questions = cast(BinaryIO, self.program.stdin)
         with suppress(BrokenPipeError):
             questions.write(targets.tobytes())
@@ -120,7 +136,7 @@ class Capture:
 
 @contextmanager
 def read(capture: Input, plan: Plan, out: int, index: Optional[int] = None, by_frame: bool = False) -> Iterator[Capture]:
-    """A capture whose rows go to a descriptor, and the numbers of their frames to another one."""
+    """Reads a capture; writes its rows to a descriptor, and their frame numbers to another."""
     with ExitStack() as files:
         with untrusted(capture.name, what=NOT_VALID):
             source, is_whole = plain_capture(capture, files)
@@ -130,13 +146,18 @@ def read(capture: Input, plan: Plan, out: int, index: Optional[int] = None, by_f
         for number in copies:
             files.callback(os.close, number)
         numbers = [*copies, -1][:3] + [plan.mtu, min(plan.rate, FASTEST), plan.l2, plan.seed, int(by_frame)]
-        pipe = subprocess.PIPE
-        program = files.enter_context(
-            subprocess.Popen([packets(), *map(str, numbers)], stdin=pipe, stdout=pipe, stderr=pipe, pass_fds=copies)
-        )
+        words = [packets(), *map(str, numbers)]
+        program = files.enter_context(begun(words, stdin=PIPE, stdout=PIPE, stderr=PIPE, pass_fds=copies))
         files.callback(program.kill)
         with untrusted(capture.name):
             result = Capture(capture.name, program, by_frame)
         if result.is_cut or not is_whole:
             say(f"{capture.name}: the capture is cut short in the middle of a frame")
         yield result
+
+
+def frame_count(capture: Input) -> int:
+    """Returns a capture's number of frames, up to its truncation."""
+    with unnamed() as (nothing, _), read(capture, Plan(), nothing.fileno()) as result:
+        count: int = result.frame_count
+    return count

@@ -1,63 +1,64 @@
-"""The rows of a packet file from the frames of a capture."""
+"""The rows of a packet file made from a capture's frames."""
 
 from __future__ import annotations
 
-from array import array
-from dataclasses import dataclass, field
-from typing import IO, Iterator, NamedTuple, Optional, TextIO
+from typing import IO, Iterator, NamedTuple, Optional, Sequence, TextIO
 
 from hinge.border.files import Input
 from hinge.border.scratch import unnamed
 from hinge.captures.addresses import StandIns
-from hinge.captures.frames import Counts, Frame, Plan, read
-from hinge.captures.random_words import direction_of
+from hinge.captures.frames import Asked, Counts, Plan, read
+from hinge.captures.random_words import direction_of, name_of
 from hinge.captures.targets import Targets
 from hinge.loss import Maker, Words
 
+ENDS = (1 << 32) - 1
 HEADER = "moment,target,number,src,dst,proto,sport,dport,len,word"
 
 
-@dataclass
-class Meetings:
-    """The pairs of hosts whose packets go both ways through one pipe or queue."""
-
-    passages: set[tuple[str, str, str]] = field(default_factory=set)
-    both: dict[str, set[tuple[str, str]]] = field(default_factory=dict)
-
-    def add(self, target: str, src: str, dst: str) -> None:
-        if (target, src, dst) not in self.passages:
-            self.passages.add((target, src, dst))
-            if src != dst and (target, dst, src) in self.passages:
-                self.both.setdefault(target, set()).add((dst, src))
-
-    def lines(self) -> Iterator[str]:
-        for target, pairs in self.both.items():
-            first, second = min(pairs)
+def meetings(frames: Asked, directions: Sequence[int], names: Sequence[str]) -> Iterator[str]:
+    """Yields warnings about pairs of hosts whose packets use one pipe or queue in both directions."""
+    warnings = list[tuple[int, str]]()
+    passages = [src << 32 | dst for src, dst in zip(frames.src, frames.dst)]
+    for direction in set(directions) - {0}:
+        pairs_there = {one for one, own in zip(passages, directions) if own == direction}
+        both = {one for one in pairs_there if one >> 32 != one & ENDS and turned(one) in pairs_there}
+        first = dict[int, int]()  # the place of the first packet of each
+        for place, one in enumerate(passages) if both else ():
+            if one in both and directions[place] == direction:
+                first.setdefault(one, place)
+        pairs = [one for one in both if first[one] < first[turned(one)]]
+        if pairs:
+            first_host, second = min((names[pair >> 32], names[pair & ENDS]) for pair in pairs)
             others = f" and of {len(pairs) - 1:,} other pairs" if len(pairs) > 1 else ""
-            yield (
-                f"both directions of {first} and {second}{others} go to {target.replace(',', ' ')}, where they wait "
-                f"for each other; "
-                f"--from {first} gives each direction a pipe"
+            line = (
+                f"both directions of {first_host} and {second}{others} go to {name_of(direction)}, where they wait for each other; "
             )
+            warnings.append((min(first[turned(pair)] for pair in pairs), f"{line}--from {first_host} gives each direction a pipe"))
+    return (line for _, line in sorted(warnings))
+
+
+def turned(passage: int) -> int:
+    return (passage & ENDS) << 32 | passage >> 32
 
 
 class ModelWords:
-    """Packet rows with the words of models in place of random ones."""
+    """Packet rows with words from models instead of random words."""
 
     def __init__(self, seed: int, models: dict[str, Maker]) -> None:
-        """`models` has those of some targets, as `pipe,1`, or of all others, under an empty name."""
+        """`models` contains the models for targets such as `pipe,1`; an empty name stands for all other targets."""
         self.seed, self.models = seed, models
         self.words: dict[str, Optional[Words]] = {}
 
     def of(self, target: str) -> Optional[Words]:
-        """The words of a target's packets, each by a model of its own, None if they are random."""
+        """Returns the words for a target's packets, each from its model, or None if they are random."""
         if target not in self.words:
             make = self.models.get(target) or self.models.get("")
             self.words[target] = make(self.seed, direction_of(*target.split(","))) if make else None
         return self.words[target]
 
     def write(self, rows: IO[bytes], out: TextIO) -> int:
-        """Writes the rows of a file, and returns how many bytes they have."""
+        """Writes the rows of a file; returns their number of bytes."""
         rows.seek(0)
         out.write(next(rows).decode("ascii"))
         size = 0
@@ -69,41 +70,33 @@ class ModelWords:
 
 
 class Product(NamedTuple):
-    """What a capture was made into."""
+    """The result of a conversion."""
 
     counts: Counts
     frames: int
     packets: int
     long: int  # packets that are longer than on most links
     addresses: StandIns
-    meetings: Meetings
-
-
-def direction(targets: Targets, meetings: Meetings, frame: Frame) -> int:
-    """The direction to which a frame goes, 0 if it has no target."""
-    target = targets.of(frame)
-    if target is None:
-        return 0
-    meetings.add(target, frame.src, frame.dst)
-    return direction_of(*target.split(","))
+    meetings: list[str]
 
 
 def write_random(capture: Input, targets: Targets, plan: Plan, out: int, index: Optional[int]) -> Product:
-    """Writes the rows with random words, and returns what the summary tells."""
-    meetings, addresses = Meetings(), StandIns()
-    with read(capture, plan, out, index, bool(targets.filters)) as reader:
-        targets.resolve()
-        directions = array("I", (direction(targets, meetings, frame) for frame in reader.frames()))
+    """Writes the rows with random words; returns the summary's content."""
+    addresses = StandIns()
+    with read(capture, plan, out, index) as reader:
+        frames = reader.asked()
+        directions = targets.of(frames)
         counts, originals = reader.write(directions)
     for address in originals:
         addresses.of(address)
-    return Product(counts, reader.frame_count, reader.packet_count, reader.long, addresses, meetings)
+    lines = list(meetings(frames, directions, reader.addresses))
+    return Product(counts, reader.frame_count, reader.packet_count, reader.long, addresses, lines)
 
 
 def write_rows(
     capture: Input, targets: Targets, plan: Plan, models: dict[str, Maker], out: TextIO, index: Optional[TextIO]
 ) -> Product:
-    """Writes a row for each packet that has a target, and in the index its frame. Returns what the summary tells."""
+    """Writes a row for each packet with a target, and its frame in the index. Returns the summary's content."""
     numbers = None if index is None else index.fileno()
     out.flush()
     if not models:

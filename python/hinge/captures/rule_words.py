@@ -1,5 +1,4 @@
-"""The short words of the rules of `--map`, which live links and captures share: `up tcp src 10.0.0.0/8 dport 443 =>
-queue 2`."""
+"""The short words of `--map` rules, for live links and captures: `up tcp src 10.0.0.0/8 dport 443 => queue 2`."""
 
 from __future__ import annotations
 
@@ -8,6 +7,8 @@ import ipaddress
 import re
 from dataclasses import dataclass, field
 from typing import NamedTuple, Optional, Union
+
+from hinge.arguments import RULE
 
 Net = Union[ipaddress.IPv4Network, ipaddress.IPv6Network]
 WAYS = {"up": 0, "down": 1}
@@ -22,19 +23,17 @@ DSCP = {
     **{f"af{n}{m}": 8 * n + 2 * m for n in range(1, 5) for m in range(1, 4)},
 }
 WORDS = ("any", *WAYS, *PROTOCOLS, "proto", *NETS, *PORTS, "dscp")
-HELP = "[up|down] [tcp|udp|icmp|icmp6|proto N] [src|dst|host NET] [port|sport|dport N[-M]] [dscp N]"
+HELP = RULE
 TARGET = re.compile(r"(pipe|queue)\s+([1-9]\d{0,4})\Z", re.ASCII)
 MOST_NUMBER = 65535
-COMPARES = re.compile(r"[=!<>&|(){}\"~]|(?:^|\s)(?:and|or|not|xor|in|eq|ne|gt|lt|ge|le|contains|matches)(?:\s|$)")
-NAMES = re.compile(r"[A-Za-z_]\w*(\.\w+)*")
 
 
 class BadRule(ValueError):
-    """What is wrong with a rule."""
+    """Raised for a wrong rule, with the reason."""
 
 
 class RuleTarget(NamedTuple):
-    """Where packets go: `pipe` or `queue`, and its number."""
+    """The target of packets: `pipe` or `queue`, and its number."""
 
     kind: str
     number: int
@@ -47,7 +46,7 @@ class Span(NamedTuple):
     high: int
 
     def both(self, other: Span) -> Optional[Span]:
-        """The ports that two spans share, None if there are none."""
+        """Returns the ports that two spans share, or None."""
         low, high = max(self.low, other.low), min(self.high, other.high)
         return Span(low, high) if low <= high else None
 
@@ -57,10 +56,10 @@ EVERY_PORT = Span(0, MOST_NUMBER)
 
 @dataclass
 class Short:
-    """What the short words of a rule ask of a packet; what they don't name may be anything.
+    """The short words of a rule as conditions on packets. Properties without a condition are free.
 
-    `nets` has those of `src`, `dst` and `host`, which is either end, and `ports` those of `sport`, `dport` and `port`,
-    which is either end.
+    `nets` contains the networks in `src`, `dst` and `host`, and `ports` the ports in `sport`, `dport` and `port`; the last of each
+    means either end.
     """
 
     way: Optional[int] = None
@@ -139,11 +138,11 @@ class RuleReader:
             self.short.ports[PORTS[word]] = port_span_of(self.value(word))
         elif word != "any":
             near = difflib.get_close_matches(word, WORDS, 1)
-            raise BadRule(f"'{word}': no word of a rule; {f'write {near[0]}' if near else f'they are {HELP}'}")
+            raise BadRule(f"'{word}': not a word of a rule; {f'write {near[0]}' if near else f'write {HELP}'}")
 
 
 def parted(text: str) -> tuple[str, RuleTarget]:
-    """A rule's words before the arrow, and its target. BadRule: there is none."""
+    """Returns the words before a rule's arrow, and the rule's target. BadRule: there is no arrow or target."""
     rest, arrow, right = text.rpartition("=>")
     match = TARGET.match(right.strip())
     if not arrow or match is None or int(match[2]) > MOST_NUMBER:
@@ -151,12 +150,6 @@ def parted(text: str) -> tuple[str, RuleTarget]:
     return rest.strip(), RuleTarget(match[1], int(match[2]))
 
 
-def is_like_a_filter(text: str) -> bool:
-    """Whether a text that isn't of short words can be a display filter of Wireshark: it compares or joins, or is the
-    name of one thing."""
-    return bool(COMPARES.search(text) or NAMES.fullmatch(text) and text not in WORDS)
-
-
 def short_of(text: str) -> Short:
-    """What the short words before an arrow ask. BadRule: one of them is none, or its value."""
+    """Returns the conditions of short words. BadRule: a word or its value is wrong."""
     return RuleReader(text.split()).read()

@@ -1,4 +1,4 @@
-"""A capture as the far end of the emulated link sees it, or with what the link did to each frame."""
+"""A capture as seen from the far end of the emulated link, or with comments on each frame's course."""
 
 from __future__ import annotations
 

@@ -1,1 +1,1 @@
-"""What is wrong with configurations, packet files and histories, by the program's verdict, and what to write."""
+"""The faults in configurations, packet files and histories, as judged by the program, with advice."""

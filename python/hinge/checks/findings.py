@@ -1,4 +1,4 @@
-"""What a check found, told line by line as it is found."""
+"""A check's findings, printed one by one."""
 
 from __future__ import annotations
 
@@ -11,7 +11,7 @@ MOST_FAULTS = 20  # of one file that are told
 
 @dataclass
 class Findings:
-    """Counts faults and warnings. `status` is that of the first fault, 0 where there is none."""
+    """Counts faults and warnings. `status` is the first fault's status, or 0."""
 
     faults: int = 0
     warnings: int = 0

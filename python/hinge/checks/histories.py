@@ -1,30 +1,29 @@
-"""A history, or the transcript of a live session: where it isn't one, and which reply isn't the emulator's."""
+"""Histories and transcripts of live sessions: the first malformed record, or the first reply that differs from the emulator's."""
 
 from __future__ import annotations
 
 import io
 import re
-import subprocess
 from itertools import islice
 from typing import Iterator
 
 from hinge.checks.findings import Findings
 from hinge.command import ROWS
-from hinge.program import dummynet
+from hinge.program import asked_of_dummynet
 
 DIFFERS = 1  # the status of an audit that finds another reply
 SHOWN = 80  # letters of a record
 
 
 class HistoryRecords:
-    """The records of a history, each with its line. Empty lines aren't counted, nor the remarks of a live session's transcript."""
+    """The records of a history with their lines. Empty lines and the remarks of a transcript don't count."""
 
     def __init__(self, data: bytes) -> None:
         self.data, self.is_live = data, data.startswith(b"dummynet-live,")
         self.is_whole = data.endswith((b"\n", b"\r"))
 
     def __iter__(self) -> Iterator[tuple[int, str]]:
-        """They are read anew each time, so that they take no memory."""
+        """Reads the records anew each time, so that they need no memory."""
         for number, line in enumerate(io.TextIOWrapper(io.BytesIO(self.data), "utf-8", "replace"), 1):
             if line != "\n" and not (self.is_live and line.startswith("#")):
                 yield number, line.removesuffix("\n")
@@ -33,17 +32,16 @@ class HistoryRecords:
         return (line for _, line in self if line.startswith("c,"))
 
     def right_reply(self, count: int) -> str:
-        """What the emulator replies to the last of so many calls, empty where it can't be asked: a live session is by
-        the rule of version 3."""
+        """Returns the emulator's reply to the last call; empty for a live session under version 3's rule, which can't be asked."""
         if not re.match(rb"dummynet-history,3|dummynet-live,", self.data):
             return ""
         items = "".join(f"{call}\n" for call in islice(self.calls(), count))
-        process = subprocess.run([dummynet(), "live"], input=items, capture_output=True, text=True).stdout.splitlines()
-        return next((line for line in reversed(process) if line.startswith("r,")), "")
+        answer = asked_of_dummynet("live", data=items.encode()).text.splitlines()
+        return next((line for line in reversed(answer) if line.startswith("r,")), "")
 
 
 def bad_record(name: str, records: HistoryRecords, number: int) -> tuple[str, str]:
-    """Where a record stands that the audit doesn't take, and what is wrong with it."""
+    """Returns the place of a record that the audit refuses, and the reason."""
     before, line, text, last = "", 0, "", 1
     for place, (last, other) in enumerate(records, 1):
         if place < number:
@@ -77,7 +75,7 @@ def bad_record(name: str, records: HistoryRecords, number: int) -> tuple[str, st
 
 
 def other_reply(name: str, records: HistoryRecords, entry: int) -> tuple[str, str]:
-    """Where the reply stands that isn't the emulator's, and which one is."""
+    """Returns the place of a wrong reply, and the correct reply."""
     pairs = ((call, reply) for call, reply in zip(records, islice(records, 1, None)) if call[1].startswith("c,"))
     (_, call), (line, reply) = next(islice(pairs, entry, None))
     right = records.right_reply(entry + 1)
@@ -88,11 +86,11 @@ def other_reply(name: str, records: HistoryRecords, entry: int) -> tuple[str, st
 
 
 def check_history(name: str, path: str, data: bytes, findings: Findings) -> None:
-    audit = subprocess.run([dummynet(), "audit", path], capture_output=True, text=True)
-    records, fault = HistoryRecords(data), audit.stderr.strip()
+    audit = asked_of_dummynet("audit", path)
+    records, fault = HistoryRecords(data), audit.told
     if bad := re.fullmatch(r"history record (\d+): bad", fault):
         findings.fault(*bad_record(name, records, int(bad[1])), ROWS)
-    elif differs := re.fullmatch(r"differs (\d+)", audit.stdout.strip()):
+    elif differs := re.fullmatch(r"differs (\d+)", audit.text.strip()):
         findings.fault(*other_reply(name, records, int(differs[1])), DIFFERS)
-    elif audit.returncode:
-        findings.fault(name, fault, audit.returncode)
+    elif audit.status:
+        findings.fault(name, fault, audit.status)

@@ -1,58 +1,75 @@
-"""The lines of a configuration, each judged by the program: all that are wrong, and those that hardly anybody means."""
+"""A configuration's lines, checked with the program: all wrong lines, and unlikely lines."""
 
 from __future__ import annotations
 
 import os
 import re
-import subprocess
 from collections import Counter
 from dataclasses import dataclass, field
 from fractions import Fraction
 from typing import Iterable, Iterator, NamedTuple, Optional, Sequence
 
 from hinge.arguments import is_number
+from hinge.border.files import Exceeded, untrusted
+from hinge.border.programs import lines_from
+from hinge.border.scratch import unnamed
 from hinge.checks.findings import MOST_FAULTS, Findings
 from hingetulip_words.values import FIELD_BITS
 from hingetulip_words.advice import OPTIONS, words_of
 from hingetulip_words.explained import explained, replaced
-from hinge.command import CONFIGURATION, Fault
+from hinge.command import CONFIGURATION, FILES, MISSING, Fault
 from hinge.configurations.configured import InForce
-from hinge.program import dummynet
+from hinge.program import VERDICTS, dummynet
 
 MOST_LINE_BYTES = 65_000  # of a line that a live session takes
 LONG_DELAY_MS = 10_000
 MOST_CORRECTIONS = 8  # of one line
-BAD = re.compile(rb"^#,bad,(\d+),[^,\n]*,(.*)$", re.M)
 
 
 class Verdict(NamedTuple):
-    """What the program says of a line. `name` is `ok`, `bad` or why the command was refused; `text` is the program's
-    spelling of the command, or of a bad line the cause."""
+    """The program's verdict on a line. `name` is `ok`, `bad` or the reason for a refusal; `text` is the command in the program's
+    spelling, or a bad line's error."""
 
     line: int
     name: str
     text: str
+    source: bytes  # the judged part of the line
 
 
-def session_of(lines: Iterable[bytes]) -> bytes:
-    """What the program says of lines, all of one session, in which each has its effect on the next."""
-    # a file's line may be longer than one of a live session; with a blank before it no line is a call
-    shorter = (re.sub(rb" +", b" ", line) if b"  " in line else line for line in lines)
-    inputs = b"".join([b" " + line[:MOST_LINE_BYTES] + b"\n" for line in shorter])
-    return subprocess.run([dummynet(), "live"], input=inputs, stdout=subprocess.PIPE, stderr=subprocess.DEVNULL).stdout
+def judged_part(line: bytes) -> bytes:
+    """Returns the part of a line that a live session accepts; in a file the comment may be longer. Exceeded: a command is."""
+    text = re.sub(rb" +", b" ", line) if b"  " in line else line
+    if len(text) > MOST_LINE_BYTES and b"#" not in text[:MOST_LINE_BYTES]:
+        raise Exceeded(MOST_LINE_BYTES, "bytes in a line")
+    return text[:MOST_LINE_BYTES]
 
 
-def judged_lines(lines: list[bytes]) -> Iterator[Verdict]:
-    """The verdict of each line that asks for something."""
-    records = session_of(lines).decode("utf-8", "replace").splitlines()
-    bad = {int(fields[2]): fields[4] for fields in (record.split(",", 4) for record in records) if fields[:2] == ["#", "bad"]}
-    calls = iter([record for record in records if record[:2] in ("c,", "r,")])
-    for number, line in enumerate(lines, 1):
-        if number in bad:
-            yield Verdict(number, "bad", bad[number])
+def session_of(lines: Iterable[bytes]) -> Iterator[str]:
+    """Yields the program's replies to lines in a single session, in which earlier lines affect later ones."""
+    with unnamed() as (inputs, _):
+        inputs.writelines(b" " + judged_part(line) + b"\n" for line in lines)  # with a blank before it no line is a call
+        inputs.seek(0)
+        for record in lines_from([dummynet(), "live"], inputs, VERDICTS):
+            if record.startswith((b"c,", b"r,", b"#,bad,")):
+                yield record.decode("utf-8", "replace").rstrip("\n")
+
+
+def judged_lines(lines: Iterable[bytes]) -> Iterator[Verdict]:
+    """Yields the verdict of each line with a command, on demand; the lines are read twice. Fault: the program's verdict is missing."""
+    records = session_of(lines)
+    record = next(records, "")
+    for number, line in enumerate(map(judged_part, lines), 1):
+        if record.startswith(f"#,bad,{number},"):
+            yield Verdict(number, "bad", record.split(",", 4)[4], line)
         elif words_of(line.decode("utf-8", "replace")):
-            text, reply = next(calls).split(",", 3)[3], next(calls).split(",")[1]
-            yield Verdict(number, "ok" if reply in ("configured", "deleted") else reply, text)
+            answer = next(records, "")
+            if record[:2] != "c," or answer[:2] != "r,":
+                raise Fault(f"dummynet live says nothing of line {number}", FILES)
+            reply = answer.split(",")[1]
+            yield Verdict(number, "ok" if reply in ("configured", "deleted") else reply, record.split(",", 3)[3], line)
+        else:
+            continue
+        record = next(records, "")
 
 
 class Placed(NamedTuple):
@@ -63,7 +80,7 @@ class Placed(NamedTuple):
 
 
 def corrected(line: str) -> Optional[str]:
-    """The line with each wrong word exchanged for the one that its fault says to write, if the program takes it then."""
+    """Returns the line with its wrong words replaced as their errors advise, if the program then accepts the line."""
     for _ in range(MOST_CORRECTIONS):
         verdict = next(judged_lines([os.fsencode(line)]), None)
         if verdict is None or verdict.name != "bad":
@@ -76,24 +93,39 @@ def corrected(line: str) -> Optional[str]:
 
 
 def refuse_wrong(lines: Sequence[Placed]) -> None:
-    """Fault: a line is no command; it says what to write. Without the program the host refuses such a line later."""
+    """Fault: a line is no command; the message says the right words. Without the program the host refuses such a line later."""
     texts = list(dict.fromkeys(line.text for line in lines))  # long files say the same again and again
+    for line in lines:
+        with untrusted(line.place, CONFIGURATION):
+            judged_part(os.fsencode(line.text))
     try:
-        report = session_of(map(os.fsencode, texts)) if texts else b""
-    except Fault:
+        # the whole answer, as a program that was ended says nothing of the lines
+        wrong = [record for record in session_of(map(os.fsencode, texts)) if record[0] == "#"][:1] if texts else []
+    except Fault as fault:
+        if fault.status != MISSING:
+            raise
         return
-    if b"\n#,bad," in report and (wrong := BAD.search(report)):
-        text = texts[int(wrong[1]) - 1]
+    for _, _, number, _, why in (record.split(",", 4) for record in wrong):
+        text = texts[int(number) - 1]
         place = next(line.place for line in lines if line.text == text)
-        raise Fault(f"{place}: {LineCheck.wrong(words_of(text), wrong[2].decode('utf-8', 'replace'))}", CONFIGURATION)
+        raise Fault(f"{place}: {LineCheck.wrong(words_of(text), why)}", CONFIGURATION)
+    for place, text in lines:
+        if option := twice(words_of(text)):
+            raise Fault(f"{place}: {option} stands twice; write one of them", CONFIGURATION)
+
+
+def twice(words: list[str]) -> str:
+    """Returns the first option with two values in a line, or an empty text."""
+    options = OPTIONS.get(words[0] if words else "", ())
+    return next((word for word, count in Counter(words[3:]).items() if count > 1 and word in options), "")
 
 
 @dataclass
 class LineCheck:
-    """Checks the lines of one file. `in_force` has what the good ones configure."""
+    """Checks the lines of a file. `in_force` contains the configuration of the correct lines."""
 
     name: str
-    lines: list[bytes]
+    lines: Iterable[bytes]
     found: Findings
     in_force: InForce = field(default_factory=InForce)
     spoilt: dict[str, int] = field(default_factory=dict)  # the line of each pipe and queue that has a fault
@@ -110,7 +142,7 @@ class LineCheck:
 
     def one(self, verdict: Verdict) -> None:
         where = f"{self.name}:{verdict.line}"
-        words = words_of(self.lines[verdict.line - 1].decode("utf-8", "replace"))
+        words = words_of(verdict.source.decode("utf-8", "replace"))
         own = words[words[:1] == ["ipfw"] :]
         if verdict.name == "bad":
             self.found.fault(where, self.wrong(words, verdict.text), CONFIGURATION)
@@ -125,7 +157,7 @@ class LineCheck:
 
     @staticmethod
     def wrong(words: list[str], text: str) -> str:
-        """What is wrong with a line, and what to write, by the program's text `word W: X`."""
+        """Returns the error and the advice for a line, from the program's text `word W: X`."""
         line = " ".join(words)
         whole = corrected(line)
         return explained(line, text) + f"; in full: {whole}" * (whole is not None and whole != line)
@@ -146,15 +178,15 @@ class LineCheck:
         return f"no such pipe: {pipe} isn't configured here{because}"
 
     def warn_of_second(self, where: str, words: list[str]) -> None:
-        """Of a line for what an earlier line configured, and of an option that stands twice."""
+        """Warns of a line that repeats an earlier line's target, or an option."""
         key = " ".join(words[:2])
         if key in self.last and "config" in words[:3] and "config" in self.last[key][1][:3]:
             line, earlier = self.last[key]
             losses = [word for word in earlier[3:] if word in OPTIONS[words[0]] and word not in words[3:]]
             also = f": {', '.join(losses)} of line {line} no longer hold{'s' * (len(losses) == 1)}" if losses else ""
             self.found.warn(where, f"a second line for {key}, and each line is its whole configuration{also}")
-        if twice := [word for word, count in Counter(words[3:]).items() if count > 1 and word in OPTIONS[words[0]]]:
-            self.found.warn(where, f"{twice[0]} stands twice; the last one counts")
+        if option := twice(words):
+            self.found.warn(where, f"{option} stands twice; the last one counts")
 
     def warn_of_words(self, where: str, words: list[str]) -> None:
         for name, word in zip(words[3:], words[4:]):
@@ -163,7 +195,7 @@ class LineCheck:
 
 
 def unlikely(name: str, word: str) -> str | None:
-    """What to say of a value that the program takes and hardly anybody means."""
+    """Returns a warning for a legal but unlikely value."""
     if name == "bw" and re.fullmatch(r"[1-9]\d{0,3}", word):
         return f"bw {word} is {word} bit/s; write {word}Mbit/s or {word}Kbit/s if that is meant"
     if name == "plr" and Fraction(word + "0" * word.endswith(".")) == 1:

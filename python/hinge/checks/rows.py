@@ -1,22 +1,22 @@
-"""The rows of a packet file: each that the program doesn't take, and what hardly anybody means by those that it
-takes."""
+"""A packet file's rows: rows that the program refuses, and unlikely values in the other rows."""
 
 from __future__ import annotations
 
 import io
 import re
-import subprocess
-from collections import Counter
-from dataclasses import dataclass, field
+from dataclasses import dataclass
 from fractions import Fraction
 from itertools import chain, islice
 from typing import Iterator, Optional
 
 from hinge.arguments import is_number
+from hinge.border.scratch import unnamed
 from hinge.checks.findings import MOST_FAULTS, Findings
 from hinge.command import ROWS
 from hinge.configurations.configured import InForce, Setting
-from hinge.program import dummynet
+from hinge.border.programs import NOTHING, asked
+from hinge.program import VERDICTS, dummynet
+from hinge.replays.columns import Sums, read_sums
 from hinge.replays.record_lines import BYTE_ORDER_MARK, Row, rows_of
 
 HEADER = ["moment", "target", "number", "src", "dst", "proto", "sport", "dport", "len", "word"]
@@ -65,7 +65,7 @@ def of_number(name: str, text: str) -> Optional[str]:
 
 
 def field_advice(name: str, text: str) -> str:
-    """What is wrong with a field, and what to write."""
+    """Returns the error and the advice for a field."""
     bare = text.strip()
     if bare and bare != text:
         return f"blanks round a field aren't taken; write {bare}"
@@ -86,12 +86,12 @@ def field_advice(name: str, text: str) -> str:
 
 
 def separator(text: str) -> Optional[str]:
-    """What parts the fields of a record that has no commas."""
+    """Returns the separator in a record without commas, if any."""
     return next((mark for mark in ";\t|" if text.count(mark) >= len(HEADER) - 2), None)
 
 
 def wrong(record: Row, field_number: int) -> str:
-    """What is wrong with a row, by the field that the program names; 0 is the whole row."""
+    """Returns the error of a row, for the field that the program names; 0 is the whole row."""
     if field_number:
         name, text = HEADER[field_number - 1], record.fields[field_number - 1]
         return f"field {field_number} ({name}) {text!r}: {field_advice(name, text)}"
@@ -108,36 +108,9 @@ def wrong_header(text: str) -> str:
 
 
 def verdict(text: bytes) -> tuple[int, str]:
-    """The program's status for a packet file, and its fault."""
-    process = subprocess.run(
-        [dummynet(), "replay", "/dev/null", "/dev/stdin"], input=text, stdout=subprocess.DEVNULL, stderr=subprocess.PIPE
-    )
-    return process.returncode, process.stderr.decode().strip()
-
-
-@dataclass
-class Sums:
-    """What the good rows of a file have in all."""
-
-    count: int = 0
-    late: list[int] = field(default_factory=list)  # lines whose moment is before that of a row above
-    clock: int = 0
-    first_moment: int = LAST_MOMENT
-    longest: int = 0
-    words: set[str] = field(default_factory=set)  # at most two
-    targets: Counter[str] = field(default_factory=Counter)
-    first_line: dict[str, int] = field(default_factory=dict)
-
-    def add(self, row: Row) -> None:
-        moment, target = int(row.fields[0]), f"{row.fields[1]} {row.fields[2]}"
-        if moment < self.clock:
-            self.late.append(row.line)
-        self.clock, self.first_moment = max(self.clock, moment), min(self.first_moment, moment)
-        self.count, self.longest = self.count + 1, max(self.longest, int(row.fields[8]))
-        self.targets[target] += 1
-        self.first_line.setdefault(target, row.line)
-        if len(self.words) < 2:
-            self.words.add(row.fields[9])
+    """Returns the program's status for a packet file, and its fault."""
+    answer = asked([dummynet(), "replay", "/dev/null", "/dev/stdin"], text, VERDICTS, NOTHING)
+    return answer.status, answer.told
 
 
 @dataclass
@@ -165,7 +138,7 @@ class RowCheck:
             self.warn()
 
     def put_header(self, other: Row) -> None:
-        """Puts a header in place of another one, and above what is a row."""
+        """Writes the correct header in place of a wrong header, or above the first row."""
         lines = other.text.encode().splitlines()
         count = 1 + (other.line - self.line + len(lines)) * lines[0][:1].isalpha()
         rest = re.split(rb"\r\n?|\n", b"\n" + self.data, count)[count:]
@@ -175,7 +148,7 @@ class RowCheck:
         return islice(rows_of(io.BytesIO(self.data), self.line, "utf-8"), begin, None)
 
     def judge(self) -> bool:
-        """Whether the program takes all rows; those that it doesn't take are told."""
+        """Returns whether the program accepts all rows; reports the others."""
         text, rows, stretch, reports = self.data, self.rows(), list[Row](), 0
         while reports < MOST_FAULTS:
             status, fault = verdict(text)
@@ -196,10 +169,11 @@ class RowCheck:
         return False
 
     def warn(self) -> None:
-        sums = Sums()
-        for row in self.rows():
-            sums.add(row)
-        if not sums.count:
+        with unnamed() as (copy, path):
+            copy.write(self.data)
+            copy.flush()
+            sums = read_sums(path)
+        if not sums.rows:
             self.found.warn(self.name, "it has no rows")
             return
         self.warn_of_moments(sums)
@@ -213,11 +187,11 @@ class RowCheck:
             self.warn_of_words(sums, self.in_force)
 
     def warn_of_moments(self, sums: Sums) -> None:
-        late, count, span = sums.late, sums.count, sums.clock - sums.first_moment
+        late, count, span = sums.late, sums.rows, sums.clock - sums.first_moment
         if late:
             self.found.warn(
-                f"{self.name}:{late[0]}",
-                f"{len(late)} of {count} rows have a moment before that of a row above, and count as sent "
+                f"{self.name}:{self.line - 1 + sums.late_line}",
+                f"{late} of {count} rows have a moment before that of a row above, and count as sent "
                 "at that one's; sort the rows by moment",
             )
         if count >= 100 and span < 100 * count:
@@ -232,19 +206,19 @@ class RowCheck:
 
     def warn_of_targets(self, sums: Sums, force: InForce) -> None:
         numbers = {"pipe": set(force.pipes), "queue": set(force.queues)}
-        unknown = [target for target in sums.targets if int(target.split()[1]) not in numbers[target.split()[0]]]
+        unknown = [one for one in sums.targets if one.number not in numbers[one.kind]]
         none = "; NO row has a target" if len(unknown) == len(sums.targets) else ""
-        for target in unknown[:MOST_FAULTS]:
+        for one in unknown[:MOST_FAULTS]:
             self.found.warn(
-                f"{self.name}:{sums.first_line[target]}",
-                f"{sums.targets[target]} of {sums.count} rows go to {target}, which {self.config} doesn't " f"configure{none}",
+                f"{self.name}:{self.line - 1 + one.line}",
+                f"{one.rows} of {sums.rows} rows go to {one.kind} {one.number}, which {self.config} doesn't configure{none}",
             )
 
     def warn_of_words(self, sums: Sums, force: InForce) -> None:
         settings: list[Setting] = [*force.pipes.values(), *force.queues.values()]
         rates = [setting.loss for setting in settings if setting.loss]
-        if rates and sums.count > 1 and len(sums.words) == 1:
-            word = int(next(iter(sums.words)))
+        if rates and sums.rows > 1 and not sums.differ:
+            word = sums.word
             fate = "lost" if word % LOSS_PARTS < max(rates) else "not lost"
             self.found.warn(
                 self.name, f"each word is {word}, so under a loss rate all packets have one fate ({fate}); draw each " f"word anew"

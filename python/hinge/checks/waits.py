@@ -11,8 +11,8 @@ LENGTH = 1500  # bytes of the longest packet, for which the bound is told
 
 
 class Bound(NamedTuple):
-    """From its acceptance a packet to the pipe starts within `start_ns` and is due within `due_ns`, if no packet to it
-    is longer than `length` bytes."""
+    """A packet to the pipe starts within `start_ns` from its acceptance and is due within `due_ns`, if no packet exceeds `length`
+    bytes."""
 
     pipe: int
     length: int
@@ -21,14 +21,14 @@ class Bound(NamedTuple):
 
 
 def transmission_ns(bw: int, length: int) -> int:
-    """The nanoseconds that so many bytes take at a bandwidth in bit/s, of which 0 is unlimited."""
+    """Returns the transmission time of `length` bytes at a bandwidth in bit/s; 0 means unlimited."""
     return -(-length * 8 * 10**9 // bw) if bw else 0
 
 
 def longest_wait_ns(pipe: Pipe, length: int) -> int:
-    """From a packet's acceptance to its start at most, where no packet is longer: what its queue holds, and the packet
-    that the link is sending. In a queue of Kbytes there are as many packets as bytes at most, and the time of each is
-    rounded up."""
+    """Returns the longest time from a packet's acceptance to its start, if no packet is longer: a full queue's time and the time
+    for the packet in transmission. A queue of Kbytes contains at most as many packets as bytes, and each packet's time is rounded
+    up."""
     one = transmission_ns(pipe.bw, length)
     if pipe.limit.slots is not None:
         return pipe.limit.slots * one
@@ -37,19 +37,19 @@ def longest_wait_ns(pipe: Pipe, length: int) -> int:
 
 
 def bound_of(pipe: Pipe, length: int) -> Bound:
-    """The bound of a pipe that no queue names."""
+    """Returns the bound of a pipe without queues."""
     wait = longest_wait_ns(pipe, length)
     return Bound(pipe.number, length, wait, wait + transmission_ns(pipe.bw, length) + pipe.delay * 10**6)
 
 
 def with_bound(pipes: Mapping[int, Pipe], queues: Mapping[int, Queue]) -> list[Pipe]:
-    """The pipes that have a bound: those that no queue names, since a queue's packets have none."""
+    """Returns the pipes with a bound: pipes without queues, since a queue's packets have no bound."""
     members = {queue.pipe for queue in queues.values()}
     return [pipe for number, pipe in sorted(pipes.items()) if number not in members]
 
 
 def told_wait(in_force: InForce) -> Iterator[str]:
-    """The bound of each pipe that has one."""
+    """Yields the bound of each such pipe as text."""
     for pipe in with_bound(in_force.pipes, in_force.queues):
         limit = bound_of(pipe, LENGTH)
         yield (

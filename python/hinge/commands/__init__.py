@@ -1,1 +1,1 @@
-"""The commands of `hinge`, a module each."""
+"""The commands of `hinge`, one module each."""

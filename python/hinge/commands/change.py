@@ -1,4 +1,4 @@
-"""A change of a link that runs."""
+"""The command `hinge change`, which changes a running link."""
 
 from __future__ import annotations
 
@@ -7,13 +7,14 @@ import sys
 from hinge.border.asking import ask
 from hinge.border.terminal import show
 from hinge.command import CONFIGURATION, parser
-from hinge.run.refusals import refusals
+from hinge.events.forms import SIMULATED, WORDS
 from hingetulip_words.explained import explained
 
-WHAT = """\
+WORDS_OF_NETS = ", ".join(word.form for name, word in WORDS.items() if name not in SIMULATED)
+WHAT = f"""\
 Changes a link of hinge run, hinge udp or hinge net, at once. SOCKET is what --control names there, or a name of hinge up. WORDS are those of a
-timeline without the moment: a configuration line, [up|down] LINK or [up|down] outage LENGTH lossy. In a net they begin with two hosts, or are cut A [from B ..]
-[LENGTH], heal A [from B ..], kill A [LENGTH], stop A [LENGTH], restart A or cont A. It prints the lines that are obeyed, with their moments."""
+timeline without the moment: a configuration line, [up|down] LINK or [up|down] outage LENGTH lossy. In a net they begin with two hosts, or
+are {WORDS_OF_NETS}. It prints the lines that are obeyed, with their moments."""
 
 
 def main() -> None:
@@ -26,8 +27,7 @@ def main() -> None:
     line.add_argument("socket", metavar="SOCKET")
     line.add_argument("words", nargs="+", metavar="WORDS")
     arguments = line.parse_args()
-    with refusals():
-        replies = ask(arguments.socket, change=" ".join(arguments.words)).told or []
+    replies = ask(arguments.socket, change=" ".join(arguments.words)).told or []
     for one in replies:
         show(f"{one.moment / 1e9:.6f} s: {one.line}" + f": {explained(one.line, one.refused)}" * bool(one.refused))
     if any(one.refused for one in replies):

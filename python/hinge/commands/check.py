@@ -1,32 +1,45 @@
-"""What is wrong with configurations, packet files and histories, and what to write."""
+"""The command `hinge check`, which finds faults in configurations, packet files and histories, and advises."""
 
 from __future__ import annotations
 
+import io
+import os
+import re
+import shlex
 import sys
-from typing import Optional
+from dataclasses import dataclass
+from typing import Iterator, Optional
 
-from hinge.border.files import read_bytes
-from hinge.border.terminal import several, tell
+from hinge.arguments import MODEL_NAMES
+from hinge.border.files import MOST_TEXT, read_bytes, untrusted
+from hinge.border.terminal import several, show, tell
 from hinge.checks.findings import Findings
 from hinge.checks.histories import check_history
 from hinge.checks.lines import LineCheck
 from hinge.checks.rows import RowCheck
 from hinge.checks.waits import told_wait
 from hinge.command import CONFIGURATION, ROWS, parser
+from hinge.plans.sessions import judged
+from hinge.run.words import duration
 
 WHAT = """\
 Says what is wrong with configuration lines, packet files and histories, and what to write: the file, the line, the word
 or field as it stands there, and what would be right. The program dummynet is the judge: what it takes has warnings at
 most. Packet files are also held against the configuration that is named with them. Of a pipe without queues it also
-tells how long a packet waits at most. The exit status is that of the first fault, 1 for a history that isn't lawful."""
+tells how long a packet waits at most. Behind the file of a net its session, a folder of `hinge net --transcripts` or a
+history, is judged by it: each line that wasn't done is told. With --model the files list operations of clients, a line of
+JSON each, and those on each key have to take effect one after another, each between its begin and its end; else the
+fewest that can't are told. The exit status is that of the first fault, 1 for a history that isn't lawful, a session that
+isn't as its file says or operations without an order."""
 CAPTURES = (b"\xd4\xc3\xb2\xa1", b"\xa1\xb2\xc3\xd4", b"\x4d\x3c\xb2\xa1", b"\xa1\xb2\x3c\x4d", b"\x0a\x0d\x0d\x0a")
 NET = (b"host", b"main", b"router", b"link", b"switch")  # first words of a net
 LINES = (b"pipe", b"queue", b"ipfw", b"--", b"moment")  # and of what dummynet reads
+CUT = re.compile(rb"(?m)^--\r*(?:\n|\Z)")
 ROW_MARKS = 8  # commas, semicolons or tabs that a header has at least
 
 
 def kind_of(path: str, data: bytes) -> str:
-    """What a file is, by how it begins."""
+    """Returns a file's kind, according to its beginning."""
     if data.startswith(CAPTURES):
         return "capture"
     head = data[:4096].removeprefix(b"\xef\xbb\xbf").lstrip(b"\r\n").split(b"\n")[0]
@@ -36,6 +49,8 @@ def kind_of(path: str, data: bytes) -> str:
         return "report"
     if (word := first_word(data)) in NET:
         return "net"
+    if head.startswith(b"{"):
+        return "operations"
     if word not in (b"", *LINES) and b"\0" in data[:4096]:
         return "other"
     if head.startswith(b"moment") or path.endswith(".csv") or sum(head.count(mark) for mark in (b",", b";", b"\t")) >= ROW_MARKS:
@@ -44,51 +59,80 @@ def kind_of(path: str, data: bytes) -> str:
 
 
 def first_word(data: bytes) -> bytes:
-    """That of the first line that is no comment."""
+    """Returns the first word of the first line that isn't a comment."""
     lines = (line.split(None, 1) for line in data[:4096].split(b"\n"))
     return next((words[0] for words in lines if words and not words[0].startswith(b"#")), b"")
+
+
+@dataclass(frozen=True)
+class Lines:
+    """The lines of a text, read anew each time, so that they need no memory."""
+
+    text: bytes
+
+    def __iter__(self) -> Iterator[bytes]:
+        return (line.rstrip(b"\n") for line in io.BytesIO(self.text))
 
 
 class Check:
     """Checks files in their order; packet files come last, against the last configuration."""
 
-    def __init__(self) -> None:
+    def __init__(self, limit: Optional[int]) -> None:
+        """Acts on a net's hosts may be late by the limit, in ns."""
         self.found = Findings()
         self.lines: Optional[LineCheck] = None
         self.packets: list[tuple[str, bytes, int]] = []
+        self.net = ""  # a net's file, whose sessions come behind it
+        self.limit, self.sessions = limit, 0
+
+    def add_session(self, path: str) -> None:
+        """Adds a net's folder or history; the net's file is the argument before it, or is in the folder."""
+        self.sessions += 1
+        judge = judged(path, self.net or None, self.limit)
+        for text in judge.lines_told():
+            show(text)
+        self.found.faults += len(judge.faults)
+        self.found.status = self.found.status or int(bool(judge.faults))
 
     def add(self, path: str, data: bytes) -> None:
         kind = kind_of(path, data)
+        if kind == "net":
+            self.net = path
+            return
         if kind == "capture":
             self.found.fault(path, f"a capture, not a packet file; `hinge packets {path} -o packets.csv` writes one", ROWS)
         elif kind == "report":
             self.found.fault(path, "a report of a replay, not a packet file", ROWS)
         elif kind == "other":
-            self.found.fault(path, "neither a configuration nor a packet file nor a history, as it is no text", ROWS)
-        elif kind == "net":
-            self.found.fault(path, f"a net, not a configuration; `hinge net {path} --dry-run` checks it", CONFIGURATION)
+            self.found.fault(path, "neither a configuration nor a packet file nor a history, as it isn't text", ROWS)
+        elif kind == "operations":
+            self.found.fault(path, "operations, not a configuration; name what they are on, as --model register", ROWS)
         elif kind == "history":
             check_history(path, path, data, self.found)
         elif kind == "packets":
             self.packets.append((path, data, 1))
         else:
-            self.add_configuration(path, data.split(b"\n"))
+            self.add_configuration(path, data)
 
-    def add_configuration(self, path: str, lines: list[bytes]) -> None:
-        """A configuration, or a joined input, which has packets behind a line `--`."""
-        cut = next((place for place, text in enumerate(lines) if text.rstrip(b"\r") == b"--"), len(lines))
-        self.lines = LineCheck(path, lines[:cut], self.found)
+    def add_configuration(self, path: str, data: bytes) -> None:
+        """Adds a configuration, or a joined input with packets after a line `--`."""
+        cut = CUT.search(data)
+        lines = data[: cut.start()] if cut else data
+        self.lines = LineCheck(path, Lines(lines), self.found)
         self.lines.check()
-        if cut < len(lines):
-            self.packets.append((path, b"\n".join(lines[cut + 1 :]), cut + 2))
+        if cut:
+            self.packets.append((path, data[cut.end() :], lines.count(b"\n") + 2))
 
     def finish(self) -> None:
+        if self.net and not self.sessions:
+            self.found.fault(self.net, f"a net, not a configuration; `hinge net {self.net} --dry-run` checks it", CONFIGURATION)
         for path, data, line in self.packets:
             in_force, config = (self.lines.in_force, self.lines.name) if self.lines else (None, "")
-            RowCheck(path, data, self.found, config, in_force, line).check()
+            with untrusted(path):
+                RowCheck(path, data, self.found, config, in_force, line).check()
 
     def tell_waits(self) -> None:
-        """How long packets wait at most, by the last configuration if it has no fault."""
+        """Prints the longest waiting times under the last configuration, if it is correct."""
         if self.lines and not self.found.faults:
             for text in told_wait(self.lines.in_force):
                 tell(f"{self.lines.name}: {text}")
@@ -96,16 +140,38 @@ class Check:
 
 def main() -> None:
     line = parser(
-        WHAT, "hinge check link.config packets.csv", "0 no fault, 1 a history that isn't lawful, 3 a configuration, 4 rows"
+        WHAT,
+        "hinge check link.config packets.csv\n  python3 client.py > ops.jsonl && hinge check ops.jsonl --model register",
+        "0 no fault, 1 a history that isn't lawful, or operations without an order, 3 a configuration, 4 rows or operations",
     )
-    line.add_argument("files", metavar="FILE", nargs="+", help="configurations, packet files, joined inputs, histories")
-    check = Check()
-    for path in line.parse_args().files:
-        check.add(path, read_bytes(path))
+    line.add_argument(
+        "files", metavar="FILE", nargs="+", help="configurations, packet files, joined inputs, histories; a net and its session"
+    )
+    line.add_argument("--late", metavar="TIME", help="how late acts on a net's hosts may be (as the run's, or 50ms)")
+    line.add_argument("--model", choices=MODEL_NAMES, help="judge operations on such a thing")
+    line.yields("--late", "--model")
+    words = line.parse_args()
+    check = Check(None if words.late is None else duration(words.late, "--late"))
+    for path in words.files:
+        if path.startswith(("pipe", "queue", "ipfw")) and not os.path.exists(path):
+            typed = shlex.quote(" ".join(words.files))
+            line.error(f"it reads files: printf '%s\\n' {typed} | hinge check /dev/stdin")
+        if words.model:
+            from hinge.checks.orders import check_operations
+
+            check_operations(path, read_bytes(path, MOST_TEXT), words.model, check.found)
+            continue
+        with untrusted(path, CONFIGURATION):
+            data = b"" if os.path.isdir(path) else read_bytes(path, MOST_TEXT)
+            if check.net and kind_of(path, data) == "history" or os.path.isdir(path):
+                check.add_session(path)
+            else:
+                check.add(path, data)
     check.finish()
     check.tell_waits()
     findings = check.found
     counts = f"{several(findings.faults, 'fault')}, {several(findings.warnings, 'warning')}"
-    tell(counts if findings.faults or findings.warnings else "nothing to say")
+    if not words.model:
+        tell(counts if findings.faults or findings.warnings else "nothing to say")
     sys.stdout.flush()
     sys.exit(findings.status)

@@ -30,7 +30,7 @@ MOVED = {  # pages that versions up to 1.7 had, and the page that has their cont
 
 
 def folder_of_pages() -> Path:
-    """The folder of the clone in which the kit lies, or the installed one. Fault: there is none."""
+    """Returns the folder of the pages, in the clone or the installation. Fault: there is none."""
     places = [REPOSITORY / "docs", *(folder / INSTALLED for folder in PACKAGE.parents)]
     result = next((place for place in places if any(place.glob("*.md"))), None)
     if result is None:
@@ -39,7 +39,7 @@ def folder_of_pages() -> Path:
 
 
 def page_rows(folder: Path) -> Iterator[str]:
-    """A line for each page: its name and its title."""
+    """Yields the name and the title of each page."""
     pages = [*sorted(folder.glob("*.md")), *sorted(folder.glob(f"{INSIDE}/*.md"))]
     width = max(len(page.stem) for page in pages)
     for page in pages:
@@ -48,7 +48,7 @@ def page_rows(folder: Path) -> Iterator[str]:
 
 
 def page_named(folder: Path, name: str) -> str:
-    """The text of a page, by its name today or before, in letters of either case, with or without its ending. Fault: no page."""
+    """Returns a page's text, by its current or former name, regardless of case and extension. Fault: there is no such page."""
     pages = {page.stem: page for page in folder.rglob("*.md")}
     key = name.rpartition("/")[2].upper().removesuffix(".MD")
     key = MOVED.get(key, key)

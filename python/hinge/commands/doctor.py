@@ -1,24 +1,26 @@
-"""What the kit can do on this machine, why not, and what to install for the rest."""
+"""The command `hinge doctor`: the kit's abilities on this machine, reasons for missing abilities, and packages to install."""
 
 from __future__ import annotations
 
 import os
 import shutil
-import subprocess
 import sys
-from typing import Callable, Iterator, NamedTuple, Optional
+from functools import lru_cache
+from typing import Callable, NamedTuple, Optional
 
 from hinge.border.files import read_system
+from hinge.border.programs import TimeoutExpired, asked
 from hinge.border.terminal import show
-from hinge.command import Fault, Told, module, parser
+from hinge.command import Fault, module, parser
 from hinge.program import HINGE, dummynet
+from hinge.run.processes import SIGNALLED
 from hinge.simulated.build import lacking, source
 from hinge.simulated.kernel import found as kernel
 
 WHAT = """\
 Tries what the commands of hinge need here: links in real time, the way to the rest of the network, simulated time, tables
-and pictures, and a priority for the links. Each line says whether something works and, if it doesn't, why. The last line
-installs what is missing from Debian's packages. The exit status is 0 if links in real time work, and else 7."""
+and pictures, and a priority for the links. Each line says whether something works and, if it doesn't, why. The last lines
+install what is missing. The exit status is 0 if links in real time work, and else 7."""
 LIMIT = 20  # s that a trial may take
 
 
@@ -29,31 +31,29 @@ class Finding(NamedTuple):
     packages: tuple[str, ...] = ()
 
 
-class Trial(NamedTuple):
-    what: str
-    look: Callable[[], Finding]
-
-
 def last_line(text: str) -> str:
     return (text.strip().splitlines() or ["it ended without a word"])[-1]
 
 
+@lru_cache(maxsize=None)
 def of_run(*options: str) -> Finding:
-    """What a run of `true` behind a link with these options shows."""
+    """Tries `true` behind a link with these options; returns the finding."""
     words = [*HINGE, "run", "--quiet", *options, "--", "true"]
     try:
-        process = subprocess.run(words, stdin=subprocess.DEVNULL, capture_output=True, text=True, timeout=LIMIT)
-    except subprocess.TimeoutExpired:
+        answer = asked(words, statuses=range(SIGNALLED), limit=LIMIT)
+    except TimeoutExpired:
         return Finding(f"it hasn't ended after {LIMIT} s")
-    return Finding() if process.returncode == 0 else Finding(last_line(process.stderr).removeprefix("hinge run: "))
+    except Fault as fault:
+        return Finding(str(fault))
+    return Finding() if answer.status == 0 else Finding(last_line(answer.told).removeprefix("hinge run: "))
 
 
 def programs() -> Finding:
     try:
-        process = subprocess.run([dummynet(), "--version"], capture_output=True, text=True, timeout=LIMIT)
-    except (Told, OSError, subprocess.TimeoutExpired) as fault:
+        asked([dummynet(), "--version"], limit=LIMIT)
+    except (Fault, OSError, TimeoutExpired) as fault:
         return Finding(str(fault))
-    return Finding() if process.returncode == 0 else Finding(last_line(process.stderr))
+    return Finding()
 
 
 def first_words() -> Finding:
@@ -64,8 +64,17 @@ def first_words() -> Finding:
     return Finding(f"there is no {' and no '.join(names)}", tuple(lacking.values())) if names else Finding()
 
 
+def has_outside() -> bool:
+    return any(map(shutil.which, ("slirp4netns", "pasta")))
+
+
+def links() -> Finding:
+    """A run with the rest of the network also has links; if that run works, a second run would add no information."""
+    return Finding() if has_outside() and not of_run("--outside").why else of_run()
+
+
 def outside() -> Finding:
-    if not any(map(shutil.which, ("slirp4netns", "pasta"))):
+    if not has_outside():
         return Finding("there is neither slirp4netns nor pasta", ("slirp4netns",))
     return of_run("--outside")
 
@@ -73,7 +82,7 @@ def outside() -> Finding:
 def simulated() -> Finding:
     try:
         kernel()
-    except Told as missing:
+    except Fault as missing:
         return Finding(str(missing), tuple(lacking(source()).values()))
     return of_run("--simulated")
 
@@ -84,6 +93,7 @@ def modules(**packages: str) -> Finding:
 
 
 def is_loaded(name: str, package: str) -> bool:
+    """Returns whether a module loads. One that is there may be broken, so that a look for its file isn't enough."""
     try:
         return bool(module(name, package))
     except Fault:
@@ -91,7 +101,7 @@ def is_loaded(name: str, package: str) -> bool:
 
 
 def realtime() -> Finding:
-    """Whether this process may put itself before all others."""
+    """Returns whether this process can get real-time priority."""
     try:
         os.sched_setscheduler(0, os.SCHED_FIFO, os.sched_param(1))
         os.sched_setscheduler(0, os.SCHED_OTHER, os.sched_param(0))
@@ -101,7 +111,7 @@ def realtime() -> Finding:
 
 
 def users() -> Finding:
-    """Whether hosts can have users of their own, as servers want that give up root."""
+    """Returns whether hosts can have separate users, which servers need that give up root."""
     if os.geteuid() == 0:
         return Finding()
     if shutil.which("newuidmap") is None:
@@ -115,23 +125,18 @@ def users() -> Finding:
     return Finding() if has_ids else Finding(f"/etc/subuid has no line of {name or os.getuid()}")
 
 
-TRIALS = (
-    Trial("dummynet", programs),
-    Trial("hinge run, net: links in real time", of_run),
-    Trial("the samples of the pages", first_words),
-    Trial("--outside: the rest of the network", outside),
-    Trial("--simulated: simulated time", simulated),
-    Trial("pictures (.png, .svg, .pdf)", lambda: modules(numpy="python3-numpy", matplotlib="python3-matplotlib")),
-    Trial("pages (.html)", lambda: modules(numpy="python3-numpy")),
-    Trial("the plugin of pytest", lambda: modules(pytest="python3-pytest")),
-    Trial("--realtime: links before other programs", realtime),
-    Trial("hosts with users of their own", users),
-)
-
-
-def findings() -> Iterator[tuple[str, Finding]]:
-    for trial in TRIALS:
-        yield trial.what, trial.look()
+TRIALS: dict[str, Callable[[], Finding]] = {
+    "dummynet": programs,
+    "hinge run, net: links in real time": links,
+    "the samples of the pages": first_words,
+    "--outside: the rest of the network": outside,
+    "--simulated: simulated time": simulated,
+    "pictures (.png, .svg, .pdf)": lambda: modules(numpy="python3-numpy", matplotlib="python3-matplotlib"),
+    "pages (.html)": lambda: modules(numpy="python3-numpy"),
+    "the plugin of pytest": lambda: modules(pytest="python3-pytest"),
+    "--realtime: links before other programs": realtime,
+    "hosts with users of their own": users,
+}
 
 
 def line_of(what: str, finding: Finding) -> str:
@@ -139,15 +144,21 @@ def line_of(what: str, finding: Finding) -> str:
 
 
 def install(packages: list[str]) -> Optional[str]:
-    """The line that installs them; None where nothing is missing that Debian has."""
-    return f"sudo apt-get install {' '.join(dict.fromkeys(packages))}" if packages else None
+    """Returns the line that installs missing packages, or None if Debian lacks them. A virtual environment doesn't see Debian's
+    modules."""
+    names = [*dict.fromkeys(packages)]
+    own = [name for name in names if name.startswith("python3-") and sys.prefix != sys.base_prefix]
+    rest = [name for name in names if name not in own]
+    lines = [f"sudo apt-get install {' '.join(rest)}"] * bool(rest)
+    lines += [f"{sys.executable} -m pip install {' '.join(name.partition('-')[2] for name in own)}"] * bool(own)
+    return "\n  ".join(lines) or None
 
 
 def main() -> None:
     parser(WHAT, "hinge doctor", "0 links in real time work, 7 they don't").parse_args()
     packages, works = list[str](), True
-    for what, finding in findings():
-        show(line_of(what, finding))
+    for what, look in TRIALS.items():
+        show(line_of(what, finding := look()))
         sys.stdout.flush()
         packages += finding.packages
         works = works and not (finding.why and what.startswith("hinge run"))

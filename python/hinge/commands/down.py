@@ -1,4 +1,4 @@
-"""The end of a run, as SIGTERM ends it."""
+"""The command `hinge down`, which ends a run with SIGTERM."""
 
 from __future__ import annotations
 
@@ -7,7 +7,6 @@ import select
 from hinge.border.asking import ask, process_at
 from hinge.command import Fault, parser
 from hinge.run.names import socket_of
-from hinge.run.refusals import refusals
 
 WHAT = """\
 Ends a hinge net, hinge run or hinge udp that has a socket: commands get SIGTERM, and the history and the summary are whole when this returns.
@@ -24,9 +23,8 @@ def main() -> None:
     )
     line.add_argument("socket", metavar="SOCKET")
     arguments = line.parse_args()
-    with refusals():
-        path = socket_of(arguments.socket)
-        process = process_at(path)
-        ask(path, end=True)
+    path = socket_of(arguments.socket)
+    process = process_at(path)
+    ask(path, end=True)
     if not select.select([process], [], [], LONGEST)[0]:
         raise Fault(f"{arguments.socket}: it is there still after {LONGEST:g} s", STILL_THERE)

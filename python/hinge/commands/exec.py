@@ -1,4 +1,4 @@
-"""A command on a host of a run that goes on."""
+"""The command `hinge exec`, which runs a command on a host of a run."""
 
 from __future__ import annotations
 
@@ -17,7 +17,6 @@ from hinge.run.doors import DOORS, started_behind
 from hinge.run.first import BLOCKED, status_of
 from hinge.run.names import socket_of
 from hinge.run.processes import SIGNALLED
-from hinge.run.refusals import refusals
 from hinge.run.words import Wrong
 
 WHAT = """\
@@ -37,12 +36,11 @@ VARIABLES = ("HINGE_HOST", "HINGE_NET")  # that a run may set: none by which a p
 
 
 def command_line() -> argparse.Namespace:
-    words = sys.argv[2 if sys.argv[1:2] == ["exec"] else 1 :]  # `hinge net exec` is the same
     line = parser(WHAT, EXAMPLE, STATUSES, f"{NAME[0]} SOCKET HOST [-- COMMAND [ARGUMENT ..]]")
     line.add_argument("socket", metavar="SOCKET")
     line.add_argument("host", metavar="HOST")
     line.add_argument("command", nargs=argparse.REMAINDER, metavar="COMMAND", help=argparse.SUPPRESS)
-    arguments = line.parse_args(words)
+    arguments = line.parse_args()
     if arguments.command[:1] == ["--"]:
         del arguments.command[0]
     arguments.command = arguments.command or [os.environ.get("SHELL", SHELL)]
@@ -50,7 +48,7 @@ def command_line() -> argparse.Namespace:
 
 
 def ends(socket: str) -> bool:
-    """Whether a run has ended, or ends within a moment: its commands are killed before it stops to answer."""
+    """Returns whether a run has ended or is about to end: its commands are killed before its socket closes."""
     until = time.monotonic() + MOMENT
     while is_answered(socket):
         if time.monotonic() > until:
@@ -61,10 +59,9 @@ def ends(socket: str) -> bool:
 
 def main() -> NoReturn:
     arguments = command_line()
-    with refusals():
-        answer, doors = asked_at(arguments.socket, Order(enter=arguments.host))
-        if len(doors) != DOORS:
-            raise Wrong(f"{arguments.socket}: it opens no hosts")
+    answer, doors = asked_at(arguments.socket, Order(enter=arguments.host))
+    if len(doors) < DOORS:
+        raise Wrong(f"{arguments.socket}: it opens no hosts")
     os.environ.update({name: value for name, value in (answer.entered or {}).items() if name in VARIABLES})
     socket = os.path.abspath(socket_of(arguments.socket))
     mask = signal.pthread_sigmask(signal.SIG_BLOCK, BLOCKED)

@@ -1,14 +1,15 @@
-"""Configuration lines of dummynet from files of ipfw and dnctl."""
+"""The command `hinge ipfw`, which converts files of ipfw and dnctl into configuration lines."""
 
 from __future__ import annotations
 
 import os
 import sys
+from typing import Iterator
 
-from hinge.border.files import read_text, told_name
+from hinge.border.files import lines_in, told_name, untrusted
 from hinge.command import CONFIGURATION, Fault, parser, say
 from hinge.configurations.ipfw_lines import Conversion
-from hinge.elsewhere import of_ipfw
+from hinge.foreign import of_ipfw
 from hinge.outputs import refuse_inputs, writing
 
 WHAT = """\
@@ -16,6 +17,14 @@ Reads shell scripts, rc files and rule files with lines of ipfw(8) or dnctl(8), 
 as configuration lines that dummynet takes. Variables that the files set count; loops and functions don't: run such a
 script with a function that prints in the place of ipfw. What is left out is told on standard error with file and line;
 the exit status is 3 where that was a pipe or queue, or where there is none."""
+
+
+def text_lines(name: str) -> Iterator[str]:
+    """Yields the lines of a file. Fault: a zero byte shows that the file isn't text."""
+    for line in lines_in(name, errors="replace"):
+        if "\0" in line:
+            raise Fault(f"{told_name(name)}: it isn't text", CONFIGURATION)
+        yield line
 
 
 def main() -> None:
@@ -33,10 +42,8 @@ def main() -> None:
     refuse_inputs((arguments.o,), arguments.files)
     conversion = Conversion()
     for name in arguments.files:
-        text = read_text(name, "replace")
-        if "\0" in text:
-            raise Fault(f"{told_name(name)}: it is no text", CONFIGURATION)
-        conversion.read(told_name(name), text)
+        with untrusted(name, CONFIGURATION):
+            conversion.read(told_name(name), text_lines(name))
     conversion.settle()
     with writing(arguments.o) as out:
         out.writelines(f"{text}\n" for text in conversion.lines)

@@ -1,11 +1,11 @@
-"""A capture as a packet file of dummynet."""
+"""The command `hinge packets`, which converts a capture into a packet file of dummynet."""
 
 from __future__ import annotations
 
 import argparse
 import contextlib
-import re
 from dataclasses import dataclass
+from itertools import islice
 from typing import Optional
 
 from hinge.arguments import bounded
@@ -18,8 +18,10 @@ from hinge.captures.targets import MapRule, Targets, directions, read_rule
 from hinge.command import USAGE, Fault, parser, say
 from hinge.loss import Maker, read_model
 from hinge.outputs import refuse_inputs, writing
+from hingetulip_words.values import fault_of, number_of
 
 LONGEST = 1500  # bytes of a packet on most links
+MOST_ADDRESSES = 20  # that are told
 MOST_BYTES = 67_108_864  # of a packet file that the program reads
 WHAT = """\
 Writes the IP packets of a capture (pcap or pcapng) as a packet file, in order of time. Moments are ns from the first
@@ -42,21 +44,22 @@ def two_directions(text: str) -> list[MapRule]:
     try:
         return directions(text)
     except BadRule as error:
-        what = f"{text!r} is no address, no network, not `first` and no `if:NAME` ({error})"
+        what = f"{text!r} isn't an address, a network or `first` ({error})"
         raise argparse.ArgumentTypeError(what) from None
 
 
 def bit_rate(text: str) -> int:
-    """bit/s of `1Gbit/s` and the like. ArgumentTypeError: the text is no rate."""
-    match = re.fullmatch(r"(\d+)([KMG]?)bit/s", text)
-    if not match or not int(match[1]):
-        raise argparse.ArgumentTypeError(f"{text!r} is no rate: write it as 1Gbit/s")
-    unit: int = 1000 ** " KMG".index(match[2] or " ")
-    return int(match[1]) * unit
+    """Returns the bit/s of a link's bandwidth. ArgumentTypeError: the text is no bandwidth, or 0, at which no packet leaves."""
+    wrong = fault_of("bw", text)
+    if wrong:
+        raise argparse.ArgumentTypeError(f"{text!r} isn't a rate ({wrong.wrong}): {wrong.right}")
+    if not number_of("bw", text):
+        raise argparse.ArgumentTypeError(f"{text!r} isn't a rate, as nothing leaves at 0 bit/s (example: 1Gbit/s)")
+    return int(number_of("bw", text))
 
 
 def loss_model(text: str) -> tuple[str, Maker]:
-    """A model and its target, as `pipe,1`, or an empty one for all. ArgumentTypeError: the text has neither."""
+    """Returns a model and its target, such as `pipe,1`; an empty target means all. ArgumentTypeError: the text contains no model."""
     target, equals, model = text.rpartition("=")
     match = TARGET.match(target.strip())
     try:
@@ -69,7 +72,7 @@ def loss_model(text: str) -> tuple[str, Maker]:
 
 @dataclass(frozen=True)
 class PacketsOptions:
-    """What the command line says, each field by the name of its option."""
+    """The command line, with a field for each option."""
 
     capture: str
     o: Optional[str]
@@ -93,9 +96,8 @@ def command_line() -> PacketsOptions:
         type=two_directions,
         dest="sender",
         default=[],
-        help="send one direction to pipe 1 and the other to pipe 2. WHO sends the first: an address or a network, "
-        "`first` for the one of two "
-        "hosts that sends first, or if:N or if:NAME for what was captured at an interface (by tshark alone)",
+        help="send one direction to pipe 1 and the other to pipe 2. WHO sends the first: an address or a network, or `first` for "
+        "the one of two hosts that sends first",
     )
     line.add_argument(
         "--map",
@@ -103,11 +105,9 @@ def command_line() -> PacketsOptions:
         type=map_rule,
         action="append",
         default=[],
-        help="'FILTER => pipe N' or 'FILTER => queue N'; the first rule that matches counts. A frame that none matches "
-        "goes by --from, and is left "
-        f"out without it. FILTER has the words of `hinge run`, which must all hold: {HELP}; up and down are by --from. "
-        f"Or it is a display filter of "
-        "Wireshark (by tshark alone). No words match every frame. Default: => pipe 1",
+        help="'WORDS => pipe N' or 'WORDS => queue N'; the first rule that matches counts. A frame that none matches goes by --from, "
+        f"and is left out without it. WORDS are those of `hinge run`, which must all hold: {HELP}; up and down are by --from. No words "
+        "match every frame. Default: => pipe 1",
     )
     line.add_argument(
         "--mtu",
@@ -145,9 +145,11 @@ def command_line() -> PacketsOptions:
         "its own plr judges",
     )
     line.add_argument("--index", metavar="FILE", help="write the frame number of each row, for `hinge look --capture`")
+    line.needs("--rate", "--mtu")
     arguments = line.parse_args()
-    if arguments.rate and not arguments.mtu:
-        line.error("--rate is of segments that --mtu splits")
+    targets = [target for target, _ in arguments.loss]
+    if len(targets) > len({*targets}):
+        line.error("--loss: a second model of one pipe or queue; write one of them")
     return PacketsOptions(**vars(arguments))
 
 
@@ -155,13 +157,13 @@ def main() -> None:
     options = command_line()
     packets = None if options.o == "-" else options.o
     refuse_inputs((options.o, options.index, packets and addresses_file(packets)), (options.capture,))
-    with read_again(options.capture) as capture:
+    with read_again(options.capture, None) as capture:
         write_packets(options, capture)
 
 
 def write_packets(options: PacketsOptions, capture: Input) -> None:
     try:
-        targets = Targets(capture.path, options.map, options.sender)
+        targets = Targets(options.map, options.sender)
     except BadRule as bad:
         raise Fault(f"--map: {bad}", USAGE) from None
     with writing(options.o) as out, writing(options.index) if options.index else contextlib.nullcontext() as index:
@@ -169,9 +171,12 @@ def write_packets(options: PacketsOptions, capture: Input) -> None:
         product = write_rows(capture, targets, plan, dict(options.loss), out, index)
         if options.o is not None and options.o != "-":
             write_addresses(options.o, product.addresses)
-    for address, stand_in in product.addresses.stand_ins.items():
+    names = product.addresses.stand_ins
+    for address, stand_in in islice(names.items(), MOST_ADDRESSES):
         say(f"{stand_in} stands for {address}")
-    for text in product.meetings.lines():
+    if len(names) > MOST_ADDRESSES:
+        say(f"{len(names) - MOST_ADDRESSES:,} others stand for addresses too, which are in FILE.addresses of -o FILE")
+    for text in product.meetings:
         say(text)
     counts = product.counts
     say(

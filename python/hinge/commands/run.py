@@ -1,31 +1,21 @@
-"""A command behind an emulated link: any program of Linux, without root where users may make namespaces."""
+"""The command `hinge run`, which runs any Linux program behind an emulated link, without root if users may create namespaces."""
 
 from __future__ import annotations
 
 import argparse
-import os
 import signal
 import sys
-from typing import Any, NoReturn
+from typing import Any, NoReturn, Optional, Sequence
 
-from hinge.command import Fault, parser, say
-from hinge.run.first import BLOCKED, live, status_of
-from hinge.run.hints import hints, lacking, link_as_command
-from hinge.run.host import program
-from hinge.run.inside import Inside
-from hinge.run.joined import network_of
-from hinge.run.options import add_link, add_run, mtu, plan_of
-from hinge.run.order import order_of
-from hinge.run.outside import Outside
-from hinge.run.refusals import refusals
-from hinge.run.rooms import NOT_FOUND, leave_the_system
+from hinge.arguments import bounded
+from hinge.command import NOT_FOUND, Fault, parser, say
+from hinge.command_line import Parser
+from hinge.run.options import add_link, add_run, mtu
 from hinge.run.settings import RunOptions
-from hinge.run.system import is_simulated
-from hinge.run.two_hosts import ends_of
-from hinge.run.words import Wrong
-from hinge.simulated import start
-from hinge.simulated.time_options import add_simulated, refuse_alone
+from hinge.simulated.failures import repeated
+from hinge.simulated.time_options import add_simulated
 
+OF_OWN_HOSTS = ("server", "to", "outside", "outside_loopback", "net", "simulated")  # options that --netns excludes
 USAGE = "hinge run [OPTION ..] [--] COMMAND [ARGUMENT ..]"
 WHAT = """\
 Runs COMMAND behind an emulated link: what it sends goes through pipe 1 to the host `server` (10.8.0.2, fd08::2), what comes back through pipe 2."""
@@ -34,14 +24,15 @@ hinge run --down '10Mbit/s 20ms' --up '2Mbit/s 20ms' -- ping -c 3 server
   hinge run --config link.config --server 'iperf3 -s -1' --late 2ms \\
       --transcript session.history -- iperf3 -c server
   hinge run --link 20ms --down-trace Verizon-LTE.down -- bash
+  hinge run --link 20ms --to 8000 -- curl http://localhost:8000/
   hinge run --simulated --seed 7 --link 20ms --server ./server -- ./client"""
 STATUSES = """\
 the command's own; 128 and the signal if one ended it; 126, 127 if it can't be executed; 2 a wrong word of the command line; 3 a configuration
 line that can't be obeyed; 6 the system lacks or refuses something; 75 the run is void by --late, or the link broke off; 76 two runs by --twice
-differ; 124 it was ended by --real-limit"""
+differ; 77 a deadlock, and 78 it was ended by --limit, in simulated time; 124 it was ended by --real-limit"""
 
 
-def options() -> argparse.ArgumentParser:
+def options() -> Parser:
     line = parser(WHAT, EXAMPLE, STATUSES, USAGE)
     add_link(line)
     more = line.add_argument_group("the run")
@@ -56,6 +47,7 @@ def options() -> argparse.ArgumentParser:
             "puts the link on the way out of a container or network that is there, in IPv4, as root; without COMMAND" " until ^C"
         ),
     )
+    more.add_argument("--container", metavar="NAME", help="the same for a container of docker or podman, by its name, id or image")
     more.add_argument("--server", metavar="COMMAND", help="what runs at the other end, by sh; COMMAND waits until it listens")
     more.add_argument("--server-wait", metavar="TIME", default="5s", help="how long (5s)")
     more.add_argument("--server-end", metavar="TIME", default="2s", help="how long the server has to end after SIGTERM (2s)")
@@ -63,84 +55,109 @@ def options() -> argparse.ArgumentParser:
     more.add_argument(
         "--outside-loopback", action="store_true", help="the same, with this system's own loopback at 10.9.0.2 and fd00::2"
     )
+    more.add_argument(
+        "--to",
+        metavar="PORT",
+        type=bounded(1, 65535),
+        action="append",
+        default=[],
+        help="this system's port behind the link: the command finds it at localhost, and at server",
+    )
     add_run(more)
+    line.needs("--server-wait --server-end", "--server")
+    line.yields("--outside", "--outside-loopback")
+    line.yields("--netns", "--container")
     add_simulated(line)
     line.add_argument("command", nargs=argparse.REMAINDER, metavar="COMMAND", help=argparse.SUPPRESS)
     return line
 
 
-def command_line() -> RunOptions:
+def command_line(words: Optional[Sequence[str]] = None) -> RunOptions:
     line = options()
-    arguments = line.parse_args()
+    arguments = line.parse_args(repeated(sys.argv[1:] if words is None else [*words], "run"))
+    from hinge.run.hints import lacking, link_as_command  # as all below, behind the command line, since a help has to come at once
+
     if arguments.command[:1] == ["--"]:
         del arguments.command[0]
-    if not arguments.command and arguments.netns is None:
+    if not arguments.command and arguments.netns is None and arguments.container is None:
         line.error("no command: it is at the end, behind --, as in hinge run --preset lte -- ping -c 3 server")
     link = link_as_command(arguments.command)
     if link is not None:
         line.error(link)
-    missing = lacking(arguments.command)
+    missing = lacking(arguments.command) if arguments.root is None else None
     if missing is not None:
         raise Fault(missing, NOT_FOUND)
+    if arguments.container is not None:
+        from hinge.run.containers import process_of
+
+        arguments.netns = process_of(arguments.container)
     return RunOptions(**vars(arguments), more_files=())
 
 
 def refuse_beside_netns(run: RunOptions) -> None:
-    """Wrong: an option is given for which a network that is there already has no place."""
-    options = {
-        "--server": run.server,
-        "--outside": run.outside,
-        "--outside-loopback": run.outside_loopback,
-        "--net": run.net,
-        "--simulated": run.simulated,
-    }
-    names = [option for option, value in options.items() if value]
+    """Wrong: an option doesn't apply to an existing network."""
+    names = [f"--{name.replace('_', '-')}" for name in OF_OWN_HOSTS if getattr(run, name)]
+    from hinge.run.words import Wrong
+
     if run.netns is not None and names:
         raise Wrong(f"{names[0]}: there is no such thing beside --netns, whose hosts are there already")
 
 
 def main() -> None:
     run = command_line()
-    with refusals():
-        refuse_beside_netns(run)
+    refuse_beside_netns(run)
     if not run.simulated:
-        with refusals():
-            refuse_alone(run)
         begin(run)
-    with refusals():
-        ends_of(run.net), plan_of(run, run.mtu)  # so that a wrong word is told before a machine is made
-        tell_hints(run)
-        sys.exit(start.run_simulated("run", run))
+    from hinge.run.plan_of_options import plan_of
+    from hinge.run.two_hosts import ends_of
+    from hinge.simulated import start
+
+    ends_of(run.net), plan_of(run, run.mtu)  # so that a wrong word is told before a machine is made
+    tell_hints(run)
+    sys.exit(start.run_simulated("run", run))
 
 
 def tell_hints(run: RunOptions) -> None:
+    from hinge.run.hints import hints
+
     for hint in hints(run):
         say(hint)
 
 
 def begin_inside(options: dict[str, Any]) -> NoReturn:
-    """Runs it in a machine, as its launcher was asked."""
+    """Runs the command in the machine that the launcher started."""
     begin(RunOptions(**options))
 
 
 def begin(run: RunOptions) -> NoReturn:
-    """Runs it here, by the clock of this system."""
+    """Runs the command here, on this system's clock."""
+    from hinge.run.first import BLOCKED, first_process, status_of
+    from hinge.run.host import program
+    from hinge.run.inside import Inside
+    from hinge.run.joined import network_of
+    from hinge.run.order import order_of
+    from hinge.run.outside import Outside
+    from hinge.run.ports import Ports
+    from hinge.run.rooms import leave_the_system
+    from hinge.run.system import is_simulated
+    from hinge.run.two_hosts import ends_of
+
     mask = signal.pthread_sigmask(signal.SIG_BLOCK, ())
-    with refusals():
-        program()
-        ends = ends_of(run.net)
-        network = network_of(run.netns) if run.netns is not None else None
-        order = order_of(run, run.mtu, mask, run.server_wait, run.server_end)
-        signal.pthread_sigmask(signal.SIG_BLOCK, BLOCKED)  # once all files are read, which a FIFO may put off for ever
-        if not is_simulated():
-            tell_hints(run)
-        sys.stdout.flush()
-        # Before this process leaves the network that it joins.
-        outside = Outside(run.outside_loopback, ends.network) if run.outside or run.outside_loopback else None
-        own_users = leave_the_system()
-    first = os.fork()
-    if first == 0:
-        live(lambda: Inside(run, order, own_users, outside, network).run())
+    program()
+    ends = ends_of(run.net)
+    network = network_of(run.netns) if run.netns is not None else None
+    order = order_of(run, run.mtu, mask, run.server_wait, run.server_end)
+    signal.pthread_sigmask(signal.SIG_BLOCK, BLOCKED)  # once all files are read, which a FIFO may put off for ever
+    if not is_simulated():
+        tell_hints(run)
+    sys.stdout.flush()
+    # Before this process leaves the network that it joins.
+    outside = Outside(run.outside_loopback, ends.network) if run.outside or run.outside_loopback else None
+    ports = Ports(run.to) if run.to else None
+    for port in ports.silent() if ports else ():
+        say(f"--to {port}: nothing listens at this system's port {port} now")
+    own_users = leave_the_system()
+    first = first_process(lambda: Inside(run, order, own_users, outside, network, ports).run())
     if outside:
         outside.tell(first, own_users)
     sys.exit(status_of(first))

@@ -8,7 +8,6 @@ from hinge.border.asking import ask
 from hinge.border.terminal import show
 from hinge.command import parser
 from hinge.run.openmetrics import openmetrics
-from hinge.run.refusals import refusals
 
 WHAT = """\
 Prints the counts of a link of hinge run, hinge udp or hinge net that runs, as JSON, as --json has them at the end. SOCKET is what --control
@@ -24,6 +23,5 @@ def main() -> None:
     line.add_argument("socket", metavar="SOCKET")
     line.add_argument("--openmetrics", action="store_true", help="in the text format of OpenMetrics")
     arguments = line.parse_args()
-    with refusals():
-        status = ask(arguments.socket, status=True).status or {}
-        show(openmetrics(status) if arguments.openmetrics else json.dumps(status, indent=1))
+    status = ask(arguments.socket, status=True).status or {}
+    show(openmetrics(status) if arguments.openmetrics else json.dumps(status, indent=1))

@@ -1,4 +1,5 @@
-"""A first look, by Python alone: a download over an emulated link in simulated time, as a picture of text, and why a packet was late."""
+"""The command `hinge try`, a first look with Python only: a download over an emulated link in simulated time, a picture as text,
+and the reason for a packet's delay."""
 
 from __future__ import annotations
 
@@ -41,7 +42,7 @@ class Sender:
         self.newest = -1
 
     def next(self) -> Optional[int]:
-        """The segment to send now, if the window has room."""
+        """Returns the next segment to send, if the window has room."""
         if not self.waiting or len(self.under_way) >= self.window:
             return None
         segment = self.waiting.popleft()
@@ -49,14 +50,14 @@ class Sender:
         return segment
 
     def acknowledged(self, segments: Sequence[int]) -> None:
-        """All segments that have come until then."""
+        """Acknowledges all segments received so far."""
         for place in (self.under_way.pop(segment) for segment in segments if segment in self.under_way):
             self.window += 1 if self.window < self.threshold else 1 / self.window
             self.newest = max(self.newest, place)
         self.lose([segment for segment, place in self.under_way.items() if place < self.newest - DUPLICATES])
 
     def lose(self, segments: Sequence[int]) -> None:
-        """These are sent again, first of all."""
+        """Sends these segments again before others."""
         if segments and max(map(self.under_way.__getitem__, segments)) >= self.halved_till:
             self.threshold = self.window = max(self.window / 2, 2.0)
             self.halved_till = self.sent
@@ -107,7 +108,7 @@ class Download:
 
 
 def drawn(name: str, values: list[float]) -> Iterator[str]:
-    """A panel of text: its name, and a column for each step."""
+    """Yields a text panel's lines: its name, and a column for each step."""
     letters, most = f" {blocks()}", max(values)
     yield f"{name}, at most {most:,.4g}:"
     for low in range(HEIGHT - 1, -1, -1):
@@ -116,7 +117,7 @@ def drawn(name: str, values: list[float]) -> Iterator[str]:
 
 
 def picture(replay: Replay, span: int) -> Iterator[str]:
-    """What came down, what waited for it, and the drops."""
+    """Yields the picture: received bytes, the queue, and drops."""
     step = span // STEPS + 1
     rates, queues, drops, waiting = [0.0] * STEPS, [0.0] * STEPS, [" "] * STEPS, 0
     columns = (replay.event, replay.packets.length, replay.at, replay.start, replay.due)
@@ -140,7 +141,7 @@ def picture(replay: Replay, span: int) -> Iterator[str]:
 
 
 def longest(replay: Replay) -> int:
-    """The row of the segment that waited longest."""
+    """Returns the row of the segment that waited longest."""
     waits = [start - at if event == OUT else -1 for event, start, at in zip(replay.event, replay.start, replay.at)]
     return waits.index(max(waits)) + 1
 

@@ -1,10 +1,11 @@
-"""A UDP path between two programs through emulated links: what comes to a port goes on to a server, and its datagrams
-come back."""
+"""The command `hinge udp`, a UDP path between two programs through emulated links: it forwards datagrams from a port to a server,
+and the answers back."""
 
 from __future__ import annotations
 
 import argparse
 import os
+import shlex
 import signal
 import socket
 import sys
@@ -12,21 +13,21 @@ from typing import NamedTuple
 
 from hinge.arguments import is_number
 from hinge.border.terminal import show
-from hinge.command import parser
+from hinge.command import FILES, parser
+from hinge.command_line import Parser
 from hinge.checks.lines import Placed, refuse_wrong
-from hinge.run.first import REFUSED
 from hinge.run.host import Link, program
-from hinge.run.options import add_link, add_run
+from hinge.run.options import add_link, add_options_of_run, add_run
 from hinge.run.order import Order, note_realtime, order_of, report
 from hinge.run.page import Page
 from hinge.run.processes import Processes, Ticker
-from hinge.run.refusals import refusals
 from hinge.run.settings import LiveOptions
 from hinge.run.summary import record
 from hinge.run.system import Missing
 from hinge.run.watch import Watch
 from hinge.replays.units import socket_address
 from hinge.run.words import Wrong, read_lines
+from hingetulip_words.link import corrected
 
 LONGEST = 1500  # bytes of a packet, by which outages are reckoned
 SIGNALS = {signal.SIGCHLD, signal.SIGTERM, signal.SIGHUP, signal.SIGINT}
@@ -36,6 +37,7 @@ listens. Each client has a socket of its own towards SERVER."""
 EXAMPLE = """\
 hinge udp 7000 localhost:7001 --up '8Mbit/s 20ms loss 1%' --down 20ms
   hinge udp '[::1]:7000' '[::1]:7001' 'pipe 1 config bw 8Mbit/s' 'pipe 2 config'"""
+OF_RUN = {"--to": "localhost:{} in the place of SERVER"}
 STATUSES = """\
 0 a signal ended it, 2 a wrong word of the command line, 3 a configuration line that can't be obeyed, 6 the system lacks or refuses something,
 75 the run is void by --late, or the link broke off"""
@@ -49,7 +51,7 @@ class SocketAddress(NamedTuple):
 
     @classmethod
     def read(cls, text: str) -> SocketAddress:
-        """The address in PORT, HOST:PORT or [HOST]:PORT. ArgumentTypeError: the text is none of them."""
+        """Reads an address: PORT, HOST:PORT or [HOST]:PORT. ArgumentTypeError: the text has another form."""
         host, _, port = text.rpartition(":")
         if not (is_number(port) and int(port) < 65536):
             raise argparse.ArgumentTypeError(f"{text!r} is neither PORT nor HOST:PORT")
@@ -57,7 +59,7 @@ class SocketAddress(NamedTuple):
 
 
 def found_address(address: SocketAddress, family: int) -> tuple[int, tuple[str, int]]:
-    """The family, numeric host and port of an address of the given family. Wrong: there is no such address."""
+    """Returns the family, numeric host and port of an address in a given family. Wrong: there is no such address."""
     try:
         infos = socket.getaddrinfo(
             address.host or ("::1" if family == socket.AF_INET6 else "127.0.0.1"), address.port, family, socket.SOCK_DGRAM
@@ -70,18 +72,20 @@ def found_address(address: SocketAddress, family: int) -> tuple[int, tuple[str, 
 
 
 def links_in_order(words: list[str]) -> list[str]:
-    """Configuration lines: a LINK is some where it has a blank, else a file of them."""
+    """Returns the configuration lines. A LINK with a space is a line, otherwise a file. Wrong: it is a link's words."""
     lines = list[Placed]()
     for word in words:
         if " " in word:
             lines += [Placed("LINK", line) for line in word.splitlines()]
+        elif link := None if os.path.exists(word) else corrected(word):
+            raise Wrong(f"LINK: {word!r} isn't a line or a file of lines; write --link {shlex.quote(link)}")
         else:
             lines += [Placed(f"{word}:{number}", line) for number, line in enumerate(read_lines(word), 1)]
     refuse_wrong(lines)
     return [line.text for line in lines]
 
 
-def options() -> argparse.ArgumentParser:
+def options() -> Parser:
     line = parser(WHAT, EXAMPLE, STATUSES, "hinge udp [OPTION ..] LISTEN SERVER [LINK ..]")
     line.add_argument(
         "listen",
@@ -97,6 +101,7 @@ def options() -> argparse.ArgumentParser:
     )
     add_link(line)
     add_run(line.add_argument_group("the run"))
+    add_options_of_run(line, OF_RUN)
     return line
 
 
@@ -126,28 +131,25 @@ def what_is_carried(order: Order, front: socket.socket, server: tuple[str, int])
     host, port = front.getsockname()[:2]
     show(f"ready at {socket_address(host, port)}")
     sys.stdout.flush()
-    watch = Watch(page, order.changes) if order.options.watch else None
+    watch = Watch(page) if order.options.watch else None
     came = processes.wait(link.process, ticker=Ticker(watch.tick) if watch else None)
-    if watch:
-        watch.end()
     link.end()
-    return report(order, page, [way["dropped"] for way in page.read().ways], REFUSED if came is None else 0)
+    return report(order, page, [way["dropped"] for way in page.read().ways], FILES if came is None else 0)
 
 
 def main() -> None:
     arguments = vars(options().parse_args())
     listen, server, links = arguments.pop("listen"), arguments.pop("server"), arguments.pop("links")
     mask = signal.pthread_sigmask(signal.SIG_BLOCK, ())
-    with refusals():
-        program()
-        lines, files = [*arguments.pop("line"), *links_in_order(links)], [word for word in links if " " not in word]
-        order = order_of(LiveOptions(**arguments, line=lines, more_files=files), LONGEST, mask)
-        signal.pthread_sigmask(signal.SIG_BLOCK, SIGNALS)  # once all files are read, which a FIFO may put off for ever
-        with bound_socket(listen) as front:
-            if not server.port:
-                raise Wrong("SERVER: port 0 is none at which a server listens")
-            _, place = found_address(server, front.family)
-            if place == front.getsockname()[:2]:
-                raise Wrong(f"SERVER: {socket_address(*place)} is LISTEN itself, and each datagram would come again for ever")
-            status = what_is_carried(order, front, place)
+    program()
+    lines, files = [*arguments.pop("line"), *links_in_order(links)], [word for word in links if " " not in word]
+    order = order_of(LiveOptions(**arguments, line=lines, more_files=files), LONGEST, mask)
+    signal.pthread_sigmask(signal.SIG_BLOCK, SIGNALS)  # once all files are read, which a FIFO may put off for ever
+    with bound_socket(listen) as front:
+        if not server.port:
+            raise Wrong("SERVER: no server listens at port 0; write the server's port")
+        _, place = found_address(server, front.family)
+        if place == front.getsockname()[:2]:
+            raise Wrong(f"SERVER: {socket_address(*place)} is LISTEN itself, and each datagram would come again for ever")
+        status = what_is_carried(order, front, place)
     sys.exit(status)

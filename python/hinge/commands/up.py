@@ -5,18 +5,17 @@ from __future__ import annotations
 import argparse
 import os
 import shutil
-import subprocess
 import time
 from pathlib import Path
 
 from hinge.border.asking import ask, is_answered
 from hinge.border.files import read_log
+from hinge.border.programs import Process
 from hinge.border.scratch import clean_end, undisturbed
 from hinge.border.terminal import show
 from hinge.command import NAME, Fault, parser, say
 from hinge.program import in_background
 from hinge.run.names import new_socket
-from hinge.run.refusals import refusals
 from hinge.run.words import Wrong
 
 WHAT = """\
@@ -40,49 +39,54 @@ def command_line() -> argparse.Namespace:
     line.add_argument("--transcripts", metavar="FOLDER", help="for its history, its summary and what hosts print (NAME.session)")
     arguments, more = line.parse_known_args()
     arguments.more = more
+    if own := [word for word in more if word.partition("=")[0] in ("--control", "--stay", "--while-open")]:
+        line.error(f"{own[0]}: a net in the background stays, and has the socket of its name")
     arguments.name = arguments.name or Path(arguments.file).stem
     arguments.transcripts = arguments.transcripts or f"{arguments.name}.session"
     return arguments
 
 
-def wait_until_ready(process: "subprocess.Popen[bytes]", socket: str, log: Path) -> list[str]:
-    """What it waited for in vain. Fault: the net ended before."""
+def wait_until_ready(process: "Process[bytes]", socket: str, log: Path) -> list[str]:
+    """Waits until the net is ready; returns the ports that didn't open. Fault: the net ended."""
     while not is_answered(socket) and process.poll() is None:
         time.sleep(POLL)
     try:
         status = ask(socket, PATIENCE, status=True).status or {}
     except Wrong:
+        failed = process.wait() or 1
         *before, last = read_log(log).strip().replace("hinge net: ", "").split("\n")
         for line in before:
             say(line)
-        raise Fault(last or "the net has ended", process.wait() or 1) from None
+        raise Fault(last or "the net has ended", failed) from None
     return list(status["silent"])
 
 
 def main() -> None:
     arguments = command_line()
-    with refusals():
-        socket, folder = new_socket(arguments.name), Path(arguments.transcripts)
-        if os.path.exists(socket) and is_answered(socket):
-            raise Wrong(f"{arguments.name} runs already: hinge down {arguments.name} ends it, and --name gives another name")
-        is_new, log = not folder.exists(), folder / "net.log"
-        folder.mkdir(parents=True, exist_ok=True)
-        logs = [] if "--logs" in arguments.more else ["--logs", str(folder / "logs")]
-        words = ["net", arguments.file, "--transcripts", str(folder), *logs, "--stay", "--control", socket, *arguments.more]
-        begun = list["subprocess.Popen[bytes]"]()
-        with clean_end():
-            try:
-                with undisturbed():
-                    begun.append(in_background(words, log))
-                silent = wait_until_ready(begun[0], socket, log)
-            except BaseException:
-                with undisturbed():
-                    for process in begun:
-                        process.terminate()
-                        process.wait()
-                    if is_new and [*folder.iterdir()] == [log]:
-                        shutil.rmtree(folder)
-                raise
+    socket, folder = new_socket(arguments.name), Path(arguments.transcripts)
+    if os.path.exists(socket) and is_answered(socket):
+        raise Wrong(f"{arguments.name} runs already: hinge down {arguments.name} ends it, and --name gives another name")
+    is_new, log = not folder.exists(), folder / "net.log"
+    folder.mkdir(parents=True, exist_ok=True)
+    logs = [] if "--logs" in arguments.more else ["--logs", str(folder / "logs")]
+    read_end, write_end = os.pipe()  # by which the net ends too if this process is killed, until it says otherwise
+    leash = ["--while-open", str(read_end)]
+    words = ["net", arguments.file, "--transcripts", str(folder), *logs, *leash, "--control", socket, *arguments.more]
+    processes = list["Process[bytes]"]()
+    with clean_end():
+        try:
+            with undisturbed():
+                processes.append(in_background(words, log, read_end))
+            silent = wait_until_ready(processes[0], socket, log)
+            os.write(write_end, b"!")
+        except BaseException:
+            with undisturbed():
+                for process in processes:
+                    process.terminate()
+                    process.wait()
+                if is_new and [*folder.iterdir()] == [log]:
+                    shutil.rmtree(folder)
+            raise
     show(
         "".join(f"{line}\n" for line in silent)
         + f"{arguments.name} runs, and keeps what it does in {folder}: hinge down {arguments.name} ends it"

@@ -1,22 +1,23 @@
-"""Configuration lines as the program reads them: it alone says what a line asks for, in its own spelling, or what is wrong
-with it."""
+"""Configuration lines as the program reads them. Only the program decides a line's meaning, spelling, and errors."""
 
 from __future__ import annotations
 
-import subprocess
 from dataclasses import dataclass
 from fractions import Fraction
 from typing import Iterable, Optional, Union
 
 from hinge.border.files import read_text
 from hinge.border.scratch import scratch
-from hinge.program import dummynet
+from hinge.command import CONFIGURATION, Fault
+from hinge.program import asked_of_dummynet
 
 LOSS_PARTS = 2**31
 
 
-class LineFault(Exception):
-    """The first line that the program doesn't take, as `config line 3, word 5: bad number`."""
+class LineFault(Fault):
+    """The first line that the program refuses, as in `config line 3, word 5: bad number`."""
+
+    status = CONFIGURATION
 
 
 @dataclass(frozen=True)
@@ -50,7 +51,8 @@ RECORD = "c,0,configure,"
 
 
 def setting_of(text: str) -> tuple[str, int, Optional[Setting]]:
-    """What a command in the program's spelling asks for: `pipe` or `queue`, its number, and what is configured; None is a delete."""
+    """Returns the content of a command in the program's spelling: `pipe` or `queue`, its number, and the setting, or None for a
+    delete."""
     words = text.split()
     if words[1] == "delete":
         return words[0], int(words[2]), None
@@ -64,15 +66,13 @@ def setting_of(text: str) -> tuple[str, int, Optional[Setting]]:
 
 
 def spelled_lines(data: bytes) -> list[str]:
-    """The lines of a configuration in the program's spelling. What the program says of the first that it doesn't take
-    is a LineFault."""
+    """Returns the lines of a configuration in the program's spelling. LineFault: the program refuses a line."""
     with scratch() as folder:
         history = folder / "history"
-        words = [dummynet(), "replay", "/dev/stdin", "/dev/null", "--history", str(history)]
-        process = subprocess.run(words, input=data, stdout=subprocess.DEVNULL, stderr=subprocess.PIPE)
-        if process.returncode:
-            raise LineFault(process.stderr.decode().strip())
-        records = read_text(history).splitlines()
+        answer = asked_of_dummynet("replay", "/dev/stdin", "/dev/null", "--history", str(history), data=data)
+        if answer.status:
+            raise LineFault(answer.told)
+        records = read_text(history, lines=None).splitlines()
     return [record[len(RECORD) :] for record in records if record.startswith(RECORD)]
 
 

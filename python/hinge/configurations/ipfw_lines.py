@@ -1,16 +1,17 @@
-"""Lines of ipfw, dnctl and shell scripts as configuration lines of dummynet, and what is left out of them."""
+"""Lines from ipfw, dnctl and shell scripts as configuration lines for dummynet, with a list of omissions."""
 
 from __future__ import annotations
 
 import re
 from dataclasses import dataclass, field
 from decimal import Decimal, InvalidOperation
-from typing import Iterator, NamedTuple, Optional
+from typing import Iterable, Iterator, NamedTuple, Optional
 
+from hinge.border.files import Budget, Exceeded
 from hinge.checks.lines import judged_lines
 
 ASSIGNMENT = re.compile(r"""(?:export\s+)?([A-Za-z_]\w*)=("[^"]*"|'[^']*'|[^\s;'"]*)""")
-VARIABLE = re.compile(r"\$\{([A-Za-z_]\w*)(?::?-([^}]*))?\}|\$([A-Za-z_]\w*)")
+VARIABLE = re.compile(r"\$\{([A-Za-z_]\w*)(?::?-([^}]{0,99}))?\}|\$([A-Za-z_]\w*)")
 BETWEEN_COMMANDS = re.compile(r"\s*(?:;|&&|\|\|?|(?<!>)&(?!>))\s*")
 REDIRECTION = re.compile(r"\s*\d?>.*")
 HEAD = re.compile(r"(?:^|\s)((?:pipe|queue)\s+(?:\d+\s+(?:config|delete)\b|delete\s+\d).*|(?:pipe|queue)\s+flush\b.*)")
@@ -26,6 +27,10 @@ WHOLE_MASKS = {
     "proto": ("/8", "0xff"),
 }
 BYTES_PER_KBYTE = 1024
+BLANKS = re.compile(r"\s+")  # of which the rules above read several again and again
+COMMENT = re.compile(r"(?:^|\s)#.*")
+MOST_NOTES, MOST_JOINED = 10_000, 1 << 16
+FREE, TIMES = 1 << 20, 16  # letters for which variables may stand, and how many more for each of a file
 
 
 class LeftOut(Exception):
@@ -33,7 +38,7 @@ class LeftOut(Exception):
 
 
 class Candidate(NamedTuple):
-    """A line that the program has still to judge."""
+    """A line that the program hasn't judged yet."""
 
     note: int  # how many notes there were before
     place: str
@@ -43,7 +48,7 @@ class Candidate(NamedTuple):
 
 @dataclass
 class Conversion:
-    """The configuration lines so far, and what is said of the lines that were read."""
+    """The configuration lines so far, and the notes on their sources."""
 
     variables: dict[str, str] = field(default_factory=dict)
     lines: list[str] = field(default_factory=list)
@@ -51,17 +56,24 @@ class Conversion:
     left_out: int = 0  # commands that configure or delete a pipe or queue
     candidates: list[Candidate] = field(default_factory=list)
     emptied: bool = False  # by a flush
+    budget: Budget = field(default_factory=lambda: Budget(0, ""))  # of letters that variables stand for
 
     def say(self, place: str, text: str) -> None:
-        self.notes.append(f"{place}: {text}")
+        """Adds a note for the end of the output; after very many notes, only adds that there are more."""
+        if len(self.notes) < MOST_NOTES:
+            self.notes.append(f"{place}: {text}")
+        elif len(self.notes) == MOST_NOTES:
+            self.notes.append(f"{place}: there is more to say from here on")
 
-    def read(self, name: str, text: str) -> None:
-        """Reads a file."""
-        for number, line in joined_lines(text):
+    def read(self, name: str, lines: Iterable[str]) -> None:
+        """Reads the lines of a file. Exceeded: its variables expand far beyond its length, or a line is too long."""
+        self.budget = Budget(FREE, "letters for which variables stand")
+        for number, line in joined_lines(lines):
+            self.budget.add(TIMES * len(line))
             self.read_line(f"{name}:{number}", line)
 
     def take(self, place: str, command: str) -> None:
-        """Reads one command; what is left out is told."""
+        """Reads a command; adds notes on its omitted parts."""
         try:
             self.read_command(place, command)
         except LeftOut as reason:
@@ -69,7 +81,7 @@ class Conversion:
             self.say(place, f"left out: {command.strip()} ({reason})")
 
     def unsure(self, commands: list[str]) -> Optional[str]:
-        """Why a line that configures something can't be taken: a variable that only a shell knows, or it is a scheduler's."""
+        """Explains why a configuring line can't be converted: a variable that only a shell knows, or a scheduler."""
         for command in (self.expanded(command) for command in commands):
             if UNSURE.search(command) and not HEAD.search(command) and not re.search(r"\s(?:add|show|list)\s", command):
                 unknown = VARIABLE.search(command) or re.search(r"\$\S+", command)
@@ -77,7 +89,7 @@ class Conversion:
         return None
 
     def read_line(self, place: str, line: str) -> None:
-        """Reads the commands of a line. One that has none for pipes and queues is told as a whole."""
+        """Reads the commands of a line. A line without commands for pipes and queues gets a single note."""
         commands = [line] if ASSIGNMENT.fullmatch(line.strip()) else BETWEEN_COMMANDS.split(line)
         if (reason := self.unsure(commands)) is not None:
             self.left_out += 1
@@ -90,7 +102,7 @@ class Conversion:
             self.take(place, command)
 
     def asked(self, command: str) -> Optional[str]:
-        """What a command asks for a pipe or queue, None where it doesn't."""
+        """Returns a command's part for pipes and queues, or None."""
         text = self.expanded(command)
         match = HEAD.search(text)
         if match is None or re.search(r"\s(?:add|show|list)\s", text[: match.start(1)]):
@@ -118,15 +130,17 @@ class Conversion:
             self.candidates.append(Candidate(len(self.notes), place, command.strip(), " ".join(line_words)))
 
     def expanded(self, text: str) -> str:
-        """The text with the shell variables that the files set."""
+        """Returns the text with the shell variables that the files set."""
 
         def value(match: re.Match[str]) -> str:
-            return self.variables.get(match[1] or match[3], match[0] if match[2] is None else match[2])
+            result = self.variables.get(match[1] or match[3], match[0] if match[2] is None else match[2])
+            self.budget.spend(len(result))
+            return result
 
-        return VARIABLE.sub(value, text)
+        return BLANKS.sub(" ", VARIABLE.sub(value, text)) if "$" in text else text
 
     def converted(self, place: str, words: list[str]) -> Iterator[list[str]]:
-        """A command in words of dummynet; a delete of several numbers is several commands."""
+        """Yields a command in dummynet's words. A delete with several numbers becomes several commands."""
         kind = words[0]
         if "delete" in words[1:3]:
             for number in (word for word in words[1:] if word != "delete"):
@@ -135,7 +149,7 @@ class Conversion:
         yield words[:3] + list(Options(self, place, kind, words[3:]).words())
 
     def settle(self) -> None:
-        """Keeps the lines that dummynet takes; one session judges them all."""
+        """Keeps the lines that dummynet accepts, as judged in one session."""
         waiting, self.candidates = self.candidates, []
         items = []
         for verdict in judged_lines([one.line.encode() for one in waiting]) if waiting else ():
@@ -147,13 +161,12 @@ class Conversion:
             reason = f"{place} of '{one.line}': {fault}" if place else fault
             items.append((one.note, f"{one.place}: left out: {one.command} ({reason})"))
         self.left_out += len(items)
-        for at, note in reversed(items):
-            self.notes.insert(at, note)
+        self.notes = list(merge(self.notes, items))
 
 
 @dataclass
 class Options:
-    """The options of one line, spelled as dummynet reads them."""
+    """The options of a line, in dummynet's spelling."""
 
     conversion: Conversion
     place: str
@@ -175,7 +188,7 @@ class Options:
                 yield self.mask(mask, next(rest, ""))
 
     def name(self, word: str) -> str:
-        """ipfw's other names of options."""
+        """Returns dummynet's name for an ipfw option."""
         if word == "sched" and self.kind == "queue":
             self.conversion.say(self.place, "the scheduler of that number is taken as the pipe of that number, with WF2Q+")
             return "pipe"
@@ -187,7 +200,7 @@ class Options:
         return {"bw": ipfw_bandwidth, "bandwidth": ipfw_bandwidth, "plr": loss_rate, "queue": self.limit}[option](text)
 
     def limit(self, text: str) -> str:
-        """A queue's limit; ipfw takes bytes where K or B stands behind the number."""
+        """Returns a queue's limit; in ipfw, K or B after the number means bytes."""
         match = LIMIT.match(text)
         if match is None or (match[2] is None and match[3] is None):
             return text
@@ -206,7 +219,8 @@ class Options:
 
 
 def ipfw_bandwidth(text: str) -> str:
-    """As ipfw reads it: bytes where the unit begins with B (and not Bi) or by, else bits."""
+    """Reads a bandwidth like ipfw: bytes if the unit begins with B (but not Bi) or by, otherwise bits; returns it in dummynet's
+    spelling."""
     match = BANDWIDTH.match(text)
     if match is None:
         return text
@@ -216,7 +230,7 @@ def ipfw_bandwidth(text: str) -> str:
 
 
 def loss_rate(text: str) -> str:
-    """Without an exponent, and with at most 18 digits behind the point."""
+    """Returns a loss rate without an exponent, with at most 18 decimal places."""
     try:
         value = Decimal(text)
     except InvalidOperation:
@@ -224,17 +238,30 @@ def loss_rate(text: str) -> str:
     return text if "e" not in text.lower() else f"{value:.18f}".rstrip("0").rstrip(".")
 
 
-def joined_lines(text: str) -> Iterator[tuple[int, str]]:
-    """The lines without comments and blank ones, with their numbers; those that end in a backslash are one with the next."""
+def merge(notes: list[str], items: list[tuple[int, str]]) -> Iterator[str]:
+    """Yields the notes; each item precedes the note on its place."""
+    at = 0
+    for place, note in items:
+        yield from notes[at:place]
+        yield note
+        at = place
+    yield from notes[at:]
+
+
+def joined_lines(lines: Iterable[str]) -> Iterator[tuple[int, str]]:
+    """Yields the lines without comments and blank lines, with their numbers. A backslash at the end joins a line with the next.
+    Exceeded: a joined line is too long."""
     pending, first = "", 0
-    for number, line in enumerate(text.splitlines(), 1):
+    for number, line in enumerate(lines, 1):
         first = first if pending else number
-        pending += re.sub(r"(^|\s)#.*", "", line).rstrip()
+        pending += COMMENT.sub("", line).rstrip()
+        if len(pending) > MOST_JOINED:
+            raise Exceeded(MOST_JOINED, "letters in a line with those behind it")
         if pending.endswith("\\"):
             pending = pending[:-1] + " "
             continue
         if pending.strip():
-            yield first, pending
+            yield first, BLANKS.sub(" ", pending)
         pending = ""
     if pending.strip():
-        yield first, pending
+        yield first, BLANKS.sub(" ", pending)

@@ -1,1 +1,1 @@
-"""What happened between the links of a net: each packet's path over the hosts that handed it on."""
+"""The paths of packets between a net's links, over the hosts that forwarded them."""

@@ -1,5 +1,4 @@
-"""The folder of `hinge net --transcripts`, or a transcript alone, with what the system dropped by the summary of the
-run."""
+"""A net's transcript, as a folder from `hinge net --transcripts` or a single file, with the system's drops from the summary."""
 
 from __future__ import annotations
 
@@ -11,7 +10,7 @@ from hinge.command import ROWS, Fault
 from hinge.paths.passages import Topology
 from hinge.run.transcripts import files_of
 
-HISTORY, SUMMARY = "net.history", "net.json"
+HISTORY, SUMMARY, NET = "net.history", "net.json", "net.net"
 NO_SUMMARY = "no summary of hinge net"
 
 
@@ -21,7 +20,7 @@ class Session(NamedTuple):
 
 
 def session_of(path: str, summary: Optional[str] = None) -> Session:
-    """The session of a folder, or of a file in it. Fault: there is no transcript."""
+    """Returns the session in a folder, or the session that contains a file. Fault: there is no transcript."""
     if not os.path.isdir(path):
         return Session(files_of(path), summary)
     history, beside = os.path.join(path, HISTORY), os.path.join(path, SUMMARY)
@@ -31,12 +30,15 @@ def session_of(path: str, summary: Optional[str] = None) -> Session:
 
 
 def told_drops(path: Optional[str], topology: Topology) -> dict[int, int]:
-    """What the system dropped before the links, by hosts, as the summary of the run has it."""
+    """Returns the packets from the summary that the system dropped before the links, or for lack of a route, by host."""
     table: dict[int, int] = {}
     if path is None:
         return table
     with untrusted(path, what=NO_SUMMARY):
-        for way in read_object(path, NO_SUMMARY)["ways"]:
-            host = topology.number(str(way["from"]))
-            table[host] = table.get(host, 0) + int(way["system_drops"])
+        summary = read_object(path, NO_SUMMARY)
+        drops = [(way["from"], way["system_drops"]) for way in summary["ways"]]
+        drops += [(host, count) for host, counts in summary.get("unforwarded", {}).items() for count in counts.values()]
+        for name, count in drops:
+            host = topology.number(str(name))
+            table[host] = table.get(host, 0) + int(count)
     return table

@@ -1,19 +1,18 @@
-"""`hinge look` of a net's folder: its ways, its paths hop by hop, and what was changed when: as text, as a picture and
-for programs."""
+"""The report of `hinge look` on a net's folder: ways, paths hop by hop, and changes, as text, picture or JSON."""
 
 from __future__ import annotations
 
 import os
-import subprocess
 import sys
-from typing import Any, Iterator
+from typing import Any, Iterator, Optional
 
 from hinge.arguments import LookOptions
 from hinge.border.files import read_front, untrusted
 from hinge.border.terminal import show
 from hinge.command import ROWS, Fault, say
-from hinge.outputs import PICTURES, Format, format_of, refuse_inputs, write_json, written
-from hinge.paths.folder import HISTORY, session_of, told_drops
+from hinge.outputs import CAPTURES, Format, format_of, refuse_inputs, write_json, written
+from hinge.paths.folder import HISTORY, NET, session_of, told_drops
+from hinge.paths.hops import Hops
 from hinge.paths.matching import Matched, match
 from hinge.paths.net_graph import as_link
 from hinge.paths.net_picture import net_drawing
@@ -21,39 +20,31 @@ from hinge.paths.passages import read_transcript
 from hinge.paths.report import hosts_of, of_faults, of_paths, of_ways, paths, summary, ways
 from hinge.paths.timeline import Looked, Timeline, chart, name_of_way, timeline, told_changes
 from hinge.pictures.chart import save
-from hinge.pictures.ladder import arrows_of_net, draw_ladder, ladder_text
+from hinge.pictures.html_page import HtmlPage, save_page
 from hinge.pictures.provenance import provenance
-from hinge.program import dummynet
+from hinge.plans.judged import Judge
+from hinge.plans.sessions import judged
 from hinge.replays.remarks import seed_in
 from hinge.run.summary import FORMAT
 
-NS_PER_MS = 1_000_000
+NS_PER_MS, NS_PER_S = 1_000_000, 1_000_000_000
 UNLAWFUL = 1
 TOP = 40  # ways and paths
 HEAD = 1 << 20  # bytes in which the seed is
 
 
-def audit(files: list[str]) -> None:
-    """Tells what dummynet says of each history."""
-    for path in files:
-        process = subprocess.run([dummynet(), "audit", path], capture_output=True, text=True)
-        say(process.stdout.strip() or process.stderr.strip())
-
-
 def refuse_others(options: LookOptions, folder: str) -> None:
-    """Fault: an option is given that is of one link alone."""
+    """Fault: an option applies only to single links."""
     for name, is_given in (
-        ("--why", bool(options.why)),
         ("--by", options.by != "tuple"),
         ("--csv", options.csv),
+        ("--config", options.config is not None),
         ("--capture", options.capture is not None),
-        *((f"-o FILE{one.value}", bool(options.files(one))) for one in Format if not one.is_picture),
+        *((f"-o FILE{one.value}", bool(options.files(one))) for one in CAPTURES),
     ):
         if is_given:
-            raise Fault(
-                f"{folder}: {name} is of one history, as {os.path.join(folder, HISTORY)}, and not of a net's folder",
-                ROWS,
-            )
+            history = os.path.join(folder, HISTORY)
+            raise Fault(f"{folder}: {name} is of one history, as {history}, and not of a net's folder", ROWS)
 
 
 def text_of(matching: Matched, line: Timeline, top: int, files: list[str]) -> Iterator[str]:
@@ -71,7 +62,7 @@ def text_of(matching: Matched, line: Timeline, top: int, files: list[str]) -> It
 
 
 def look_record(matching: Matched, line: Timeline, history: str, seed: str | None) -> dict[str, Any]:
-    """docs/LIVE.md has its keys."""
+    """Returns the record for JSON; docs/LIVE.md describes its keys."""
     pipes = matching.passages.topology.pipes
     hosts = matching.passages.topology.hosts
     ends = {pipe: {"pipe": pipe, "from": hosts[start], "to": hosts[end]} for pipe, (start, end) in pipes.items()}
@@ -116,36 +107,60 @@ def look_record(matching: Matched, line: Timeline, history: str, seed: str | Non
     }
 
 
+def title_of(view: Looked) -> str:
+    """Returns each link's words like in a net's file, followed by a slash and the way back if that differs."""
+    topology, links = view.found.passages.topology, dict[tuple[str, str], list[str]]()
+    for pipe, words in sorted(view.words.items()):
+        ends = [topology.hosts[host] for host in topology.pipes.get(pipe, ())]
+        if len(ends) == 2:
+            links.setdefault((min(ends), max(ends)), []).append(as_link(words) or "no limit")
+    return "; ".join(f"{one} - {other} {' / '.join(dict.fromkeys(words))}" for (one, other), words in links.items())
+
+
+def draw_net(view: Looked, options: LookOptions, files: list[str], seed: Optional[str], folder: str) -> None:
+    """Draws the pictures and pages of the command line."""
+    lines = [f"{name_of_way(view.found, pipe)}: {as_link(words)}" for pipe, words in sorted(view.words.items())]
+    title = options.title or title_of(view)
+    for name in options.o:
+        drawing = net_drawing(view, options.step, provenance(lines, files, seed))
+        with written(name) as place:
+            if format_of(name) is Format.PAGE:
+                hops, numbers = Hops(folder), view.found.passages.number
+                save_page(HtmlPage(drawing, lambda row: hops.paragraph(int(numbers[row]))), str(place), title)
+            else:
+                save([drawing], str(place), format_of(name).kind, title)
+
+
+def judge_of(path: str) -> Optional[Judge]:
+    """Returns a judge for the net's file in its folder, if a readable copy exists."""
+    try:
+        return judged(path, otherwise=NS_PER_S) if os.path.exists(os.path.join(path, NET)) else None
+    except Fault as fault:
+        say(str(fault))
+        return None
+
+
 def look_at_net(options: LookOptions, path: str, summary_name: str | None = None) -> None:
-    """The folder of a net, or its history with its summary: it ends with a status of its own if a packet isn't accounted for."""
+    """Reports on a net's folder, or its history with a summary. The exit status is a separate one if a packet isn't accounted for."""
     refuse_others(options, path)
     files, told_summary = session_of(path, summary_name)
     refuse_inputs(options.outputs, [*files, *([told_summary] if told_summary else [])])
-    if options.audit:
-        audit(files)
     with untrusted(files[0]):
-        passages, orders, lateness = read_transcript(files)
+        passages, orders, lateness, _ = read_transcript(files)
         result = match(passages, options.end * NS_PER_MS, told_drops(told_summary, passages.topology))
         line = timeline(result, orders)
-        looked = Looked(result, line, orders, lateness)
+        view = Looked(result, line, orders, lateness)
         seed = seed_in(read_front(files[0], HEAD))
-        arrows = arrows_of_net(result, options.ladder) if options.ladder else []
-        texts = list(ladder_text(arrows)) if options.ladder else list(text_of(result, line, options.top or TOP, files))
-    for text in texts:
+        texts = list(text_of(result, line, options.top or TOP, files))
+    judge = judge_of(path)
+    for text in [*texts[:-1], *(judge.lines_told() if judge else ()), *texts[-1:]]:
         show(text)
-    for remark in looked.remarks():
+    for remark in view.remarks():
         say(remark)
     if options.json:
-        write_json(options.json, look_record(result, line, files[0], seed))
-    lines = [f"{name_of_way(result, pipe)}: {as_link(words)}" for pipe, words in sorted(looked.words.items())]
-    if options.ladder:
-        draw_ladder(arrows, options, provenance(lines, files, seed))
-        return
-    for name in options.files(*PICTURES):
-        with written(name) as place:
-            save(
-                [net_drawing(looked, options.step, provenance(lines, files, seed))], str(place), format_of(name).kind, options.title
-            )
-    if not result.is_lawful:
+        record = look_record(result, line, files[0], seed)
+        write_json(options.json, record | {"not_as_said": [one.text for one in judge.faults] if judge else None})
+    draw_net(view, options, files, seed, path)
+    if not result.is_lawful or judge and judge.faults:
         sys.stdout.flush()
         sys.exit(UNLAWFUL)

@@ -1,5 +1,5 @@
-"""Which passage is the continuation of which: a packet that came to a host that is not its destination leaves it on
-another link, once, not before it came, and in the order of its flow."""
+"""The matching of passages: a packet leaves a host other than its destination on another link, once, after its arrival and in flow
+order."""
 
 from __future__ import annotations
 
@@ -9,16 +9,17 @@ from dataclasses import dataclass
 from hinge.lazy import Integers, Mask, np
 from hinge.paths.passages import NO_HOST, Passages
 from hinge.paths.scopes import Scope
-from hinge.replays.columns import numbered
 
 NONE = -1
-KINDS = ("came from nowhere", "came twice", "too early", "out of order", "lost in a host")
+MIX = 0x9E3779B97F4A7C15  # an odd number, by which products differ in all bits
+BEHIND = 3_500_000_000  # ns for which a system waits for a neighbour
+KINDS = ("came from nowhere", "came twice", "too early", "out of order", "lost in a host", "sent back to its sender")
 
 
 @dataclass(frozen=True)
 class Matched:
-    """`before` has the passage that each one continues, NONE for the first of a path; `faults` the passages that have
-    each kind of fault."""
+    """The result of the matching. `before` contains the passage that each one continues (NONE at the start of a path); `faults`
+    contains the passages with each kind of fault."""
 
     passages: Passages
     before: Integers
@@ -26,7 +27,7 @@ class Matched:
     at_the_end: int  # packets that a host may still have had
     told: int  # of those that were lost in a host, as many as the system told of
     expired: int  # packets whose time to live ended on the way
-    back: int  # packets that came back to their senders
+    back: int  # packets that came back to their senders while routing daemons changed routes, which is no fault
     faults: dict[str, Integers]
 
     @property
@@ -34,14 +35,26 @@ class Matched:
         return not any(map(len, self.faults.values()))
 
 
+def numbered(*keys: Integers) -> Integers:
+    """Returns a number for each row's combination of keys."""
+    mixture = np.zeros(len(keys[0]), np.uint64)
+    for key in keys:
+        mixture = (mixture ^ key.astype(np.uint64)) * np.uint64(MIX)
+        mixture ^= mixture >> np.uint64(32)
+    _, firsts, number = np.unique(mixture, return_index=True, return_inverse=True)
+    if any((key[firsts][number] != key).any() for key in keys):
+        return np.unique(np.stack(keys), axis=1, return_inverse=True)[1]
+    return number
+
+
 def in_order_of(*keys: Integers) -> Integers:
-    """The order in which rows with the same first key are together, by the other keys."""
+    """Returns an order that groups rows with the same first key, sorted by the other keys."""
     order: Integers = np.lexsort(keys[::-1])
     return order
 
 
 def place_in_group(group: Integers, order: Integers) -> Integers:
-    """The place of each row among those of its group, in an order that has groups together."""
+    """Returns each row's place in its group, in an order that keeps groups together."""
     sorted_group = group[order]
     begins = np.flatnonzero(np.concatenate(([True], sorted_group[1:] != sorted_group[:-1]))) if len(order) else order
     lengths = np.diff(np.append(begins, len(order)))
@@ -52,8 +65,7 @@ def place_in_group(group: Integers, order: Integers) -> Integers:
 
 @dataclass(frozen=True)
 class Handings:
-    """What hosts got to hand on, and what they sent that others had begun: passages, and by what each is known again at
-    its host."""
+    """The passages that hosts received for forwarding or sent on, with keys that identify a packet at its host."""
 
     got: Integers
     sent: Integers
@@ -75,19 +87,19 @@ class Ends:
 
 
 def is_new(passages: Passages, choice: Mask) -> Mask:
-    """Of these passages those whose host hadn't got such a packet."""
+    """Returns the chosen passages whose packets their hosts hadn't received."""
     receipts = np.flatnonzero(passages.handed >= 0)
     both, packet = np.concatenate((receipts, np.flatnonzero(choice))), np.flatnonzero(choice)
     host = np.concatenate((passages.end[receipts], passages.start[packet]))
-    key, _ = numbered(host, *passages.flow[:, both], passages.length[both], passages.content[both])
+    key = numbered(host, *passages.flow[:, both], passages.length[both], passages.content[both])
     places: Mask = np.zeros(len(passages), bool)
     places[packet] = ~np.isin(key[len(receipts) :], key[: len(receipts)])
     return places
 
 
 def ends_of(passages: Passages) -> Ends:
-    """A switch, and the jitter of a way, hand all on, whatever its addresses and its time to live are. At the ports of
-    a switch hosts may have addresses that they gave themselves, as by DHCP."""
+    """Returns the ends of passages. A switch, like a way's jitter, forwards all packets, whatever their addresses and time to live.
+    Hosts at a switch's ports may have configured their own addresses, for example by DHCP."""
     topology, switches = passages.topology, sorted(passages.topology.switches)
     goes_on, came_so = (np.isin(of, [*switches, *topology.middles()]) for of in (passages.end, passages.start))
     source, destination = (topology.scopes_of(passages.flow[at]) for at in (0, 1))
@@ -106,7 +118,7 @@ def ends_of(passages: Passages) -> Ends:
 
 
 def handings(passages: Passages, ends: Ends) -> Handings:
-    """A packet that may be handed on by each other link is one for each of them."""
+    """Returns the forwarded packets. A packet that may leave on several links counts once for each."""
     receipts, packet = np.flatnonzero((passages.handed >= 0) & ~ends.ends), np.flatnonzero(~ends.is_own)
     for_many, plain = receipts[ends.got_for_many[receipts]], receipts[~ends.got_for_many[receipts]]
     by_way = {pipe: for_many[passages.end[for_many] == start] for pipe, (start, _) in passages.topology.pipes.items()}
@@ -114,13 +126,13 @@ def handings(passages: Passages, ends: Ends) -> Handings:
     ways = [np.zeros(len(plain), np.int64), *(np.full(len(rows), pipe) for pipe, rows in by_way.items())]
     way = np.concatenate((*ways, np.where(ends.sent_for_many[packet], passages.pipe[packet], 0)))
     both, host = np.concatenate((receipts, packet)), np.concatenate((passages.end[receipts], passages.start[packet]))
-    key, _ = numbered(host, way, *passages.flow[:, both], passages.length[both], passages.content[both])
+    key = numbered(host, way, *passages.flow[:, both], passages.length[both], passages.content[both])
     return Handings(receipts, packet, key[: len(receipts)], key[len(receipts) :])
 
 
 def matched_by_places(passages: Passages, handings_on: Handings) -> tuple[Integers, Integers]:
-    """For each that was sent the place in `got` of what it continues, where the N-th that was sent came behind the N-th
-    that was got; and the keys of which that isn't so for some."""
+    """Matches each key's N-th sent packet with its N-th received packet. Returns for each sent packet its place in `got`, and the
+    keys for which that fails."""
     got_order = in_order_of(handings_on.got_key, passages.handed[handings_on.got])
     sent_order = in_order_of(handings_on.sent_key, passages.submitted[handings_on.sent])
     got_place, sent_place = place_in_group(handings_on.got_key, got_order), place_in_group(handings_on.sent_key, sent_order)
@@ -139,14 +151,14 @@ def matched_by_places(passages: Passages, handings_on: Handings) -> tuple[Intege
 def matched_one_by_one(
     passages: Passages, handings_on: Handings, match: Integers, keys: Integers
 ) -> tuple[list[int], list[int], Integers]:
-    """Mends the matches of these keys: what is sent continues the first that was got and isn't continued. The places in
-    `sent` of what continues nothing: what came from nowhere, and what had been sent before. And the earliest match that
-    each can have, since of packets that are alike nobody knows which one was sent twice."""
+    """Repairs the matches for these keys: a sent packet continues the first received packet without a continuation. Returns the
+    places in `sent` of packets without a match, invented or repeated, and the earliest match that each may have, since equal
+    packets can't be told apart."""
     receipts, packet = np.flatnonzero(np.isin(handings_on.got_key, keys)), np.flatnonzero(np.isin(handings_on.sent_key, keys))
     moments = [(int(passages.handed[handings_on.got[at]]), int(handings_on.got_key[at]), at, True) for at in receipts.tolist()]
     moments += [(int(passages.submitted[handings_on.sent[at]]), int(handings_on.sent_key[at]), at, False) for at in packet.tolist()]
     waiting: dict[int, deque[int]] = {key: deque() for key in keys.tolist()}
-    sent: dict[int, list[int]] = {key: [] for key in keys.tolist()}
+    places_of: dict[int, list[int]] = {key: [] for key in keys.tolist()}
     nowhere: list[int] = []
     twice: list[int] = []
     for _, key, at, is_got in sorted(moments):
@@ -154,27 +166,27 @@ def matched_one_by_one(
             waiting[key].append(at)
         elif waiting[key]:
             match[at] = waiting[key].popleft()
-            sent[key].append(at)
+            places_of[key].append(at)
         else:
             match[at] = NONE
-            (twice if sent[key] else nowhere).append(at)
+            (twice if places_of[key] else nowhere).append(at)
     earliest = match.copy()
     for key, copies in Counter(handings_on.sent_key[twice].tolist()).items():
-        earliest[sent[key]] = match[[sent[key][max(0, place - copies)] for place in range(len(sent[key]))]]
+        earliest[places_of[key]] = match[[places_of[key][max(0, place - copies)] for place in range(len(places_of[key]))]]
     return nowhere, twice, earliest
 
 
 def continued(passages: Passages, handings_on: Handings, match: Integers) -> Integers:
-    """The passage that each one continues by a match of what was sent, NONE for the others."""
+    """Returns the passage that each one continues under a matching; NONE for the others."""
     before = np.full(len(passages), NONE)
     before[handings_on.sent] = np.where(match != NONE, handings_on.got[match] if len(handings_on.got) else NONE, NONE)
     return before
 
 
 def out_of_order(passages: Passages, packet: Integers, before: Integers, earliest: Integers) -> Integers:
-    """Those sent behind a packet of their flow that had come later to the host, whichever of those alike it was."""
+    """Returns the passages sent after a packet in their flow that had reached the host later, whichever equal packet that was."""
     choice = packet[before[packet] != NONE]
-    flow, _ = numbered(passages.start[choice], *passages.flow[:, choice])
+    flow = numbered(passages.start[choice], *passages.flow[:, choice])
     order = in_order_of(flow, passages.submitted[choice])
     came, least = (passages.handed[of[choice]][order] for of in (before, earliest))
     base = flow[order] * (int(came.max(initial=0)) + 1)
@@ -183,19 +195,39 @@ def out_of_order(passages: Passages, packet: Integers, before: Integers, earlies
 
 
 def last_sent(passages: Passages, before: Integers, packet: Integers, receipts: Integers) -> Mask:
-    """For each packet that a host got: whether a later one of its flow was sent on."""
+    """Returns, for each received packet, whether a later packet in its flow was sent on."""
     choice = packet[before[packet] != NONE]
     host = np.concatenate((passages.end[receipts], passages.start[choice]))
-    flow, _ = numbered(host, *passages.flow[:, np.concatenate((receipts, choice))])
+    flow = numbered(host, *passages.flow[:, np.concatenate((receipts, choice))])
     last = np.full(int(flow.max(initial=0)) + 1, NONE)
     np.maximum.at(last, flow[len(receipts) :], passages.handed[before[choice]])
     is_later: Mask = last[flow[: len(receipts)]] > passages.handed[receipts]
     return is_later
 
 
+def is_rejected(passages: Passages, losses: Integers, before: Integers) -> Mask:
+    """Returns whether a host reported a lost packet, or an earlier one between the same addresses, and has forwarded none since.
+    Systems report seldom, and a silent neighbour only after seconds."""
+    rejections, (source, destination) = passages.topology.rejections, passages.flow[:2]
+
+    def sent_on(key: tuple[int, int, int]) -> Integers:
+        is_own = (passages.start == key[0]) & (source == key[1]) & (destination == key[2])
+        moments: Integers = passages.came[is_own & (before != NONE)]
+        return moments
+
+    moments = {key: (each, sent_on(key)) for key, each in rejections.items()}
+    is_answered = np.zeros(len(losses), bool)
+    for place, row in enumerate(losses.tolist()):
+        tellings, goings = moments.get((int(passages.end[row]), int(source[row]), int(destination[row])), ([], losses[:0]))
+        due = int(passages.due[row])
+        latest = max((moment for moment in tellings if moment <= due + BEHIND), default=NONE)
+        is_answered[place] = latest != NONE and not ((goings > latest) & (goings < due)).any()
+    return is_answered
+
+
 def match(passages: Passages, end: int, table: dict[int, int]) -> Matched:
-    """What came to a host less than `end` ns before the last call, and behind which nothing of its flow was sent, may
-    be there still. `told` has the packets that the system dropped before the links, by hosts."""
+    """Matches the passages. Packets that arrived less than `end` ns before the last call, with no later packet of their flow sent,
+    may still be at the host. `table` contains the packets dropped before the links, by host."""
     topology, ends = passages.topology, ends_of(passages)
     result = handings(passages, ends)
     matches, keys = matched_by_places(passages, result)
@@ -207,6 +239,8 @@ def match(passages: Passages, end: int, table: dict[int, int]) -> Matched:
     last = max(int(passages.came.max(initial=0)), int(passages.due.max(initial=0)))
     may_be_there = (passages.due[rest] > last - end) & ~last_sent(passages, earliest, result.sent, rest)
     losses = rest[~may_be_there]
+    rejections = is_rejected(passages, losses, before)
+    losses = losses[~rejections]
     hosts = passages.end[losses]
     told_of = np.array([min(int((hosts == host).sum()), count) for host, count in table.items()], np.int64)
     excess = np.array([(hosts == host).sum() > table.get(host, 0) for host in range(len(topology.hosts))], bool)
@@ -214,22 +248,11 @@ def match(passages: Passages, end: int, table: dict[int, int]) -> Matched:
     early = early[passages.came[early] < passages.due[before[early]]]
     again = result.sent[twice]
     again = again[~np.isin(passages.pipe[again], sorted(topology.copied))]
-    faults = dict(
-        zip(
-            KINDS,
-            (result.sent[nowhere], again, early, out_of_order(passages, result.sent, before, earliest), losses[excess[hosts]]),
-        )
-    )
     hand_over = passages.handed >= 0
+    back = np.flatnonzero(hand_over & ends.is_back)
+    late, unlawful = out_of_order(passages, result.sent, before, earliest), back[:0] if topology.has_daemons else back
+    faults = dict(zip(KINDS, (result.sent[nowhere], again, early, late, losses[excess[hosts]], unlawful)))
     is_last = ends.ends | ends.may_end & ~is_handed_on
     is_expired = hand_over & ends.ends & ~ends.is_there & ~ends.is_back & ~ends.got_for_many
-    return Matched(
-        passages,
-        before,
-        hand_over & is_last,
-        int(may_be_there.sum()),
-        int(told_of.sum()),
-        int(is_expired.sum()),
-        int((hand_over & ends.is_back).sum()),
-        faults,
-    )
+    counts = int(may_be_there.sum()), int(told_of.sum() + rejections.sum()), int(is_expired.sum()), len(back) * topology.has_daemons
+    return Matched(passages, before, hand_over & is_last & ~ends.is_back, *counts, faults)

@@ -1,4 +1,4 @@
-"""A net as a drawing: hosts where their links pull them, each link with the words, the load and the losses of its two ways."""
+"""The drawing of a net: hosts placed by their links' pull, and each link with both ways' words, load and losses."""
 
 from __future__ import annotations
 
@@ -6,13 +6,14 @@ import re
 from fractions import Fraction
 from typing import Optional
 
+from hinge.configurations.configured import LOSS_PARTS
 from hinge.lazy import Reals, np
 from hinge.paths.matching import Matched
 from hinge.paths.passages import BETWEEN
 from hinge.paths.report import ways
 from hinge.paths.timeline import Timeline
 from hinge.pictures.drawing import DASHED, SOLID, Edge, Graph, Node, Panel
-from hingetulip_words.elsewhere import in_units
+from hingetulip_words.foreign import in_units
 from hingetulip_words.values import plain
 
 BANDWIDTH, DELAY = re.compile(r"\bbw (\d{1,18})bit/s"), re.compile(r"\bdelay (\d+)")
@@ -24,7 +25,7 @@ WHOLE, CUT = "#606060", "#d55e00"
 
 
 def places_of(count: int, links: list[tuple[int, int]]) -> Reals:
-    """Where so many hosts stand: each pushes all others away, and links pull, as Fruchterman and Reingold have it in 1991."""
+    """Returns the hosts' places: hosts repel each other and links attract, like in Fruchterman and Reingold (1991)."""
     turn = 2 * np.pi * np.arange(count) / max(count, 1)
     places = np.column_stack((np.cos(turn), np.sin(turn)))
     ideal, pulls = np.sqrt(4 / max(count, 1)), np.zeros((count, count))
@@ -37,19 +38,26 @@ def places_of(count: int, links: list[tuple[int, int]]) -> Reals:
         length = np.maximum(np.sqrt((force**2).sum(axis=1)), 1e-9)[:, None]
         places += force / length * np.minimum(length, FIRST_STEP * (1 - part / ROUNDS))
     low, high = places.min(axis=0), places.max(axis=0)
-    fitted: Reals = (places - low) / np.maximum(high - low, 1e-9)
-    return fitted
+    in_unit: Reals = (places - low) / np.maximum(high - low, 1e-9)
+    return in_unit
 
 
 def as_link(words: str) -> str:
-    """The words of a configuration as those of a link: 12Mbit/s 10ms loss 1%."""
+    """Returns a configuration's words in a link's format, such as 12Mbit/s 10ms loss 1%."""
     words = BANDWIDTH.sub(lambda result: in_units(Fraction(result[1])), words)
-    words = LOSS.sub(lambda result: f"loss {plain(Fraction(result[1]) * 100)}%", words)
+    words = LOSS.sub(lambda result: f"loss {plain(as_typed(Fraction(result[1])) * 100)}%", words)
     return DELAY.sub(r"\1ms", words)
 
 
+def as_typed(kept: Fraction) -> Fraction:
+    """Returns the rate with fewest digits that is stored as the same rate, in parts of 2^31."""
+    return next(
+        (one for one in (round(kept, digits) for digits in range(1, 12)) if int(one * LOSS_PARTS) == int(kept * LOSS_PARTS)), kept
+    )
+
+
 def host_of(name: str) -> str:
-    """The host whose name it is, or at which the jitter of a way begins."""
+    """Returns the host with this name, or the one at which a way's jitter begins."""
     return name.partition(BETWEEN)[0]
 
 
@@ -71,7 +79,7 @@ class NetGraph:
         return [self.figures[pipe].mbit_s or 0 if pipe in self.figures else 0 for pipe in pipes]
 
     def label(self, pipes: list[int]) -> str:
-        """The words of a link's ways, once where they are the same, and what it carried and dropped."""
+        """Returns the words for a link's ways, only once if both are equal, with traffic and drops."""
         words = dict.fromkeys(as_link(self.words.get(pipe, "")) for pipe in pipes)
         drops = sum(way.lost + way.full for pipe in pipes if (way := self.figures.get(pipe)))
         rates = " and ".join(f"{rate:.3g}" for rate in self.rates(pipes))
@@ -81,17 +89,12 @@ class NetGraph:
         pipes = self.links[ends]
         is_cut = any(pipe in self.timeline.cuts for pipe in pipes)
         width = THINNEST + (THICKEST - THINNEST) * (sum(self.rates(pipes)) / most if most else 0)
-        return Edge(
-            self.hosts.index(ends[0]),
-            self.hosts.index(ends[1]),
-            self.label(pipes) if has_label else "",
-            CUT if is_cut else WHOLE,
-            width,
-            DASHED if is_cut else SOLID,
-        )
+        color, dash = (CUT, DASHED) if is_cut else (WHOLE, SOLID)
+        begin, end = map(self.hosts.index, ends)
+        return Edge(begin, end, self.label(pipes) if has_label else "", color, width, dash)
 
     def panel(self) -> Optional[Panel]:
-        """None of a net with too many hosts, or of a single link."""
+        """Returns the panel; None for a net with too many hosts, or with a single link."""
         if not 2 < len(self.hosts) <= MOST_HOSTS:
             return None
         most, has_labels = max(sum(self.rates(pipes)) for pipes in self.links.values()), len(self.links) <= MOST_WORDS

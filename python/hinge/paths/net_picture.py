@@ -1,5 +1,5 @@
-"""The picture of a net: its hosts and links, what each way carried, how long packets took on ways and on paths hop by
-hop, drops, cuts, and by how much the links were late."""
+"""A net's picture: hosts and links, each way's traffic, packets' times on ways and hop by hop, drops, cuts, and the links'
+lateness."""
 
 from __future__ import annotations
 
@@ -11,7 +11,7 @@ from hinge.paths.report import MS, Path, WayFigures, hosts_of, paths, ways
 from hinge.paths.timeline import SECOND, Looked, carried_by_way
 from hinge.pictures.drawing import DOTTED, SOLID, Bars, Drawing, Item, Key, Line, Panel, Points
 from hinge.pictures.panels import CAUSE_COLORS, COLORS, MOST_ABOVE, PIPES, RESTS, late_panel, time_of
-from hinge.pictures.series import round_step, spread
+from hinge.pictures.series import FEWEST_STEPS, round_step, rounded_down, rounded_up, spread
 from hinge.pictures.settings import capacities
 from hinge.replays.replay import EVENT_NAMES, FULL, LOST, OUT
 
@@ -19,16 +19,19 @@ PATH_COLORS = ("#332288", "#117733", "#aa4499", "#661100")  # none of them is a 
 MOST_WAYS, MOST_PATHS = len(COLORS), len(PATH_COLORS)
 MOST_DOTS = 3_000  # of a way or a path
 CUT_WIDTH = 6.0
+PACKETS_A_STEP = 4  # of the busiest way, so that a rate is no comb
 NS_PER_MS = 10**6
 
 
 class NetPicture:
     """Makes the panels of a net. The ways with most packets have a color each; the others aren't drawn."""
 
-    def __init__(self, looked: Looked, step_ms: Optional[int]) -> None:
-        result, line = looked.found, looked.timeline
-        self.looked, self.found, self.passages, self.timeline = looked, result, result.passages, line
-        self.step = step_ms * NS_PER_MS if step_ms else round_step(line.span)
+    def __init__(self, view: Looked, step_ms: Optional[int]) -> None:
+        result, line = view.found, view.timeline
+        self.looked, self.found, self.passages, self.timeline = view, result, result.passages, line
+        busiest = max((way.packets for way in ways(result)), default=1)
+        longer = min(rounded_up(PACKETS_A_STEP * line.span // busiest), rounded_down(line.span // FEWEST_STEPS))
+        self.step = step_ms * NS_PER_MS if step_ms else max(round_step(line.span), longer)
         self.count = line.span // self.step + 1
         self.edges = np.arange(self.count + 1) * self.step / SECOND
         every = sorted(ways(result), key=lambda way: -way.packets)
@@ -68,7 +71,7 @@ class NetPicture:
         return Panel("Delay on each way", "came at, s", "ms", items) if items else None
 
     def cuts(self) -> Optional[Panel]:
-        """A line for each way that was cut, while it was."""
+        """Returns a panel with a line for each way during its cuts."""
         items: list[Item] = []
         for place, (pipe, times) in enumerate(sorted(self.timeline.cuts.items()), 1):
             topology = self.passages.topology
@@ -95,7 +98,7 @@ class NetPicture:
         return [path for path in paths(self.found) if len(path.pipes) > 1][:MOST_PATHS]
 
     def of_paths(self) -> Optional[Panel]:
-        """From the first host to the last, of the paths over more than one link that had most packets."""
+        """Returns the panel of whole paths, from the first host to the last, for the busiest paths over several links."""
         items: list[Item] = []
         for path, color in zip(self.over_links(), PATH_COLORS):
             places = spread(np.arange(len(path.sent)), MOST_DOTS)
@@ -104,7 +107,7 @@ class NetPicture:
         return Panel("Delay of paths", "sent at, s", "ms", items) if items else None
 
     def hops(self) -> Optional[Panel]:
-        """What each link and each host added, of the path with most packets."""
+        """Returns the panel of the busiest path, with the time that each link and host added."""
         path = next(iter(self.over_links()), None)
         if path is None:
             return None
@@ -123,41 +126,29 @@ class NetPicture:
         return Panel(f"{' - '.join(hosts)}, hop by hop: mean per {time_of(self.step)}", "sent at, s", "ms", items)
 
     def lateness(self) -> Optional[Panel]:
-        """The most of all ways in each second, late and unread: what no link did."""
+        """Returns the panel of lateness: all ways' maximum in each second, for late and unread packets, which no link caused."""
         items = list[Line]()
         for kind, dash in (("late", SOLID), ("unread", DOTTED)):
             columns = [way[kind] for way in self.looked.lateness.values()]
             if columns:
                 moments, most = columns[0][0], np.max([values for _, values in columns], axis=0)
-                items.append(
-                    Line(
-                        f"{kind}, at most {most.max(initial=0):,.4g} ms",
-                        np.append(0, moments),
-                        np.append(most, most[-1:]),
-                        PIPES[0][0],
-                        width=1,
-                        dash=dash,
-                    )
-                )
+                x, y, name = np.append(0, moments), np.append(most, most[-1:]), f"{kind}, at most {most.max(initial=0):,.4g} ms"
+                items.append(Line(name, x, y, PIPES[0][0], width=1, dash=dash))
         return late_panel("The links' lateness, the most of each second", items)
 
     def drawing(self, below: list[str]) -> Drawing:
-        panels = [
-            NetGraph(self.found, self.timeline, self.looked.words).panel(),
-            self.throughput(),
-            self.delays(),
-            self.of_paths(),
-            self.hops(),
-            self.drops(),
-            self.cuts(),
-            self.lateness(),
-        ]
+        net = NetGraph(self.found, self.timeline, self.looked.words).panel()
+        of_paths = self.of_paths(), self.hops()
+        panels = [net, self.throughput(), self.delays(), *of_paths, self.drops(), self.cuts(), self.lateness()]
         keys = [
             Key(way.name, color, f"{way.name}: {way.packets:,} packets, {way.lost:,} lost, {way.full:,} met a full queue")
             for way, color in self.ways
         ]
-        return Drawing(panels, keys, "", self.timeline.span / SECOND, below, "Ways, those with most packets first")
+        shades = dict.fromkeys((begin / SECOND, end / SECOND) for times in self.timeline.cuts.values() for begin, end in times)
+        return Drawing(
+            panels, keys, "", self.timeline.span / SECOND, below, "Ways, those with most packets first", shades=tuple(shades)
+        )
 
 
-def net_drawing(looked: Looked, step_ms: Optional[int], below: list[str]) -> Drawing:
-    return NetPicture(looked, step_ms).drawing(below)
+def net_drawing(view: Looked, step_ms: Optional[int], below: list[str]) -> Drawing:
+    return NetPicture(view, step_ms).drawing(below)

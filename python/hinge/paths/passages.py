@@ -1,27 +1,22 @@
-"""The transcript of a net as passages: each is a packet on one way of a link, from a host to the next one."""
+"""The transcript of a net as passages. A passage is a packet on one way of a link, from a host to the next."""
 
 from __future__ import annotations
 
 import ipaddress
 import re
 from dataclasses import dataclass, field
-from typing import Iterable, NamedTuple
+from typing import Iterable, Iterator, NamedTuple
 
 from hinge.border.files import untrusted
 from hinge.captures.addresses import address_of_six
 from hinge.command import ROWS, Fault
 from hinge.lazy import Integers, np
 from hinge.paths.scopes import scopes_of
-from hinge.replays.history import Entries, HistoryReader, with_fates
-from hinge.replays.record_lines import Records, joined
+from hinge.replays.columns import NET_COLUMNS, OUT, Told, read_told
 from hinge.replays.remarks import Lateness, addresses_in, lateness_in
-from hinge.replays.replay import OUT
 
-CONTENT, DIGITS = b"#,content,", 16  # a remark, and how many hexadecimal digits it has, before a line feed
-LAST = b"#,last\n"  # before that: no host may hand the packet on
-FLOODED = b"#,flooded\n"  # or this: a switch sends it by each other link
 OUTAGE_PROTOCOL = 255  # of a packet that nobody sent
-QUEUE_OF_PIPE = re.compile(rb"^c,0,configure,queue (\d{1,18}) config .*?\bpipe (\d{1,18})", re.MULTILINE)
+QUEUE_OF_PIPE = re.compile(r"queue (\d{1,18}) config .*?\bpipe (\d{1,18})", re.ASCII)
 NO_HOST = -1
 LABEL = re.compile(r"[A-Za-z0-9][A-Za-z0-9._~-]{0,199}", re.ASCII)  # of a host, and of where the jitter of a way begins
 BETWEEN = "~"  # in the name of where the jitter of a way begins
@@ -29,7 +24,7 @@ BETWEEN = "~"  # in the name of where the jitter of a way begins
 
 @dataclass
 class Topology:
-    """The hosts of a net by their numbers, and the ways of its links by their pipes."""
+    """A net's hosts by number, and its links' ways by pipe."""
 
     hosts: list[str] = field(default_factory=list)
     numbers: dict[str, int] = field(default_factory=dict)  # by their names
@@ -42,25 +37,38 @@ class Topology:
     models: dict[int, str] = field(default_factory=dict)  # of losses, by pipes
     switches: set[int] = field(default_factory=set)
     outside: int = NO_HOST  # the host behind which all other addresses are
+    has_daemons: bool = False  # which change routes
     stand_ins: dict[int, str] = field(default_factory=dict)  # the addresses of IPv6 that they stand for
+    rejections: dict[tuple[int, int, int], list[int]] = field(
+        default_factory=dict
+    )  # by hosts and addresses: when one told so, in ns
 
     def number(self, name: str) -> int:
         if name not in self.numbers:
             if not LABEL.fullmatch(name):
-                raise ValueError(f"{name!r} is no name of a host")
+                raise ValueError(f"{name!r} isn't the name of a host")
             self.numbers[name] = len(self.hosts)
             self.hosts.append(name)
         return self.numbers[name]
 
     def read(self, text: str) -> None:
-        """Takes a remark `#,host,NAME,ADDRESS,..`, `#,pipe,N,FROM,TO`, `#,copies,N`, `#,model,N,MODEL`,
-        `#,switch,NAME` or `#,outside,NAME`."""
+        """Reads a remark `#,host,NAME,ADDRESS,..`, `#,pipe,N,FROM,TO`, `#,copies,N`, `#,model,N,MODEL`, `#,switch,NAME`,
+        `#,outside,NAME`, `#,routes,none` or `#,rejected,NS,N,HOST,FROM,TO`; the last precedes the packet that reports it."""
         _, kind, *words = text.split(",")
         if kind == "switch":
             self.switches.add(self.number(words[0]))
             return
         if kind == "outside":
             self.outside = self.number(words[0])
+            return
+        if kind == "routes":
+            self.has_daemons = True
+            return
+        if kind == "rejected":
+            moment, pipe, teller, *ends = map(int, words)
+            host = self.host_of.get(teller, NO_HOST)
+            if pipe in self.pipes and self.pipes[pipe][0] == host:  # and not on a later link
+                self.rejections.setdefault((host, ends[0], ends[1]), []).append(moment)
             return
         if kind == "copies":
             self.copied.add(int(words[0]))
@@ -79,21 +87,21 @@ class Topology:
                 self.host_of[int(ipaddress.IPv4Address(text))] = host
 
     def middles(self) -> list[int]:
-        """Where the jitter of ways begins."""
+        """Returns the points at which the ways' jitter begins."""
         return [number for number, name in enumerate(self.hosts) if BETWEEN in name]
 
     def from_switches(self) -> list[int]:
-        """Switches, and where the jitter begins of the ways that begin at one."""
+        """Returns the switches, and the jitter points of ways that begin at a switch."""
         names = {self.hosts[switch] for switch in self.switches}
         return [number for number, name in enumerate(self.hosts) if name.partition(BETWEEN)[0] in names]
 
     def to_switches(self) -> list[int]:
-        """Switches, and where the jitter begins of the ways that end at one."""
+        """Returns the switches, and the jitter points of ways that end at a switch."""
         middles = set(self.middles())
         return [*self.switches, *(start for start, end in self.pipes.values() if end in self.switches and start in middles)]
 
     def add_pipe(self, pipe: int, ends: tuple[int, int]) -> None:
-        """The pipes of a second pass, from where the jitter of a way begins, are told together: as the first of them."""
+        """Adds a pipe. Pipes of a second pass, after a way's jitter, count as the first of them."""
         self.same[pipe] = self.first.setdefault(ends, pipe) if BETWEEN in self.hosts[ends[0]] else pipe
         if self.same[pipe] == pipe:
             self.pipes[pipe] = ends
@@ -109,7 +117,7 @@ class Topology:
         return scopes_of(addresses, set(self.host_of), self.stand_ins)
 
     def hosts_of(self, addresses: Integers) -> Integers:
-        """The host of each address; for those of none the one that leads outside, or NO_HOST."""
+        """Returns the host of each address; for other addresses, the host that leads outside, or NO_HOST."""
         addresses_of_hosts = np.array(sorted(self.host_of), np.int64)
         hosts = np.array([self.host_of[address] for address in addresses_of_hosts.tolist()], np.int64)
         at = np.minimum(np.searchsorted(addresses_of_hosts, addresses), max(len(addresses_of_hosts) - 1, 0))
@@ -122,8 +130,9 @@ class Topology:
 
 @dataclass(frozen=True)
 class Passages:
-    """Columns of passages, in the order in which they were submitted. `submitted` and `handed` are the places of their
-    calls in that of all records, -1 for one that wasn't handed to a host; `line` and `file` say where the call is."""
+    """Columns of passages, in the order in which they were submitted. `submitted` and `handed` are the calls' places among all
+    records, -1 for a packet that wasn't handed to a host; `line` and `file` locate the call. `number` counts all submitted packets
+    from 1, even packets without a sender."""
 
     topology: Topology
     flow: Integers  # five columns: addresses, protocol, ports
@@ -141,117 +150,69 @@ class Passages:
     handed: Integers
     line: Integers
     file: Integers
+    number: Integers
 
     def __len__(self) -> int:
         return len(self.came)
 
 
-def content_before(records: Records) -> Integers:
-    """The number that the remark before each of these records has, 0 where there is none."""
-    data, begin = records.data, records.begin - len(CONTENT) - DIGITS - 1
-    has = begin >= 0
-    for place, letter in enumerate(CONTENT):
-        has &= data[np.maximum(begin, 0) + place] == letter
-    value = np.zeros(len(records), np.uint64)
-    for place in range(DIGITS):
-        byte = data[np.maximum(begin, 0) + len(CONTENT) + place]
-        digit = np.where(byte >= ord("a"), byte - np.uint8(ord("a") - 10), byte - np.uint8(ord("0")))
-        value = value << np.uint64(4) | digit.astype(np.uint64)
-    return np.where(has, value, np.uint64(0)).view(np.int64)
-
-
-def has_before(records: Records, remark: bytes) -> Integers:
-    """Whether a remark is the one before that on a packet's content."""
-    data, begin = records.data, records.begin - len(CONTENT) - DIGITS - 1 - len(remark)
-    has = begin >= 0
-    for place, letter in enumerate(remark):
-        has &= data[np.maximum(begin, 0) + place] == letter
-    return has.astype(np.int64)
-
-
-def remarks_of_kinds(text: bytes, kinds: Iterable[bytes]) -> list[str]:
-    """The remarks of these kinds."""
-    return [line.decode() for kind in kinds for line in re.findall(b"^#," + kind + b",.*$", text, re.M)]
-
-
-def places_of_deliveries(at: Integers, departures: Integers, packet: Integers) -> Integers:
-    """The place of the delivery of each packet, -1 for those without; the packets that left have these places."""
-    order = np.argsort(departures, kind="stable")
-    places = np.minimum(np.searchsorted(departures[order], packet), max(len(departures) - 1, 0))
-    return np.where(departures[order][places] == packet, at[order][places], -1) if len(departures) else np.full(len(packet), -1)
-
-
-class NetReader(HistoryReader):
-    """Reads a file of a transcript."""
-
-    def __init__(self, path: str, reader: Reader) -> None:
-        super().__init__(path)
-        self.reader, self.refusals = reader, list[int]()
-        self.calls, self.places = list[list[Integers]](), list[list[Integers]]()  # what belongs to calls; the places of deliveries
-
-    def note(self, text: bytes, remarks: Records) -> None:
-        super().note(text, remarks)
-        self.reader.note_remarks(text)
-        self.refusals += [int(remark.split(",")[2]) for remark in remarks_of_kinds(text, [b"refused"])]
-
-    def take(self, entries: Entries) -> None:
-        super().take(entries)
-        calls, place = entries.records.of(entries.submits), self.reader.records + self.count
-        before = [content_before(calls), has_before(calls, LAST), has_before(calls, FLOODED)]
-        self.calls.append([*before, place + entries.submits, calls.line])
-        self.places.append([place + entries.deliveries])
+def remarks_of_kinds(text: bytes, kinds: Iterable[bytes]) -> Iterator[str]:
+    """Yields the remarks of these kinds, kind by kind; a long file is never there a second time."""
+    return (found[0].decode() for kind in kinds for found in re.finditer(b"^#," + kind + b",.*$", text, re.M))
 
 
 class Reader:
-    """Reads the files of a transcript, of which the first has the remarks on hosts and pipes."""
+    """Reads the files of a transcript. The first file contains the remarks on hosts and pipes."""
 
     def __init__(self) -> None:
         self.topology = Topology()
         self.pipe_of_queue: dict[int, int] = {}
         self.changes: list[tuple[int, str]] = []
         self.columns: list[list[Integers]] = []
-        self.records, self.late = 0, b""
+        self.records, self.late, self.counts = 0, b"", [0]  # the packets before each file
 
-    def note_remarks(self, text: bytes) -> None:
-        for remark in remarks_of_kinds(text, [b"host", b"switch", b"outside", b"pipe", b"copies", b"model"]):
+    def note(self, history: Told) -> None:
+        """Takes the remarks and the changes of a file."""
+        kinds = [b"host", b"switch", b"outside", b"routes", b"pipe", b"copies", b"model"]
+        for remark in remarks_of_kinds(history.remarks, kinds):
             self.topology.read(remark)
-        self.late += b"".join(f"\n{remark}".encode() for remark in remarks_of_kinds(text, [b"late"]))
-        for queue, pipe in QUEUE_OF_PIPE.findall(text):
-            self.pipe_of_queue[int(queue)] = int(pipe)
+        self.topology.read_stand_ins(addresses_in(history.remarks))
+        for remark in remarks_of_kinds(history.remarks, [b"rejected"]):
+            self.topology.read(remark)
+        self.late += b"".join(f"\n{remark}".encode() for remark in remarks_of_kinds(history.remarks, [b"late"]))
+        self.changes += [(moment, text) for _, moment, text in history.changes]
+        for _, _, text in history.changes:
+            if found := QUEUE_OF_PIPE.match(text):
+                self.pipe_of_queue[int(found[1])] = int(found[2])
 
     def read(self, path: str) -> None:
-        """Takes the submits of a file, without those that nobody sent. Fault: a pipe has no remark on its hosts."""
-        file = NetReader(path, self)
-        file.read(path)
-        self.topology.read_stand_ins(addresses_in(file.remarks))
-        (event, _, packet), (moments, length, _), deliveries = (
-            joined(file.replies),
-            joined(file.rows.columns),
-            joined(file.deliveries),
-        )
-        event, _, due = with_fates(path, event, packet, deliveries)
-        self.changes += [(moment, text) for _, moment, text in file.changes]
-        (content, last, flooded, submits, line), (places,) = joined(file.calls), joined(file.places)
-        hand_over = places_of_deliveries(places, deliveries[0], packet)
-        hand_over = np.where((event == OUT) & ~np.isin(packet, np.array(file.refusals, np.int64)), hand_over, -1)
-        of, (kinds, numbers, *tuples) = file.rows.named.joined()
-        flow = [column[of] for column in tuples]
-        is_own = (flow[2] == OUTAGE_PROTOCOL) & (content == 0)
-        pipe = self.pipes_of(path, zip((kinds == 1).tolist(), numbers.tolist()))[of]
-        names = np.full(len(pipe), len(self.columns))
-        columns = (*flow, length, content, last, flooded, pipe, event, moments, due, submits, hand_over, line, names)
-        self.columns.append([column[~is_own] for column in columns])
-        self.records += file.count
+        """Reads the submits of a file, except those without a sender. Fault: a pipe's hosts are unknown."""
+        history = read_told(path, "net", NET_COLUMNS)
+        self.note(history)
+        get, refusals = history.rows.columns.__getitem__, [
+            int(one.split(",")[2]) for one in remarks_of_kinds(history.remarks, [b"refused"])
+        ]
+        is_handed = (get("event") == OUT) & ~np.isin(get("packet"), np.array(refusals, np.int64)) & (get("handed") >= 0)
+        submitted, handed = self.records + get("submitted"), np.where(is_handed, self.records + get("handed"), -1)
+        flow = [column[get("five_tuple")] for column in history.rows.tuples.columns()]
+        is_own = (flow[2] == OUTAGE_PROTOCOL) & (get("content") == 0)
+        pipe = self.pipes_of(path, history.rows.targets)[get("target")]
+        of_packet = (get(name) for name in ("length", "content", "last", "flooded"))
+        places = get("line"), np.full(len(pipe), len(self.columns)), self.counts[-1] + 1 + np.arange(len(pipe))
+        times = pipe, get("event"), get("at"), get("due"), submitted, handed, *places
+        self.counts.append(self.counts[-1] + len(pipe))
+        self.columns.append([column[~is_own] for column in (*flow, *of_packet, *times)])
+        self.records += history.records
 
-    def pipes_of(self, path: str, targets: Iterable[tuple[bool, int]]) -> Integers:
-        """The pipe by which each target is told. Fault: a pipe has no remark on its hosts."""
-        pipes = [self.pipe_of_queue.get(one, one) if is_queue else one for is_queue, one in targets]
+    def pipes_of(self, path: str, targets: Iterable[tuple[str, int]]) -> Integers:
+        """Returns the pipe of each target. Fault: a pipe's hosts are unknown."""
+        pipes = [self.pipe_of_queue.get(one, one) if kind == "queue" else one for kind, one in targets]
         if unknown := set(pipes) - set(self.topology.same):
             raise Fault(f"{path}: no remark says between which hosts pipe {min(unknown)} is: hinge net writes them", ROWS)
         return np.array([self.topology.same[one] for one in pipes], np.int64)
 
     def passages(self) -> Passages:
-        columns = joined(self.columns)
+        columns = [np.concatenate(parts) for parts in zip(*self.columns)]
         length, content, last, flooded, pipe = columns[5:10]
         pipes = sorted(self.topology.pipes)
         ends = np.array([self.topology.pipes[number] for number in pipes], np.int64).reshape(-1, 2)
@@ -261,19 +222,19 @@ class Reader:
 
 
 class Transcript(NamedTuple):
-    """What is read of a net's transcript: its passages, the lines that were obeyed with their moments in ns, and by how
-    much the links were late."""
+    """A net's transcript: its passages, the applied lines with their moments in ns, and the links' lateness."""
 
     passages: Passages
     obeyed: list[tuple[int, str]]
     lateness: Lateness
+    counts: list[int]  # the packets before each file, and all
 
 
 def read_transcript(paths: list[str]) -> Transcript:
-    """The transcript whose files are in their order."""
+    """Returns the transcript in these files, which are in order."""
     reader = Reader()
     for path in paths:
         with untrusted(path):
             reader.read(path)
     with untrusted(paths[0]):
-        return Transcript(reader.passages(), reader.changes, lateness_in(reader.late))
+        return Transcript(reader.passages(), reader.changes, lateness_in(reader.late), reader.counts)

@@ -1,4 +1,4 @@
-"""What is told of a net's ways and paths, and of what is wrong between the links."""
+"""The report on a net's ways, paths, and faults between the links."""
 
 from __future__ import annotations
 
@@ -30,7 +30,7 @@ class Path:
 
 @dataclass(frozen=True)
 class WayFigures:
-    """What a way of a link carried, in packets; times are in ns, None where nothing was delivered."""
+    """The traffic of a link's way in packets; times are in ns, or None if no packet arrived."""
 
     pipe: int
     ends: tuple[str, str]
@@ -52,7 +52,8 @@ class WayFigures:
 
 
 def chains(matching: Matched) -> Iterator[Integers]:
-    """The passages of packets that arrived: a row for each packet, a column for each passage; all of one array are as long."""
+    """Yields the passages of arrived packets, with a row for each packet and a column for each passage; an array's rows have equal
+    length."""
     last = np.flatnonzero(matching.is_there)
     chain = last[:, None]
     while len(chain):
@@ -62,7 +63,7 @@ def chains(matching: Matched) -> Iterator[Integers]:
 
 
 def paths(matching: Matched) -> list[Path]:
-    """Those of packets that arrived, with most packets first."""
+    """Returns the paths of packets that arrived, beginning with the busiest."""
     passages, items = matching.passages, []
     for chain in chains(matching):
         ways, number = np.unique(passages.pipe[chain], axis=0, return_inverse=True)
@@ -80,7 +81,7 @@ def hosts_of(matching: Matched, path: Path) -> list[str]:
 
 
 def ways(matching: Matched) -> list[WayFigures]:
-    """The ways that had packets."""
+    """Returns the ways with packets."""
     passages, topology, items = matching.passages, matching.passages.topology, []
     for pipe, (start, end) in sorted(topology.pipes.items()):
         own = passages.pipe == pipe
@@ -88,21 +89,11 @@ def ways(matching: Matched) -> list[WayFigures]:
         delay = (passages.due - passages.came)[out]
         mean, p99 = (int(delay.mean()), int(np.quantile(delay, 0.99, method="higher"))) if len(delay) else (None, None)
         if own.any():
-            losses, full = (int((own & (passages.event == event)).sum()) for event in (LOST, FULL))
-            span = int(np.ptp(passages.due[out])) if len(delay) else 0
-            items.append(
-                WayFigures(
-                    pipe,
-                    (topology.hosts[start], topology.hosts[end]),
-                    int(own.sum()),
-                    losses,
-                    full,
-                    int(passages.length[out].sum()),
-                    span,
-                    mean,
-                    p99,
-                )
+            packets, losses, full = (
+                int(part.sum()) for part in (own, *(own & (passages.event == event) for event in (LOST, FULL)))
             )
+            span, ends = int(np.ptp(passages.due[out])) if len(delay) else 0, (topology.hosts[start], topology.hosts[end])
+            items.append(WayFigures(pipe, ends, packets, losses, full, int(passages.length[out].sum()), span, mean, p99))
     return items
 
 
@@ -111,7 +102,7 @@ def told_or_none(value: Optional[float]) -> str:
 
 
 def of_ways(matching: Matched) -> Iterator[str]:
-    """A table of the ways that had packets."""
+    """Yields a table of the ways with packets."""
     rows: list[tuple[str, ...]] = [("way", "packets", "lost", "full", "Mbit/s", "mean ms", "p99 ms")]
     for way in ways(matching):
         times = (None if time is None else time / MS for time in (way.mean, way.p99))
@@ -122,7 +113,7 @@ def of_ways(matching: Matched) -> Iterator[str]:
 
 
 def of_paths(matching: Matched, top: int) -> Iterator[str]:
-    """A line for each path over more than one link."""
+    """Yields a line for each path over several links."""
     text = [path for path in paths(matching) if len(path.pipes) > 1]
     for path in text[:top]:
         in_links, in_hosts = path.links.mean(axis=0), path.hosts.mean(axis=0)
@@ -137,7 +128,7 @@ def of_paths(matching: Matched, top: int) -> Iterator[str]:
 
 
 def of_faults(matching: Matched, files: list[str]) -> Iterator[str]:
-    """Each kind of fault with its count and the first of its packets."""
+    """Yields each kind of fault with its count and first packets."""
     passages, topology = matching.passages, matching.passages.topology
     for kind, rows in matching.faults.items():
         if not len(rows):
@@ -156,23 +147,13 @@ def of_faults(matching: Matched, files: list[str]) -> Iterator[str]:
 
 
 def summary(matching: Matched) -> str:
-    handed_on = int((matching.before != NONE).sum())
-    more = [
-        f"{count:,} {what}"
-        for count, what in (
-            (matching.expired, "with an expired time to live"),
-            (matching.back, "back at their senders"),
-            (matching.at_the_end, "at hosts at the end"),
-            (matching.told, "dropped by the system, as it told"),
-        )
-        if count
-    ]
-    return ", ".join(
-        [
-            (
-                f"{len(matching.passages):,} packets on links, {handed_on:,} handed on by hosts,"
-                f" {int(matching.is_there.sum()) - matching.expired - matching.back:,} arrived"
-            ),
-            *more,
-        ]
-    )
+    """Returns a line with the counts of all packets; those of the last four kinds only where there are some."""
+    handed_on, arrived = int((matching.before != NONE).sum()), int(matching.is_there.sum()) - matching.expired
+    counts = {
+        "with an expired time to live": matching.expired,
+        "back at their senders, as while routes change": matching.back,
+        "at hosts at the end": matching.at_the_end,
+        "dropped by the system, as it told": matching.told,
+    }
+    more = "".join(f", {count:,} {what}" for what, count in counts.items() if count)
+    return f"{len(matching.passages):,} packets on links, {handed_on:,} handed on by hosts, {arrived:,} arrived{more}"

@@ -1,4 +1,4 @@
-"""How far an address reaches that is no host's: a group, a broadcast, or an address of one link."""
+"""The scopes of addresses that belong to no host: a group, a broadcast, or an address of one link."""
 
 from __future__ import annotations
 
@@ -31,7 +31,7 @@ def scope_of(address: Address) -> Scope:
 
 
 def scopes_of(addresses: Integers, of_hosts: set[int], six: dict[int, str]) -> Integers:
-    """The scope of each address, as a number: of IPv4, or a stand-in for one of IPv6. `of_hosts` are those of hosts,
+    """Returns each address's scope as a number; for IPv6, the address is a stand-in. `of_hosts` contains the hosts' addresses,
     whose networks have broadcasts."""
     broadcasts = {address | LAST_OF_NETWORK for address in of_hosts if address not in six} - of_hosts
     used, place = np.unique(addresses, return_inverse=True)

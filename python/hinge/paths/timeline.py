@@ -1,5 +1,4 @@
-"""What was changed in a net while it ran, and what each way carried in the meantime, as text: a row for each way, a
-letter for each step."""
+"""A net's changes during a run and each way's traffic, as text: a row for each way, a character for each step."""
 
 from __future__ import annotations
 
@@ -26,7 +25,7 @@ ALL = re.compile(r"0*1(\.0*)?", re.ASCII)
 
 
 class WayChange(NamedTuple):
-    """What a pipe is from a moment on, in ns, in the words of a configuration; `is_cut` where it loses all packets."""
+    """A pipe's configuration from a moment (ns) on; `is_cut` if it loses all packets."""
 
     moment: int
     pipe: int
@@ -45,7 +44,7 @@ class Timeline:
 
 
 class Looked(NamedTuple):
-    """What is read of a net's folder."""
+    """The content of a net's folder."""
 
     found: Matched
     timeline: Timeline
@@ -54,7 +53,7 @@ class Looked(NamedTuple):
 
     @property
     def words(self) -> dict[int, str]:
-        """What each pipe was at first, in the words of a configuration."""
+        """Returns the first configuration of each pipe."""
         changes = [change for moment, text in self.obeyed if (change := read_change(moment, text))]
         return {change.pipe: with_model(self.found, change) for change in reversed(changes)}
 
@@ -74,7 +73,7 @@ def read_change(moment: int, text: str) -> WayChange | None:
 
 
 def with_model(matching: Matched, change: WayChange) -> str:
-    """The words of a change, with a model of losses in the place of the rate under which it decides."""
+    """Returns the words of a change, with the model that decides about losses in place of a rate."""
     model = matching.passages.topology.models.get(change.pipe)
     return BY_MODEL.sub(f"loss {model}", change.words) if model else change.words
 
@@ -106,7 +105,7 @@ def name_of_way(matching: Matched, pipe: int) -> str:
 
 
 def told_changes(matching: Matched, line: Timeline) -> Iterator[str]:
-    """A line for the changes of one kind that were made at once."""
+    """Yields a line for the simultaneous changes of each kind."""
     groups: list[list[WayChange]] = []
     for change in line.changes:
         like = [
@@ -125,7 +124,7 @@ def words_of_change(change: WayChange) -> str:
 
 
 def carried_by_way(matching: Matched, pipe: int, step: int, count: int) -> Reals:
-    """Mbit/s of a way in each step of so many ns."""
+    """Returns the Mbit/s of a way in each step of `step` ns."""
     passages = matching.passages
     out = (passages.pipe == pipe) & (passages.event == OUT)
     bits = np.bincount(passages.due[out] // step, weights=passages.length[out] * 8, minlength=count)[:count]
@@ -144,7 +143,7 @@ def row_of(rates: Reals, cuts: list[tuple[int, int]], step: int, blocks: str) ->
 
 
 def chart(matching: Matched, line: Timeline, busiest: list[WayFigures]) -> Iterator[str]:
-    """The rows of the ways, each by its own most, with x where it was cut."""
+    """Yields the ways' rows, each scaled to its maximum, with x for cuts."""
     if not busiest or not line.span:
         return
     width = max(len(way.name) for way in busiest)

@@ -1,1 +1,1 @@
-"""Pictures and tables of a replay."""
+"""Pictures and tables of replays."""

@@ -1,11 +1,11 @@
-"""Pictures by matplotlib: the panels of a replay, or of several beside each other."""
+"""Pictures drawn with matplotlib: the panels for a replay, or for several replays side by side."""
 
 from __future__ import annotations
 
 import logging
 import textwrap
 from functools import singledispatch
-from typing import TYPE_CHECKING, Optional, Sequence
+from typing import TYPE_CHECKING, Sequence
 
 from hinge.command import module, working
 from hinge.lazy import Reals, np
@@ -20,23 +20,24 @@ BELOW_WIDTH, BELOW_LINES = 165, 6
 BEHIND = 1.5  # matplotlib's order of a line that those of flows cover
 DASHES = {SOLID: "-", DASHED: "--", DOTTED: ":", MIXED: "-.", DENSE: (0, (8, 2))}
 NAME_ROOM = 0.078  # of a panel's height that a row of names takes
-LINE_INCHES = 0.19
+LINE_INCHES, KEY_COLUMNS = 0.19, 2
+SHADE = {"color": "#d55e00", "alpha": 0.12, "lw": 0, "zorder": 0}  # of a time in which a link lost or held all packets
 LABEL_BOX = {"boxstyle": "round,pad=0.15", "facecolor": "#ffffff", "edgecolor": "none", "alpha": 0.75}
 TIMES: dict[str, dict[str, None]] = {"svg": {"Date": None}, "pdf": {"CreationDate": None}}  # which aren't written
 
 
 def title_lines(title: str, width: int = TITLE_WIDTH) -> list[str]:
-    """A title in a few lines; what doesn't fit is left out."""
+    """Returns a title in a few lines; the rest is left out."""
     return textwrap.wrap(title, width, max_lines=TITLE_LINES, placeholder=" ..")
 
 
 def below_lines(below: list[str], width: int = BELOW_WIDTH) -> list[str]:
-    """What is written under a picture, in a few lines each."""
+    """Returns the text under a picture, split into lines."""
     return [line for text in below for line in textwrap.wrap(text, width, max_lines=BELOW_LINES, placeholder=" ..")]
 
 
 def as_written(text: str) -> str:
-    """A text that matplotlib takes for no formula."""
+    """Returns a text that matplotlib doesn't interpret as a formula."""
     return text.replace("$", r"\$")
 
 
@@ -48,19 +49,9 @@ def draw(item: object, axes: Axes, base: Reals) -> Reals:
 
 @draw.register(Line)
 def draw_line(item: Line, axes: Axes, base: Reals) -> Reals:
-    style = {"drawstyle": "steps-post"} if item.steps else {}
-    more = {"zorder": BEHIND} if item.is_behind else {}
-    axes.plot(
-        item.x,
-        item.y,
-        color=item.color,
-        lw=item.width,
-        ls=DASHES[item.dash],
-        solid_capstyle="butt",
-        label=item.name,
-        **style,
-        **more,
-    )
+    style = {"color": item.color, "lw": item.width, "ls": DASHES[item.dash], "solid_capstyle": "butt", "label": item.name}
+    style |= {"drawstyle": "steps-post"} if item.steps else {}
+    axes.plot(item.x, item.y, **style, **({"zorder": BEHIND} if item.is_behind else {}))
     return base
 
 
@@ -74,15 +65,8 @@ def draw_band(item: Band, axes: Axes, base: Reals) -> Reals:
 
 @draw.register(Points)
 def draw_points(item: Points, axes: Axes, base: Reals) -> Reals:
-    axes.plot(
-        item.x,
-        item.y,
-        "x" if item.is_cross else ".",
-        ms=4 if item.is_cross else 2,
-        color=item.color,
-        label=item.name,
-        rasterized=True,
-    )
+    mark, size = ("x", 4) if item.is_cross else (".", 2)
+    axes.plot(item.x, item.y, mark, ms=size, color=item.color, label=item.name, rasterized=True)
     return base
 
 
@@ -96,35 +80,13 @@ def draw_bars(item: Bars, axes: Axes, base: Reals) -> Reals:
 @draw.register(Graph)
 def draw_graph(item: Graph, axes: Axes, base: Reals) -> Reals:
     for edge in item.edges:
-        ends = (item.nodes[edge.begin], item.nodes[edge.end])
-        axes.plot(
-            [node.x for node in ends],
-            [node.y for node in ends],
-            color=edge.color,
-            lw=edge.width,
-            ls=DASHES[edge.dash],
-            zorder=BEHIND,
-        )
-        axes.text(
-            sum(node.x for node in ends) / 2,
-            sum(node.y for node in ends) / 2,
-            as_written(edge.label),
-            fontsize=7,
-            ha="center",
-            va="center",
-            bbox=LABEL_BOX,
-        )
+        one, other = item.nodes[edge.begin], item.nodes[edge.end]
+        axes.plot([one.x, other.x], [one.y, other.y], color=edge.color, lw=edge.width, ls=DASHES[edge.dash], zorder=BEHIND)
+        middle = (one.x + other.x) / 2, (one.y + other.y) / 2
+        axes.text(*middle, as_written(edge.label), fontsize=7, ha="center", va="center", bbox=LABEL_BOX)
     for node in item.nodes:
-        shape = "square" if node.is_switch else "round"
-        axes.text(
-            node.x,
-            node.y,
-            as_written(node.name),
-            fontsize=9,
-            ha="center",
-            va="center",
-            bbox={"boxstyle": shape, "facecolor": "#ffffff", "edgecolor": "#000000"},
-        )
+        box = {"boxstyle": "square" if node.is_switch else "round", "facecolor": "#ffffff", "edgecolor": "#000000"}
+        axes.text(node.x, node.y, as_written(node.name), fontsize=9, ha="center", va="center", bbox=box)
     axes.set_axis_off()
     axes.margins(0.15)
     return base
@@ -140,7 +102,7 @@ def draw_panel(axes: Axes, panel: Panel) -> None:
 
 
 def finish_panel(axes: Axes, panel: Panel, drawing: Drawing) -> int:
-    """The limits, the grid and the names of what isn't a flow's; returns how many rows these have."""
+    """Sets the limits and the grid, and names items other than flows; returns the number of rows with names."""
     axes.grid(alpha=0.3)
     if panel.from_zero:
         axes.update_datalim([(0, 0)], updatex=False)
@@ -148,13 +110,15 @@ def finish_panel(axes: Axes, panel: Panel, drawing: Drawing) -> int:
         axes.set_ylim(bottom=0)
     if panel.most is not None:
         axes.set_ylim(0, panel.most)
-    if panel.is_down:
-        axes.invert_yaxis()
     if panel.names:
         axes.set_xticks(range(len(panel.names)), [as_written(name) for name in panel.names])
+    if panel.rows:
+        axes.set_yticks([number + 0.5 for number in range(len(panel.rows))], [as_written(name) for name in panel.rows])
     if panel.has_time and drawing.seconds:
         margin = 0.02 * drawing.seconds
         axes.set_xlim(-margin, drawing.seconds + margin)
+        for begin, end in drawing.shades:
+            axes.axvspan(begin, end, **SHADE)
     if panel.is_whole:
         axes.yaxis.get_major_locator().set_params(integer=True)
     flows = {key.name for key in drawing.keys}
@@ -172,31 +136,21 @@ def make_room(axes: Axes, rows: int) -> None:
         axes.set_ylim(low, low + (high - low) / (1 - NAME_ROOM * rows - 0.03))
 
 
-def name_flows(fig: Figure, cell: Optional[Axes], column: Sequence[Axes], drawing: Drawing) -> float:
-    """The names of the flows with their colors, in a cell of their own or below all panels; returns the inches that
-    they take below."""
+def name_flows(fig: Figure, column: Sequence[Axes], drawing: Drawing, several: bool, top: float) -> float:
+    """Writes the names of flows with their colors above the panels, `top` inches below the upper edge; returns their height in inches."""
     handles = {label: handle for axes in reversed(column) for handle, label in zip(*axes.get_legend_handles_labels())}
-    view = [handles[key.name] for key in drawing.keys]
-    if cell is not None:
-        cell.axis("off")
-        cell.legend(
-            view, [as_written(key.told) for key in drawing.keys], loc="center", fontsize=9, frameon=False, title=drawing.of_keys
-        )
+    labels = [as_written(key.name if several else key.told) for key in drawing.keys]
+    if not labels:
         return 0
-    fig.legend(
-        view,
-        [as_written(key.name) for key in drawing.keys],
-        loc="lower center",
-        ncol=min(len(view), 3) or 1,
-        fontsize=8,
-        frameon=False,
-    )
-    return 0.2 * -(-len(view) // 3) + 0.1
+    lines = -(-len(labels) // KEY_COLUMNS) * max(label.count("\n") + 1 for label in labels)
+    place = {"loc": "upper center", "bbox_to_anchor": (0.5, 1 - top / fig.get_figheight()), "ncol": KEY_COLUMNS}
+    style = {"fontsize": 8, "frameon": False, "title": drawing.of_keys, "title_fontsize": 9}
+    fig.legend([handles[key.name] for key in drawing.keys], labels, **place, **style)
+    return LINE_INCHES * lines + 0.1
 
 
 def draw_columns(drawings: list[Drawing], rows: list[int], cells: list[Sequence[Axes]]) -> None:
-    """A column of the panels with these numbers for each replay. The limits come when all are drawn, since panels of a
-    row share them."""
+    """Draws a column of panels for each replay. Limits are set afterwards, since the panels of a row share them."""
     lines_with_places = [
         (axis, drawing, drawing.panels[row]) for drawing, column in zip(drawings, cells) for row, axis in zip(rows, column)
     ]
@@ -211,7 +165,7 @@ def draw_columns(drawings: list[Drawing], rows: list[int], cells: list[Sequence[
 
 
 def figure(drawings: list[Drawing], title: str) -> Figure:
-    """The figure: two columns of panels of one replay, or a column for each of several, with the same axes in a row."""
+    """Returns the figure: two columns of panels for one replay, or a column for each of several with common axes in each row."""
     pyplot = module("matplotlib.pyplot", "python3-matplotlib")
     rows = [row for row, panels in enumerate(zip(*(drawing.panels for drawing in drawings))) if any(panels)]
     several = len(drawings) > 1
@@ -221,41 +175,34 @@ def figure(drawings: list[Drawing], title: str) -> Figure:
         )
         cells = list(axes.T)
     else:
-        height = len(rows) // 2 + 1  # with a cell for the names
-        fig, axes = pyplot.subplots(height, 2, figsize=(13, drawings[0].row_inches * height))
+        columns = min(2, len(rows))
+        height = -(-len(rows) // columns)
+        fig, axes = pyplot.subplots(height, columns, figsize=(13, drawings[0].row_inches * height), squeeze=False)
         cells = [list(axes.flat)]
     draw_columns(drawings, rows, cells)
     for drawing, column in zip(drawings, cells):
         if several:
             column[0].set_title(f"{as_written(drawing.name)}\n{column[0].get_title()}")
-    spare = [] if several else cells[0][len(rows) :]
-    names = name_flows(fig, spare[0] if spare else None, cells[0], drawings[0])
-    for cell in spare[1:]:
+    for cell in [] if several else cells[0][len(rows) :]:
         cell.set_axis_off()
-    frame(fig, names, title_lines(title), below_lines(drawings[0].below))
+    frame(fig, cells[0], drawings[0], several, title_lines(title))
     return fig
 
 
-def frame(fig: Figure, names: float, title: list[str], below: list[str]) -> None:
-    """The title above all panels, and what is written below them, where names of flows may take so many inches."""
-    height = fig.get_figheight()
-    fig.suptitle(as_written("\n".join(title)))
-    foot = LINE_INCHES * len(below) + names
+def frame(fig: Figure, column: Sequence[Axes], drawing: Drawing, several: bool, title: list[str]) -> None:
+    """Writes the title and the names of flows above all panels, and the text below them."""
+    below = below_lines(drawing.below)
+    fig.set_figheight(fig.get_figheight() + LINE_INCHES * -(-len(drawing.keys) // KEY_COLUMNS))
+    height, top = fig.get_figheight(), 0.25 * len(title) + 0.1
+    fig.suptitle(as_written("\n".join(title)), y=1 - 0.1 / height, va="top")
+    top += name_flows(fig, column, drawing, several, top)
     if below:
-        fig.text(
-            0.01,
-            (names + 0.06) / height,
-            as_written("\n".join(below)),
-            fontsize=7.5,
-            color="#444444",
-            va="bottom",
-            family="monospace",
-        )
-    fig.tight_layout(rect=(0, (foot + 0.1 * bool(below)) / height, 1, 1 - 0.25 * len(title) / height))
+        fig.text(0.01, 0.06 / height, as_written("\n".join(below)), fontsize=7.5, color="#444444", va="bottom", family="monospace")
+    fig.tight_layout(rect=(0, (LINE_INCHES * len(below) + 0.1 * bool(below)) / height, 1, 1 - top / height))
 
 
 def begin_drawing() -> None:
-    """Has matplotlib need no screen, and say nothing of its own folders."""
+    """Configures matplotlib to work without a screen and without messages on its folders."""
     logging.getLogger("matplotlib").setLevel(logging.ERROR)
     module("matplotlib", "python3-matplotlib").use("Agg")
 
@@ -268,6 +215,6 @@ def save(drawings: list[Drawing], path: str, kind: str, title: str) -> None:
 
 
 def save_figure(fig: Figure, path: str, kind: str) -> None:
-    """Without the time and without names that are drawn, so that the same picture has the same bytes."""
+    """Saves a figure without the time and random names, so that equal pictures have equal bytes."""
     with module("matplotlib", "python3-matplotlib").rc_context({"svg.hashsalt": "hinge"}):
         fig.savefig(path, format=kind, dpi=100, metadata=TIMES.get(kind))

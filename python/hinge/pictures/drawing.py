@@ -1,5 +1,5 @@
-"""What a picture shows: panels of lines, bands, points and bars. matplotlib (chart) and a page (html_page) draw the
-same of it."""
+"""The content of a picture: panels of lines, bands, points and bars. matplotlib (chart) and the page (html_page) draw the same
+content."""
 
 from __future__ import annotations
 
@@ -14,7 +14,8 @@ SOLID, DASHED, DOTTED, MIXED, DENSE = "solid", "dash", "dot", "dashdot", "longda
 
 @dataclass(frozen=True)
 class Line:
-    """A line; of the flow with this number, if it is one's. With `steps` each value holds up to the next moment."""
+    """A line; `flow` is the number of the flow that the line represents, if any. With `steps` each value holds up to the next
+    moment."""
 
     name: str
     x: Reals
@@ -29,8 +30,7 @@ class Line:
 
 @dataclass(frozen=True)
 class Band:
-    """Between `low` and `high`, with a line in the middle, step by step; `x` has one end more. A step without a value
-    has nan."""
+    """A band between `low` and `high` with a middle line, in steps; `x` contains the final end too. Steps without a value are nan."""
 
     name: str
     x: Reals
@@ -43,7 +43,7 @@ class Band:
 
 @dataclass(frozen=True)
 class Points:
-    """Packets, at these places of the replay."""
+    """Packets, as places of the replay."""
 
     name: str
     places: Integers
@@ -56,7 +56,7 @@ class Points:
 
 @dataclass(frozen=True)
 class Bars:
-    """Counts of steps of one width, above those of the bars before."""
+    """Counts in steps of equal width, stacked on the bars before."""
 
     name: str
     begins: Reals
@@ -78,7 +78,7 @@ class Node:
 
 @dataclass(frozen=True)
 class Edge:
-    """A link between two nodes, by their numbers."""
+    """A link between two nodes."""
 
     begin: int
     end: int
@@ -101,7 +101,7 @@ Item = Union[Line, Band, Points, Bars, Graph]
 
 @dataclass(frozen=True)
 class Panel:
-    """A panel with its axes. `notes` are told beside the names of what isn't a flow's."""
+    """A panel with its axes. `notes` appear beside the names of items other than flows."""
 
     title: str
     across: str
@@ -112,13 +112,13 @@ class Panel:
     has_time: bool = True
     is_whole: bool = False  # its values are whole numbers
     most: Optional[float] = None  # of the axis up, where that isn't by the values
-    is_down: bool = False  # its axis up goes down
     names: list[str] = field(default_factory=list)  # of 0, 1, 2 .. of the axis across
+    rows: list[str] = field(default_factory=list)  # names of 0.5, 1.5, 2.5 .. of the axis up
 
 
 @dataclass(frozen=True)
 class Key:
-    """The name of a flow with its color, and what is told of it."""
+    """A flow's name, color and note."""
 
     name: str
     color: str
@@ -127,7 +127,7 @@ class Key:
 
 @dataclass(frozen=True)
 class Drawing:
-    """A picture of one replay. A panel is None if it would be empty."""
+    """A picture of a replay. Empty panels are None."""
 
     panels: list[Optional[Panel]]
     keys: list[Key]
@@ -136,3 +136,4 @@ class Drawing:
     below: list[str] = field(default_factory=list)
     of_keys: str = "Flows, the largest first"
     row_inches: float = 3.75
+    shades: tuple[tuple[float, float], ...] = ()  # s from which to which a link lost or held all packets

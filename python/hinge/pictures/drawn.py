@@ -1,24 +1,25 @@
-"""Pictures and pages of replays: their series with the same flows and steps, side by side."""
+"""Pictures and pages of replays: series with common flows and steps, side by side."""
 
 from __future__ import annotations
 
+from dataclasses import replace
 from typing import Optional
 
 from hinge.arguments import LookOptions
 from hinge.outputs import Format, format_of, written
+from hinge.paths.net_graph import as_link
 from hinge.pictures.chart import save
-from hinge.pictures.html_page import save_page
+from hinge.pictures.html_page import HtmlPage, save_page, teller
 from hinge.pictures.panels import MOST_FLOWS, drawing
 from hinge.pictures.provenance import provenance, with_models
-from hinge.pictures.series import NS_PER_MS, Series, fitting_step, series, span_of
+from hinge.pictures.series import NS_PER_MS, NS_PER_S, Series, fitting_step, series, span_of
 from hinge.replays.explain import Explainer
 from hinge.replays.groups import group
 from hinge.replays.source import Source
 
 
 def series_of(sources: list[Source], by: str, top: Optional[int], step_ms: Optional[int]) -> list[Series]:
-    """The series of each source. All of them are of one packet file, so they have the same flows, unless these are
-    dummynet's own."""
+    """Returns the series of each source. Sources of one packet file share flows, unless they are dummynet's flows."""
     replays = [source.replay for source in sources]
     span = span_of(replays)
     step_ns = step_ms * NS_PER_MS if step_ms else fitting_step(replays, span)
@@ -29,20 +30,34 @@ def series_of(sources: list[Source], by: str, top: Optional[int], step_ms: Optio
 
 
 def provenance_of(sources: list[Source]) -> list[str]:
-    """What is written under a picture of all of these, which have one configuration."""
+    """Returns the text under a picture of these sources, which share a configuration."""
     names = [name for source in sources for name in source.files]
     lines = with_models([text for _, text in sources[0].changes], sources[0].replay.packets)
+    if of_run(sources[0]):
+        lines = [f"{name}: {as_link(words) or 'no limit'}" for name, _, words in (line.partition(" config ") for line in lines)]
     return provenance(lines, list(dict.fromkeys(names)), sources[0].seed)
 
 
+def of_run(source: Source) -> str:
+    """The link of a run in the words that a user types: of a session with a seed, whose pipes 1 and 2 are the two ways."""
+    first = [next((text for _, text in source.changes if text.startswith(f"pipe {number} config")), None) for number in (1, 2)]
+    if source.seed is None or None in first or {kind for kind, _ in source.replay.packets.targets} != {"pipe"}:
+        return ""
+    up, down = (as_link(str(text).partition(" config")[2].strip()) or "no limit" for text in first)
+    return up if up == down else f"up {up}, down {down}"
+
+
 def draw_sources(sources: list[Source], path: str, options: LookOptions) -> None:
-    """The picture that the command line asks for; a page is of one source."""
+    """Draws the picture or the page of the command line. A page shows a single source."""
     result = series_of(sources, options.by, options.top, options.step)
     drawings = [drawing(one, provenance_of(sources)) for one in result]
-    is_page = format_of(path) is Format.PAGE
-    explainer = Explainer(sources[0].parts) if is_page and sources[0].parts else None
+    is_page, title = format_of(path) is Format.PAGE, options.title or of_run(sources[0])
+    explainer = Explainer(sources[0].parts) if sources[0].parts and (is_page or sources[0].seed) else None
+    if explainer is not None:
+        spans = explainer.shades(result[0].steps.span)
+        drawings[0] = replace(drawings[0], shades=tuple(sorted((begin / NS_PER_S, end / NS_PER_S) for begin, end in spans)))
     with written(path) as place:
         if is_page:
-            save_page(result[0], explainer, drawings[0], str(place), options.title)
+            save_page(HtmlPage(drawings[0], teller(result[0], explainer), result[0]), str(place), title)
         else:
-            save(drawings, str(place), format_of(path).kind, options.title)
+            save(drawings, str(place), format_of(path).kind, title)

@@ -1,5 +1,4 @@
-"""The figures of a flow: what it offered and what was carried, its drops, and the delays of what arrived, in whole
-ns."""
+"""A flow's figures: offered and carried traffic, drops, and delays, in ns."""
 
 from __future__ import annotations
 
@@ -20,15 +19,14 @@ RECENT = 1 << 12  # packets
 
 @dataclass(frozen=True)
 class Figures:
-    """The figures of one flow by name. Rates are in Mbit/s, what ends in `_ns` in ns, and None is what no packet
-    tells."""
+    """A flow's figures by name. Rates are in Mbit/s, names with `_ns` in ns; None means that no packet determines the figure."""
 
     name: str
     value: dict[str, Optional[int | float]]
 
 
 def exact_sum(column: Integers) -> int:
-    """A sum that may be greater than a column's numbers can be."""
+    """Returns a sum that may exceed the range of the column's numbers."""
     return (int((column >> 32).sum()) << 32) + int((column & LOW).sum())
 
 
@@ -38,21 +36,21 @@ def mean(column: Integers) -> Optional[int]:
 
 
 def percentiles(took: Integers) -> dict[str, Optional[int]]:
-    """By nearest rank: the least delay that so many of a hundred don't exceed."""
+    """Returns percentiles by nearest rank: the smallest delay that a given percentage doesn't exceed."""
     ranks = {part: -(-part * len(took) // 100) - 1 for part in PERCENTILES}
     order = np.partition(took, list(ranks.values())) if len(took) else took
     return {f"p{part}_ns": int(order[rank]) if len(took) else None for part, rank in ranks.items()}
 
 
 def rate(lengths: Integers, moments: Integers) -> Optional[float]:
-    """Mbit/s from the first to the last moment, None where there is no time between them."""
+    """Returns the Mbit/s from the first to the last moment, or None if they are equal."""
     span = int(moments.max()) - int(moments.min()) if len(moments) else 0
     return int(lengths.sum()) * 8000 / span if span else None
 
 
 def jitter(took: Integers) -> Optional[int]:
-    """RFC 3550's interarrival jitter after the last of these packets, in order of arrival (its appendix A.8), in ns. The last few
-    tell it alone, where they lead to the same from the least and from the greatest that it can have been before."""
+    """Returns RFC 3550's interarrival jitter (appendix A.8) in ns after the last of these packets, in order of arrival. The last
+    few packets suffice if the smallest and the greatest possible earlier jitter lead to the same result."""
     if len(took) < 2:
         return None
     most, count = int(took.max()) - int(took.min()), RECENT
@@ -65,21 +63,20 @@ def jitter(took: Integers) -> Optional[int]:
 
 
 def jitter_after(sixteenfold: int, delays: list[int]) -> int:
-    """The jitter after packets with these delays, from sixteen times that after the first of them."""
+    """Returns the jitter after packets with these delays, from sixteen times the jitter after the first one."""
     for change in map(int.__abs__, map(int.__sub__, delays[1:], delays)):
         sixteenfold += change - (sixteenfold + 8 >> 4)
     return sixteenfold >> 4
 
 
 def times(replay: Replay, out: Integers, came: Integers) -> tuple[Integers, Integers, Optional[int], Optional[int]]:
-    """Due moments and delays of the packets at these places, which came at these moments, and the means of the parts of the delays."""
+    """Returns packets' due moments and delays, with the means of the delays' parts."""
     start, due = replay.start[out], replay.due[out]
     return due, due - came, mean(start - came), mean(due - start)
 
 
 def figures(name: str, replay: Replay, parts: Optional[Parts], places: Optional[Integers] = None) -> Figures:
-    """The figures of a flow, whose rows are at these places, or of all rows, which have no jitter. The parts of the delay need the
-    configuration."""
+    """Returns a flow's figures, or those of all rows, without jitter. The parts of delays need the configuration."""
     columns = replay.event, replay.packets.length, replay.at
     event, length, at = columns if places is None else (column[places] for column in columns)
     is_out = event == OUT
@@ -101,12 +98,12 @@ def figures(name: str, replay: Replay, parts: Optional[Parts], places: Optional[
     if parts is None:
         value["sending_and_delay_ns"] = sending
     else:
-        value["transmission_ns"], value["link_delay_ns"] = mean(parts.transmission[out]), mean(parts.delay[out])
+        value["transmission_ns"], value["link_delay_ns"] = mean(parts.transmission[out]), mean((parts.delay + parts.behind)[out])
     return Figures(name, value)
 
 
 def table_of(replay: Replay, parts: Optional[Parts], by: str = "tuple", top: int = TABLE_FLOWS) -> list[Figures]:
-    """The figures of the largest flows, of the rest as one, and of all rows."""
+    """Returns the figures for the largest flows, for the other flows together, and for all rows."""
     flows = group(replay, by).largest(replay.packets.length, top)
     return [*(figures(name, replay, parts, places) for name, places in flows.places()), figures("all", replay, parts)]
 

@@ -1,5 +1,4 @@
-"""A picture as a page of one file, without network: zoom in, and over a packet read what happened to it. page.html draws it,
-by its own script, from the points that are packed here."""
+"""A picture as a self-contained page: users zoom, and read each packet's course. page.html draws the packed points."""
 
 from __future__ import annotations
 
@@ -14,22 +13,22 @@ from typing import Any, Callable, Iterator, Optional
 from hinge.command import Progress
 from hinge.lazy import Integers, Reals, np
 from hinge.pictures.chart import below_lines, title_lines
-from hinge.pictures.drawing import Band, Bars, Drawing, Line, Panel, Points
+from hinge.pictures.drawing import Band, Bars, Drawing, Graph, Line, Panel, Points
 from hinge.pictures.panels import DELAYS, Panels
-from hinge.pictures.series import Series, thinned
+from hinge.pictures.series import Series, spread, thinned
 from hinge.replays.explain import Explainer
 from hinge.replays.replay import EVENT_NAMES, HELD
 from hinge.replays.units import ms
 
 PAGE = Path(__file__).with_name("page.html")
 PACKING = 6  # gzip's level
-MOST_TOLD = 6_000  # packets that left and are told of on a page
+MOST_TOLD, MOST_OF_WAY = 6_000, 500  # packets that left and are told of on a page, and of each way of a net
 TITLE_WIDTH, BELOW_WIDTH = 140, 200
 Part = dict[str, Any]  # what the page draws by one path
 
 
 def teller(flows_in_time: Series, explainer: Explainer | None) -> Callable[[int], str]:
-    """What is read over a packet: the paragraph of `why`, or without a configuration the parts that the report has."""
+    """Returns the function for a packet's text: the paragraph of `why`, or without a configuration the report's values."""
     replay = flows_in_time.replay
     if explainer is not None:
         paragraph = explainer.paragraph
@@ -45,8 +44,8 @@ def teller(flows_in_time: Series, explainer: Explainer | None) -> Callable[[int]
 
 
 def outline(edges: Reals, low: Reals, high: Reals) -> tuple[Reals, Reals]:
-    """The outline of steps between two values: for each run of steps with values along the top and back below it, and then
-    a gap. So nothing is filled in a pause."""
+    """Returns the outline of steps between two values: each run of steps with values goes along the top and back along the bottom,
+    followed by a gap, so that pauses stay empty."""
     has_value = np.zeros(len(low) + 2, np.int8)
     has_value[1:-1] = np.isfinite(low)
     turns = np.flatnonzero(np.diff(has_value))
@@ -69,20 +68,20 @@ def group_of(name: str, flow: Optional[int]) -> str:
 
 
 def part(item: Line | Band | Points | Bars, x: Reals, y: Reals, **style: object) -> Part:
-    named = {"name": item.name, "group": group_of(item.name, item.flow), "color": item.color}
-    return {**named, "x": numbers(x), "y": numbers(y), "width": 1.5, **style}
+    head = {"name": item.name, "group": group_of(item.name, item.flow), "color": item.color}
+    return {**head, "x": numbers(x), "y": numbers(y), "width": 1.5, **style}
 
 
 class HtmlPage:
-    """Makes what a page draws of a replay."""
+    """Prepares the data of a replay, or of a net without series, for a page. `tell` returns the text on a packet."""
 
-    def __init__(self, flows_in_time: Series, explainer: Explainer | None, drawing: Drawing) -> None:
-        self.found, self.drawing, self.tell = flows_in_time, drawing, teller(flows_in_time, explainer)
+    def __init__(self, drawing: Drawing, tell: Callable[[int], str], flows_in_time: Optional[Series] = None) -> None:
+        self.found, self.drawing, self.tell = flows_in_time, drawing, tell
         self.progress, self.told, self.base = Progress("packets told of"), 0, np.zeros(0)
 
     @singledispatchmethod
     def parts(self, item: object) -> Iterator[Part]:
-        """What the page draws of an item of a panel. TypeError: no page draws such an item."""
+        """Yields the page's shapes for an item. TypeError: pages don't support such an item."""
         raise TypeError(item)
 
     @parts.register
@@ -92,17 +91,21 @@ class HtmlPage:
 
     @parts.register
     def _(self, item: Band) -> Iterator[Part]:
-        """The packets' points are on the band, with what is told of them."""
+        """Yields the band, with the packets' points and texts."""
         yield part(item, *outline(item.x, item.low, item.high), fill=0.3)
         yield part(item, np.repeat(item.x, 2)[1:-1], np.repeat(item.middle, 2))
-        yield self.points(item, self.found.flows[item.flow].out_places)
+        yield from self.points(item, self.found.flows[item.flow].out_places, self.found) if self.found else ()
 
     @parts.register
     def _(self, item: Points) -> Iterator[Part]:
         if item.is_cross:
             yield part(item, item.x, item.y, width=1, cross=True, words=self.texts(item.places))
+        elif self.found:
+            yield from self.points(item, item.places, self.found)
         else:
-            yield self.points(item, item.places)
+            some = spread(np.arange(len(item.places)), MOST_OF_WAY)
+            words = {} if item.flow is None else {"words": self.texts(item.places[some])}
+            yield part(item, item.x[some], item.y[some], width=4, **words)
 
     @parts.register
     def _(self, item: Bars) -> Iterator[Part]:
@@ -110,11 +113,11 @@ class HtmlPage:
         self.base = low + item.counts
         yield part(item, *outline(np.append(item.begins, item.begins[-1] + item.width), low, self.base), fill=1)
 
-    def points(self, item: Band | Points, places: Integers) -> Part:
-        """Some of a flow's packets, the fastest and the slowest of each stretch of time among them."""
-        count = sum(len(one.out_places) for one in self.found.flows) or 1
-        places = thinned(places, self.found.replay, max(MOST_TOLD * len(places) // count, 100))
-        return part(item, self.found.sent_at(places), self.found.took_ms(places), width=4, words=self.texts(places))
+    def points(self, item: Band | Points, places: Integers, found: Series) -> Iterator[Part]:
+        """Yields some of a flow's packets, including the fastest and slowest in each stretch of time."""
+        count = sum(len(one.out_places) for one in found.flows) or 1
+        places = thinned(places, found.replay, max(MOST_TOLD * len(places) // count, 100))
+        yield part(item, found.sent_at(places), found.took_ms(places), width=4, words=self.texts(places))
 
     def texts(self, places: Integers) -> list[str]:
         self.told += len(places)
@@ -123,9 +126,10 @@ class HtmlPage:
 
     def panel(self, number: int, panel: Panel) -> Part:
         self.base = np.zeros(0)
-        marks = Panels(self.found).drop_points() if number == DELAYS else []
+        is_of_packets = any(isinstance(item, (Band, Points)) for item in panel.items)
+        marks = Panels(self.found).drop_points() if self.found and number == DELAYS else []
         return {
-            "title": panel.title + ": over a packet, why" * (number == DELAYS),
+            "title": panel.title + ": over a packet, why" * is_of_packets,
             "across": panel.across,
             "unit": panel.across.rpartition(" ")[2],
             "up": panel.up,
@@ -137,17 +141,20 @@ class HtmlPage:
         }
 
     def notes(self) -> list[str]:
-        """What the panels say beside their names, and what the page leaves out, so that nobody counts points."""
+        """Returns the panels' notes, and the page's omissions, so that nobody counts points."""
         notes = list(dict.fromkeys(note for panel in self.drawing.panels if panel for note in panel.notes))
-        rest = int(np.count_nonzero(self.found.replay.event != HELD)) - self.told
+        rest = int(np.count_nonzero(self.found.replay.event != HELD)) - self.told if self.found else 0
         if rest > 0:
             which = "the fastest and the slowest of a stretch of time, and some between"
             notes.append(f"{self.told:,} of {self.told + rest:,} packets have a point: {which}")
         return notes
 
     def record(self, title: str) -> Part:
-        """All that page.html draws. Each name is there once: the flows, the largest first, and then what isn't a flow's."""
-        panels = [self.panel(number, panel) for number, panel in enumerate(self.drawing.panels) if panel is not None]
+        """Returns the page's data. Each name occurs once: first the flows, the largest first, and then everything else."""
+        there = [
+            (number, panel) for number, panel in enumerate(self.drawing.panels) if panel and not isinstance(panel.items[0], Graph)
+        ]
+        panels = [self.panel(number, panel) for number, panel in there]
         self.progress.done()
         keys = enumerate(self.drawing.keys)
         names = {group_of("", number): {"name": key.told, "color": key.color} for number, key in keys}
@@ -163,10 +170,10 @@ class HtmlPage:
         }
 
 
-def save_page(flows_in_time: Series, explainer: Explainer | None, drawing: Drawing, path: str, title: str) -> None:
-    """Writes a page of one file. Most of it is what is told of packets, of which a tenth is left when it is packed."""
-    record = json.dumps(HtmlPage(flows_in_time, explainer, drawing).record(title), allow_nan=False, separators=(",", ":"))
-    packed = b64encode(gzip.compress(record.encode(), PACKING, mtime=0)).decode("ascii")
-    name = html.escape(" ".join(title.split()) or drawing.name, quote=False)
-    page = PAGE.read_text(encoding="utf-8").replace("PACKED", packed).replace("NAME", name, 1)
+def save_page(source: HtmlPage, path: str, title: str) -> None:
+    """Writes a page. Texts on packets make up most of it; packing reduces them to a tenth."""
+    record = json.dumps(source.record(title), allow_nan=False, separators=(",", ":"))
+    archive = b64encode(gzip.compress(record.encode(), PACKING, mtime=0)).decode("ascii")
+    name = html.escape(" ".join(title.split()) or source.drawing.name, quote=False)
+    page = PAGE.read_text(encoding="utf-8").replace("PACKED", archive).replace("NAME", name, 1)
     Path(path).write_text(page, encoding="utf-8", errors="surrogateescape")

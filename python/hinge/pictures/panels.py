@@ -1,5 +1,4 @@
-"""The panels of a replay, in the order in which they are drawn. A color has one meaning: a flow's, or by its shade of
-gray a pipe's or a cause's."""
+"""The panels of a replay in drawing order. Each color means a single thing: a flow, or, as a shade of gray, a pipe or a cause."""
 
 from __future__ import annotations
 
@@ -24,6 +23,7 @@ MOST_DOTS_IN_ALL, FEWEST_OF_BAND = 4_000, 400  # of all flows; above that each f
 MOST_DROPS_TOLD = 2_000
 MOST_COUNTS = 20_000  # of a queue's lengths that are drawn
 LOW, MIDDLE, HIGH = 5, 50, 95  # percentiles of a band
+BANDS_A_STEP = 5  # since a delay changes faster than a rate
 
 
 def time_of(step_ns: int) -> str:
@@ -36,7 +36,7 @@ def range_of(values: Reals, unit: str) -> str:
 
 
 def percentiles(moments: Integers, values: Reals, steps: Steps) -> Reals:
-    """The least values that 5, 50 and 95 of a hundred of a step's don't exceed, nan in a step that has none."""
+    """Returns the 5th, 50th and 95th percentile of each step's values; nan for empty steps."""
     of = np.minimum(moments // steps.length, steps.rated - 1)
     order = np.lexsort((values, of))
     begins = np.searchsorted(of[order], np.arange(steps.rated))
@@ -49,16 +49,17 @@ def percentiles(moments: Integers, values: Reals, steps: Steps) -> Reals:
 
 
 def late_panel(title: str, lines: list[Line]) -> Optional[Panel]:
-    """Of hosts that were late at all."""
+    """Returns the panel of late hosts, if any."""
     is_late = any(line.y.max(initial=0) >= LEAST_LATE for line in lines)
     return Panel(title, "s", "ms", [*lines]) if is_late else None
 
 
 class Panels:
-    """Makes the panels of one replay."""
+    """Creates the panels of a replay."""
 
     def __init__(self, flows_in_time: Series) -> None:
         self.found, self.step = flows_in_time, time_of(flows_in_time.steps.length)
+        self.of_bands = Steps(max(flows_in_time.steps.length // BANDS_A_STEP, 1), flows_in_time.steps.span)
         rests = [number for number, flow in enumerate(flows_in_time.flows) if flow.is_rest]
         self.colors = [
             RESTS[rests.index(number) % len(RESTS)] if flow.is_rest else COLORS[number]
@@ -73,18 +74,18 @@ class Panels:
         }
 
     def flows(self) -> Iterator[tuple[int, Flow, str]]:
-        """The flows with their numbers and colors, the largest on top and what stands for others at the bottom."""
+        """Yields the flows with numbers and colors, the largest on top and the rest at the bottom."""
         order = sorted(enumerate(self.found.flows), key=lambda numbering: (not numbering[1].is_rest, -numbering[0]))
         for number, flow in order:
             yield number, flow, self.colors[number]
 
     def greatest(self, which: str) -> float:
-        """The greatest rate, `carried` or `offered`, of one flow or of the flows of a pipe together."""
+        """Returns the greatest rate, `carried` or `offered`, of a flow or a pipe's flows together."""
         columns = [getattr(flow, which) for flow in self.found.flows] + list(getattr(self.found, which).values())
         return max((float(column.max(initial=0)) for column in columns), default=0)
 
     def rates(self, which: str, title: str) -> Panel:
-        """The rates, `carried` or `offered`, of each flow, of all flows of a pipe, and the capacities."""
+        """Returns the panel of the rates, `carried` or `offered`, of each flow and each pipe, with the capacities."""
         result, notes = self.found, []
         edges, most = result.steps.edges, self.greatest(which)
         items: list[Item] = []
@@ -112,11 +113,11 @@ class Panels:
 
     def band(self, number: int, flow: Flow, color: str) -> Band:
         result, out = self.found, flow.out_places
-        low, middle, high = percentiles(result.replay.at[out], result.replay.took[out] / NS_PER_MS, result.steps)
-        return Band(flow.name, result.steps.edges, low, middle, high, color, number)
+        low, middle, high = percentiles(result.replay.at[out], result.replay.took[out] / NS_PER_MS, self.of_bands)
+        return Band(flow.name, self.of_bands.edges, low, middle, high, color, number)
 
     def delays(self) -> Optional[Panel]:
-        """A point for each packet, or a band where there are too many."""
+        """Returns the panel of delays, with a point for each packet, or a band if there are too many."""
         result, items, has_band = self.found, list[Item](), False
         is_crowded = sum(len(flow.out_places) for flow in result.flows) > MOST_DOTS_IN_ALL
         for number, flow, color in self.flows():
@@ -128,12 +129,14 @@ class Panels:
                 items.append(Points(flow.name, places, result.sent_at(places), result.took_ms(places), color, number))
         if not items:
             return None
-        notes = [f"band: {LOW} to {HIGH} of 100 packets sent in {self.step}; line: the median"] if has_band else []
+        notes = (
+            [f"band: {LOW} to {HIGH} of 100 packets sent in {time_of(self.of_bands.length)}; line: the median"] if has_band else []
+        )
         lines, above = self.bounds()
         return Panel("One-way delay", "sent at, s", "ms", items + lines, notes + above, from_zero=False)
 
     def bounds(self) -> tuple[list[Item], list[str]]:
-        """The proved bound on the delay of each pipe that has one: a line, or a note if it is far above its delays."""
+        """Returns the proved bound on each pipe's delay: a line, or a note if it is far above the delays."""
         lines, notes = list[Item](), list[str]()
         for one in self.found.bounds:
             limit, most = one.bound.due_ns / NS_PER_MS, (one.delay_ns or 0) / NS_PER_MS
@@ -154,7 +157,7 @@ class Panels:
         return panel if items else None
 
     def waiting(self) -> Optional[Panel]:
-        """The packets that wait for each pipe or queue, and its limit."""
+        """Returns the panel with the packets waiting for each pipe or queue, with its limit."""
         items, notes = list[Item](), list[str]()
         for name, (moments, lengths) in self.found.waiting.items():
             places, most = spread(np.arange(len(moments)), MOST_COUNTS), int(lengths.max(initial=0))
@@ -191,7 +194,7 @@ class Panels:
         return Panel(f"Drops by flow, packets per {self.step}", "s", "packets", items, is_whole=True) if items else None
 
     def lateness(self) -> Optional[Panel]:
-        """By how much a live host was late, or let packets lie unread, in each second: what no link did."""
+        """Returns the panel with a live host's lateness and unread packets in each second: delays that no link caused."""
         dashes, items = {"late": SOLID, "unread": DOTTED}, list[Line]()
         for number, (way, of_way) in enumerate(self.found.lateness.items()):
             for which, (moments, ms) in of_way.items():
@@ -201,7 +204,7 @@ class Panels:
         return late_panel("The host's lateness, the most of each second", items)
 
     def drop_points(self) -> list[Points]:
-        """A mark for each packet that was dropped, at a delay of 0."""
+        """Returns a mark for each dropped packet, at a delay of 0."""
         items, marks = self.found, []
         for cause in CAUSES:
             places = spread(np.flatnonzero(items.replay.event == cause), MOST_DROPS_TOLD)
@@ -214,21 +217,13 @@ class Panels:
         return Key(flow.name, self.colors[number], f"{flow.name}: {int(flow.drops.sum()):,} of {flow.packets:,} dropped")
 
 
-ORDER: tuple[Callable[[Panels], Optional[Panel]], ...] = (
-    Panels.carried,
-    Panels.offered,
-    Panels.delays,
-    Panels.distribution,
-    Panels.waiting,
-    Panels.drops,
-    Panels.drops_by_flow,
-    Panels.lateness,
-)
+OF_TRAFFIC: tuple[Callable[[Panels], Optional[Panel]], ...] = (Panels.carried, Panels.offered, Panels.delays, Panels.distribution)
+ORDER = (*OF_TRAFFIC, Panels.waiting, Panels.drops, Panels.drops_by_flow, Panels.lateness)
 DELAYS = ORDER.index(Panels.delays)
 
 
 def drawing(flows_in_time: Series, below: Optional[list[str]] = None) -> Drawing:
-    """The picture of a replay; `below` is written under it."""
+    """Returns a replay's picture; `below` is the text under the picture."""
     panels = Panels(flows_in_time)
     keys = [panels.key(number, flow) for number, flow in enumerate(flows_in_time.flows)]
     name, span = Path(flows_in_time.replay.path).name, flows_in_time.steps.span / NS_PER_S

@@ -1,4 +1,4 @@
-"""What is written under a picture, so that it can be made again: configuration, files, seed and version."""
+"""The text under a picture for reproducing it: configuration, files, seed and version."""
 
 from __future__ import annotations
 
@@ -18,7 +18,7 @@ BY_MODEL = re.compile(r"\bplr 0?\.50*(?!\S)")  # the rate under which the words 
 
 
 def provenance(lines: Sequence[str], files: Sequence[str], seed: Optional[str] = None) -> list[str]:
-    """The lines of the configuration, the names of the files, the seed if it is known, and the version."""
+    """Returns the lines of the configuration, the files, the seed if known, and the version."""
     view = list(lines[:MOST_LINES]) + [f"and {len(lines) - MOST_LINES} lines more"] * (len(lines) > MOST_LINES)
     names = printable(", ".join(Path(name).name for name in files))
     product = "; ".join([f"of {names}", *([f"seed {seed}"] if seed else []), f"hinge {version()}"])
@@ -26,7 +26,7 @@ def provenance(lines: Sequence[str], files: Sequence[str], seed: Optional[str] =
 
 
 def model_of(packets: Packets, target: tuple[str, int]) -> str:
-    """What a model of losses did to the packets of a pipe or queue; nothing where random words decided."""
+    """Returns a loss model's effect on a target's packets; an empty text if random words decided."""
     is_own = packets.target == (packets.targets.index(target) if target in packets.targets else -1)
     words = packets.word[is_own] & KEPT
     is_lost = words == LOST
@@ -38,7 +38,7 @@ def model_of(packets: Packets, target: tuple[str, int]) -> str:
 
 
 def with_models(lines: Sequence[str], packets: Packets) -> list[str]:
-    """The lines of a configuration, with models of losses in the place of the rate under which their words decide."""
+    """Returns the configuration's lines, with loss models in place of the rates that their words use."""
     return [
         BY_MODEL.sub(lambda rate: model_of(packets, setting_of(line)[:2]) or rate[0], line) if BY_MODEL.search(line) else line
         for line in lines

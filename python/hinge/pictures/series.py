@@ -14,7 +14,7 @@ from hinge.replays.remarks import Lateness
 from hinge.replays.replay import EVENT_NAMES, FULL, HELD, LOST, NONE, OUT, Replay
 
 NS_PER_S, NS_PER_MS = 10**9, 10**6
-STEPS_WANTED = 200  # of a rate over a replay
+STEPS_WANTED, STEPS_OF_SHORT = 200, 50  # of a rate over a replay
 FEWEST_STEPS = 20
 PACKETS_A_STEP = 40  # so that one packet more or less in a step doesn't show
 PACKETS_OF_LARGEST = 10  # of them those of the largest flow
@@ -24,7 +24,7 @@ CAUSES = (LOST, FULL, NONE)
 
 @dataclass(frozen=True)
 class Steps:
-    """The steps of a time of `span` ns, each of `length` ns."""
+    """Steps of `length` ns within a span of `span` ns."""
 
     length: int
     span: int
@@ -35,38 +35,38 @@ class Steps:
 
     @property
     def begins(self) -> Reals:
-        """Where each begins, in s."""
+        """Returns the start of each step in s."""
         return np.arange(self.count) * self.length / NS_PER_S
 
     @property
     def rated(self) -> int:
-        """How many have a rate: the last one, which ends with the span, has none where less than half of it is there."""
+        """Returns the number of steps with a rate. The last step has no rate if less than half the step is within the span."""
         return max((self.span + self.length // 2) // self.length, 1)
 
     @property
     def widths(self) -> Integers:
-        """The ns of each that has a rate."""
+        """Returns the ns of each step with a rate."""
         widths = np.full(self.rated, self.length)
         widths[-1] = min(self.length, max(self.span - (self.rated - 1) * self.length, 1))
         return widths
 
     @property
     def edges(self) -> Reals:
-        """Where each that has a rate begins, and where the last one ends, in s."""
+        """Returns the starts of the steps with a rate, and the last step's end, in s."""
         return np.append(0, np.cumsum(self.widths)) / NS_PER_S
 
     def counts(self, moments: Integers) -> Integers:
         return np.bincount(moments // self.length, minlength=self.count)[: self.count]
 
     def rates(self, moments: Integers, lengths: Integers) -> Reals:
-        """Mbit/s of each step that has a rate, of packets with these moments and lengths."""
+        """Returns the Mbit/s in each step with a rate, for packets with these moments and lengths."""
         bits = np.bincount(moments // self.length, weights=lengths * 8, minlength=self.count)[: self.rated]
         return bits * 1000 / self.widths
 
 
 @dataclass(frozen=True)
 class Flow:
-    """What is drawn of a flow. `out_places` are those of the packets that left, in order of being sent."""
+    """The data of a flow for pictures. `out_places` contains the flow's packets that left, in sending order."""
 
     name: str
     is_rest: bool
@@ -81,7 +81,7 @@ class Flow:
 
 @dataclass(frozen=True)
 class Series:
-    """What is drawn of a replay. Rates are in Mbit/s, delays in ms."""
+    """The data of a replay for pictures. Rates are in Mbit/s, delays in ms."""
 
     replay: Replay
     steps: Steps
@@ -116,12 +116,15 @@ def rounded_down(most: int) -> int:
 
 
 def round_step(span: int) -> int:
-    """A round step, in ns, so that about as many as wanted make the span."""
-    return rounded_up(span // STEPS_WANTED)
+    """Returns a round step in ns: a second in a span from 20 to 200 s, as rates in shorter steps are combs, and otherwise a step
+    that gives about the desired number."""
+    if span < FEWEST_STEPS * NS_PER_S:
+        return rounded_up(span // STEPS_OF_SHORT)
+    return max(rounded_up(span // STEPS_WANTED), NS_PER_S)
 
 
 def places_of_main_target(replay: Replay) -> Integers:
-    """The places of the packets that left by the pipe or queue that carried the most bytes."""
+    """Returns the places of the packets that left through the pipe or queue with the most bytes."""
     out = np.flatnonzero(replay.is_out)
     load = np.bincount(replay.packets.target[out], weights=replay.packets.length[out], minlength=1)
     places: Integers = out[replay.packets.target[out] == int(np.argmax(load))]
@@ -129,12 +132,11 @@ def places_of_main_target(replay: Replay) -> Integers:
 
 
 def fitting_step(replays: list[Replay], span: int) -> int:
-    """A round step that is long enough for the rates of these replays. A step in which something leaves has, in the
-    mean, as many packets of the main pipe or queue as are wanted, and of the largest flow as many as are wanted of it,
-    where so many are there at all."""
+    """Returns a round step for these replays. Nonempty steps contain on average the desired number of packets from the main pipe or
+    queue, and from the largest flow, if there are that many."""
     step = round_step(span)
     main = [places_of_main_target(replay) for replay in replays]
-    busy = sum(len(np.unique(replay.due[places] // step)) for replay, places in zip(replays, main))
+    busy = sum(len(runs_of(np.sort(replay.due[places] // step, kind="stable"))) for replay, places in zip(replays, main))
     largest = sum(int(np.bincount(replay.packets.five_tuple[places], minlength=1).max()) for replay, places in zip(replays, main))
     if not busy:
         return step
@@ -142,18 +144,23 @@ def fitting_step(replays: list[Replay], span: int) -> int:
     return max(step, min(rounded_up(names), rounded_down(span // FEWEST_STEPS)))
 
 
+def runs_of(ordered: Integers) -> Integers:
+    """Returns the end of each run with equal numbers."""
+    return np.flatnonzero(np.append(ordered[1:] != ordered[:-1], [True] * (len(ordered) > 0)))
+
+
 def span_of(replays: list[Replay]) -> int:
-    """The ns until the last packet was sent or had left."""
+    """Returns the ns until the last packet was sent or left."""
     return max((int(max(replay.at.max(), replay.due.max())) for replay in replays if len(replay.at)), default=0)
 
 
 def spread(places: Integers, most: int) -> Integers:
-    """At most so many of the places, evenly."""
+    """Returns at most `most` of the places, evenly distributed."""
     return places if len(places) <= most else places[np.linspace(0, len(places) - 1, most).astype(np.int64)]
 
 
 def thinned(places: Integers, replay: Replay, most: int) -> Integers:
-    """At most so many of the places: of each stretch of time the least and the greatest delay, and as many spread evenly."""
+    """Returns at most `most` places: the smallest and the greatest delay in each stretch, and other places evenly."""
     if len(places) <= most:
         return places
     at, took = replay.at[places], replay.took[places]
@@ -174,44 +181,45 @@ def distribution(took: Integers) -> tuple[Reals, Reals]:
 
 
 def waiting(replay: Replay, places: Integers) -> tuple[Reals, Reals]:
-    """How many of these packets wait for their transmission, each time that the count changes."""
+    """Returns the number of these packets waiting for transmission, at each change."""
     connection = places[(replay.event[places] == OUT) | (replay.event[places] == HELD)]
     start = connection[replay.event[connection] == OUT]
     moments = np.concatenate((replay.at[connection], replay.start[start]))
     ups = np.concatenate((np.ones(len(connection), np.int64), np.full(len(start), -1)))
-    moments, of = np.unique(moments, return_inverse=True)
-    return moments / NS_PER_S, np.cumsum(np.bincount(of, weights=ups, minlength=len(moments)))
+    order = np.argsort(moments, kind="stable")  # which is done at once where both parts have an order
+    ends = runs_of(moments[order])
+    return moments[order][ends] / NS_PER_S, np.cumsum(ups[order])[ends].astype(float)
 
 
 def shared_pipes(replay: Replay, groups: Groups, pipes: dict[str, str]) -> dict[str, Integers]:
-    """The places of the packets to each pipe, or queue whose pipe isn't known, unless one drawn flow is all that it has."""
+    """Returns the places of the packets for each pipe, or queue with an unknown pipe, except if all belong to one drawn flow."""
     rest = len(groups.names) - 1 if groups.has_rest else -1  # which stands for several
     return {
         name: places
         for name, places in by_pipe(replay, pipes).items()
-        if len(column := np.unique(groups.of[places])) > 1 or rest in column and replay.is_out[places].any()
+        if len(column := np.flatnonzero(np.bincount(groups.of[places]))) > 1 or rest in column and replay.is_out[places].any()
     }
 
 
 def by_pipe(replay: Replay, pipes: dict[str, str]) -> dict[str, Integers]:
-    """The places of the packets to each pipe, or queue whose pipe isn't known."""
+    """Returns the places of the packets for each pipe, or queue with an unknown pipe."""
     table: dict[str, list[Integers]] = {}
     for name, places in group(replay, "target").places():
         table.setdefault(pipes.get(name, name), []).append(places)
-    return {name: np.sort(np.concatenate(several)) for name, several in table.items()}
+    return {name: np.sort(np.concatenate(several), kind="stable") for name, several in table.items()}
 
 
 def named_places(replay: Replay, groups: Groups, pipes: dict[str, str]) -> Iterator[tuple[str, Integers, bool]]:
-    """The places of each flow, and whether it stands for several; those that do are of one pipe each."""
+    """Yields each flow's places in a single pipe or queue, and whether the flow stands for several."""
     last = len(groups.names) - 1 if groups.has_rest else -1
     for number, (name, places) in enumerate(groups.places()):
         if number != last:
             yield name, places, False
             continue
-        parts = {pipe: np.intersect1d(places, there, assume_unique=True) for pipe, there in by_pipe(replay, pipes).items()}
-        parts = {pipe: there for pipe, there in parts.items() if len(there)}
+        is_there = groups.of == last
+        parts = {pipe: there[is_there[there]] for pipe, there in by_pipe(replay, pipes).items() if is_there[there].any()}
         for pipe, there in parts.items():
-            count = len(np.unique(groups.each[there])) if groups.each is not None else 0
+            count = np.count_nonzero(np.bincount(groups.each[there])) if groups.each is not None else 0
             yield (f"{several(count, 'other')} of {pipe}" if len(parts) > 1 else name), there, True
 
 

@@ -1,5 +1,4 @@
-"""The settings of commands over time, as a picture draws them: bandwidths of pipes, limits of queues, and the pipe of
-each queue."""
+"""The settings over time from commands, for pictures: pipes' bandwidths, queues' limits, and each queue's pipe."""
 
 from __future__ import annotations
 
@@ -13,8 +12,8 @@ from hinge.replays.remarks import NS_PER_S
 
 @dataclass(frozen=True)
 class Limits:
-    """How many packets a queue takes, from each of these moments on; None where it is limited in bytes. `told` has it
-    with its unit."""
+    """The limits of a queue in packets, each from a moment on; None if the limit is in bytes. `told` contains the limit with its
+    unit."""
 
     moments: Reals
     numbers: Optional[Integers]
@@ -22,8 +21,7 @@ class Limits:
 
 
 def capacities(changes: Iterable[tuple[int, str]], span: int) -> dict[str, tuple[Reals, Reals]]:
-    """The bandwidth of each pipe that has one, as the commands with their moments set it. A pipe with a mask gives it
-    to each flow."""
+    """Returns the bandwidth of each pipe over time. A pipe with a mask gives its bandwidth to each flow."""
     table: dict[str, list[tuple[int, float]]] = {}
     for moment, text in changes:
         kind, number, setting = setting_of(text)
@@ -39,8 +37,7 @@ def capacities(changes: Iterable[tuple[int, str]], span: int) -> dict[str, tuple
 
 
 def limits(changes: Iterable[tuple[int, str]], span: int) -> dict[str, Limits]:
-    """How much may wait in each pipe and queue, as the commands with their moments set it. A mask gives each flow a
-    queue of its own."""
+    """Returns the limit of each pipe's and queue's backlog over time. A mask gives each flow a separate queue."""
     table: dict[str, list[tuple[int, Limit, bool]]] = {}
     for moment, text in changes:
         kind, number, setting = setting_of(text)
@@ -61,6 +58,6 @@ def limits_of(points: list[tuple[int, Limit, bool]], span: int) -> Limits:
 
 
 def pipe_names(changes: Iterable[tuple[int, str]]) -> dict[str, str]:
-    """The pipe of each queue, by their names, where the commands name it."""
+    """Returns the name of each queue's pipe, if the commands contain that pipe."""
     settings = (setting_of(text) for _, text in changes)
     return {f"queue {number}": f"pipe {options.pipe}" for _, number, options in settings if isinstance(options, Queue)}

@@ -1,4 +1,4 @@
-"""The table of flows as text, in blocks as wide as the terminal."""
+"""The table of flows as text, in blocks that fit the terminal."""
 
 from __future__ import annotations
 
@@ -12,7 +12,7 @@ WIDTH, GAP = 80, "  "
 
 
 def cell(name: str, value: Optional[int | float]) -> str:
-    """A figure as the text table has it."""
+    """Returns a figure in the format of the text table."""
     if value is None:
         return "-"
     if name.endswith("_ns"):
@@ -21,7 +21,7 @@ def cell(name: str, value: Optional[int | float]) -> str:
 
 
 def head(name: str) -> tuple[str, str]:
-    """A figure's name and its unit, for the two lines of a head."""
+    """Returns the name and unit of a figure, for the head's two lines."""
     for ending, unit in (("_mbit_s", "Mbit/s"), ("_ns", "ms"), ("_bytes", "bytes")):
         if name.endswith(ending):
             return name.removesuffix(ending).replace("_", " "), unit
@@ -29,7 +29,7 @@ def head(name: str) -> tuple[str, str]:
 
 
 def blocks(columns: list[list[str]], width: int) -> Iterator[list[list[str]]]:
-    """The columns in blocks that are no wider than this, if they can be; the first column begins each."""
+    """Yields the columns in blocks no wider than this, if possible; the first column begins each block."""
     first, *rest = columns
     block, letters = [first], len(first[0])
     for column in rest:
@@ -42,7 +42,7 @@ def blocks(columns: list[list[str]], width: int) -> Iterator[list[list[str]]]:
 
 
 def write_columns(columns: list[list[str]], texts: int, out: TextIO) -> None:
-    """The columns in blocks as wide as the terminal, or as 80 columns. The first so many are of text."""
+    """Writes the columns in blocks as wide as the terminal, or 80 columns. The first `texts` columns contain text."""
     cells = [
         [text.ljust(max(map(len, column))) if place < texts else text.rjust(max(map(len, column))) for text in column]
         for place, column in enumerate(columns)
@@ -56,19 +56,19 @@ def write_columns(columns: list[list[str]], texts: int, out: TextIO) -> None:
 
 
 def figure_columns(rows: Sequence[Mapping[str, Optional[int | float]]]) -> list[list[str]]:
-    """A column for each figure, with its head."""
+    """Returns a column for each figure, with its head."""
     return [[*head(name), *(cell(name, row[name]) for row in rows)] for name in rows[0]]
 
 
 def write_text(table: list[Figures], out: TextIO) -> None:
-    """The table of flows. They have a number, which the first block names."""
+    """Writes the table of flows. Each flow gets a number, explained in the first block."""
     numbers = [str(number) for number in range(1, len(table))] + ["all"]
     columns = [["", "", *numbers], ["flow", "", *(row.name for row in table)]]
     write_columns(columns + figure_columns([row.value for row in table]), 2, out)
 
 
 def write_bounds(bounds_of_pipes: list[Bounded], out: TextIO) -> None:
-    """The table of pipes, each with the greatest wait and delay that were seen, and the bounds on them."""
+    """Writes the table of pipes, with the greatest observed wait and delay, and their bounds."""
     if bounds_of_pipes:
         out.write("\n")
         write_columns(figure_columns([one.figures() for one in bounds_of_pipes]), 1, out)

@@ -1,1 +1,1 @@
-"""Replays: packets with what became of them, from a report or a history."""
+"""Replays: packets and their results, read from a report or a history."""

@@ -13,8 +13,8 @@ from hinge.replays.replay import HELD, Replay
 
 @dataclass(frozen=True)
 class Bounded:
-    """A pipe's bound, for the longest packet that it accepted, and the greatest wait and delay of those that left, in
-    ns. None left if these are None."""
+    """A pipe's bound for its longest accepted packet, with the greatest wait and delay of packets that left, in ns, or None if no
+    packet left."""
 
     bound: Bound
     wait_ns: Optional[int]
@@ -25,7 +25,7 @@ class Bounded:
         return f"pipe {self.bound.pipe}"
 
     def figures(self) -> dict[str, Optional[int]]:
-        """The figures by name."""
+        """Returns the figures by name."""
         return {
             "pipe": self.bound.pipe,
             "longest_bytes": self.bound.length,
@@ -41,10 +41,10 @@ def greatest(column: Integers) -> Optional[int]:
 
 
 def bounds(replay: Replay, configuration: Configuration) -> Iterator[Bounded]:
-    """The bound of each pipe that has one and accepted a packet, if the configuration holds for every packet."""
+    """Yields the bound of each pipe that has one and accepted a packet, if the configuration holds for every packet."""
     numbers = {target: number for number, target in enumerate(replay.packets.targets)}
     connection = replay.is_out | (replay.event == HELD)
-    for pipe in with_bound(configuration.pipes, configuration.queues):
+    for pipe in with_bound(configuration.last.pipes, configuration.last.queues):
         places = np.flatnonzero(connection & (replay.packets.target == numbers.get(("pipe", pipe.number), -1)))
         if len(places):
             out = places[replay.is_out[places]]

@@ -1,222 +1,291 @@
-"""The kinds of columns in packet files, reports and histories, of which each is read for many rows at once."""
+"""Packet files, reports, histories and indexes as columns, which hinge-packets reads; hosts/packets/columns.h says how it answers."""
 
 from __future__ import annotations
 
+import os
+from array import array
+from contextlib import contextmanager
 from dataclasses import dataclass
-from functools import cached_property, lru_cache
-from typing import Optional
+from itertools import islice
+from typing import Any, BinaryIO, Callable, Iterable, Iterator, NamedTuple, Optional, Sequence, TypeVar, Union, cast, overload
 
-from hinge.lazy import Integers, Octets, Words, few as np
+from hinge.arguments import is_number
+from hinge.border.files import LONGEST_LINE, MOST_TABLE, Exceeded, opened, read_again, untrusted
+from hinge.border.programs import PIPE, Process, begun, how_ended
+from hinge.border.scratch import unnamed
+from hinge.command import ROWS, Fault, working
+from hinge.lazy import Integers, few as np
+from hinge.program import packets
+from hinge.replays.record_lines import blocks_of, rows_of
 
-MOST_DIGITS, GREATEST = 19, 2**63 - 1  # of a number of 63 bits
-ZEROS, TENS = 0x3030303030303030, 0x7676767676767676  # eight letters 0; what lifts a letter above 9 to 128 or more
-HIGH_BITS = 0x8080808080808080
-# by these factors a digit, two and four meet the next ones: 2,561 is 10 * 2**8 + 1
-JOINED = (2561, 8, 0x00FF00FF00FF00FF), (100 << 16 | 1, 16, 0x0000FFFF0000FFFF), (10000 << 32 | 1, 32, 0x00000000FFFFFFFF)
-DOT = ord(".") ^ ord("0")
-MIX = 0x9E3779B97F4A7C15  # an odd number, by which products differ in all bits
-MOST_ROUNDS = 64  # of a numbering, in each of which most rows that are left get their number
-FRONT = bytes(16)  # before a text and behind it, so that eight letters can be read together at its ends
+GREATEST = 2**63 - 1  # of a number of 63 bits
+QUOTED, FAULT, SYSTEM, BAD_HEADER, BAD_ROW, TOO_LONG = 3, 4, (5, 6), 8, 9, 10  # the statuses with which it ends
+EVENTS = NONE, FULL, LOST, HELD, OUT = range(5)
+EVENT_NAMES = ("none", "full", "lost", "held", "out")
+KINDS = ("pipe", "queue")
+Item = TypeVar("Item")
+OfWord = Callable[[str], bool]  # whether a field is of its kind
+Widths = dict[str, str]  # the numbers of each column, as numpy calls them
 
 
-class Bad(ValueError):
-    """Some field of a column isn't of its kind."""
+def number_to(most: int, may_be_empty: bool = False) -> OfWord:
+    return lambda text: (is_number(text) and int(text) <= most) or (may_be_empty and not text)
 
 
-@lru_cache(maxsize=None)
-def masks() -> Words:
-    """The last bytes of a number of eight, from none to all."""
-    return np.array([(1 << 64) - (1 << 64 - 8 * count) for count in range(9)], np.uint64)
+def is_address(text: str) -> bool:
+    parts = text.split(".")
+    is_one = len(parts) == 4 and 7 <= len(text) <= 15 and all(not part or is_number(part) for part in parts)
+    return is_one and max(int(part or "0") for part in parts) < 256
+
+
+NUMBER, FIELD = number_to(GREATEST), number_to(GREATEST, may_be_empty=True)
+PACKET_FIELDS: dict[str, OfWord] = {
+    **{"moment": NUMBER, "target": lambda text: text in KINDS, "number": NUMBER, "src": is_address, "dst": is_address},
+    **{
+        "proto": number_to(255),
+        "sport": number_to(65535),
+        "dport": number_to(65535),
+        "len": NUMBER,
+        "word": number_to(2**32 - 1),
+    },
+}
+REPORT_FIELDS: dict[str, OfWord] = {
+    **{"event": lambda text: text in EVENT_NAMES, "row": NUMBER, "flow": number_to(2**31 - 1, True), "packet": FIELD},
+    **{"at": NUMBER, "start": FIELD, "due": FIELD},
+}
+INDEX_FIELDS: dict[str, OfWord] = {"row": NUMBER, "frame": NUMBER}
+PACKET_COLUMNS: Widths = {"moment": "i8", "length": "i8", "target": "i4", "five_tuple": "i4", "word": "u4"}
+REPORT_COLUMNS: Widths = {"event": "i1", "flow": "i4", "packet": "i8", "at": "i8", "start": "i8", "due": "i8"}
+HISTORY_COLUMNS: Widths = {
+    **{"at": "i8", "start": "i8", "due": "i8", "packet": "i8", "length": "i8"},
+    **{"flow": "i4", "target": "i4", "five_tuple": "i4", "word": "u4", "event": "i1", "submitted": "i8", "handed": "i8"},
+}
+NET_COLUMNS: Widths = {**HISTORY_COLUMNS, **{"content": "i8", "line": "i8", "last": "i1", "flooded": "i1"}}
+
+
+class Lazily(Sequence[Item]):
+    """A sequence whose items are created on access."""
+
+    def __init__(self, size: int, item: Callable[[int], Item]) -> None:
+        self.size, self.item = size, item
+
+    def __len__(self) -> int:
+        return self.size
+
+    @overload
+    def __getitem__(self, place: int) -> Item:
+        ...
+
+    @overload
+    def __getitem__(self, place: slice) -> Sequence[Item]:
+        ...
+
+    def __getitem__(self, place: Union[int, slice]) -> Union[Item, Sequence[Item]]:
+        if isinstance(place, slice):
+            return [self.item(one) for one in range(self.size)[place]]
+        return self.item(range(self.size)[place])
+
+
+class Answer:
+    """The program's answer about a file."""
+
+    def __init__(self, program: "Process[bytes]", refuse: Callable[[int, str], object]) -> None:
+        self.program, self.refuse = program, refuse
+
+    def fill(self, place: memoryview) -> None:
+        if cast(Any, self.program.stdout).readinto(place) < len(place):
+            text = cast(BinaryIO, self.program.stderr).read().decode(errors="replace")
+            self.refuse(self.program.wait(), text)
+
+    def bytes(self, size: int) -> bytearray:
+        data = bytearray(size)
+        self.fill(memoryview(data))
+        return data
+
+    def numbers(self, count: int) -> "array[int]":
+        numbers = array("q", [0]) * count
+        self.fill(memoryview(numbers).cast("B"))
+        return numbers
+
+    def columns(self, count: int, widths: Widths) -> dict[str, Integers]:
+        return {name: np.frombuffer(self.bytes(count * int(width[1])), width) for name, width in widths.items()}
+
+    def targets(self, count: int) -> list[tuple[str, int]]:
+        return [(KINDS[item & 1], item >> 1) for item in self.numbers(count)]
+
+
+def located(name: str, path: str, fields: dict[str, OfWord], place: int) -> Fault:
+    """Returns the fault in a malformed row, with its line."""
+    with opened(path, MOST_TABLE) as file:
+        row = next(islice(rows_of(file), place + 1, None), None)
+    if row and len(row.fields) != len(fields):
+        return Fault(f"{name} line {row.line}: {len(row.fields)} fields in place of {len(fields)}", ROWS)
+    bad = ((field, text) for (field, is_one), text in zip(fields.items(), row.fields if row else ()) if not is_one(text))
+    fault = next((f"bad {field} {text!r}" for field, text in bad), None)
+    return Fault(f"{name} line {row.line}: {fault}" if row and fault else f"{name}: can't be read", ROWS)
+
+
+class Quoted(Exception):
+    """Raised for a file with quotes, which the program doesn't read in this way."""
+
+
+@contextmanager
+def asked(source: BinaryIO, words: Iterable[str], refuse: Callable[[int, str], object]) -> Iterator[Answer]:
+    """Yields the program's answer about a file."""
+    with begun([packets(), "columns", *words], stdin=source, stdout=PIPE, stderr=PIPE) as program:
+        try:
+            yield Answer(program, refuse)
+        finally:
+            program.kill()
+
+
+def read_columns(
+    path: str, words: tuple[str, ...], fields: dict[str, OfWord], take: Callable[[Answer], Item], what: str = ""
+) -> Item:
+    """Returns columns from the program's answer about a file. Fault: the file changed, or the answer is malformed."""
+
+    def refuse(status: int, text: str) -> None:
+        if status == QUOTED:
+            raise Quoted
+        if status in SYSTEM:
+            raise OSError(int(text), os.strerror(int(text)))
+        if status == TOO_LONG:
+            raise Exceeded(LONGEST_LINE, "bytes in a line")
+        if status == BAD_HEADER:
+            raise Fault(f"{path} line 1: the header isn't {','.join(fields)}", ROWS)
+        if status == BAD_ROW:
+            raise located(path, file.path, fields, int(text))
+        text = text if status == FAULT else f"hinge-packets {how_ended(status)}"
+        raise Fault(f"{path}{'' if text.startswith(' ') else ': '}{text}", ROWS)
+
+    header = (",".join(fields),) if fields else ()
+    words = (words[0], *header, *words[1:])
+    with untrusted(path), working(f"reading {what or path}"), read_again(path, MOST_TABLE) as file:
+        try:
+            with opened(file.path, None) as source, asked(source, words, refuse) as answer:
+                return take(answer)
+        except Quoted:
+            pass
+        with unnamed() as (copy, name):
+            copy.writelines(text.replace(b'"', b"'") for text in blocks_of(file.path, "replace"))
+            copy.flush()
+            with opened(name, None) as source, asked(source, words, refuse) as answer:
+                return take(answer)
 
 
 @dataclass(frozen=True)
-class Fields:
-    """Some fields of a text: where each begins and ends."""
+class Tuples:
+    """Five-tuples as two words each: addresses; protocol and ports."""
 
-    data: Octets
-    begin: Integers
-    end: Integers
+    words: "array[int]"
 
-    @staticmethod
-    def of(text: str) -> Fields:
-        """One field alone."""
-        data = FRONT + text.encode()
-        return Fields(np.frombuffer(data, np.uint8), np.array([len(FRONT)]), np.array([len(data)]))
+    def numbers(self, place: int) -> tuple[int, int, int, int, int]:
+        addresses, ports = self.words[2 * place] & (1 << 64) - 1, self.words[2 * place + 1]
+        return addresses >> 32, addresses & 0xFFFFFFFF, ports >> 48, ports >> 32 & 0xFFFF, ports >> 16 & 0xFFFF
 
-    @cached_property
-    def length(self) -> Integers:
-        return self.end - self.begin
-
-    @cached_property
-    def longest(self) -> int:
-        return int(self.length.max(initial=0))
-
-    def texts(self) -> list[bytes]:
-        data = self.data.tobytes()
-        return [data[begin:end] for begin, end in zip(self.begin.tolist(), self.end.tolist())]
-
-    def word(self, before: int) -> Words:
-        """The eight letters of each before its last so many, less the bits of the letter 0, as a number whose highest byte is the
-        last letter; the bytes of letters that a field lacks are 0."""
-        word: Words = np.ndarray(len(self.data) - 7, "<u8", self.data, 0, (1,))[self.end - (before + 8)]
-        word ^= ZEROS
-        word &= masks().take(self.length - before if before else self.length, mode="clip")
-        return word
-
-    def digits(self, before: int) -> Words:
-        """The number of these eight letters. Bad: one isn't a digit."""
-        word = self.word(before)
-        if np.bitwise_or.reduce(word + TENS | word) & HIGH_BITS:
-            raise Bad
-        for factor, width, mask in JOINED:
-            word *= factor
-            word >>= width
-            word &= mask
-        return word
-
-    def keys(self) -> list[Integers]:
-        """Columns by which fields are equal that have the same letters."""
-        if not hasattr(np, "ndarray"):
-            return [np.array(self.texts())]
-        return [self.length, *(self.word(before).view(np.int64) for before in range(0, self.longest, 8))]
-
-
-class Column:
-    """A kind of column."""
-
-    def read(self, fields: Fields) -> Integers:
-        """Its numbers; Bad is raised where a field isn't of the kind."""
-        return self.at_once(fields) if hasattr(np, "ndarray") else np.array(list(map(self.one, fields.texts())))
-
-    def at_once(self, fields: Fields) -> Integers:
-        """All of them by numpy."""
-        raise NotImplementedError
-
-    def one(self, text: bytes) -> int:
-        """One of them."""
-        raise NotImplementedError
+    def columns(self) -> list[Integers]:
+        """Returns the addresses, protocols and ports of all flows."""
+        addresses, ports = (np.array(self.words[place::2], "i8") for place in (0, 1))
+        return [addresses >> 32 & 0xFFFFFFFF, addresses & 0xFFFFFFFF, ports >> 48, ports >> 32 & 0xFFFF, ports >> 16 & 0xFFFF]
 
 
 @dataclass(frozen=True)
-class Number(Column):
-    """Whole numbers, and -1 for an empty field where one may be empty."""
+class Rows:
+    """Rows with their numbered targets and five-tuples."""
 
-    may_be_empty: bool = False
+    columns: dict[str, Integers]
+    targets: list[tuple[str, int]]
+    tuples: Tuples
 
-    def one(self, text: bytes) -> int:
-        if self.may_be_empty and not text:
-            return -1
-        if not text.isdigit() or len(text) > MOST_DIGITS or int(text) > GREATEST:
-            raise Bad
-        return int(text)
 
-    def at_once(self, fields: Fields) -> Integers:
-        has_empty = int(fields.length.min(initial=1)) == 0
-        if fields.longest > MOST_DIGITS or (has_empty and not self.may_be_empty):
-            raise Bad
-        value = fields.digits(0)
-        for before in range(8, fields.longest, 8):
-            value += fields.digits(before) * 10**before
-        if fields.longest == MOST_DIGITS and (value > GREATEST).any():
-            raise Bad
-        return np.where(fields.length == 0, -1, value.view(np.int64)) if has_empty else value.view(np.int64)
+def read_rows(path: str) -> Rows:
+    """Returns the rows of a packet file."""
+
+    def take(answer: Answer) -> Rows:
+        count, targets, tuples = answer.numbers(3)
+        kinds, five = answer.targets(targets), Tuples(answer.numbers(2 * tuples))
+        return Rows(answer.columns(count, PACKET_COLUMNS), kinds, five)
+
+    return read_columns(path, ("packets",), PACKET_FIELDS, take, os.path.basename(path))
+
+
+class OfTarget(NamedTuple):
+    """A target's number of rows, and its first row's line."""
+
+    kind: str
+    number: int
+    rows: int
+    line: int
+
+
+class Sums(NamedTuple):
+    """The sums over a packet file: the number of rows; the number of rows sent before their predecessors, and the first such row's
+    line; the first and last moment; the greatest length; whether the words differ, and the first word; and the targets."""
+
+    rows: int
+    late: int
+    late_line: int
+    clock: int
+    first_moment: int
+    longest: int
+    differ: int
+    word: int
+    targets: list[OfTarget]
+
+
+def read_sums(path: str) -> Sums:
+    """Returns the sums of a correct packet file."""
+
+    def take(answer: Answer) -> Sums:
+        rows, late, late_line, clock, first, longest, differ, word, count = answer.numbers(9)
+        of_targets = zip(answer.targets(count), answer.numbers(count), answer.numbers(count))
+        targets = [OfTarget(kind, number, its_rows, line) for (kind, number), its_rows, line in of_targets]
+        return Sums(rows, late, late_line, clock, first, longest, differ, word, targets)
+
+    return read_columns(path, ("sums",), PACKET_FIELDS, take)
+
+
+def read_lines(path: str, rows: int) -> tuple[int, Optional[dict[str, Integers]]]:
+    """Returns a report's number of lines and its columns; None instead of columns if the number of rows differs."""
+
+    def take(answer: Answer) -> tuple[int, Optional[dict[str, Integers]]]:
+        count, is_whole = answer.numbers(2)
+        return count, answer.columns(rows, REPORT_COLUMNS) if is_whole else None
+
+    return read_columns(path, ("report", str(rows)), REPORT_FIELDS, take, os.path.basename(path))
+
+
+def read_index(path: str) -> dict[str, Integers]:
+    """Returns the frame of each row."""
+    widths = dict.fromkeys(INDEX_FIELDS, "i8")
+    return read_columns(path, ("index",), INDEX_FIELDS, lambda answer: answer.columns(answer.numbers(1)[0], widths))
+
+
+Change = tuple[int, int, str]  # the record of a command that was obeyed, the clock's moment, and the line
 
 
 @dataclass(frozen=True)
-class OneOf(Column):
-    """One of some words, as its number among them."""
+class Told:
+    """The content of a history. `first` is the record of the first submit, or -1."""
 
-    words: tuple[str, ...]
-
-    def one(self, text: bytes) -> int:
-        word = text.decode("latin-1")
-        if word not in self.words:
-            raise Bad
-        return self.words.index(word)
-
-    def at_once(self, fields: Fields) -> Integers:
-        places: Integers = np.full(len(fields.length), -1, "i1")
-        letters = {before: fields.word(before) for before in range(0, min(fields.longest, max(map(len, self.words))), 8)}
-        for number, word in enumerate(self.words):
-            is_word = fields.length == len(word)
-            for before, eight in letters.items():
-                is_word &= eight == Fields.of(word).word(before)
-            places[is_word] = number
-        if (places < 0).any():
-            raise Bad
-        return places
+    rows: Rows
+    changes: list[Change]
+    remarks: bytes
+    records: int
+    first: int
+    last_line: int
+    is_whole: bool
 
 
-@dataclass(frozen=True)
-class Address(Column):
-    """IPv4 addresses, as numbers of 32 bits."""
+def read_told(path: str, kind: str, widths: Widths) -> Told:
+    """Returns a history's content or, with `net`, the content of a transcript with its remarks on packets."""
 
-    def one(self, text: bytes) -> int:
-        parts = text.split(b".")
-        if len(parts) != 4 or not len("0.0.0.0") <= len(text) <= len("255.255.255.255") or not b"".join(parts).isdigit():
-            raise Bad
-        octets = [int(part or b"0") for part in parts]
-        if max(octets) > 255:
-            raise Bad
-        return int.from_bytes(octets, "big")
+    def take(answer: Answer) -> Told:
+        count, targets, tuples, changes, remarks, records, first, last_line, is_whole = answer.numbers(9)
+        kinds, five = answer.targets(targets), Tuples(answer.numbers(2 * tuples))
+        lines = answer.bytes(changes).decode("utf-8", "replace").split("\n")[:-1]
+        told = [(int(record), int(moment), text) for record, moment, text in (line.split(",", 2) for line in lines)]
+        text = bytes(answer.bytes(remarks))
+        return Told(Rows(answer.columns(count, widths), kinds, five), told, text, records, first, last_line, bool(is_whole))
 
-    def at_once(self, fields: Fields) -> Integers:
-        length = fields.length
-        if (length < len("0.0.0.0")).any() or (length > len("255.255.255.255")).any():
-            raise Bad
-        address, octet, dots = (np.zeros(len(length), np.int64) for _ in range(3))
-        letters = np.stack([fields.word(8), fields.word(0)], axis=1).view(np.uint8)
-        for letter in letters.reshape(len(length), 16).T:
-            is_dot = letter == DOT
-            if ((letter > 9) & ~is_dot).any() or (octet > 255).any():
-                raise Bad
-            address = np.where(is_dot, address << 8 | octet, address)
-            octet = np.where(is_dot, 0, octet * 10 + letter)
-            dots += is_dot
-        if (octet > 255).any() or (dots != 3).any():
-            raise Bad
-        return address << 8 | octet
-
-
-def numbered(*keys: Integers) -> tuple[Integers, Integers]:
-    """The number of each row's combination of keys, in order of first sight, and the first row of each."""
-    return (hasattr(np, "ndarray") and numbered_at_once(*keys)) or numbered_one_by_one(*keys)
-
-
-def mixed(keys: tuple[Integers, ...]) -> Words:
-    """A number of each row's keys, which hardly any others have."""
-    mixture = np.zeros(len(keys[0]), np.uint64)
-    for key in keys:
-        mixture = (mixture ^ key.astype(np.uint64)) * np.uint64(MIX)
-        mixture ^= mixture >> np.uint64(32)
-    return mixture
-
-
-def numbered_at_once(*keys: Integers) -> Optional[tuple[Integers, Integers]]:
-    """The same by numpy, None where that fails. Each row goes into a slot of a table, the first of those with one slot last; rows
-    that equal the one that stays there are done, and the others go into other slots."""
-    mixture, rows = mixed(keys), np.arange(len(keys[0]))
-    bits = len(rows).bit_length() + 1
-    table, firsts, rest = np.empty(1 << bits, np.int64), rows.copy(), rows
-    for turn in range(MOST_ROUNDS):
-        slots = (mixture[rest] * (MIX + 2 * turn) >> 64 - bits).astype(np.int64)
-        table[slots[::-1]] = rest[::-1]
-        firsts[rest] = table[slots]
-        rest = rest[mixture[firsts[rest]] != mixture[rest]]
-        if not len(rest):
-            break
-    if len(rest) or (firsts > rows).any() or any((key[firsts] != key).any() for key in keys):
-        return None
-    is_first = firsts == rows
-    return (np.cumsum(is_first) - 1)[firsts], np.flatnonzero(is_first)
-
-
-def numbered_one_by_one(*keys: Integers) -> tuple[Integers, Integers]:
-    """The same without numpy."""
-    numbers, firsts, table = list[int](), list[int](), dict[tuple[int, ...], int]()
-    for row, key in enumerate(zip(*(key.tolist() for key in keys))):
-        number = table.setdefault(key, len(firsts))
-        if number == len(firsts):
-            firsts.append(row)
-        numbers.append(number)
-    return np.array(numbers, np.int64), np.array(firsts, np.int64)
+    return read_columns(path, (kind,), {}, take)

@@ -1,16 +1,19 @@
-"""What happened to a packet, in one paragraph whose figures add up exactly."""
+"""The explanation of a packet's course, in a paragraph whose figures add up exactly."""
 
 from __future__ import annotations
 
 from dataclasses import dataclass
-from itertools import accumulate
+from functools import cached_property
+from itertools import takewhile
+from typing import Callable, Optional
 
 from hinge.command import ROWS, Fault
-from hinge.configurations.configured import Pipe, Queue
+from hinge.configurations.configured import Pipe, Queue, Setting
 from hinge.lazy import Integers, few as np
-from hinge.loss import LOST as LOST_WORD
+from hinge.loss import KEPT, LOST as LOST_WORD
+from hinge.replays.columns import GREATEST
 from hinge.replays.link_order import LinkOrder, WaitedFor
-from hinge.replays.links import BITS_NS, Parts
+from hinge.replays.links import BITS_NS, UNKNOWN, Parts, Spell, bandwidth_of, delay_of
 from hinge.replays.replay import FULL, HELD, LOST, NONE, OUT
 from hinge.replays.units import ms, packets, rows, seconds
 
@@ -18,6 +21,7 @@ LAST_MOMENT = 2**62  # at which a replay takes what has left
 LOSS_PARTS = 2**31
 LOW_31_BITS = LOSS_PARTS - 1
 BYTES_PER_KBYTE = 1024
+OF_NOBODY = ("0.0.0.0", "0.0.0.0", 255, 0, 0)  # by which a host keeps a link busy in an outage
 
 
 @dataclass
@@ -29,16 +33,18 @@ class Explainer:
     def __post_init__(self) -> None:
         self.replay = self.parts.replay
         self.packets = self.replay.packets
-        self.order = LinkOrder(self.parts)
-        if (self.replay.at != np.array(list(accumulate(self.packets.moment.tolist(), max)))).any():
+        self.order, self.is_history = LinkOrder(self.parts), self.parts.configuration.path == self.replay.path
+        if (self.replay.at != np.maximum.accumulate(self.packets.moment)).any():
             why = "its rows didn't come in their order, as those of several callers: no queue can be told"
             raise Fault(f"{self.replay.path}: {why}", ROWS)
 
     def paragraph(self, row: int) -> str:
-        """What happened to a row of the packet file, counted from 1. Fault: there is no such row."""
+        """Returns the paragraph for a row of the packet file, counted from 1. Fault: there is no such row."""
         if not 1 <= row <= len(self.packets):
             raise Fault(f"{self.packets.path} has {len(self.packets)} rows, and no row {row}", ROWS)
         place = row - 1
+        if self.is_outage(place) and self.replay.is_out[place]:
+            return f"Row {row} is a packet that nobody sent. It stands for {self.outage(place)}."
         tell = {OUT: self.delivered, HELD: self.held, LOST: self.lost, FULL: self.full, NONE: self.untargeted}
         return f"{self.sent(place)} {tell[int(self.replay.event[place])](place)}"
 
@@ -48,15 +54,62 @@ class Explainer:
         return self.packets.targets[int(self.packets.target[place])]
 
     def own(self, place: int) -> Pipe | Queue:
-        """What judges a row that has a target."""
-        own = self.parts.configuration.own(self.target(place))
-        if own is None:
-            raise self.another_configuration(f"row {place + 1} would have had no target")
-        return own
+        """Returns the pipe or queue of a row with a target."""
+        own = self.spell(self.parts.own[place])
+        if own is None or own.setting is None:
+            raise self.parts.another(f"row {place + 1} would have had no target")
+        return own.setting
 
-    def pipe_number(self, place: int) -> int:
-        own = self.own(place)
-        return own.pipe if isinstance(own, Queue) else own.number
+    def spell(self, number: int) -> Optional[Spell]:
+        return None if number == UNKNOWN else self.parts.configuration.spells[number]
+
+    def time_of(self, number: int, value: Callable[[Setting], int]) -> tuple[Optional[int], Optional[int]]:
+        """From when to when a pipe or queue had the value of this spell; None where that was from the beginning, or to the end."""
+        spells, places = (
+            self.parts.configuration.spells,
+            self.parts.configuration.by_target[self.parts.configuration.spells[number].target],
+        )
+        at, wanted = places.index(number), value(spells[number].setting)  # type: ignore[arg-type]
+
+        def is_same(place: int) -> bool:
+            setting = spells[place].setting
+            return setting is not None and value(setting) == wanted
+
+        first = at - sum(1 for _ in takewhile(is_same, reversed(places[:at])))
+        end = at + 1 + sum(1 for _ in takewhile(is_same, places[at + 1 :]))
+        return spells[places[first]].moment if first else None, spells[places[end]].moment if end < len(places) else None
+
+    def while_so(self, number: int, value: Callable[[Setting], int]) -> str:
+        """Describes the same in words; an empty text if the value never changed."""
+        begin, end = self.time_of(number, value)
+        if begin is None:
+            return "" if end is None else f"in force until {seconds(end)}"
+        return f"in force from {seconds(begin)} {'on' if end is None else f'to {seconds(end)}'}"
+
+    @cached_property
+    def of_nobody(self) -> int:
+        """Returns the number of the five-tuple for packets without a sender."""
+        tuples = self.packets.tuples if self.is_history else ()
+        return next((number for number, one in enumerate(tuples) if tuple(one) == OF_NOBODY), UNKNOWN)
+
+    def is_outage(self, place: int) -> bool:
+        return bool(self.packets.five_tuple[place] == self.of_nobody and self.packets.word[place] == KEPT)
+
+    def shades(self, end: int) -> set[tuple[int, int]]:
+        """From when to when a pipe lost all packets, which it didn't from the beginning, or held all."""
+        lossy = [
+            self.time_of(number, lambda setting: setting.loss)
+            for number, spell in enumerate(self.parts.configuration.spells)
+            if spell.setting is not None and spell.setting.loss == LOSS_PARTS
+        ]
+        held = np.flatnonzero((self.packets.five_tuple == self.of_nobody) & self.replay.is_out)
+        begins, ends = self.replay.start[held], (self.replay.start + self.parts.transmission)[held]
+        return {*zip(begins.tolist(), ends.tolist()), *((since, until or end) for since, until in lossy if since is not None)}
+
+    def outage(self, place: int) -> str:
+        """Describes the outage that a packet without a sender represents: during its transmission the link holds all others."""
+        start, pipe = int(self.replay.start[place]), int(self.parts.pipe[place])
+        return f"an outage, in which pipe {pipe} held packets from {seconds(start)} to {seconds(start + int(self.parts.transmission[place]))}"
 
     def target_name(self, place: int) -> str:
         kind, number = self.target(place)
@@ -69,13 +122,13 @@ class Explainer:
         return f"Row {place + 1} ({name}, {length:,} bytes) was sent to {self.target_name(place)} at {seconds(at)}{late}."
 
     def link_name(self, place: int) -> str:
-        pipe = self.pipe_number(place)
+        pipe = int(self.parts.pipe[place])
         if not self.parts.is_shared[place]:
             return f"the link of flow {self.replay.flow[place]} (pipe {pipe})"
         return f"pipe {pipe}, which its queues share"
 
     def flow_name(self, place: int) -> str:
-        """A flow as one that shares a link with others."""
+        """Returns a flow's name, if the flow shares its link."""
         own = self.own(place)
         weight = f", weight {own.weight}" if isinstance(own, Queue) else ""
         return f"flow {self.replay.flow[place]} ({self.target_name(place)}{weight})"
@@ -85,11 +138,27 @@ class Explainer:
     def delivered(self, place: int) -> str:
         """Waiting, transmission and delay, and their sum."""
         parts = self.parts
-        wait, sending, delay = (int(column[place]) for column in (parts.waited, parts.transmission, parts.delay))
+        wait, sending, delay, behind = (
+            int(column[place]) for column in (parts.waited, parts.transmission, parts.delay, parts.behind)
+        )
         took, due = int(self.replay.took[place]), int(self.replay.due[place])
         parts_of_it = f"{ms(took)} = {ms(wait)} waiting + {ms(sending)} transmission + {ms(delay)} delay"
-        before = f"{self.waiting(place, wait)} {self.sending(place)} The link's delay was {ms(delay)}."
-        return f"{before} In all it took {parts_of_it}, and it left at {seconds(due)}."
+        in_force = self.while_so(int(parts.carrier[place]), delay_of)
+        before = (
+            f"{self.waiting(place, wait)} {self.sending(place)} The link's delay was {ms(delay)}{', ' * bool(in_force)}{in_force}."
+        )
+        if behind:
+            before, parts_of_it = f"{before} {self.stayed_behind(place, behind)}", f"{parts_of_it} + {ms(behind)} behind another"
+        further = self.order.further.get(place) if self.is_history else None
+        goes_on = "" if further is None else f" It went on as row {further + 1}, for its jitter or a delay of its own."
+        return f"{before} In all it took {parts_of_it}, and it left at {seconds(due)}.{goes_on}"
+
+    def stayed_behind(self, place: int, behind: int) -> str:
+        """Describes a packet that doesn't leave before its predecessor on the link, though the delay became shorter."""
+        before = self.order.before(place)
+        if before == UNKNOWN or self.replay.due[before] != self.replay.due[place]:
+            raise self.parts.another(f"row {place + 1} would have left {ms(behind)} earlier")
+        return f"It stayed {ms(behind)} more behind row {before + 1}, since a link keeps the order of its packets when its delay becomes shorter."
 
     def sending(self, place: int) -> str:
         bandwidth = int(self.parts.bandwidth[place])
@@ -97,24 +166,34 @@ class Explainer:
             return "Its transmission took no time, since the bandwidth is unlimited."
         length, took = int(self.packets.length[place]), int(self.parts.transmission[place])
         rounding = "" if length * BITS_NS % bandwidth == 0 else ", rounded up to whole ns"
-        return f"Its transmission took {ms(took)} ({length:,} bytes at {bandwidth:,} bit/s{rounding})."
+        carrier = int(self.parts.carrier[place])
+        in_force = self.while_so(carrier, bandwidth_of)
+        alone = " to " in in_force and np.count_nonzero(self.replay.is_out & (self.parts.carrier == carrier)) == 1
+        whose = f", {in_force}{' for this packet alone, as a trace or an outage has it' * bool(alone)}" if in_force else ""
+        return f"Its transmission took {ms(took)} ({length:,} bytes at {bandwidth:,} bit/s{rounding}{whose})."
 
     def waiting(self, place: int, delay: int) -> str:
         if delay == 0:
             return "The link was free, so its transmission began at once."
         wait = self.order.wait(place)
         if int(wait.costs.sum()) != delay:
-            raise self.another_configuration(f"row {place + 1} would have waited {ms(int(wait.costs.sum()))}")
+            raise self.parts.another(f"row {place + 1} would have waited {ms(int(wait.costs.sum()))}")
         return f"It waited {ms(delay)} for {self.link_name(place)}: {'; '.join(self.waited_for(place, wait))}."
 
     def waited_for(self, place: int, wait: WaitedFor) -> list[str]:
-        """The packets for which it waited, by flow, with what each group cost it."""
+        """Returns the packets that a packet waited for, by flow, with each group's cost in time."""
         lines: list[str] = []
         if wait.first_was_sending:
             first = int(wait.places[0])
             whose = f" of {self.flow_name(first)}" if self.parts.is_shared[place] else ""
-            lines.append(f"{ms(int(wait.costs[0]))} until row {first + 1}{whose}, which was under transmission, had been sent")
+            before = f"row {first + 1}{whose}, which was under transmission, had been sent"
+            lines.append(
+                f"{ms(int(wait.costs[0]))} until {f'the end of {self.outage(first)}' if self.is_outage(first) else before}"
+            )
         places, costs = wait.places[int(wait.first_was_sending) :], wait.costs[int(wait.first_was_sending) :]
+        is_outage = (self.packets.five_tuple[places] == self.of_nobody) & (self.packets.word[places] == KEPT)
+        lines += [f"{ms(cost)} for {self.outage(one)}" for one, cost in zip(places[is_outage].tolist(), costs[is_outage].tolist())]
+        places, costs = places[~is_outage], costs[~is_outage]
         flows = self.replay.flow[places]
         for flow in sorted(set(flows.tolist()), key=lambda flow: (flow != self.replay.flow[place], flow)):
             choice = flows == flow
@@ -122,7 +201,7 @@ class Explainer:
         return lines
 
     def group(self, place: int, places: Integers, cost: int) -> str:
-        """Packets of one flow that went before a packet."""
+        """Describes one flow's packets ahead of a packet."""
         if not self.parts.is_shared[place]:
             whose = "that came before it"
         elif self.replay.flow[places[0]] == self.replay.flow[place]:
@@ -138,15 +217,18 @@ class Explainer:
     def lost(self, place: int) -> str:
         word, own = int(self.packets.word[place]), self.own(place)
         if word & LOW_31_BITS >= own.loss:
-            raise self.another_configuration(f"row {place + 1} would not have been lost")
+            raise self.parts.another(f"row {place + 1} would not have been lost")
+        in_force = self.while_so(int(self.parts.own[place]), lambda setting: setting.loss)
+        if own.loss == LOSS_PARTS and in_force:
+            return f"It was lost in a cut or a lossy outage: {self.target_name(place)} lost all packets {in_force.removeprefix('in force ')}."
         if word & LOW_31_BITS == LOST_WORD and own.loss == LOSS_PARTS // 2:
             return f"It was lost by a model of losses or a list of them, since the word that it was given is {word}."
         rate = f"{own.loss:,}, which is the rate of {own.loss / LOSS_PARTS:.6g} in parts of 2^31"
         bits = f"the low 31 bits of its random word {word} are {word & LOW_31_BITS:,}, less than {rate}"
-        return f"It was lost by the loss rate of {self.target_name(place)}: {bits}."
+        return f"It was lost by the loss rate of {self.target_name(place)}{', ' * bool(in_force)}{in_force}: {bits}."
 
     def full(self, place: int) -> str:
-        """How full the queue was, of which packets, and when there was room again."""
+        """Describes the full queue: its packets, and the moment at which there was room again."""
         backlog, limit = self.order.backlog(place), self.own(place).limit
         bytes_up_to = np.cumsum(self.packets.length[backlog])
         total = int(bytes_up_to[-1]) if len(backlog) else 0
@@ -158,44 +240,47 @@ class Explainer:
             too_many, options = total - most - 1, f"which is more than its limit of {most:,} bytes"
             leaver = int(np.searchsorted(bytes_up_to, total - most))
         if too_many < 0:
-            raise self.another_configuration(f"row {place + 1} would have found room")
+            raise self.parts.another(f"row {place + 1} would have found room")
         why = f"The queue of its flow {self.replay.flow[place]} was full, so it was dropped"
-        backlog_text = f"{packets(len(backlog))} waited there ({rows(backlog + 1)}), {total:,} bytes in all, {options}"
+        unsure = "at most " * bool(self.parts.is_shared[place] and (self.replay.event[backlog] == HELD).any())
+        backlog_text = f"{unsure}{packets(len(backlog))} waited there ({rows(backlog + 1)}), {total:,} bytes in all, {options}"
         return f"{why}: {backlog_text}. {self.room_again(place, int(backlog[leaver]))}"
 
-    def another_configuration(self, what: str) -> Fault:
-        why = f"{self.replay.path} is the report of another configuration"
-        return Fault(f"{what} by {self.parts.configuration.path}: {why}", ROWS)
-
     def room_again(self, place: int, leaver: int) -> str:
-        """When the queue had room, which is when this packet of it began to be sent."""
-        if self.replay.event[leaver] == HELD:
-            return f"There was no room again before row {leaver + 1} left it, after the end of the replay."
-        start = int(self.replay.start[leaver])
+        """Describes the moment at which the queue had room: the start of this packet's transmission."""
+        queue = self.order.accepted_of(int(self.replay.flow[leaver]))
+        start = int(queue.starts[np.searchsorted(queue.places, leaver)])
+        if start == GREATEST:
+            return f"There was no room again before row {leaver + 1} left it, after the end of the {self.end()}."
         return f"There was room again {ms(start - int(self.replay.at[place]))} later, when row {leaver + 1} began to be sent."
 
+    def end(self) -> str:
+        return "history" if self.is_history else "replay"
+
     def untargeted(self, place: int) -> str:
-        if self.parts.configuration.own(self.target(place)) is not None:
-            raise self.another_configuration(f"row {place + 1} would have had a target")
+        if self.parts.own[place] != UNKNOWN:
+            raise self.parts.another(f"row {place + 1} would have had a target")
         return f"{self.parts.configuration.path} configures no {self.target_name(place)}, so it went nowhere."
 
     def held(self, place: int) -> str:
-        """Accepted, and on its way at the last moment of a replay."""
-        connection = f"It was accepted as packet {self.replay.packet[place]}"
-        if self.parts.is_shared[place]:
-            return f"{connection}, and had not left {self.link_name(place)} when the replay ended at 2^62 ns."
-        wait, sending, delay = self.held_parts(place)
-        due = int(self.replay.at[place]) + wait + sending + delay
-        took = f"{ms(wait + sending + delay)} = {ms(wait)} waiting + {ms(sending)} transmission + {ms(delay)} delay"
-        end = f"It would leave at {seconds(due)}, and the replay ended at {seconds(LAST_MOMENT)} (2^62 ns)."
-        return f"{connection}, and would take {took}. {end}"
-
-    def held_parts(self, place: int) -> tuple[int, int, int]:
-        """The parts of a packet that a link of one flow had not delivered: its packets go in order, the held ones last."""
-        replay, parts = self.replay, self.parts
-        queue = self.order.accepted_of(int(replay.flow[place])).places
-        free = 0
-        for other in queue[: int(np.searchsorted(queue, place))].tolist():
-            start = int(replay.start[other]) if replay.event[other] == OUT else max(free, int(replay.at[other]))
-            free = start + int(parts.transmission[other])
-        return max(free - int(replay.at[place]), 0), int(parts.transmission[place]), int(parts.delay[place])
+        """Accepted, and on its way at the end, or discarded by a delete."""
+        queue, connection = (
+            self.order.accepted_of(int(self.replay.flow[place])),
+            f"It was accepted as packet {self.replay.packet[place]}",
+        )
+        number = int(np.searchsorted(queue.places, place))
+        start, ended = (
+            int(queue.starts[number]),
+            "the history ends" if self.is_history else f"the replay ended at {seconds(LAST_MOMENT)} (2^62 ns)",
+        )
+        if queue.gone[number] != GREATEST:
+            unsure = ", unless its transmission had begun" * bool(self.parts.is_shared[place])
+            spell = next(one for one in self.parts.configuration.spells if one.record == queue.gone[number])
+            return f"{connection}, and waited when `{spell.target[0]} delete {spell.target[1]}` discarded it at {seconds(spell.moment)}{unsure}."
+        if start == GREATEST:
+            return f"{connection}, and had not left {self.link_name(place)} when {ended}."
+        one = self.order.times_of_held(place, start)
+        wait, before = start - int(self.replay.at[place]), ", if no packet before it is later" * self.is_history
+        due = start + one.transmission + one.delay
+        took = f"{ms(due - int(self.replay.at[place]))} = {ms(wait)} waiting + {ms(one.transmission)} transmission + {ms(one.delay)} delay"
+        return f"{connection}, and would take {took}. It would leave at {seconds(due)}{before}, and {ended}{' before that' * self.is_history}."

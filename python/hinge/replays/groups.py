@@ -1,11 +1,12 @@
-"""Rows by flow: of the five-tuple that a packet has, of dummynet's own flow, or of its target."""
+"""Rows grouped by flow: by the packet's five-tuple, by dummynet's flow, or by target."""
 
 from __future__ import annotations
 
 from dataclasses import dataclass
-from typing import Iterator, Optional
+from typing import Iterator, Optional, Sequence
 
 from hinge.lazy import Integers, few as np
+from hinge.replays.columns import Lazily
 from hinge.replays.replay import Replay
 
 
@@ -14,12 +15,12 @@ class Groups:
     """The number of each row's group, and the groups' names."""
 
     of: Integers
-    names: list[str]
+    names: Sequence[str]
     has_rest: bool = False  # whether the last one stands for all smaller ones
     each: Optional[Integers] = None  # the number of each row's group before the smaller ones were put together
 
     def places(self) -> Iterator[tuple[str, Integers]]:
-        """Each group with the places of its rows, in order."""
+        """Yields each group with its rows' places, in order."""
         numbers = np.array(self.of, "u2") if len(self.names) <= 1 << 16 else self.of  # which are sorted faster
         order = np.argsort(numbers, kind="stable")
         ends = np.cumsum(np.bincount(self.of, minlength=len(self.names)))
@@ -27,7 +28,7 @@ class Groups:
             yield name, order[begin:end]
 
     def largest(self, sizes: Integers, most: int) -> Groups:
-        """At most so many groups, those of the largest sums of sizes first, and the rest as one."""
+        """Returns at most `most` groups with the largest sums of sizes, and the rest as one group."""
         sums = np.bincount(self.of, weights=sizes, minlength=len(self.names))
         order = np.argsort(-sums, kind="stable")
         part, rest = order[:most], order[most:]
@@ -40,8 +41,8 @@ class Groups:
 def group(replay: Replay, way: str) -> Groups:
     packets = replay.packets
     if way == "tuple":
-        return Groups(packets.five_tuple, [packets.tuple_name(i) for i in range(len(packets.tuples))])
+        return Groups(packets.five_tuple, Lazily(len(packets.tuples), packets.tuple_name))
     if way == "target":
         return Groups(packets.target, [f"{kind} {number}" for kind, number in packets.targets])
     places, of = np.unique(replay.flow, return_inverse=True)
-    return Groups(of, [f"flow {flow}" if flow >= 0 else "no flow" for flow in places.tolist()])
+    return Groups(of, Lazily(len(places), lambda place: f"flow {places[place]}" if places[place] >= 0 else "no flow"))

@@ -1,20 +1,26 @@
-"""The packets of each link in the order in which they were sent, and those of each flow that waited at a moment."""
+"""Each link's packets in transmission order, and each flow's backlog."""
 
 from __future__ import annotations
 
 from dataclasses import dataclass, field
+from functools import cached_property
+from typing import NamedTuple
 
 from hinge.lazy import Integers, few as np
+from hinge.loss import KEPT
 from hinge.replays.columns import GREATEST
-from hinge.replays.links import Parts
+from hinge.replays.links import BITS_NS, MOMENT, UNKNOWN, Parts, bandwidth_of, delay_of
 from hinge.replays.replay import HELD
+
+
+LAST_OF_LINKS = 60_000  # the pipes behind it are those of second passes
 
 
 @dataclass(frozen=True)
 class WaitedFor:
-    """For whom a packet waited: places of the packets that went before it, and the ns that each cost it.
+    """The packets ahead of a packet, with each packet's cost in ns.
 
-    The first may have been under transmission already; of that one only the rest counts.
+    The first may have been in transmission; then only the rest counts.
     """
 
     places: Integers
@@ -23,32 +29,50 @@ class WaitedFor:
 
 
 @dataclass(frozen=True)
-class Sequence:
-    """Places of packets in the order of their starts, and the starts. A held packet starts later than any that left."""
+class Sent:
+    """Packets' places in the order of their starts, and the starts."""
 
     places: Integers
     starts: Integers
 
 
+@dataclass(frozen=True)
+class Accepted:
+    """The places of a flow's packets in queue order, their starts, and for each the record of the delete that discarded the packet,
+    or GREATEST. A held packet on a shared link starts at GREATEST, since no record contains its start."""
+
+    places: Integers
+    starts: Integers
+    gone: Integers
+
+
+class Times(NamedTuple):
+    """When a packet's transmission starts, in ns, and how long it and the delay are."""
+
+    start: int
+    transmission: int
+    delay: int
+
+
 @dataclass
 class LinkOrder:
-    """Looks up what went before a packet. The sequences of links and flows are made when they are first asked for."""
+    """Finds the packets ahead of a packet. The sequences of links and flows are created on demand."""
 
     parts: Parts
-    links: dict[int, Sequence] = field(default_factory=dict)
-    flows: dict[int, Sequence] = field(default_factory=dict)
+    links: dict[int, Sent] = field(default_factory=dict)
+    flows: dict[int, Accepted] = field(default_factory=dict)
 
-    def sent_on(self, link: int) -> Sequence:
-        """The packets that left by a link."""
+    def sent_on(self, link: int) -> Sent:
+        """Returns the packets that left on a link."""
         if link not in self.links:
             replay = self.parts.replay
             places = np.flatnonzero(replay.is_out & (self.parts.link == link))
             places = places[np.lexsort((replay.packet[places], replay.start[places]))]
-            self.links[link] = Sequence(places, replay.start[places])
+            self.links[link] = Sent(places, replay.start[places])
         return self.links[link]
 
     def wait(self, place: int) -> WaitedFor:
-        """For whom a packet that left had waited."""
+        """Returns the packets that a packet waited for before it left."""
         replay, transmission = self.parts.replay, self.parts.transmission
         link, at = self.sent_on(int(self.parts.link[place])), replay.at[place]
         first = int(np.searchsorted(link.starts, at, side="right"))
@@ -60,17 +84,76 @@ class LinkOrder:
             return WaitedFor(places, costs, True)
         return WaitedFor(places, costs, False)
 
-    def accepted_of(self, flow: int) -> Sequence:
-        """The packets of a flow that were accepted, in the order of its queue."""
+    def before(self, place: int) -> int:
+        """Returns the packet that left its link before this packet, or UNKNOWN."""
+        link = self.sent_on(int(self.parts.link[place]))
+        at = int(np.flatnonzero(link.places == place)[0])
+        return int(link.places[at - 1]) if at else UNKNOWN
+
+    def deleted(self, place: int) -> tuple[int, int]:
+        """Returns the record and moment of the first delete that reached a packet's queue after its arrival, or GREATEST."""
+        parts, spells = self.parts, self.parts.configuration.spells
+        target = parts.replay.packets.targets[int(parts.replay.packets.target[place])]
+        ways = {target, ("pipe", int(parts.pipe[place]))}
+        own = [number for way in ways for number in parts.configuration.by_target.get(way, [])]
+        is_later = (spells[at] for at in sorted(own) if spells[at].record > parts.replay.submitted[place])
+        return next(((spell.record, spell.moment) for spell in is_later if spell.setting is None), (GREATEST, GREATEST))
+
+    def times_of_held(self, place: int, free: int) -> Times:
+        """Those of a packet that hadn't left, on a link of one flow that is free from a moment on."""
+        parts, start = self.parts, max(free, int(self.parts.replay.at[place]))
+        spell = parts.carrier[[place]]
+        if start > parts.replay.at[place]:
+            spell = parts.configuration.places(("pipe", int(parts.pipe[place])), np.array([start]), MOMENT)
+        bandwidth, delay = (int(parts.configuration.values(spell, value)[0]) for value in (bandwidth_of, delay_of))
+        return Times(start, -(-int(parts.replay.packets.length[place]) * BITS_NS // bandwidth) if bandwidth else 0, delay)
+
+    def accepted_of(self, flow: int) -> Accepted:
+        """Returns a flow's accepted packets, in queue order."""
         if flow not in self.flows:
-            replay = self.parts.replay
+            replay, parts = self.parts.replay, self.parts
             places = np.flatnonzero((replay.is_out | (replay.event == HELD)) & (replay.flow == flow))
-            starts = np.where(replay.event[places] == HELD, GREATEST, replay.start[places])
-            self.flows[flow] = Sequence(places, starts)
+            starts, gone, free = replay.start[places], np.full(len(places), GREATEST), 0
+            for number, place in enumerate(places.tolist()):
+                if replay.is_out[place]:
+                    free = int(replay.start[place] + parts.transmission[place])
+                    continue
+                record, moment = self.deleted(place)
+                one = self.times_of_held(place, GREATEST if parts.is_shared[place] else free)
+                is_gone = one.start > moment
+                starts[number], gone[number] = (GREATEST, record) if is_gone else (one.start, GREATEST)
+                free = free if is_gone or parts.is_shared[place] else one.start + one.transmission
+            self.flows[flow] = Accepted(places, starts, gone)
         return self.flows[flow]
 
     def backlog(self, place: int) -> Integers:
-        """The places of the packets that waited in the queue of the row's flow when the row came."""
-        queue = self.accepted_of(int(self.parts.replay.flow[place]))
-        first = int(np.searchsorted(queue.starts, self.parts.replay.at[place], side="right"))
-        return queue.places[first : int(np.searchsorted(queue.places, place))]
+        """Returns the places of the packets in the flow's queue when a row arrived."""
+        replay, queue = self.parts.replay, self.accepted_of(int(self.parts.replay.flow[place]))
+        waited = (queue.starts > replay.at[place]) & (queue.gone > replay.submitted[place]) & (queue.places < place)
+        places: Integers = queue.places[waited]
+        return places
+
+    @cached_property
+    def further(self) -> dict[int, int]:
+        """Returns the rows in which a host passed packets to a second pipe: at once after these packets left, behind earlier
+        packets."""
+        replay, packets = self.parts.replay, self.parts.replay.packets
+        seconds_of = [kind == "pipe" and number > LAST_OF_LINKS for kind, number in packets.targets]
+        is_again = np.array([*seconds_of, False])[packets.target] & (packets.word == KEPT)
+        if not is_again.any():
+            return {}
+        records = np.concatenate((replay.submitted, replay.handed[replay.is_out]))
+        places = np.concatenate((np.arange(len(packets)), -1 - np.flatnonzero(replay.is_out)))
+        left, table = list[int](), dict[int, int]()
+        for place in places[np.argsort(records)].tolist():
+            if place < 0:
+                left = [*left, -1 - place] if left and replay.handed[left[-1]] == replay.handed[-1 - place] - 1 else [-1 - place]
+            elif not is_again[place]:
+                left = []
+            elif first := [one for one in left if one not in table and self.is_alike(one, place)]:
+                table[first[0]] = place
+        return table
+
+    def is_alike(self, one: int, other: int) -> bool:
+        packets = self.parts.replay.packets
+        return bool(packets.five_tuple[one] == packets.five_tuple[other] and packets.length[one] == packets.length[other])

@@ -1,109 +1,182 @@
-"""What a configuration says of each row: the link that carries it, and the parts of the time that it took.
+"""The configuration of each row: the link that carries the row, and the parts of its delay.
 
-All lines of a configuration come before the first packet of a replay, so one setting of each pipe and queue holds
-throughout, and packets leave a link in the order in which they start.
+The configuration in force at a packet's arrival decides its fate. Its transmission and its delay are those in force when the
+transmission begins. Of a replay all lines come before the first packet.
 """
 
 from __future__ import annotations
 
 from dataclasses import dataclass
 from functools import cached_property
-from typing import Callable, Optional
+from typing import Callable, NamedTuple, Optional
 
-from hinge.border.files import read_bytes, untrusted
+from hinge.border.files import MOST_TEXT, read_bytes, untrusted
 from hinge.command import CONFIGURATION, ROWS, Fault
-from hinge.configurations.configured import InForce, LineFault, Pipe, Queue, spelled_lines
+from hinge.configurations.configured import InForce, LineFault, Pipe, Queue, Setting, setting_of, spelled_lines
 from hinge.lazy import Integers, Mask, few as np
-from hinge.replays.replay import NONE, Packets, Replay
+from hinge.replays.columns import Change
+from hinge.replays.replay import NONE, Replay
 
 NS_PER_MS, BITS_NS = 10**6, 8 * 10**9
+RECORD, MOMENT, UNKNOWN = 0, 1, -1
+BEFORE_ALL = -1  # the record of a command that came before each call
+
+
+class Spell(NamedTuple):
+    """What a pipe or queue is from a command on, whose record and moment in ns these are; no setting after a delete."""
+
+    record: int
+    moment: int
+    target: tuple[str, int]
+    setting: Optional[Setting]
 
 
 @dataclass(frozen=True)
 class Configuration:
-    """The pipes and queues that the lines leave in force, by number."""
+    """The commands in force, in the program's spelling, and from when on."""
 
     path: str
-    lines: list[str]  # in the program's spelling
-    pipes: dict[int, Pipe]
-    queues: dict[int, Queue]
+    changes: list[Change]
 
-    @staticmethod
-    def of(path: str, lines: list[str]) -> Configuration:
-        result = InForce(lines)
-        return Configuration(path, lines, result.pipes, result.queues)
+    @cached_property
+    def lines(self) -> list[str]:
+        return [text for _, _, text in self.changes]
 
-    def own(self, target: tuple[str, int]) -> Optional[Pipe | Queue]:
-        """What judges a packet to this target."""
-        kind, number = target
-        return self.pipes.get(number) if kind == "pipe" else self.queues.get(number)
+    @cached_property
+    def last(self) -> InForce:
+        """The pipes and queues that the lines leave in force, by number."""
+        return InForce(self.lines)
 
-    def pipe(self, target: tuple[str, int]) -> Optional[Pipe]:
-        """The pipe that carries a packet to this target."""
-        own = self.own(target)
-        return self.pipes.get(own.pipe) if isinstance(own, Queue) else own
+    @cached_property
+    def spells(self) -> list[Spell]:
+        each = ((record, moment, setting_of(text)) for record, moment, text in self.changes)
+        return [Spell(record, moment, (kind, number), setting) for record, moment, (kind, number, setting) in each]
+
+    @cached_property
+    def by_target(self) -> dict[tuple[str, int], list[int]]:
+        """The places of each pipe's and queue's spells."""
+        table: dict[tuple[str, int], list[int]] = {}
+        for place, spell in enumerate(self.spells):
+            table.setdefault(spell.target, []).append(place)
+        return table
+
+    def places(self, target: tuple[str, int], before: Integers, key: int) -> Integers:
+        """Returns the places of the spells in force before each of these records or moments, UNKNOWN before a configuration."""
+        own = self.by_target.get(target, [])
+        begins = np.array([self.spells[place][:2][key] for place in own], np.int64)
+        table = np.array([UNKNOWN, *(place if self.spells[place].setting else UNKNOWN for place in own)], np.int64)
+        found: Integers = table[np.searchsorted(begins, before, side="left")]
+        return found
+
+    def values(self, places: Integers, value: Callable[[Setting], int]) -> Integers:
+        """Returns a value from the spell at each place, 0 for UNKNOWN."""
+        table = np.array([*(value(spell.setting) if spell.setting else 0 for spell in self.spells), 0], np.int64)
+        found: Integers = table[places]
+        return found
 
 
 def read_configuration(path: str) -> Configuration:
     try:
         with untrusted(path, CONFIGURATION):
-            return Configuration.of(path, spelled_lines(read_bytes(path)))
+            return Configuration(path, [(BEFORE_ALL, 0, line) for line in spelled_lines(read_bytes(path, MOST_TEXT))])
     except LineFault as fault:
         raise Fault(f"{path}: {fault}", CONFIGURATION) from None
 
 
-def by_target(packets: Packets, configuration: Configuration, value: Callable[[Pipe], int]) -> Integers:
-    """A value of each row's pipe, 0 where its target isn't configured."""
-    pipes = [configuration.pipe(target) for target in packets.targets]
-    values = np.array([0 if pipe is None else value(pipe) for pipe in pipes], dtype=np.int64)
-    return values[packets.target] if len(values) else values
+def pipe_of(setting: Setting) -> int:
+    return setting.pipe if isinstance(setting, Queue) else setting.number
+
+
+def bandwidth_of(setting: Setting) -> int:
+    return setting.bw if isinstance(setting, Pipe) else 0
+
+
+def delay_of(setting: Setting) -> int:
+    """In ns."""
+    return setting.delay * NS_PER_MS if isinstance(setting, Pipe) else 0
 
 
 @dataclass(frozen=True)
 class Parts:
-    """A replay with its configuration: for each row that left, waited + transmission + delay is what it took."""
+    """A replay with its configuration: for each row that left, waited + transmission + delay + behind is the total time."""
 
     replay: Replay
     configuration: Configuration
 
     @cached_property
+    def own(self) -> Integers:
+        """The spell that decided each row, UNKNOWN for targets without a configuration."""
+        packets = self.replay.packets
+        found = np.full(len(packets), UNKNOWN, np.int64)
+        for number, target in enumerate(packets.targets):
+            rows = np.flatnonzero(packets.target == number)
+            found[rows] = self.configuration.places(target, self.replay.submitted[rows], RECORD)
+        return found
+
+    @cached_property
+    def pipe(self) -> Integers:
+        """The number of the pipe that carries each row."""
+        return self.configuration.values(self.own, pipe_of)
+
+    @cached_property
+    def carrier(self) -> Integers:
+        """The spell of its pipe during each row's transmission; for a row that didn't leave, the spell at its arrival."""
+        replay, found = self.replay, np.full(len(self.own), UNKNOWN, np.int64)
+        for number in np.unique(self.pipe[self.own != UNKNOWN]).tolist():
+            rows, target = np.flatnonzero((self.pipe == number) & (self.own != UNKNOWN)), ("pipe", number)
+            on_coming = self.configuration.places(target, replay.submitted[rows], RECORD)
+            later = self.configuration.places(target, replay.start[rows], MOMENT)
+            found[rows] = np.where(replay.start[rows] > replay.at[rows], later, on_coming)
+        return found
+
+    @cached_property
     def bandwidth(self) -> Integers:
-        return by_target(self.replay.packets, self.configuration, lambda pipe: pipe.bw)
+        return self.configuration.values(self.carrier, bandwidth_of)
 
     @cached_property
     def transmission(self) -> Integers:
-        """ns that the bits take, rounded up; 0 where the bandwidth is unlimited."""
+        """Returns the transmission times in ns, rounded up; 0 if the bandwidth is unlimited."""
         bits, bandwidth = self.replay.packets.length * BITS_NS, self.bandwidth
         return np.where(bandwidth > 0, -(-bits // np.maximum(bandwidth, 1)), 0)
 
     @cached_property
     def delay(self) -> Integers:
-        return by_target(self.replay.packets, self.configuration, lambda pipe: pipe.delay * NS_PER_MS)
+        return self.configuration.values(self.carrier, delay_of)
 
     @cached_property
     def waited(self) -> Integers:
         return self.replay.start - self.replay.at
 
     @cached_property
+    def behind(self) -> Integers:
+        """Returns the ns for which a row stayed behind its predecessor on a link whose delay became shorter."""
+        return np.where(self.replay.is_out, self.replay.due - self.replay.start - self.transmission - self.delay, 0)
+
+    @cached_property
     def is_shared(self) -> Mask:
-        """Whether the row went to a queue, whose pipe's link it shares."""
+        """Returns whether each row used a queue, which shares its pipe's link."""
         kinds = np.array([kind == "queue" for kind, _ in self.replay.packets.targets], dtype=bool)
         return kinds[self.replay.packets.target] if len(kinds) else kinds
 
     @cached_property
     def link(self) -> Integers:
-        """A number of the link that carries the row: of its flow, or below 0 of the pipe that queues share."""
-        pipe = by_target(self.replay.packets, self.configuration, lambda result: result.number)
-        return np.where(self.is_shared, -1 - pipe, self.replay.flow)
+        """Returns a number for each row's link: a flow's number, or a negative number for a pipe with queues."""
+        return np.where(self.is_shared, -1 - self.pipe, self.replay.flow)
 
     def check(self) -> Parts:
-        """The parts, checked. Fault: those of some row don't add up to its delay, so the configuration is another one."""
-        replay = self.replay
-        wrong = replay.is_out & (replay.start + self.transmission + self.delay != replay.due)
-        unknown = [self.configuration.own(target) is None for target in replay.packets.targets]
-        if len(unknown):
-            wrong |= np.array(unknown)[replay.packets.target] & (replay.event != NONE)
+        """Checks the parts; returns this object. Fault: a row's parts don't add up to its delay, so the configuration is wrong."""
+        wrong = (self.behind < 0) | (self.behind > 0) & (len(self.configuration.by_target) == len(self.configuration.spells))
+        wrong |= (self.own == UNKNOWN) & (self.replay.event != NONE)
         if wrong.any():
-            fault = f"row {int(np.argmax(wrong)) + 1} would have fared otherwise by {self.configuration.path}"
-            raise Fault(f"{fault}: {replay.path} is the report of another configuration", ROWS)
+            raise self.another(f"row {int(np.argmax(wrong)) + 1} would have fared otherwise")
         return self
+
+    def another(self, what: str) -> Fault:
+        """A fault: by the configuration something else would have happened."""
+        path, own = self.replay.path, self.configuration.path
+        why = (
+            f"`dummynet audit {path}` says where it isn't lawful"
+            if path == own
+            else f"{path} is the report of another configuration"
+        )
+        return Fault(f"{what} by {own}: {why}", ROWS)

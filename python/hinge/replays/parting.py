@@ -1,4 +1,4 @@
-"""Where two histories part: the first call that differs in itself or in its reply, with the calls around it."""
+"""The first difference between two histories, in a call or its reply, with the surrounding calls."""
 
 from __future__ import annotations
 
@@ -9,7 +9,7 @@ from pathlib import Path
 from typing import Any, Iterator, NamedTuple, Optional, Union
 
 from hinge.arguments import is_number
-from hinge.border.files import opened, untrusted
+from hinge.border.files import MOST_TABLE, lines_of, opened, untrusted
 from hinge.command import ROWS, Fault
 
 AROUND = 3  # calls before the first that differs, and from it on
@@ -19,7 +19,7 @@ TIMED = ("submit", "advance", "collect")  # whose last field is a moment
 
 
 class Entry(NamedTuple):
-    """A call with its reply."""
+    """A call and its reply."""
 
     number: int  # of the call, from 1
     line: int  # of its record in the file
@@ -29,30 +29,25 @@ class Entry(NamedTuple):
 
     @property
     def moment(self) -> Optional[int]:
-        """The ns at which it was made, if it says so."""
+        """Returns the moment of the call in ns, if the call contains one."""
         fields = self.call.split(",")
         return int(fields[-1]) if fields[2:] and fields[2] in TIMED and is_number(fields[-1]) else None
 
     def known(self) -> dict[str, Any]:
-        """The same for a program."""
-        return {
-            "call": self.number,
-            "line": self.line,
-            "row": self.row,
-            "moment_ns": self.moment,
-            "text": self.call,
-            "reply": list(self.reply),
-        }
+        """Returns the entry for JSON."""
+        front = {"call": self.number, "line": self.line, "row": self.row, "moment_ns": self.moment}
+        return {**front, "text": self.call, "reply": list(self.reply)}
 
 
 def entries(path: Union[str, Path]) -> Iterator[Entry]:
-    """The calls of a history, or of a transcript, without its remarks. Fault: it is neither."""
+    """Yields the calls of a history or a transcript, without remarks. Fault: the file is neither."""
     number = row = start = 0
     call, reply = "", list[str]()
-    with untrusted(path), io.TextIOWrapper(opened(path), "utf-8", "replace") as file:
-        if not file.readline().startswith(FORMATS):
+    with untrusted(path), io.TextIOWrapper(opened(path, MOST_TABLE), "utf-8", "replace") as file:
+        lines = lines_of(file)
+        if not next(lines, "").startswith(FORMATS):
             raise Fault(f"{path}: neither a history nor a transcript", ROWS)
-        for line, text in enumerate(file, 2):
+        for line, text in enumerate(lines, 2):
             record = text.rstrip("\r\n")
             if record[:2] == "c," or record[:4] == "end,":
                 if call:
@@ -70,7 +65,7 @@ def is_packet(call: str) -> bool:
 
 
 class Parting(NamedTuple):
-    """The last calls that two histories have both, and the first of each that they don't."""
+    """The last common calls of two histories, and the first different call of each."""
 
     before: "list[Entry]"
     after: "tuple[list[Entry], list[Entry]]"
@@ -81,7 +76,7 @@ class Parting(NamedTuple):
         return next(result[0].number for result in self.after if result)
 
     def reason(self) -> str:
-        """What differs in it."""
+        """Returns a description of the difference."""
         one, other = self.after
         if not one or not other:
             return f"the {'first' if not one else 'second'} ends before it"
@@ -93,7 +88,7 @@ class Parting(NamedTuple):
         return "" if moment is None else f", at {moment / NS_PER_S:.9f} s"
 
     def text(self) -> str:
-        """The calls around it: of both, of the first (-), and of the second (+)."""
+        """Returns the calls around the difference: common calls, calls in the first history (-) and calls in the second (+)."""
         groups = ((" ", self.before), ("-", self.after[0]), ("+", self.after[1]))
         width = max(len(str(it.number)) for _, result in groups for it in result)
         lines = []
@@ -107,7 +102,7 @@ class Parting(NamedTuple):
         return "\n".join(lines)
 
     def known(self) -> dict[str, Any]:
-        """The same for a program; docs/CAPTURE.md has its keys."""
+        """Returns the difference for JSON; docs/CAPTURE.md describes its keys."""
         return {
             "call": self.number,
             "reason": self.reason(),
@@ -121,7 +116,7 @@ def same(one: Optional[Entry], other: Optional[Entry]) -> bool:
 
 
 def parting(one: Union[str, Path], other: Union[str, Path]) -> Optional[Parting]:
-    """Where two histories part; None if they have the same calls and replies."""
+    """Returns the first difference of two histories, or None."""
     before: deque[Entry] = deque(maxlen=AROUND)
     first, second = entries(one), entries(other)
     for pair in zip_longest(first, second):

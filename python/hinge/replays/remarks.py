@@ -1,5 +1,4 @@
-"""What a live host remarks in its transcript, in records that begin with `#`: addresses of IPv6, its seed, and its
-lateness."""
+"""A live host's remarks in its transcript, which are records that begin with `#`: IPv6 addresses, the seed, and lateness."""
 
 from __future__ import annotations
 
@@ -19,7 +18,7 @@ Lateness = dict[str, dict[str, tuple[Reals, Reals]]]
 
 
 def remarks_of(data: bytes, kind: bytes) -> Iterator[list[str]]:
-    """The fields behind `#,KIND,` of each such remark."""
+    """Yields the fields after `#,KIND,` of each such remark."""
     begin = b"\n#," + kind + b","
     at = data.find(begin)
     while at >= 0:
@@ -29,7 +28,7 @@ def remarks_of(data: bytes, kind: bytes) -> Iterator[list[str]]:
 
 
 def addresses_in(data: bytes) -> dict[str, str]:
-    """The IPv6 address of each stand-in, by the remarks `#,address,STAND-IN,ADDRESS`."""
+    """Returns each stand-in's IPv6 address, from the remarks `#,address,STAND-IN,ADDRESS`."""
     table: dict[str, str] = {}
     for fields in remarks_of(data, b"address"):
         with contextlib.suppress(ValueError):
@@ -38,13 +37,12 @@ def addresses_in(data: bytes) -> dict[str, str]:
 
 
 def seed_in(data: bytes) -> Optional[str]:
-    """The seed of what the host drew, by the first remark `#,seed,N`."""
+    """Returns the seed of the host's draws, from the first remark `#,seed,N`."""
     return next((fields[0] for fields in remarks_of(data, b"seed") if fields[0].isdecimal()), None)
 
 
 def lateness_in(data: bytes) -> Lateness:
-    """By how much the host was late, by the remarks `#,late,MOMENT` with LATE and UNREAD of each way behind them, in
-    ns."""
+    """Returns the lateness of the host from the remarks `#,late,MOMENT` with LATE and UNREAD of each way, in ns."""
     numbers, width = array("q"), 1
     for fields in remarks_of(data, b"late"):
         if all(map(is_number, fields)) and len(fields) == (width if numbers else len(fields) | 1):
@@ -62,12 +60,12 @@ def lateness_in(data: bytes) -> Lateness:
 
 
 def late_remark(late: float, unread: float) -> Iterator[str]:
-    """What is told of a live host that was late by at most so many ms, and let packets lie unread for at most so many."""
+    """Yields the report on a live host's maximum lateness and maximum time with unread packets, in ms."""
     if max(late, unread) >= LEAST_LATE:
         yield f"the host was late by {late:,.4g} ms and packets lay unread for {unread:,.4g} ms at most: the picture has each second"
 
 
 def way_name(number: int, count: int) -> str:
-    """`up` or `down`, and of which link, where there are more of them."""
+    """Returns `up` or `down`, with the link's number if there are several."""
     way = "down" if number % 2 else "up"
     return way if count == 2 else f"link {number // 2 + 1} {way}"

@@ -1,33 +1,21 @@
-"""Packets and their report, joined once by row. Everything that the commands ask of a replay stands in these columns.
+"""Packets and their report, joined by row. Commands read everything about a replay from these columns.
 
-A column has one number for each row of the packet file, in its order: place i has row i + 1. What doesn't apply is -1.
+A column contains a number for each row of the packet file, in order: place i belongs to row i + 1. Inapplicable values are -1.
 """
 
 from __future__ import annotations
 
 from dataclasses import dataclass
 from functools import cached_property
-from typing import Iterable
+from typing import Sequence
 
 from hinge.captures.addresses import read_addresses
 from hinge.command import ROWS, Fault
 from hinge.lazy import Integers, Mask, few as np
-from hinge.replays.columns import Address, Column, Number, OneOf, numbered
-from hinge.replays.record_lines import Combinations, Records, joined
-from hinge.replays.tables import read_columns, read_table
+from hinge.replays.columns import EVENT_NAMES, EVENTS, FULL, HELD, LOST, NONE, OUT, Lazily, Rows, read_lines, read_rows
 from hinge.replays.units import socket_address
 
-EVENTS = NONE, FULL, LOST, HELD, OUT = range(5)
-KINDS = ("pipe", "queue")
-EVENT_NAMES = ("none", "full", "lost", "held", "out")
-PACKET_COLUMNS: dict[str, Column] = {
-    **{"moment": Number(), "target": OneOf(KINDS), "number": Number(), "src": Address(), "dst": Address()},
-    **{name: Number() for name in ("proto", "sport", "dport", "len", "word")},
-}
-REPORT_COLUMNS: dict[str, Column] = {
-    **{"event": OneOf(EVENT_NAMES), "row": Number(), "flow": Number(True), "packet": Number(True), "at": Number()},
-    **{"start": Number(True), "due": Number(True)},
-}
+__all__ = ["EVENTS", "EVENT_NAMES", "FULL", "HELD", "LOST", "NONE", "OUT", "Packets", "Replay", "read_packets", "read_report"]
 PROTOCOLS = {1: "icmp", 6: "tcp", 17: "udp", 58: "icmpv6", 132: "sctp"}
 
 
@@ -42,13 +30,13 @@ class Packets:
     length: Integers
     word: Integers
     targets: list[tuple[str, int]]
-    tuples: list[tuple[str, str, int, int, int]]
+    tuples: Sequence[tuple[str, str, int, int, int]]
 
     def __len__(self) -> int:
         return len(self.moment)
 
     def tuple_name(self, number: int) -> str:
-        """A five-tuple as people write it."""
+        """Returns a five-tuple in the usual notation."""
         src, dst, proto, sport, dport = self.tuples[number]
         name = PROTOCOLS.get(proto, f"proto {proto}")
         if not (sport or dport):
@@ -58,7 +46,7 @@ class Packets:
 
 @dataclass(frozen=True)
 class Replay:
-    """What became of the packets of a packet file."""
+    """The results of the packets in a packet file."""
 
     path: str
     packets: Packets
@@ -68,6 +56,8 @@ class Replay:
     at: Integers
     start: Integers
     due: Integers
+    submitted: Integers  # the record of the call, and that of the delivery; in a report each comes behind all commands
+    handed: Integers
 
     @cached_property
     def is_out(self) -> Mask:
@@ -76,7 +66,7 @@ class Replay:
 
     @cached_property
     def took(self) -> Integers:
-        """From being sent to leaving, in ns; it means nothing for a packet that didn't leave."""
+        """Returns the time from sending to leaving in ns; undefined for packets that didn't leave."""
         return self.due - self.at
 
     def count(self, event: int) -> int:
@@ -87,61 +77,30 @@ def dotted(address: int) -> str:
     return ".".join(str(address >> shift & 255) for shift in (24, 16, 8, 0))
 
 
-def named_tuples(rows: Iterable[tuple[int, ...]], addresses: dict[str, str]) -> list[tuple[str, str, int, int, int]]:
-    """Five-tuples with their addresses as text, those that stand for IPv6 addresses under these."""
+def packets_of(path: str, rows: Rows, moment: Integers, addresses: dict[str, str]) -> Packets:
+    """Rows with these moments, and with these IPv6 addresses."""
+    columns, five = rows.columns, rows.tuples
 
-    def named(address: int) -> str:
-        return addresses.get(dotted(address), dotted(address))
+    def named(place: int) -> tuple[str, str, int, int, int]:
+        src, dst, *more = five.numbers(place)
+        return (*(addresses.get(dotted(address), dotted(address)) for address in (src, dst)), *more)  # type: ignore[return-value]
 
-    return [(named(src), named(dst), proto, sport, dport) for src, dst, proto, sport, dport in rows]
-
-
-class Rows:
-    """Rows of packets, as they are read."""
-
-    def __init__(self) -> None:
-        self.named = Combinations(OneOf(KINDS), Number(), Address(), Address(), Number(), Number(), Number())
-        self.columns = list[list[Integers]]()  # moments, lengths and words
-
-    def add(self, records: Records, at: int, moments: Integers) -> None:
-        """Takes records of packets with these moments, of which field `at` and the eight behind it are those of a row. Bad: a field
-        isn't of its kind."""
-        self.named.add(records, at)
-        self.columns.append([moments, *(Number().read(records.field(at + place)) for place in (7, 8))])
-
-    def add_rows(self, rows: Records) -> None:
-        """Takes rows of a packet file. Bad: a field isn't of its kind."""
-        self.add(rows, 1, Number().read(rows.field(0)))
-
-    def packets(self, path: str, addresses: dict[str, str]) -> Packets:
-        """All of them, with these IPv6 addresses."""
-        of, (kind, number, *five) = self.named.joined()
-        (target, first), (five_tuple, first_of_tuple) = numbered(kind, number), numbered(*five)
-        target, five_tuple = np.array(target, "i4")[of], np.array(five_tuple, "i4")[of]
-        moment, length, word = joined(self.columns)
-        targets = [(KINDS[kind], number) for kind, number in zip(kind[first].tolist(), number[first].tolist())]
-        tuples = named_tuples(zip(*(column[first_of_tuple].tolist() for column in five)), addresses)
-        return Packets(path, moment, target, five_tuple, length, word, targets, tuples)
+    tuples = Lazily(len(five.words) // 2, named)
+    return Packets(path, moment, columns["target"], columns["five_tuple"], columns["length"], columns["word"], rows.targets, tuples)
 
 
 def read_packets(path: str) -> Packets:
-    rows = Rows()
-    read_table(path, PACKET_COLUMNS, rows.add_rows)
-    return rows.packets(path, read_addresses(path))
+    rows = read_rows(path)
+    return packets_of(path, rows, rows.columns["moment"], read_addresses(path))
 
 
 def read_report(path: str, packets: Packets) -> Replay:
-    """The report of a replay of these packets, a line for each row. Fault: the lines are those of other packets."""
-    columns = read_columns(path, REPORT_COLUMNS)
-    place = columns.pop("row") - 1
-    count = np.bincount(place, minlength=len(packets)) if len(place) and place.min() >= 0 else np.zeros(len(packets), int)
-    if len(place) != len(packets) or len(count) != len(packets) or (count != 1).any():
-        raise Fault(f"{path}: its {len(place)} lines aren't those of the {len(packets)} rows of {packets.path}", ROWS)
-    union = {name: np.empty(len(column), column.dtype) for name, column in columns.items()}
-    for name in union:
-        union[name][place] = columns.pop(name)
-    if (union["at"] < packets.moment).any():
-        row = int(np.argmax(union["at"] < packets.moment)) + 1
-        why = "it is the report of other packets"
+    """Reads the report from a replay of these packets, a line for each row. Fault: the report is of other packets."""
+    count, columns = read_lines(path, len(packets))
+    if columns is None:
+        raise Fault(f"{path}: its {count} lines aren't those of the {len(packets)} rows of {packets.path}", ROWS)
+    is_early = columns["at"] < packets.moment
+    if is_early.any():
+        row, why = int(np.argmax(is_early)) + 1, "it is the report of other packets"
         raise Fault(f"{path}: row {row} was sent before its moment in {packets.path}: {why}", ROWS)
-    return Replay(path, packets, **union)
+    return Replay(path, packets, **columns, submitted=np.zeros(len(packets), np.int64), handed=columns["packet"])

@@ -11,12 +11,12 @@ def ms(ns: int) -> str:
 
 
 def seconds(ns: int) -> str:
-    """Seconds with all nine digits."""
+    """Returns the seconds with all nine decimal places."""
     return f"{ns // 10**9:,}.{ns % 10**9:09d} s"
 
 
 def socket_address(address: str, port: int) -> str:
-    """An address and a port, in which one of IPv6 has brackets."""
+    """Returns an address and a port; IPv6 addresses get brackets."""
     return f"[{address}]:{port}" if ":" in address else f"{address}:{port}"
 
 

@@ -19,13 +19,14 @@ def is_asynchronous(call: object) -> bool:
 
 
 def asynchronous(call: Callable[..., Any]) -> Optional[Callable[..., Any]]:
-    """The coroutine or asynchronous generator of a fixture or test, also if another plugin has wrapped it; None if it is none."""
+    """Returns the coroutine function or asynchronous generator of a fixture or test, even inside another plugin's wrapper; None if
+    it is synchronous."""
     result = inspect.unwrap(call)
     return result if is_asynchronous(result) else None
 
 
 def bound(call: Callable[..., Any], instance: object) -> Callable[..., Any]:
-    """A method of a class of tests belongs to the object of the test."""
+    """Binds a method of a test class to the test's object; returns it."""
     owner = getattr(call, "__self__", None)
     if owner is None or not isinstance(instance, type(owner)):
         return call
@@ -33,7 +34,7 @@ def bound(call: Callable[..., Any], instance: object) -> Callable[..., Any]:
 
 
 def synchronous(call: Callable[..., Any], net: Network) -> Callable[..., Any]:
-    """A coroutine or an asynchronous generator of a fixture as a plain one, which runs in the network."""
+    """Returns a synchronous version of an asynchronous fixture, which runs in the network."""
     names = inspect.signature(call).parameters
 
     @functools.wraps(call)
@@ -59,13 +60,13 @@ async def step(generator_of_loop: AsyncGenerator[object, None]) -> object:
 
 
 def is_in_simulated_time(request: pytest.FixtureRequest, scope: str) -> bool:
-    """Whether a fixture of a scope belongs to simulated time: its test has the network, and it isn't shared with another test."""
+    """Returns whether a fixture belongs to simulated time: its test uses the network, and no other test shares the fixture."""
     return scope == "function" and NETWORK in request.fixturenames
 
 
 @pytest.hookimpl(hookwrapper=True)  # type: ignore[misc]
 def pytest_fixture_setup(fixturedef: Any, request: pytest.FixtureRequest) -> Generator[None, None, None]:
-    """A fixture that is asynchronous runs in the network of its test."""
+    """Runs an asynchronous fixture in its network; returns the fixture's value."""
     own, call = fixturedef.func, asynchronous(fixturedef.func)
     if call is not None and is_in_simulated_time(request, fixturedef.scope):
         fixturedef.func = synchronous(bound(call, request.instance), request.getfixturevalue(NETWORK))
@@ -75,7 +76,7 @@ def pytest_fixture_setup(fixturedef: Any, request: pytest.FixtureRequest) -> Gen
 
 @pytest.hookimpl(tryfirst=True)  # type: ignore[misc]
 def pytest_pyfunc_call(pyfuncitem: pytest.Function) -> Optional[bool]:
-    """A test that is a coroutine and has the network by a fixture of its own runs in it."""
+    """Runs an asynchronous test in the network that its fixture provides, if any; returns whether it did."""
     call = asynchronous(pyfuncitem.obj)
     if call is None or NETWORK not in pyfuncitem.funcargs or NETWORK in inspect.signature(call).parameters:
         return None

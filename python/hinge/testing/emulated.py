@@ -1,20 +1,19 @@
-"""The emulated links of a test: paths in real and in simulated time, and what each did."""
+"""The emulated links of a test, as paths in real and in simulated time, with their reports."""
 
 from __future__ import annotations
 
 import re
 import select
 import signal
-import subprocess
 from abc import ABC, abstractmethod
-from collections import Counter
 from pathlib import Path
-from typing import TYPE_CHECKING, Iterator, Optional
+from typing import TYPE_CHECKING, Collection, Iterator, Optional
 
-from hinge.fault_lines import IS_LOST, Fault, Faults
-from hinge.faults import FaultyNetwork
-from hinge.program import HINGE, dummynet
-from hingetulip.aio import Network
+from hinge.border.programs import PIPE, begun
+from hinge.command import Fault
+from hinge.fault_lines import IS_LOST, Faults
+from hinge.program import HINGE, audit_of
+from hinge.testing.varied import VariedNetwork
 from hingetulip.aio.options import Options
 from hingetulip.aio.report import MOST_DROPPED
 from hingetulip.records import Outcome
@@ -27,25 +26,32 @@ PATIENCE = 30  # s until a path is ready, and until it has ended
 
 
 def audited(history: Path) -> str:
-    """What dummynet says of a history: `lawful N`, or its first entry that isn't lawful."""
-    process = subprocess.run([dummynet(), "audit", str(history)], capture_output=True, text=True)
-    return (process.stdout or process.stderr).strip()
+    """Returns dummynet's verdict on a history, or the reason why there is none."""
+    try:
+        return audit_of(str(history))
+    except Fault as fault:
+        return str(fault)
+
+
+def records(history: Path) -> Iterator[list[str]]:
+    """Yields the fields of each line in a history."""
+    with open(history, encoding="utf-8") as file:
+        for line in file:
+            yield line.rstrip("\n").split(",")
 
 
 def submissions(history: Path) -> Iterator[tuple[list[str], list[str]]]:
-    """The packets of a history: the fields of each call, and those of its reply."""
+    """Yields a history's packets: the fields in each call and its reply."""
     call = [""]
-    with open(history, encoding="utf-8") as file:
-        for record in (line.rstrip("\n").split(",") for line in file):
-            if record[0] == "c":
-                call = record
-            elif record[0] == "r" and call[2:3] == ["submit"]:
-                yield call, record
+    for record in records(history):
+        if record[0] == "c":
+            call = record
+        elif record[0] == "r" and call[2:3] == ["submit"]:
+            yield call, record
 
 
 def dropped_in_history(history: Path) -> list[str]:
-    """The packets that a history says were lost or refused, a line each, and how many more there are than a report
-    lists."""
+    """Returns a line for each packet that a history shows as lost or refused, and the number of those beyond a report's limit."""
     lines = [
         f"  row {row:>5}, {int(reply[2]) / 1e9:.9f} s, {call[5]}:{call[8]} > {call[6]}:{call[9]}, {call[10]} bytes: {reply[1]}"
         for row, (call, reply) in enumerate(submissions(history), 1)
@@ -54,32 +60,47 @@ def dropped_in_history(history: Path) -> list[str]:
     return lines[:MOST_DROPPED] + ([f"  and {len(lines) - MOST_DROPPED} more"] if len(lines) > MOST_DROPPED else [])
 
 
-def losses_of(net: Network, history: Path) -> Faults:
-    """The losses of a network's links, as faults."""
-    names = {("pipe", str(link.pipe)): f"{link.near.name} > {link.far.name}" for link in net.links.values()}
-    names.update({("queue", str(queue)): names["pipe", str(it.pipe)] for it in net.links.values() for queue in it.queues.values()})
-    faults, count = list[Fault](), Counter[str]()
-    for call, reply in submissions(history):
-        if name := names.get((call[3], call[4])):
-            count[name] += 1
-            if reply[1] == "lost":
-                faults.append(Fault(name, count[name], IS_LOST))
-    return Faults(*faults)
+def unmet_cuts(history: Path) -> list[str]:
+    """Returns the cuts in a net's transcript that no packet met. A cut gives its pipes lines with `plr 1`, all at once."""
+    names, met, cut_by, call, is_cutting = list[str](), list[int](), dict[str, int](), [""], False
+    for record in records(history):
+        if record[:2] == ["#", "act"] and record[2].startswith("cut "):
+            names.append(record[2])
+        elif record[2:3] == ["configure"] and record[3].startswith("pipe "):
+            pipe, is_cut = record[3].split()[1], record[3].endswith(" plr 1")
+            met += [0] * (is_cut and not is_cutting)
+            cut_by = {**cut_by, pipe: len(met) - 1} if is_cut else {key: cut for key, cut in cut_by.items() if key != pipe}
+            is_cutting = is_cut
+        elif record[2:3] == ["submit"]:
+            call, is_cutting = record, False
+        elif record[:2] == ["r", "lost"] and call[4] in cut_by:
+            met[cut_by[call[4]]] += 1
+    return [f"{name}: it met no packet" for name, count in zip(names, met) if not count] if len(names) == len(met) else []
 
 
 class Emulated(ABC):
-    """What a test has of a link, for its report."""
+    """A link's part in a test, for the report."""
 
-    def __init__(self, history: Path) -> None:
-        self.history, self.told = history, ""
+    def __init__(self, history: Path, own: frozenset[str] = frozenset()) -> None:
+        """`own` contains the words in the test's marks."""
+        self.history, self.told, self.own = history, "", own
         self.verdict: Optional[str] = None
         self.faults: list[str] = []  # exceptions that nobody took
 
     def finish(self) -> None:
-        """Ends the link, if it hasn't ended, and audits its history."""
+        """Ends the link if necessary, and audits its history."""
         if self.verdict is None:
             self.end()
             self.verdict = self.verdict or audited(self.history)
+
+    def unmet(self) -> list[str]:
+        """Returns a line for each fault or word in the test's marks that had no effect; in real time, once the links have ended."""
+        return self.unmet_words(self.own)
+
+    def unmet_words(self, words: Collection[str]) -> list[str]:
+        """Returns a line for each of these marks' words that had no effect."""
+        is_met = "link" not in words or self.history.exists() and any(submissions(self.history))
+        return ["the mark link: no packet came to a link of the test"] * (not is_met)
 
     @abstractmethod
     def end(self) -> None:
@@ -87,18 +108,19 @@ class Emulated(ABC):
 
     @abstractmethod
     def report(self) -> str:
-        """What the link did."""
+        """Returns the report of the link."""
 
 
 class UdpPath(Emulated):
-    """A proxy on the loopback, towards a server there: `address` and `port` are those to which a client sends."""
+    """A proxy on the loopback in front of a server there. Clients send to `address` and `port`."""
 
-    def __init__(self, server: str, there: str, back: str, seed: int, history: Path) -> None:
-        super().__init__(history)
+    def __init__(self, server: str, there: str, back: str, seed: int, history: Path, own: frozenset[str] = frozenset()) -> None:
+        super().__init__(history, own)
         self.seed = seed
         links = [f"pipe {number} config {Options(text)}".strip() for number, text in enumerate((there, back), 1)]
-        words = ["udp", "0", server, *links, "--seed", str(seed), "--transcript", str(history)]
-        self.process = subprocess.Popen([*HINGE, *words], stdout=subprocess.PIPE, stderr=subprocess.PIPE, text=True)
+        by_seed = ["--seed", str(seed)] * any("plr" in line for line in links)
+        words = ["udp", "0", server, *links, *by_seed, "--transcript", str(history)]
+        self.process = begun([*HINGE, *words], stdout=PIPE, stderr=PIPE, text=True)
         self.address = self._ready()
 
     @property
@@ -123,10 +145,10 @@ class UdpPath(Emulated):
 
 
 class SimulatedPath(Emulated):
-    """The network of simulated time of a test."""
+    """A test's network in simulated time."""
 
-    def __init__(self, net: FaultyNetwork, history: Path) -> None:
-        super().__init__(history)
+    def __init__(self, net: VariedNetwork, history: Path, own: frozenset[str] = frozenset()) -> None:
+        super().__init__(history, own)
         self.net, self.faults = net, net.faults
 
     def end(self) -> None:
@@ -136,41 +158,61 @@ class SimulatedPath(Emulated):
             self.told = no_report(fault)
         self.net.close()
 
+    def unmet(self) -> list[str]:
+        return self.net.unmet_faults() + super().unmet()
+
+    def unmet_words(self, words: Collection[str]) -> list[str]:
+        lines = [f"the mark vary: {word} varied nothing: {why}" for word, why in self.net.unvaried().items() if word in words]
+        if "link" in words and not any(link.came for link in self.net.unsaid):
+            what = "no packet came to the links with its words" if self.net.unsaid else "no link of the test has its words"
+            lines.append(f"the mark link: {what}")
+        return lines
+
     def is_disturbed(self) -> Optional[bool]:
-        """Whether a packet was lost, met a full queue, or was late or doubled by more than its link; None if none came to a link."""
+        """Returns whether a packet was lost, found a full queue, or was delayed or doubled beyond its link's words; None without
+        packets."""
         links = self.net.links.values()
         counts = [sum(link.outcomes[place] for link in links) for place in Outcome]
-        has_more = any(link.copies is not None or link.jitter is not None and link.jitter.pipes for link in links)
+        has_more = any(link.copies is not None or link.pipes for link in links) or bool(self.net.happened)
         return bool(sum(counts[1:])) or has_more if any(counts) else None
 
     def chosen(self) -> Faults:
-        """The faults of its links: those that it was given, else its losses."""
-        return losses_of(self.net, self.history) if self.net.chosen is None else self.net.chosen
+        """Returns the links' faults: the requested faults, or otherwise the losses and the seed's draws."""
+        return Faults(*self.net.faults_met()) if self.net.chosen is None else self.net.chosen
 
     def report(self) -> str:
         lines = [self.told, closing(self.net.seed, self.verdict, self.history)]
         faults, path = self.chosen(), self.history.with_suffix(".faults")
         path.write_text(str(faults), encoding="utf-8")
         if self.net.chosen is None:
-            lines += [f"its losses as faults: --link-faults {path}"] * bool(faults)
+            lines += [f"drawn: {fault}" for fault in faults if fault.kind != IS_LOST][:MOST_DROPPED]
+            lines += [f"all of this as faults: --link-faults {path}"] * bool(faults)
         else:
             lines += [f"fault: {fault}{': it came to no packet' * (fault in self.net.unmet())}" for fault in faults]
         return "\n".join(lines)
 
 
 class NetOfTest(Emulated):
-    """The net of a test. One that never began is lawful."""
+    """A test's net. A net that never started is lawful."""
 
-    def __init__(self, net: Net) -> None:
-        super().__init__(net.history)
+    def __init__(self, net: Net, own: frozenset[str] = frozenset()) -> None:
+        super().__init__(net.history, own)
         self.net = net
+
+    def unmet(self) -> list[str]:
+        return super().unmet() + (unmet_cuts(self.history) if self.history.exists() else [])
+
+    def unmet_words(self, words: Collection[str]) -> list[str]:
+        lines = super().unmet_words(words)
+        is_unsaid = "link" in words and not self.net.unsaid and not lines
+        return lines + ["the mark link: no link of the test has its words"] * is_unsaid
 
     def end(self) -> None:
         self.net.close()
         self.verdict = None if self.history.exists() else "lawful, since the net didn't begin"
 
     def named(self, line: str) -> str:
-        """A line with the names of hosts in the place of their addresses."""
+        """Returns a line with hosts' names instead of addresses."""
         names = {address: name for name, own in self.net.addresses().items() for address in own}
         return ADDRESS.sub(lambda result: names.get(result[0], result[0]), line)
 
@@ -191,10 +233,10 @@ class NetOfTest(Emulated):
 
 
 def no_report(fault: Exception) -> str:
-    """The report of a link of which none can be made: that is no reason to end a whole session."""
+    """Returns the report for a link whose report fails. Such a failure mustn't end the whole session."""
     return f"no report: {type(fault).__name__}: {fault}"
 
 
 def closing(seed: int, verdict: Optional[str], history: Path) -> str:
-    """The last line of a report: how to have the same again, and how to see more."""
+    """Returns the last line of a report, with advice on repetition and details."""
     return f"seed {seed}, {verdict}: hinge look {history}"

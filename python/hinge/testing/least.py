@@ -1,17 +1,44 @@
-"""The least faults with which a test of simulated time fails: it runs again in the same process, by the shrinking of `hinge search`."""
+"""Runs of a test in simulated time with other faults and seeds, in the same process: the smallest set of faults that makes the test
+fail, shrunk like in `hinge search`, and a search for such faults."""
 
 from __future__ import annotations
 
-from typing import Optional, Sequence
+from dataclasses import dataclass
+from random import Random
+from typing import Any, Iterator, Optional, Sequence
 
 import pytest
 from _pytest.runner import runtestprotocol
 
-from hinge.fault_lines import Faults
+from hinge.fault_lines import Drawn, Faults, read_faults
+from hinge.faults import some_faults
 from hinge.pytest_plugin import LINKS, TRIED
 from hinge.searches.case import Case, Part
 from hinge.searches.shrinking import least
 from hinge.testing.emulated import SimulatedPath
+from hinge.testing.marks import Variation, variation_of, vary_of
+
+LEAST, SEARCHED = "least faults", "hingetulip searched"  # of a section, and of a property
+ALL = {"delay": "5..100ms", "jitter": "80ms", "phase": "1s", "drift": "100ppm", "duplicates": "2%", "cuts": "1..3s"}
+VARIATIONS = variation_of({"jitter": "300ms"}), variation_of(ALL)  # of tests without a mark `vary`, in turn
+
+
+@dataclass(frozen=True)
+class Trial:
+    """The faults and the seed of a run, in place of the marks' and the command line's."""
+
+    faults: Optional[Faults] = None
+    seed: Optional[int] = None
+    variation: Optional[Variation] = None
+
+    def __str__(self) -> str:
+        return "hypothesis" if self.seed is None else f"seed {self.seed} ({self.variation})"
+
+
+def trial_of(item: pytest.Item) -> Trial:
+    """Returns a test's trial: from a current shrinking or search, or otherwise the command line's faults."""
+    path = item.config.getoption("--link-faults")
+    return item.stash[TRIED] if TRIED in item.stash else Trial(None if path is None else read_faults(path))
 
 
 def failure(reports: Sequence[pytest.TestReport]) -> Optional[pytest.TestReport]:
@@ -19,32 +46,117 @@ def failure(reports: Sequence[pytest.TestReport]) -> Optional[pytest.TestReport]
 
 
 def place_of(report: Optional[pytest.TestReport]) -> Optional[str]:
-    """Where a test failed: runs that fail at one place fail in the same way."""
+    """Returns the place of a test's failure. Runs that fail at the same place count as the same failure."""
     crash = getattr(getattr(report, "longrepr", None), "reprcrash", None)
     return None if crash is None else f"{crash.path}:{crash.lineno}"
 
 
+class Trials:
+    """Silent runs of a test."""
+
+    def __init__(self, item: pytest.Item, nextitem: Optional[pytest.Item]) -> None:
+        self.item, self.nextitem = item, nextitem
+        self.count = 0
+        self.place: Optional[str] = None  # of the failure that is looked for
+
+    def run(self, trial: Optional[Trial] = None) -> list[pytest.TestReport]:
+        if trial is not None:
+            self.count += 1
+            self.item.stash[TRIED] = trial
+        try:
+            return runtestprotocol(self.item, nextitem=self.nextitem, log=False)
+        finally:
+            if trial is not None:
+                del self.item.stash[TRIED]
+
+    def fails(self, trial: Trial) -> bool:
+        """Returns whether the test fails, at the same place as before if it failed before."""
+        place = place_of(failure(self.run(trial)))
+        self.place = self.place or place
+        return place is not None and place == self.place
+
+    def network(self) -> SimulatedPath:
+        """Returns the links of the last run."""
+        return next(link for link in self.item.stash[LINKS] if isinstance(link, SimulatedPath))
+
+    def shrunk(self, trial: Trial) -> Optional[Faults]:
+        """Returns the fewest faults with which the test fails; None if it doesn't fail with these faults."""
+        verdicts: dict[Case, bool] = {}
+
+        def fails(case: Case) -> bool:
+            if case not in verdicts:
+                faults = Drawn(*(line for part in case.parts for line in part.what))
+                verdicts[case] = self.fails(Trial(faults, trial.seed, trial.variation))
+            return verdicts[case]
+
+        whole = Case(0, (), tuple(Part("losses", (str(fault),)) for fault in self.network().chosen()))
+        return Drawn(*(line for part in least(whole, fails).parts for line in part.what)) if fails(whole) else None
+
+    def drawn(self, runs: int) -> Optional[Trial]:
+        """Faults that hypothesis finds and shrinks."""
+        from hypothesis import HealthCheck, errors, find, settings
+
+        net = self.network().net
+        links = [link.name for link in net.links.values() if link.came]
+        hosts = [host.name for host in dict.fromkeys(net.hosts.values()) if host.programs]
+        kinds = some_faults(*links, packets=min(60, max(link.came for link in net.links.values())))
+        if hosts:
+            kinds |= some_faults(*links, hosts=hosts, seconds=max(1, int(net.loop.time())))
+        how: Any = settings(max_examples=runs, database=None, deadline=None, suppress_health_check=list(HealthCheck))
+        try:
+            return Trial(find(kinds, lambda faults: self.fails(Trial(faults)), settings=how, random=Random(1)))
+        except errors.NoSuchExample:
+            return None
+
+    def by_seeds(self, runs: int) -> Iterator[Trial]:
+        own = vary_of(self.item)
+        for seed in range(1, runs + 1):
+            yield Trial(seed=seed, variation=own if str(own) else VARIATIONS[seed % len(VARIATIONS)])
+
+    def found(self, runs: int) -> Optional[Trial]:
+        """Faults with which a test fails that passes without them."""
+        if not any(link.came for link in self.network().net.links.values()):
+            return None
+        trial = self.drawn(runs)
+        if trial is None:
+            trial = next((it for it in self.by_seeds(runs) if self.fails(it)), None)
+        return trial
+
+
+def text_of(faults: Faults, count: int, trials: Trials) -> str:
+    return f"{faults}fails by {len(faults)} of {count} faults, found in {trials.count} runs"
+
+
 def reports_with_least(item: pytest.Item, nextitem: Optional[pytest.Item]) -> list[pytest.TestReport]:
-    """Those of a test's run. One that failed has the fewest faults with which it fails."""
-    result = runtestprotocol(item, nextitem=nextitem, log=False)
+    """Returns the reports of a test's run. For a failed test they contain the fewest faults that make it fail."""
+    trials = Trials(item, nextitem)
+    result = trials.run()
     report = failure(result)
-    if report is None:
+    trials.place = place_of(report)
+    if report is not None and trials.place is not None:
+        count, faults = len(trials.network().chosen()), trials.shrunk(Trial())
+        text = "no such failure by these faults alone" if faults is None else text_of(faults, count, trials)
+        report.sections.append((LEAST, text))
+    return result
+
+
+def reports_of_search(item: pytest.Item, nextitem: Optional[pytest.Item], runs: int) -> list[pytest.TestReport]:
+    """Returns the reports of a test's run. If the test passes, and a search finds faults that make it fail, the reports are from a
+    run with the fewest faults."""
+    trials = Trials(item, nextitem)
+    result = trials.run()
+    if not all(report.passed for report in result):
+        return result if failure(result) is None else reports_with_least(item, nextitem)
+    trial = trials.found(runs)
+    if trial is None:
+        next(it for it in result if it.when == "call").user_properties.append((SEARCHED, f"no failure in {trials.count} runs"))
         return result
-    faults = next(link.chosen() for link in item.stash[LINKS] if isinstance(link, SimulatedPath))
-    trial: dict[Case, bool] = {}
-
-    def fails(case: Case) -> bool:
-        if case not in trial:
-            item.stash[TRIED] = Faults(*(line for part in case.parts for line in part.what))
-            trial[case] = place_of(failure(runtestprotocol(item, nextitem=nextitem, log=False))) == place_of(report)
-        return trial[case]
-
-    whole = Case(0, (), tuple(Part("losses", (str(fault),)) for fault in faults))
-    if fails(whole):
-        lines = [line for part in least(whole, fails).parts for line in part.what]
-        text = "\n".join([*lines, f"fails by {len(lines)} of {len(faults)} faults, found in {len(trial)} runs"])
-    else:
-        text = "no such failure by its losses alone"
-    del item.stash[TRIED]
-    report.sections.append(("least faults", text))
+    if trial.faults is None:
+        trial = Trial(trials.shrunk(trial), trial.seed, trial.variation)
+    result = trials.run(trial)
+    report = failure(result)
+    if report is not None and trial.faults is not None:
+        summary = f"{', '.join(map(str, trial.faults))}: by {trial}, {trials.count} runs"
+        report.sections.append((LEAST, f"{trial.faults}found by {trial} in {trials.count} runs"))
+        report.user_properties.append((SEARCHED, summary))
     return result

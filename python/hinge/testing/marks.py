@@ -1,8 +1,7 @@
-"""What the marks of a test say. A word that a mark doesn't take is refused, since a test would pass over another link."""
+"""The marks of a test. Unknown words in a mark are refused, since the test would otherwise use another link than intended."""
 
 from __future__ import annotations
 
-import difflib
 import re
 from dataclasses import dataclass, fields
 from random import Random
@@ -10,31 +9,35 @@ from typing import Iterator, Mapping, NamedTuple, Optional
 
 import pytest
 
-from hingetulip_words.advice import OPTIONS, OTHER_NAMES
-from hingetulip_words.link import WordError, as_words, read_link
-from hingetulip_words.presets import either_way
 
 TAKES = ("back", "preset")
 FIXTURES = ("sim_net", "udp_path", "net", "simulated_net")
 SAMPLE = '"10Mbit/s 20ms loss 1%"'
 UNITS = {"ms": 1e-3, "s": 1.0}
 SPAN = re.compile(r"(?:(?P<low>\d+(?:\.\d+)?)(?P<unit_of_low>ms|s)?\.\.)?(?P<high>\d+(?:\.\d+)?)(?P<unit>ms|s)")
-DRIFT = re.compile(r"(\d+(?:\.\d+)?)ppm")
+OTHER_SPANS = {  # their forms, the sizes of their units, and samples
+    "drift": (r"(\d+(?:\.\d+)?)ppm", 1e-6, "100ppm"),
+    "skew": (r"(\d+(?:\.\d+)?)s", 1.0, "2s"),
+    "duplicates": (r"(\d\d?(?:\.\d+)?|100)%", 1e-2, "1%"),
+}
 
 
 class WrongMark(ValueError):
-    """A mark that says what it doesn't take; the text has what to write."""
+    """Raised for a mark with wrong words; the message contains advice."""
 
 
 class Ends(NamedTuple):
-    """The words of the link there, and those of the link back if they are others."""
+    """The words for the link's two ways; both may be equal."""
 
     there: str
     back: Optional[str]
 
 
 def words_of(options: Mapping[str, object]) -> str:
-    """Options of another tool's call, as bw="10Mbit/s", as the words of a link; nothing where they are none."""
+    """Returns a link's words for another tool's options, such as bw="10Mbit/s"; an empty text if they are none."""
+    from hingetulip_words.advice import OPTIONS, OTHER_NAMES
+    from hingetulip_words.link import WordError, as_words, read_link
+
     words = []
     for key, value in options.items():
         name, text = OTHER_NAMES.get(key.lower(), key.lower()), str(value)
@@ -49,7 +52,9 @@ def words_of(options: Mapping[str, object]) -> str:
 
 
 def unknown(keywords: Mapping[str, object], there: object) -> WrongMark:
-    """Of keywords that the mark `link` doesn't take."""
+    """Returns the error for keywords that the mark `link` doesn't support."""
+    import difflib
+
     name = next(iter(keywords))
     near = difflib.get_close_matches(name, TAKES, 1)
     words = words_of(keywords)
@@ -59,7 +64,7 @@ def unknown(keywords: Mapping[str, object], there: object) -> WrongMark:
 
 
 def ends_of(mark: pytest.Mark) -> Ends:
-    """What a mark `link` says. WrongMark: it says something else. ValueError: there is no such preset."""
+    """Returns the words of a `link` mark. WrongMark: the mark has other arguments. ValueError: there is no such preset."""
     if len(mark.args) > 2:
         raise WrongMark(
             f"the mark link has {len(mark.args)} texts, and takes one for the way there and one for the way back;"
@@ -75,6 +80,8 @@ def ends_of(mark: pytest.Mark) -> Ends:
         if one is not None and not isinstance(one, str):
             raise WrongMark(f"the mark link takes texts, and {one!r} is none; write link({SAMPLE})")
     if preset is not None:
+        from hingetulip_words.presets import either_way
+
         return Ends(*either_way(preset, there, back))
     if not any((one or "").strip() for one in (there, back)):
         raise WrongMark(f"the mark link has no words of a link; write link({SAMPLE})")
@@ -82,7 +89,7 @@ def ends_of(mark: pytest.Mark) -> Ends:
 
 
 def link_of(item: pytest.Item) -> Ends:
-    """What the mark `link` of a test says; no words where there is none."""
+    """Returns the words of a test's `link` mark; empty words without a mark."""
     mark = item.get_closest_marker("link")
     return Ends("", None) if mark is None else ends_of(mark)
 
@@ -107,16 +114,22 @@ class Span:
 
 @dataclass(frozen=True)
 class Variation:
-    """What the mark `vary` says."""
+    """The words of a `vary` mark."""
 
     delay: Optional[Span] = None  # of each link
     jitter: Optional[Span] = None  # of each packet, more
     phase: Optional[Span] = None  # after which a task of a host begins
     drift: Optional[Span] = None  # s that the clock of a host gains in a second
-    cuts: Optional[Span] = None  # in turn for how long no host is cut off, and for how long one is
+    duplicates: Optional[Span] = None  # the rate at which a packet comes twice
+    skew: Optional[Span] = None  # s by which the clock of a host is ahead
+    # In turn for how long none is cut off, held or crashed, and for how long one is:
+    cuts: Optional[Span] = None  # a host
+    one_way_cuts: Optional[Span] = None  # a link
+    holds: Optional[Span] = None  # a link
+    crashes: Optional[Span] = None  # a host that has what to boot
 
     def __str__(self) -> str:
-        """As the mark says it."""
+        """Returns the words of the mark."""
         return ", ".join(f"{name} {getattr(self, name)}" for name in NAMES if getattr(self, name) is not None)
 
 
@@ -124,43 +137,73 @@ NAMES = tuple(each.name for each in fields(Variation))
 
 
 def span_of(name: str, text: object) -> Span:
-    """As `5..100ms` or `80ms`, which begins at 0; a drift as `100ppm`. ValueError: it is none."""
-    if name == "drift":
-        match = DRIFT.fullmatch(str(text))
+    """Reads a span such as `5..100ms`; `80ms` begins at 0, or for a skew at -80ms. Drifts are like `100ppm`, rates like `1%`.
+    ValueError: the text is no span."""
+    if name in OTHER_SPANS:
+        form, scale, sample = OTHER_SPANS[name]
+        match = re.fullmatch(form, str(text))
         if match:
-            return Span(-float(match[1]) / 1e6, float(match[1]) / 1e6, str(text))
-        raise ValueError(f"the mark vary: drift {text!r} is no drift; write drift='100ppm'")
+            high = float(match[1]) * scale
+            return Span(-high, high, str(text)) if name != "duplicates" else Span(high, high, str(text))
+        raise ValueError(f"the mark vary: {name} {text!r} isn't a {name}; write {name}='{sample}'")
     match = SPAN.fullmatch(str(text))
     if match:
         unit = UNITS[match["unit"]]
         low, high = float(match["low"] or 0) * UNITS.get(match["unit_of_low"], unit), float(match["high"]) * unit
         if low <= high:
             return Span(low, high, str(text))
-    raise ValueError(f"the mark vary: {name} {text!r} is no span of times; write {name}='5..100ms'")
+    raise ValueError(f"the mark vary: {name} {text!r} isn't a span of times; write {name}='5..100ms'")
 
 
 def variation_of(words: Mapping[str, object]) -> Variation:
-    """ValueError: the mark takes no such word, or it is no span."""
+    """Returns the variation. ValueError: a word is unknown, or its value is no span."""
     for name in words:
         if name not in NAMES:
+            import difflib
+
             near = (difflib.get_close_matches(name, NAMES, 1) or [", ".join(NAMES)])[0]
             raise ValueError(f"the mark vary takes no {name!r}; write {near}")
     return Variation(**{name: span_of(name, text) for name, text in words.items()})
 
 
 def vary_of(item: pytest.Item) -> Variation:
-    """What the marks `vary` of a test say, the nearest last. WrongMark: one has an argument without a name."""
+    """Returns the variation of a test's `vary` marks; the nearest mark wins. WrongMark: an argument has no name."""
     marks = list(item.iter_markers("vary"))
     if any(mark.args for mark in marks):
         raise WrongMark("the mark vary takes spans by their names alone, as vary(delay='5..100ms')")
     return variation_of({name: text for mark in reversed(marks) for name, text in mark.kwargs.items()})
 
 
+def allowed_of(item: pytest.Item) -> tuple[str, ...]:
+    """Returns the names of calls that may be real. WrongMark: a `real` mark contains no name, or a wrong name."""
+    marks = list(item.iter_markers("real"))
+    if any(mark.kwargs or not mark.args or not all(isinstance(it, str) and it for it in mark.args) for mark in marks):
+        raise WrongMark("the mark real takes names of what may be real, as real('libpq')")
+    return tuple(name for mark in marks for name in mark.args)
+
+
+def own_words(item: pytest.Item) -> frozenset[str]:
+    """Returns `link` and the words of `vary` from the test's marks, without those of its class or module."""
+    marks = [mark for mark in getattr(item, "own_markers", ()) if mark.name in ("link", "vary")]
+    return frozenset(word for mark in marks for word in (mark.kwargs if mark.name == "vary" else ("link",)))
+
+
+def shared_words(item: pytest.Item) -> dict[str, str]:
+    """Returns the words that only marks of a test's class or module contain, and the place of the nearest such mark."""
+    own, found = own_words(item), dict[str, str]()
+    for node, mark in item.iter_markers_with_node():
+        for word in mark.kwargs if mark.name == "vary" else ["link"] * (mark.name == "link"):
+            if node is not item and word not in own:
+                found.setdefault(word, getattr(node, "nodeid"))
+    return found
+
+
 def fault_of(item: pytest.Item) -> Optional[str]:
-    """What is wrong with the marks of a test, if anything is."""
+    """Returns the error in a test's marks, or None."""
     try:
         link_of(item)
         vary_of(item)
+        allowed_of(item)
     except ValueError as error:
         return str(error)
     in_simulated_time = item.get_closest_marker("simulated")
@@ -170,7 +213,7 @@ def fault_of(item: pytest.Item) -> Optional[str]:
 
 
 def unused(item: pytest.Item) -> Iterator[str]:
-    """The marks of a test itself that nothing takes, as a warning each."""
+    """Yields a warning for each of a test's marks without effect."""
     own, names = {mark.name for mark in getattr(item, "own_markers", ())}, getattr(item, "fixturenames", ())
     takes_link = any(name in FIXTURES for name in names) or item.get_closest_marker("simulated") is not None
     if "link" in own and not takes_link:

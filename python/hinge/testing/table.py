@@ -1,30 +1,69 @@
-"""What stands at the end of a run of pytest: which seeds of a sweep failed, and that nothing ever happened to a packet."""
+"""The final report of a pytest run: real calls, failing seeds of a sweep, and a warning if no packet was ever disturbed."""
 
 from __future__ import annotations
 
+import sys
+from collections import Counter
 from dataclasses import dataclass, field
-from typing import Any, Optional, Sequence
+from typing import Any, Mapping, Optional, Sequence
 
 import pytest
 
-from hinge.testing.marks import vary_of
+from hinge.testing.marks import allowed_of, shared_words, vary_of
 
-NAME, MOST_SEEDS = "hingetulip", 12  # of a property, and of seeds that a row lists
+NAME, REAL, SHARED = "hingetulip", "hingetulip real", "hingetulip shared"  # of properties
+MOST_SEEDS = 12  # that a row lists
 UNDISTURBED = "in no test was a packet lost, late or out of order: let links lose packets, as 'loss 1%', or use the mark vary"
 
 
+def told(calls: Mapping[str, int]) -> str:
+    """Returns the count of real calls, such as `0 calls were real`."""
+    count = sum(calls.values())
+    text = f"{count} {'call was' if count == 1 else 'calls were'} real"
+    return f"{text}: {', '.join(f'{name} {number}' for name, number in calls.items())}" if calls else text
+
+
+def reals() -> list[tuple[str, Any]]:
+    """Returns the real calls for the report of a test in simulated time."""
+    module = sys.modules.get("hingetulip.aio.real")  # which a suite without links needn't import
+    whole = None if module is None else module.OF_PROCESS.taken()
+    return [(REAL, {"calls": dict(whole.calls), "unwatched": whole.unwatched})] if whole is not None and whole.runs else []
+
+
+def refused_reals(item: pytest.Item, calls: Mapping[str, int]) -> str:
+    """Returns why a test fails that passed with real calls which no mark `real` allows; an empty text without such calls."""
+    names = allowed_of(item)
+    rest = {call: count for call, count in calls.items() if not any(name in call for name in names)}
+    for name in names:
+        if not any(name in call for call in calls):
+            item.warn(pytest.PytestWarning(f"the mark real allows {name!r}, and no call that was real has that name"))
+    sample = next(iter(rest), "").split(" ")[0]
+    return f"{told(rest)}; if that may be, write @pytest.mark.real({sample!r}), or set `real` of the network" if rest else ""
+
+
 def row_of(item: pytest.Item, seed: int, links: Sequence[Any]) -> list[tuple[str, Any]]:
-    """What a report of a test carries for the table, if the test has a network of simulated time that carried a packet."""
+    """Returns the row for the table, if the test's simulated network carried a packet."""
     states = [link.is_disturbed() for link in links if hasattr(link, "is_disturbed")]
     if not states or states[0] is None:
         return []
-    is_swept = bool(str(vary_of(item))) or "link_seed" in getattr(getattr(item, "callspec", None), "params", {})
-    return [(NAME, {"seed": seed, "is_swept": is_swept, "is_disturbed": states[0], "varied": str(vary_of(item))})]
+    parameters = dict(getattr(getattr(item, "callspec", None), "params", {}))
+    is_swept = "link_seed" in parameters or bool(str(vary_of(item)))
+    parameters.pop("link_seed", None)
+    others = f" with {', '.join(f'{name} {text}' for name, text in parameters.items())}" if parameters else ""
+    name = f"{item.nodeid.partition('[')[0]}{others}"
+    return [(NAME, {"name": name, "seed": seed, "is_swept": is_swept, "is_disturbed": states[0], "varied": str(vary_of(item))})]
+
+
+def met_of(item: pytest.Item, links: Sequence[Any]) -> list[tuple[str, Any]]:
+    """Returns the unmet marks of a test's class or module for its report: each mark's place, word and reason."""
+    words = shared_words(item) if any(hasattr(link, "is_disturbed") for link in links) else {}
+    rows = [(node, word, [line for link in links for line in link.unmet_words([word])]) for word, node in words.items()]
+    return [(SHARED, rows)] if rows else []
 
 
 @dataclass
 class Sweep:
-    """The seeds of a test, and those with which it failed."""
+    """A test's seeds, and its failing seeds."""
 
     varied: str
     seeds: list[int] = field(default_factory=list)
@@ -32,30 +71,55 @@ class Sweep:
 
     def text(self) -> str:
         more = f" and {len(self.failed) - MOST_SEEDS} more" * (len(self.failed) > MOST_SEEDS)
-        listed = f": {', '.join(map(str, sorted(self.failed)[:MOST_SEEDS]))}{more}" if self.failed else ""
-        return f"{len(self.failed)} of {len(self.seeds)} seeds failed{listed}{f' ({self.varied})' if self.varied else ''}"
+        numbers = f": {', '.join(map(str, sorted(self.failed)[:MOST_SEEDS]))}{more}" if self.failed else ""
+        return f"{len(self.failed)} of {len(self.seeds)} seeds failed{numbers}{f' ({self.varied})' if self.varied else ''}"
 
 
 class Table:
-    """Collects rows from the reports of tests, also from those of pytest-xdist's workers."""
+    """Collects rows from the reports of tests, including pytest-xdist's workers."""
 
     def __init__(self) -> None:
         self.sweeps: dict[str, Sweep] = {}
         self.is_disturbed: Optional[bool] = None
+        self.tests, self.calls, self.unwatched = 0, Counter[str](), list[str]()
+        self.searched: dict[str, str] = {}  # what a search found of each test
+        self.shared = dict[
+            tuple[str, str], list[str]
+        ]()  # why words of marks of modules met nothing in any test; empty of one that did
 
     def pytest_runtest_logreport(self, report: pytest.TestReport) -> None:
-        row = dict(report.user_properties).get(NAME) if report.when == "call" else None
+        properties: dict[str, Any] = dict(report.user_properties)
+        if real := properties.get(REAL):
+            self.tests += report.when == "call"
+            self.calls.update(real["calls"])
+            self.unwatched = self.unwatched or real["unwatched"]
+        if search := properties.get("hingetulip searched"):
+            self.searched[report.nodeid] = search
+        for node, word, lines in properties.get(SHARED, ()) if report.when == "call" and report.passed else ():
+            self.shared[node, word] = lines and self.shared.get((node, word), lines)
+        row = properties.get(NAME) if report.when == "call" else None
         if not isinstance(row, dict):
             return
         self.is_disturbed = bool(self.is_disturbed) or row["is_disturbed"]
         if row["is_swept"]:
-            sweep = self.sweeps.setdefault(report.nodeid.partition("[")[0], Sweep(row["varied"]))
+            sweep = self.sweeps.setdefault(row["name"], Sweep(row["varied"]))
             sweep.seeds.append(row["seed"])
             sweep.failed += [row["seed"]] * report.failed
 
+    def pytest_sessionfinish(self, session: Any) -> None:
+        """A module's or class's mark that had no effect in any test fails the session."""
+        if any(self.shared.values()) and not session.exitstatus and not hasattr(session.config, "workerinput"):
+            session.exitstatus = pytest.ExitCode.TESTS_FAILED
+
     def pytest_terminal_summary(self, terminalreporter: Any) -> None:
         lines = [f"{name}: {sweep.text()}" for name, sweep in self.sweeps.items() if len(sweep.seeds) > 1 or sweep.varied]
+        lines += [
+            f"{node}: what met nothing in all its tests: {why}" for (node, _), whys in self.shared.items() for why in whys[:1]
+        ]
         lines += [UNDISTURBED] * (self.is_disturbed is False)
+        if self.tests:
+            lines.append(f"{self.tests} in simulated time: {'; '.join([told(self.calls), *self.unwatched])}")
+        lines += [f"{name}: {text}" for name, text in self.searched.items()]
         if lines:
             terminalreporter.section("emulated links")
             terminalreporter.write("".join(f"{line}\n" for line in lines))

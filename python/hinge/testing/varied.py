@@ -1,6 +1,6 @@
-"""The network of a test that its seed varies.
+"""A test network varied by its seed.
 
-A sweep of losses alone runs all tasks in step, so that no period ever meets another one otherwise.
+With losses only, all tasks run in step: no period ever meets another one differently.
 """
 
 from __future__ import annotations
@@ -9,13 +9,20 @@ import asyncio
 from random import Random
 from typing import Any, Coroutine, Optional, TypeVar
 
+from hinge.fault_lines import CRASH, CUT, HOLD, SKEW, Act, Either
 from hinge.faults import FaultyNetwork
 from hinge.testing.marks import Span, Variation
-from hingetulip.aio import Datagram, Host, Link
-from hingetulip.aio.jitter import DelayOf
+from hingetulip.aio import Host, Link
+from hingetulip.aio.extra import IsTwice, LateOf
 
 T = TypeVar("T")
 MOST_CUTS = 30  # of a run, whose last timer ends so that a test that waits for nothing is noticed
+KINDS = {  # of the acts that words draw, and of what they are
+    "cuts": (CUT, "host with links"),
+    "one_way_cuts": (CUT, "link"),
+    "holds": (HOLD, "link"),
+    "crashes": (CRASH, "host with a program of `host.boot`"),
+}
 
 
 class VariedHost(Host):
@@ -24,7 +31,7 @@ class VariedHost(Host):
     net: VariedNetwork
 
     def create_task(self, coroutine: Coroutine[Any, Any, T], *, name: Optional[str] = None) -> asyncio.Task[T]:
-        phase = self.net.variation.phase
+        phase, self.net.begun = self.net.variation.phase, self.net.begun + 1
         return super().create_task(coroutine if phase is None else begun(coroutine, phase.drawn(self.net.drawn)), name=name)
 
 
@@ -38,43 +45,90 @@ async def begun(coroutine: Coroutine[Any, Any, T], phase: float) -> T:
 
 
 class VariedNetwork(FaultyNetwork):
-    """A network that its seed varies. The draws don't depend on the losses of links, so that a run with fewer losses is varied alike."""
+    """A network that its seed varies. The draws don't depend on the losses of links, so that a run with fewer losses is varied
+    alike. The effects of cuts, jitter and the like are faults, and a run with given faults replaces them."""
 
     def __init__(self, variation: Variation, *words: Any, **more: Any) -> None:
         super().__init__(*words, **more)
         self.variation, self.drawn = variation, Random(f"vary {self.seed}")
-        if variation.cuts is not None:
-            self._cut_next(Random(f"cuts {self.seed}"), variation.cuts, MOST_CUTS)
+        self.drawn_acts: dict[str, list[Act]] = {word: [] for word in KINDS}
+        self.skews: list[Act] = []
+        self.begun = 0  # tasks of hosts
+        for word in KINDS if self.chosen is None else ():
+            if getattr(variation, word) is not None:
+                self._act_next(word, Random(f"{word} {self.seed}"), MOST_CUTS)
 
     def new_host(self, addresses: tuple[str, ...], name: Optional[str]) -> Host:
         host = VariedHost(self, addresses, name)
         if self.variation.drift is not None:
             host.drift = self.variation.drift.drawn(self.drawn)
+        if self.variation.skew is not None and self.chosen is None:
+            host.offset = round(self.variation.skew.drawn(Random(f"skew {self.seed} {host.name}")), 9)
+            self.skews.append(Act(self.loop.time(), SKEW, host.name, host.offset))
         return host
 
-    def link(self, near: Host, far: Host, options: Optional[str] = None, *, jitter: Optional[DelayOf] = None, **more: Any) -> Link:
-        own = self.variation.jitter
-        link = super().link(near, far, options, jitter=jitter if own is None else self._more(own, jitter), **more)
-        if self.variation.delay is not None:
-            link.change(f"{link.options.without('delay')} delay {self.variation.delay.ms(self.drawn)}ms")
+    def link(self, near: Host, far: Host, options: Optional[str] = None, **more: Any) -> Link:
+        variation, link = self.variation, super().link(near, far, options, **more)
+        if variation.delay is not None:
+            link.change(f"{link.options.without('delay')} delay {variation.delay.ms(self.drawn)}ms")
         return link
 
-    def _more(self, span: Span, jitter: Optional[DelayOf]) -> DelayOf:
-        random = Random(self.drawn.getrandbits(64))
+    def drawn_of(self, link: Link) -> tuple[Optional[LateOf], Optional[IsTwice]]:
+        late, is_twice = super().drawn_of(link)
+        span, rate, near, far = self.variation.jitter, self.variation.duplicates, link.near, link.far
+        random = Random(f"{self.seed} {near} > {far}" if span is None else self.drawn.getrandbits(64))
+        of_copies, own_late, own_twice = Random(random.getstate()[1][0]), late, is_twice
+        if self.chosen is None and span is not None:
+            ms_of = span.ms
+            late = lambda number: ms_of(random) + (own_late(number) if own_late else 0)
+        if self.chosen is None and rate is not None:
+            chance = rate.high
+            is_twice = lambda number: of_copies.random() < chance or bool(own_twice and own_twice(number))
+        return late, is_twice
 
-        def delay(it: Datagram) -> float:
-            return span.ms(random) + (0 if jitter is None else jitter(it))
+    def faults_met(self) -> list[Either]:
+        """Returns as faults all that the seed drew. A cut is reported as its lost packets."""
+        acts = [act for drawn in self.drawn_acts.values() for act in drawn if act.kind != CUT]
+        return [*super().faults_met(), *self.skews, *sorted(acts)]
 
-        return delay
+    def unvaried(self) -> dict[str, str]:
+        """Returns the words of the `vary` mark that can't have changed anything, with the reasons."""
+        has_packet = any(link.came for link in self.links.values())
+        has_look = any(host.looks for host in self.hosts.values())
+        lacking = {
+            **dict.fromkeys(("delay", "jitter", "duplicates"), "no packet came to a link" * (not has_packet)),
+            "phase": "no task is a host's" * (not self.begun),
+            **dict.fromkeys(("drift", "skew"), "no task of a host looked at `time.time()`" * (not has_look)),
+        }
+        now = self.loop.time()
+        for word, (_, of) in KINDS.items() if self.chosen is None else ():
+            span = getattr(self.variation, word)
+            if span is not None and not self.drawn_acts[word] and not span.low <= now <= span.high:
+                lacking[word] = f"the test ended at {now:g} s" if now < span.low else f"there is no {of}"
+        return {word: text for word, text in lacking.items() if text and getattr(self.variation, word) is not None}
 
-    def _cut_next(self, random: Random, span: Span, left: int) -> None:
-        """Cuts a host off after a while, and so on."""
+    def _targets(self, word: str) -> list[str]:
+        """Returns the possible targets of an act."""
+        if word in ("one_way_cuts", "holds"):
+            return [link.name for link in self.links.values()]
+        hosts = sorted(set(self.hosts.values()), key=lambda host: host.address)
+        return [host.name for host in hosts if word != "crashes" or host.programs]
 
-        def cut() -> None:
-            lasting = span.drawn(random)
-            if self.hosts:
-                self.cut(random.choice(sorted(set(self.hosts.values()), key=lambda host: host.address)), lasting)
-            self.loop.call_later(lasting, self._cut_next, random, span, left - 1)
+    def _act_next(self, word: str, random: Random, left: int) -> None:
+        """Carries out an act after a drawn time, and again until the count is used up."""
+        span: Span = getattr(self.variation, word)
+
+        def begin() -> None:
+            if self.closing:
+                return
+            lasting, targets = round(span.drawn(random), 9), self._targets(word)
+            act = Act(self.loop.time(), KINDS[word][0], random.choice(targets) if targets else "", lasting)
+            try:
+                self.act(act).is_drawn = True
+                self.drawn_acts[word].append(act)
+            except ValueError:  # there is nothing to cut yet
+                pass
+            self.loop.call_later(lasting, self._act_next, word, random, left - 1)
 
         if left:
-            self.loop.call_later(span.drawn(random), cut)
+            self.loop.call_later(span.drawn(random), begin)

@@ -1,0 +1,300 @@
+"""Clients' operations on a system, a line each, and the models that check their results."""
+
+from __future__ import annotations
+
+import json
+import math
+from dataclasses import dataclass, replace
+from typing import Any, Hashable, Iterator, Optional
+
+from hinge.border.files import object_of
+from hinge.command import ROWS, Fault
+
+EXAMPLE = '{"client": 1, "key": "x", "op": "write", "value": 5, "begin": 0.25, "end": 0.31}'
+SHOWN = 80  # letters of a value
+NEVER, ALWAYS = math.inf, -math.inf
+NULL, TRUE = "null", "true"  # of JSON: the register before its first write, an empty queue; a `cas` that took place
+Places = dict[str, list[int]]  # bits of the open operations that change something, by their values
+UNSEEN = ""  # in a queue: a value that nobody got, of which one is like the other
+
+
+@dataclass(frozen=True)
+class Operation:
+    """A client's operation, with JSON texts as values. An operation without an end has no result, and may take effect at any moment
+    after its begin, or never."""
+
+    line: int
+    client: str
+    op: str
+    words: dict[str, str]
+    begin: float
+    end: float = NEVER
+    values: tuple[str, ...] = ()  # that a set showed
+
+    @property
+    def is_over(self) -> bool:
+        return self.end < NEVER
+
+    @property
+    def value(self) -> str:
+        return self.words.get("value", "")
+
+    @property
+    def result(self) -> str:
+        return self.words.get("result", "")
+
+    def anywhen(self) -> Operation:
+        words = {name: text for name, text in self.words.items() if name != "result"}
+        return replace(self, words=words, begin=ALWAYS, end=NEVER, values=())
+
+    def told(self) -> str:
+        """Returns the operation as text."""
+        words = "".join(f" {name} {text[:SHOWN]}" + " .." * (len(text) > SHOWN) for name, text in self.words.items())
+        return f"client {self.client}: {self.op}{words}, " + (
+            f"from {self.begin} to {self.end}" if self.is_over else f"from {self.begin}, never returned"
+        )
+
+
+class Model:
+    """A register, with `null` before its first write. Other models differ in the words below and in `after`."""
+
+    words: dict[str, tuple[str, ...]] = {"write": ("value",), "read": ("result",)}
+    makers: tuple[str, ...] = ("write",)  # operations after which the value is there
+    start: Hashable = NULL
+    shows_lists, shows_twice = False, True  # whether a read lists values, and may list one twice
+
+    def __init__(self, operations: list[Operation]) -> None:
+        self.sights = dict[str, float]()  # values that results show, each with the end of the first that does
+        values = [one.value for one in operations if one.op in self.makers and not self.is_pure(one)]
+        self.is_unique = len({NULL, *values}) > len(values)  # whether each value is made once
+        for operation in operations:
+            for text in self.shown(operation) if operation.is_over else ():
+                self.sights[text] = min(operation.end, self.sights.get(text, NEVER))
+        self.operations = [settled for operation in operations for settled in self.settled(operation)]
+
+    def settled(self, operation: Operation) -> Iterator[Operation]:
+        """Decides the moment of an operation without an end. If no other operation wrote its value, the operation took effect
+        before the first result with that value; if no result contains the value, no order needs the operation."""
+        if operation.is_over:
+            yield operation
+        elif operation.op not in self.makers or not self.is_unique:
+            if not self.is_pure(operation):
+                yield operation
+        elif operation.begin <= self.sights.get(operation.value, ALWAYS) > ALWAYS:
+            yield replace(operation, end=self.sights[operation.value])
+        elif self.keeps_unseen():
+            yield operation
+
+    def keeps_unseen(self) -> bool:
+        return False
+
+    def shown(self, operation: Operation) -> Iterator[str]:
+        if operation.op == "read":
+            yield operation.result
+
+    def is_pure(self, operation: Operation) -> bool:
+        """Returns whether the operation changes nothing, so that it may be placed wherever its result fits."""
+        return operation.op == "read"
+
+    def useful(self, state: Any, pure: list[Operation], places: Places) -> Iterator[int]:
+        """Yields the places of open operations that the ending operation may need; `pure` lists operations waiting for a state."""
+        for some in places.values():
+            yield from some
+
+    def after(self, operation: Operation, state: Any) -> Optional[Hashable]:
+        """Returns the state after an operation, or None if its result is impossible here."""
+        if operation.op == "read":
+            return state if operation.result == state else None
+        return operation.value
+
+
+class Exchange(Model):
+    """A register with `cas`, which writes its value if the register contains the value in `from`, and reports the outcome."""
+
+    words = {**Model.words, "cas": ("from", "value", "result")}
+    makers = ("write", "cas")
+
+    def __init__(self, operations: list[Operation]) -> None:
+        self.asks_more = any(one.op == "cas" and one.result != TRUE for one in operations)
+        super().__init__(operations)
+
+    def keeps_unseen(self) -> bool:
+        """Returns whether values that no result shows may matter: a `cas` without a write, or with an unknown outcome, may need
+        one."""
+        return self.asks_more
+
+    def shown(self, operation: Operation) -> Iterator[str]:
+        if operation.op == "cas" and operation.result == TRUE:
+            yield operation.words["from"]
+        yield from super().shown(operation)
+
+    def is_pure(self, operation: Operation) -> bool:
+        return operation.op == "read" or (operation.op == "cas" and operation.result not in ("", TRUE))
+
+    def after(self, operation: Operation, state: Any) -> Optional[Hashable]:
+        if operation.op != "cas":
+            return super().after(operation, state)
+        if self.is_pure(operation):
+            return state if operation.words["from"] != state else None
+        return operation.value if operation.words["from"] == state else None
+
+
+class Members(Model):
+    """A set that grows. Its state has a bit for each value."""
+
+    words = {"add": ("value",), "read": ("result",)}
+    makers = ("add",)
+    start = 0
+    shows_lists, shows_twice = True, False
+
+    def __init__(self, operations: list[Operation]) -> None:
+        self.bits = dict[str, int]()
+        super().__init__(operations)
+        self.read = {one.line: sum(map(self.bit, self.shown(one))) for one in operations if one.result}
+        self.names = {bit: text for text, bit in self.bits.items()}
+
+    def bit(self, text: str) -> int:
+        return self.bits.setdefault(text, 1 << len(self.bits))
+
+    def shown(self, operation: Operation) -> Iterator[str]:
+        yield from operation.values
+
+    def useful(self, state: Any, pure: list[Operation], places: Places) -> Iterator[int]:
+        """Yields the operations that an open read needs, ordered by value, since adds commute."""
+        for read in pure:
+            missing = self.read[read.line] & ~state
+            if missing and not state & ~self.read[read.line]:
+                yield from places.get(self.names[missing & -missing], ())
+
+    def after(self, operation: Operation, state: Any) -> Optional[Hashable]:
+        if operation.op == "read":
+            return state if self.read[operation.line] == state else None
+        return int(state) | self.bit(operation.value)
+
+
+class Queue(Model):
+    """A first-in, first-out queue; `get` with `null` found the queue empty. The state lists the values."""
+
+    words = {"put": ("value",), "get": ("result",)}
+    makers = ("put",)
+    start = ()
+
+    def __init__(self, operations: list[Operation]) -> None:
+        gets = [one for one in operations if one.op == "get" and not self.is_pure(one)]
+        self.gets = {one.result: one for one in gets}
+        self.is_known = all(one.is_over for one in gets)  # whether nobody else got a value
+        super().__init__(operations)
+        self.is_ordered = self.is_unique and len({one.line for one in self.gets.values()}) == len(gets)
+
+    def shown(self, operation: Operation) -> Iterator[str]:
+        if operation.op == "get" and operation.result != NULL:
+            yield operation.result
+
+    def is_pure(self, operation: Operation) -> bool:
+        return operation.op == "get" and operation.result == NULL
+
+    def comes_first(self, one: str, other: str) -> bool:
+        """Returns whether a value must leave before another. This is exact, since each value is put once."""
+        if one not in self.gets or (other == UNSEEN and not self.is_known):
+            return False
+        return other == UNSEEN or self.gets[one].end < self.gets[other].begin
+
+    def after(self, operation: Operation, state: Any) -> Optional[Hashable]:
+        if operation.op == "put":
+            value = operation.value if operation.value in self.sights else UNSEEN
+            return None if self.is_ordered and any(self.comes_first(value, one) for one in state) else (*state, value)
+        if self.is_pure(operation):
+            return state if not state else None
+        return state[1:] if state and operation.result in ("", state[0]) else None
+
+
+class Sequence(Model):
+    """A list that grows at its end. Its state lists the values."""
+
+    words = {"append": ("value",), "read": ("result",)}
+    makers = ("append",)
+    start = ()
+    shows_lists = True
+
+    def __init__(self, operations: list[Operation]) -> None:
+        self.longest: tuple[str, ...] = max((one.values for one in operations), key=len, default=())
+        super().__init__(operations)
+
+    def shown(self, operation: Operation) -> Iterator[str]:
+        yield from operation.values
+
+    def after(self, operation: Operation, state: Any) -> Optional[Hashable]:
+        """An append has to make the longest list in a read, or follows the read."""
+        if operation.op == "read":
+            return state if operation.values == state else None
+        value = operation.value if operation.value in self.sights else UNSEEN
+        return (*state, value) if self.longest[len(state) : len(state) + 1] in ((), (value,)) else None
+
+
+class Lock(Model):
+    """A lock that one client holds at a time, and releases. An `acquire` whose result isn't true met a holder."""
+
+    words = {"acquire": ("result",), "release": ()}
+    makers = ()
+    start = ()  # else the holder
+
+    def shown(self, operation: Operation) -> Iterator[str]:
+        yield from ()
+
+    def is_pure(self, operation: Operation) -> bool:
+        return operation.op == "acquire" and operation.result not in ("", TRUE)
+
+    def after(self, operation: Operation, state: Any) -> Optional[Hashable]:
+        if self.is_pure(operation):
+            return state or None
+        before, later = ((), (operation.client,)) if operation.op == "acquire" else ((operation.client,), ())
+        return later if state == before else None
+
+
+MODELS = {"register": Model, "cas": Exchange, "set": Members, "queue": Queue, "list": Sequence, "lock": Lock}
+
+
+def operation_of(line: int, text: bytes, model: type[Model]) -> Optional[tuple[str, Operation]]:
+    """Returns a line's key and operation, or None if it didn't happen. ValueError: the line is wrong."""
+    row = object_of(text)
+    if row is None:
+        raise ValueError(f"not an object of JSON; write {EXAMPLE}")
+    if missing := [name for name in ("client", "key", "op", "begin") if name not in row]:
+        raise ValueError(f"{missing[0]!r} is missing; write {EXAMPLE}")
+    if row["op"] not in model.words:
+        raise ValueError(f"op {row['op']!r}: write {', '.join(model.words)}, or another --model")
+    if row.get("ok", True) not in (True, False):
+        raise ValueError(f"ok {row['ok']!r}: write false if it surely didn't take place; leave out `end` if nobody knows")
+    begin, end = row["begin"], row.get("end")
+    for name, moment in (("begin", begin), *([("end", end)] if end is not None else [])):
+        if not isinstance(moment, (int, float)) or isinstance(moment, bool) or not math.isfinite(moment):
+            raise ValueError(f"{name} {moment!r}: write a number, of one clock for all clients")
+    if end is not None and end < begin:
+        raise ValueError(f"end {end} is before begin {begin}")
+    is_over = end is not None
+    words = {name: json.dumps(row[name]) for name in model.words[row["op"]] if name in row and (is_over or name != "result")}
+    for name in model.words[row["op"]]:
+        if name not in words and (is_over or name != "result"):
+            raise ValueError(f"{name!r} is missing: {row['op']} has {', '.join(model.words[row['op']])}")
+    texts: Optional[list[str]] = []
+    if model.shows_lists and row["op"] == "read" and is_over:
+        texts = [json.dumps(value) for value in row["result"]] if isinstance(row["result"], list) else None
+        if texts is None or not model.shows_twice and len(set(texts)) < len(texts):
+            raise ValueError(f"result: write the list of all values{'' if model.shows_twice else ' in the set, each once'}")
+    operation = Operation(line, str(row["client"]), row["op"], words, begin, NEVER if end is None else end, tuple(texts or ()))
+    return (json.dumps(row["key"]), operation) if row.get("ok", True) else None
+
+
+def operations_of(name: str, data: bytes, model: type[Model]) -> tuple[dict[str, list[Operation]], int]:
+    """Returns each key's operations, and the number of operations that didn't happen. Fault: a line is malformed."""
+    keys, refusals = dict[str, list[Operation]](), 0
+    for line, text in enumerate(data.split(b"\n"), 1):
+        if text.strip():
+            try:
+                pair = operation_of(line, text, model)
+            except ValueError as error:
+                raise Fault(f"{name}:{line}: {error}", ROWS) from None
+            if pair:
+                keys.setdefault(pair[0], []).append(pair[1])
+            refusals += not pair
+    return keys, refusals

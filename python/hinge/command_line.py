@@ -1,0 +1,78 @@
+"""The command line, parsed by argparse."""
+
+from __future__ import annotations
+
+import argparse
+from typing import Any, Callable, NoReturn
+
+NEAR, OUTPUT = 0.82, ("--out", "--output")  # of what was typed, and of what is meant
+
+
+class Joined(argparse.Action):
+    """An option whose repetition continues its value, as in `--link 10Mbit/s --link 20ms`."""
+
+    def __call__(self, parser: argparse.ArgumentParser, namespace: argparse.Namespace, values: object, option: Any = None) -> None:
+        setattr(namespace, self.dest, values)
+
+
+class Parser(argparse.ArgumentParser):
+    """A strict command line: each option is written in full, has a value that isn't empty, has no second one unless both
+    count, and does something. Of an unknown one it names that which may be meant."""
+
+    def __init__(self, **settings: Any) -> None:
+        super().__init__(**settings, allow_abbrev=False)
+        self.given = dict[str, list[str]]()  # by names of options: what was typed behind them
+        self.foreign = list[tuple[str, str]]()  # options of other tools, with their values
+        self.rules = list[tuple[str, Callable[[], bool], str]]()  # options, whether they do nothing, and where
+
+    def needs(self, options: str, *others: str) -> None:
+        """Refuses options without effect if some other option is missing."""
+        for option in options.split():
+            self.rule(option, lambda: not self.given.keys() & {*others}, f"without {' or '.join(others)}")
+
+    def yields(self, options: str, *others: str) -> None:
+        """Refuses options without effect next to all these options."""
+        for option in options.split():
+            self.rule(option, lambda: self.given.keys() >= {*others}, f"beside {' and '.join(others)}")
+
+    def rule(self, option: str, is_idle: Callable[[], bool], where: str) -> None:
+        self.rules.append((option, is_idle, where))
+
+    def _parse_known_args(self, *words: Any, **how: Any) -> Any:
+        self.given.clear()
+        self.foreign.clear()
+        result = super()._parse_known_args(*words, **how)
+        if self.foreign:
+            from hinge.foreign import of_options
+
+            self.error(of_options(self.foreign, self.given))
+        for option, is_idle, where in self.rules:
+            if option in self.given and is_idle():
+                self.error(f"{option} does nothing {where}")
+        return result
+
+    def _get_values(self, action: argparse.Action, texts: list[str]) -> Any:
+        """Reads an option's values, each time that it occurs."""
+        if not action.option_strings:
+            return super()._get_values(action, texts)
+        option, is_list = action.option_strings[0], isinstance(action, argparse._AppendAction)
+        if not all(text.strip() for text in texts):
+            raise argparse.ArgumentError(action, "its value is empty; is a variable unset?")
+        before = self.given.get(option, [])
+        if before and isinstance(action, Joined):
+            texts = [" ".join([*before, *texts])]
+        elif is_list and {*texts} & {*before}:
+            raise argparse.ArgumentError(action, f"{' '.join(texts)!r} is given twice; write one of them")
+        elif option in self.given and not is_list and (before != texts or isinstance(action, argparse.BooleanOptionalAction)):
+            behind = f"{' '.join(texts)!r} comes behind {' '.join(before)!r}; " * bool(texts)
+            raise argparse.ArgumentError(action, f"{behind}write one of them")
+        self.given[option] = [*before, *texts] if is_list else texts
+        return super()._get_values(action, texts)
+
+    def error(self, message: str) -> NoReturn:
+        import difflib  # which takes longer to load than a help may
+
+        option = message.partition("unrecognized arguments: ")[2].partition(" ")[0].partition("=")[0]
+        names = [name for name, action in self._option_string_actions.items() if action.help is not argparse.SUPPRESS]
+        near = ["-o"] if option in OUTPUT and "-o" in names else difflib.get_close_matches(option, names, 1, NEAR)
+        super().error(message + (f"; did you mean {near[0]}?" if near and option.startswith("--") else ""))

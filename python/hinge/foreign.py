@@ -1,0 +1,214 @@
+"""Replacements for other tools' lines and options, and for words that users try first."""
+
+from __future__ import annotations
+
+import re
+import shlex
+from typing import Callable, Mapping, NamedTuple, Optional, Sequence
+
+from hinge.foreign_options import OF_LINK, OPTIONS
+from hingetulip_words.foreign import Meant, number
+from hingetulip_words.link import LEFT_OUT, corrected
+from hingetulip_words.presets import PRESETS
+from hingetulip_words.values import plain
+
+ONE_WAY = "it is one way, as in the original; --link is both"
+EXAMPLE = "an example, as nothing in this line is of a link"
+CONTAINER = "sudo hinge run --container %s"
+# What to write, the page about it, and the words that it answers, if the rest of the line says no more.
+TABLE = """
+hinge run --link '10Mbit/s 20ms loss 1%' -- COMMAND | LINKS | tc netem qdisc tbf htb comcast delay loss link latency limit
+ bandwidth mm-delay mm-loss trickle wondershaper tcset clumsy
+hinge run --link 20ms --up-trace up.trace --down-trace down.trace -- COMMAND | LINKS | mm-link mm-onoff mm-webreplay trace mahimahi
+hinge run --outside --down 100ms -- COMMAND | LIVE | toxic toxiproxy toxiproxy-cli toxiproxy-server proxy cli
+sudo hinge run --container NAME --up 100ms | LIVE | pumba
+hinge udp 5000 HOST:PORT 'pipe 1 config delay 20' | LIVE | udp-proxy
+hinge net FILE | NET | mn mininet containernet topo topology create host hosts pingall cluster nodes
+hinge up FILE | NET | start launch daemon
+hinge down NAME; a run ends with its COMMAND | NET | stop kill end quit delete remove rm flush toggle
+hinge status NAME | NET | list ls ps info inspect
+hinge change NAME cut HOST 5s | NET | cut heal partition isolate restart set outage
+hinge exec NAME HOST -- COMMAND | NET | sh bash shell enter attach ssh xterm h1 h2
+hinge net FILE, with a line `nemesis partition-halves every 10s for 3s` | NET | nemesis chaos jepsen
+hinge run --line 'pipe 1 config bw 10Mbit/s' -- COMMAND | LINKS | pipe queue dnctl pfctl sched add
+dummynet replay CONFIG PACKETS, or dummynet audit HISTORY | FILES | replay audit live
+hinge docs CAPTURE, which shows a loop over configurations and seeds | | sweep
+hinge look PACKETS REPORT --capture CAPTURE --index INDEX -o FILE.pcap | CAPTURE | through
+LD_PRELOAD=$(hinge kernel --clock) COMMAND | TESTING | with-clock
+dummynet replay CONFIG PACKETS --most-packets 1099511627776 > REPORT | FILES | shard
+hinge run --list-presets | | presets profiles profile preset conditions
+hinge --version | | version -v
+hinge docs | | man doc manual pages readme info-page
+hinge try | | example examples tutorial demo hello quickstart
+hinge docs TESTING | | test pytest fixture
+hinge look HISTORY -o picture.png | CAPTURE | stats picture plot graph mm-throughput-graph draw chart png report analyze analyse log logs
+ history view open paths show web gui dashboard
+hinge why ROW HISTORY | CAPTURE | explain
+hinge packets CAPTURE -o packets.csv | CAPTURE | capture pcap tcpdump wireshark import convert mm-webrecord
+hinge run --simulated --seed 1 --link '10Mbit/s 20ms' -- COMMAND | SIMULATED | simulate sim simulation --simulated deterministic
+hinge run --preset lte -- COMMAND | LIVE | emulate emulator exec-link throttle slow shape limit-rate with wrap ping curl wget iperf iperf3
+hinge status NAME | | monitor watch top stat metrics mm-meter
+hinge check FILE | | validate lint verify
+hinge search FILE.net | SIMULATED | fuzz explore seeds shrink
+./install in a clone | LIVE | install setup update upgrade
+"""
+
+
+class Answer(NamedTuple):
+    """The advised words, the page about them if any, and the part of the input that they leave out."""
+
+    write: str
+    page: str = ""
+    notes: tuple[str, ...] = ()
+
+    def text(self) -> str:
+        lines = "; ".join([*[f"write {self.write}"] * bool(self.write), *self.notes])
+        return lines + f" (hinge docs {self.page})" * bool(self.page)
+
+
+WORDS = dict[str, Answer]()
+for row in TABLE.replace("\n ", " ").strip().splitlines():
+    write, page, answered = (part.strip() for part in row.split("|"))
+    WORDS.update(dict.fromkeys(answered.split(), Answer(write, page)))
+EXAMPLES = {word for word, answer in WORDS.items() if answer.write.startswith(("hinge run --", "sudo hinge run"))} - {
+    *PRESETS,
+    "presets",
+}
+
+
+def lacking(what: Sequence[str], page: str = "LINKS") -> Answer:
+    return Answer("", page, (f"no link does: {', '.join(what)}",))
+
+
+def of_link(
+    tool: str, words: Sequence[str], more: str = "", before: str = "hinge run", behind: str = " -- COMMAND"
+) -> Optional[Answer]:
+    """Returns the line that replaces another tool's words, or the reason why no link can; None if the words contain no request."""
+    meant = Meant(tool, words)
+    options = shlex.join(meant.options())
+    notes = [ONE_WAY] * (options.startswith(("--up ", "--down ")) and not {"--up", "--down"} <= {*options.split()})
+    notes += [f"no link does: {', '.join(meant.left)}"] * bool(meant.left)
+    if not options:
+        return lacking(meant.left) if meant.left else None
+    if tool in ("mahimahi", "trickle") and meant.rest:
+        behind = f" -- {shlex.join(meant.rest)}"
+    return Answer(f"{before} {options}{more}{behind}", "LINKS", tuple(notes))
+
+
+def of_tc(words: Sequence[str]) -> Optional[Answer]:
+    """Answers a line of tc that adds, changes, shows or deletes a qdisc."""
+    for tool in ("netem", "tbf", "htb"):
+        if tool in words:
+            return of_link(tool, words[list(words).index(tool) + 1 :])
+    if left_out := [word for word in words if word in LEFT_OUT]:
+        return lacking(left_out)
+    return next((WORDS[verb] for word, verb in (("show", "list"), ("ls", "list"), ("del", "stop")) if word in words), None)
+
+
+def of_ipfw(words: Sequence[str]) -> Optional[Answer]:
+    """Answers a line of ipfw or dnctl without options that configures a pipe or queue, loses packets, lists or ends."""
+    own = [word for word in words if word not in ("ipfw", "dnctl") and not word.startswith("-")]
+    if own[:1] in (["pipe"], ["queue"]) and "config" in own[1:3]:
+        kind, number_of, rest = own[0], own[own.index("config") % 2 + 1], own[3:]
+        pipe = rest[:2] if kind == "queue" and rest[:1] == ["pipe"] and rest[1:] else []
+        text = " ".join(rest[len(pipe) :])
+        link = corrected(text, kind=kind) if text else ""
+        if link is None:
+            return lacking([text])
+        if kind == "pipe" and number_of not in ("1", "2"):
+            number_of = "1"  # one of the two of a run
+        lines = [f"{' '.join(pipe or ['pipe', '1'])} config bw 10Mbit/s"] * (kind == "queue")
+        lines.append(" ".join([kind, number_of, "config", *pipe, *link.split()]))
+        return Answer(f"hinge run{''.join(f' --line {shlex.quote(line)}' for line in lines)} -- COMMAND", "LINKS")
+    if own[:1] == ["sched"]:
+        return lacking(own[:1])
+    if "prob" in own[:-1] and (part := number(own[own.index("prob") + 1], "part")) is not None:
+        return Answer(f"hinge run --link 'loss {plain(part)}%' -- COMMAND", "LINKS")
+    is_verb = own[:1] and own[0] in ("pipe", "queue", "sched", "add", "show", "list", "delete", "flush")
+    verbs = ["list" if word == "show" else word for word in own[2::-1]]
+    answer = next((WORDS[word] for word in verbs if word in WORDS), None) if is_verb else None
+    return answer._replace(notes=(EXAMPLE,)) if answer is WORDS["add"] else answer
+
+
+def of_pumba(words: Sequence[str]) -> Optional[Answer]:
+    """Answers pumba: netem's kinds become a link, and acts on a container become acts on a net's host."""
+    kind = next((kind for kind in ("loss-gemodel", "loss", "duplicate", "corrupt", "delay", "rate") if kind in words), None)
+    options = [f"--{kind}-percent" if word == "--percent" else word for word in words[1:] if word not in ("netem", kind)]
+    if kind is not None:
+        name = words[-1] if ":" not in words[-1] else "NAME"
+        default = ["--time", "100"] * (kind == "delay" and "--time" not in words)
+        return of_link("pumba", [*options, *default], before=CONTAINER % name, behind="")
+    act = next((act for word, act in (("kill", "kill"), ("stop", "kill"), ("pause", "stop")) if word in words), None)
+    length = dict(zip(words, words[1:])).get("--duration", "")
+    return Answer(f"hinge change NAME {act} HOST {length}".rstrip(), "NET") if act else None
+
+
+def of_toxiproxy(words: Sequence[str]) -> Optional[Answer]:
+    if {"add", "update"} & {*words}:
+        return of_link("toxiproxy", words, " --outside")
+    return next((WORDS[word] for word in words[1:] if word in ("list", "inspect", "remove", "delete", "toggle")), None)
+
+
+def of_net(words: Sequence[str]) -> Optional[Answer]:
+    """Answers Mininet's `link A B down`, `link A B up`, and `mn --link tc,bw=10,delay=10ms`."""
+    if words[0] == "mn":
+        link = " ".join(Meant("mn", words).options()[1:2])
+        lines = f"FILE has the lines `host h1`, `host h2` and `link h1 h2 {link}`"
+        return Answer("hinge net FILE", "NET", (lines,) * bool(link))
+    act = {"down": "cut", "up": "heal"}.get(words[-1]) if len(words) == 4 else None
+    return Answer(f"hinge change NAME {act} {words[1]} from {words[2]}", "NET") if act else None
+
+
+def of_shaper(words: Sequence[str]) -> Optional[Answer]:
+    """Answers wondershaper's options, or an interface with the download and upload rates in Kbit/s."""
+    figures = [word for word in words if word.isdigit()]
+    return of_link("wondershaper", ["-d", figures[0], "-u", figures[1]] if len(figures) == 2 and "-d" not in words else words[1:])
+
+
+def of_command(words: Sequence[str]) -> Optional[Answer]:
+    """Answers a program that needs a link and a server, in the place of a command of hinge."""
+    server = " --server 'iperf3 -s -1'" * ("server" in words and words[0] == "iperf3")
+    return Answer(f"hinge run --preset lte{server} -- {shlex.join(words)}", "LIVE") if words[1:] else None
+
+
+TOOLS: dict[str, Callable[[Sequence[str]], Optional[Answer]]] = {
+    **dict.fromkeys("tc qdisc netem tbf".split(), of_tc),
+    **dict.fromkeys("mm-delay mm-link mm-loss".split(), lambda words: of_link("mahimahi", words, " --outside")),
+    **dict.fromkeys("ipfw dnctl pipe queue".split(), of_ipfw),
+    **dict.fromkeys("toxic toxiproxy-cli".split(), of_toxiproxy),
+    "comcast": lambda words: WORDS["stop"] if "--stop" in words else of_link("comcast", words),
+    "pumba": of_pumba,
+    **dict.fromkeys("link mn".split(), of_net),
+    **dict.fromkeys("trickle tcset".split(), lambda words: of_link(words[0], words[1:])),
+    "wondershaper": of_shaper,
+    **dict.fromkeys("ping curl wget iperf3".split(), of_command),
+    **dict.fromkeys(PRESETS, lambda words: Answer(f"hinge run --preset {words[0]} -- COMMAND", "LINKS")),
+}
+
+
+def answer_of(words: Sequence[str]) -> Optional[Answer]:
+    """Returns the replacement for these words after `hinge`, if known."""
+    words = list(words)[words[0] == "sudo" and len(words) > 1 :]
+    first = words[0] = (words[0].rpartition("/")[2] or words[0]).lower()
+    line = TOOLS[first](words) if first in TOOLS else None
+    if first.startswith("--") and (of_comcast := of_link("comcast", words)) and of_comcast.write:
+        line = of_comcast
+    answer = line or WORDS.get(first)
+    return answer._replace(notes=(EXAMPLE,)) if line is None and answer is not None and words[1:] and first in EXAMPLES else answer
+
+
+def of_options(typed: Sequence[tuple[str, str]], given: Mapping[str, Sequence[str]]) -> str:
+    """Returns the replacement for all of these options and their values, with the link's existing words."""
+    meant = Meant("ours", [word for option, value in typed if option in OF_LINK for word in (option, value)])
+    more, before = meant.options()[1:], " ".join(given.get("--link", ()))
+    link = " ".join([before, *more]).strip()
+    is_idle = "queue" in link.split() and not re.search(r"/s\b|\bbw\b", link)
+    link = f"10Mbit/s {link}" if is_idle else link
+    parts = [f"--link {shlex.quote(corrected(link) or link)}"] * bool(more)
+    for form, value in ((OPTIONS[option][0], value) for option, value in typed if option in OPTIONS):
+        words = (corrected(value) or value) if form.startswith(("--link", "--up ", "--down ")) else value
+        parts.append(form.format(*[shlex.quote(words)] * 2))
+    notes = [f"write {' '.join(parts)}"] * bool(parts)
+    notes += ["10Mbit/s is an example, as no packet waits without a bandwidth"] * is_idle
+    notes += [f"no link does: {what}" for what in (*meant.left, *meant.rest)]
+    return f"{', '.join(dict(typed))}: {'; '.join(notes)}"

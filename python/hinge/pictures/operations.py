@@ -1,0 +1,113 @@
+"""A picture of the fewest operations without an order: a line for each client, a bar for each operation, and shades for faults. The axis
+has the moments in their order and not to scale, since an operation of some ms may fail a read a minute later."""
+
+from __future__ import annotations
+
+import math
+import textwrap
+from contextlib import contextmanager
+from pathlib import Path
+from typing import Iterator, NamedTuple, Optional
+
+from hinge.arguments import LookOptions
+from hinge.border.files import MOST_TEXT, read_bytes, read_object
+from hinge.border.terminal import tell
+from hinge.checks.findings import Findings
+from hinge.checks.operations import Operation
+from hinge.checks.orders import check_operations
+from hinge.command import FILES, ROWS, Fault
+from hinge.events.kinds import TimedEvent, fault_ends
+from hinge.lazy import np
+from hinge.net.description import read_description
+from hinge.net.net_plan import NetPlan
+from hinge.outputs import format_of, refuse_inputs, written
+from hinge.pictures.chart import save
+from hinge.pictures.drawing import DASHED, SOLID, Bars, Drawing, Item, Key, Line, Panel
+from hinge.pictures.panels import COLORS
+from hinge.pictures.series import NS_PER_S
+from hinge.run.words import Wrong
+from hinge.simulated.failures import NET, file_beside
+
+SHADE, BAR, INCHES = "#f3cfc6", 9.0, 4.0
+WIDTH = 80  # letters of a line beside the picture
+LONGEST_PACKET = 1500
+
+
+class Shade(NamedTuple):
+    """A fault between two moments, in seconds."""
+
+    begin: float
+    end: float
+    words: str
+
+
+@contextmanager
+def net_in(path: Path) -> Iterator[Path]:
+    """Yields the net, or a failure's net, whose file lies beside the failure meanwhile. Fault: the failure is that of no net."""
+    if not read_bytes(str(path), MOST_TEXT).startswith(b"{"):
+        yield path
+        return
+    lines = read_object(path, "no failure").get(NET)
+    if not isinstance(lines, list):
+        raise Fault(f"{path}: no failure of a net", FILES)
+    with file_beside(path.absolute(), "".join(f"{line}\n" for line in lines)) as net:
+        yield net
+
+
+def shades_of(path: str) -> list[Shade]:
+    """Returns a net's faults, on the main command's clock. Fault: a seed draws them, or there is none."""
+    try:
+        with net_in(Path(path)) as net:
+            events = NetPlan(read_description(str(net)), LONGEST_PACKET, 0).events
+    except Wrong as wrong:
+        raise Fault(str(wrong), ROWS) from None
+    if any(one.is_drawn for one in events):
+        raise Fault(f"{path}: a seed draws its faults; name the failure that hinge search wrote, or a net of its lines `at`", FILES)
+    if not events:
+        raise Fault(f"{path}: it has no fault", FILES)
+    ends = dict(fault_ends(events))
+    return [shade_of(one, ends.get(place), events) for place, one in enumerate(events) if place not in ends.values()]
+
+
+def shade_of(one: TimedEvent, end: Optional[int], events: list[TimedEvent]) -> Shade:
+    begin, lasting = one.moment.ns / NS_PER_S, one.event.length / NS_PER_S
+    return Shade(begin, min(begin + lasting, events[end].moment.ns / NS_PER_S if end is not None else math.inf), str(one))
+
+
+def operations_drawing(name: str, fewest: list[Operation], shades: list[Shade]) -> Drawing:
+    """Each operation has a color, which also marks its words; an operation that never returned is dashed and lasts."""
+    first, last = min(one.begin for one in fewest), max(one.end if one.is_over else one.begin for one in fewest)
+    shades = [one for one in shades if one.begin <= last and one.end >= first]
+    spans = [*((one.begin, one.end) for one in fewest), *((one.begin, one.end) for one in shades)]
+    moments = sorted({*(begin for begin, _ in spans), *(min(end, last) for _, end in spans)} - {-math.inf})
+    place = {moment: float(number) for number, moment in enumerate(moments)}
+    clients = sorted({one.client for one in fewest}, reverse=True)
+    covered = [len(clients) * any(one.begin <= moment < one.end for one in shades) for moment in moments]
+    items: list[Item] = (
+        [Bars("a fault", np.arange(len(moments), dtype=float), 1, np.array(covered, float), SHADE)] if shades else []
+    )
+    keys = list[Key]()
+    for number, one in enumerate(fewest):
+        color, told, dash = COLORS[number % len(COLORS)], f"{name}:{one.line}: {one.told()}", SOLID if one.is_over else DASHED
+        x = np.array([place[one.begin], place[min(one.end, last)] if one.is_over else len(moments) - 0.5])
+        y = np.full(2, clients.index(one.client) + 0.5)
+        items.append(Line(str(one.line), x, y, color, number, BAR, dash, steps=False))
+        keys.append(Key(str(one.line), color, textwrap.fill(told, WIDTH, subsequent_indent="  ")))
+    panel = Panel(
+        "The fewest operations without an order", "s, not to scale", "client", items, from_zero=False, has_time=False,
+        most=float(len(clients)), names=[f"{moment:.3f}" for moment in moments], rows=clients,
+    )  # fmt: skip
+    return Drawing([panel], keys, name, 0, [one.words for one in shades], "Operations", INCHES)
+
+
+def look_at_operations(options: LookOptions, name: str, faults: Optional[str] = None) -> int:
+    """Judges the operations, and draws the fewest without an order; returns the status."""
+    refuse_inputs(options.outputs, options.source)
+    shades, findings = shades_of(faults) if faults else [], Findings()
+    fewest = check_operations(name, read_bytes(name, MOST_TEXT), options.model or "", findings)
+    for output in options.o if fewest else []:
+        with written(output) as place:
+            save([operations_drawing(Path(name).name, fewest, shades)], str(place), format_of(output).kind, options.title)
+    if not fewest:
+        tell(f"{name}: nothing to draw, so {options.o[0]} wasn't written")
+    return findings.status

@@ -1,1 +1,0 @@
-"""Sweeps: many replays of one packet file."""
