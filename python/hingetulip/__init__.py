@@ -1,5 +1,4 @@
-"""The link emulator dummynet, as ipfw(8) configures it: packets go in with the moment at which they arrive, and come out when
-they are due.
+"""The link emulator dummynet, as ipfw(8) configures it: packets enter with their arrival moments, and leave when they are due.
 
     import hingetulip
 
@@ -8,16 +7,14 @@ they are due.
         shaper.submit(0, 1000, pipe=1)
         print(shaper.collect(shaper.wake()))
 
-Moments are whole nanoseconds on a clock of the caller's own, from 0 to LAST_MOMENT. Lengths are bytes. Nothing is random but the
-words that a Shaper draws for packets that are submitted without one, and they follow from its seed.
+Moments are whole nanoseconds on the caller's clock, from 0 to LAST_MOMENT. Lengths are bytes. Only the words that a Shaper draws
+for packets without a word are random, and they follow from its seed.
 
-The emulator is the C library libhingetulip.so, which is looked for when the module is imported: where HINGETULIP_LIBRARY says,
-if it is set, else beside the module, then in the `lib` of the prefix below which the module lies, then where the system looks.
+The emulator is the C library libhingetulip.so. The module looks for the library when it is imported: at HINGETULIP_LIBRARY, if that
+is set, otherwise beside the module, then in the `lib` folder of the module's prefix, and finally where the system looks.
 """
 
 from __future__ import annotations
-
-from typing import NoReturn
 
 from hingetulip.audits import Audit, audit
 from hingetulip.batches import Deliveries, Fates, Packets
@@ -78,9 +75,3 @@ __all__ = [
     "read_packets",
 ]
 __version__ = VERSION
-
-
-def __getattr__(name: str) -> NoReturn:
-    from hingetulip_words.elsewhere import of_python  # which a wrong name alone needs
-
-    raise AttributeError(f"module 'hingetulip' has no attribute {name!r}{of_python(name)}")

@@ -1,4 +1,4 @@
-"""Many packets, fates and deliveries at once, kept as the library has them and read by columns."""
+"""Batches of packets, fates and deliveries in the library's format, read by columns."""
 
 from __future__ import annotations
 
@@ -14,7 +14,7 @@ Values = Union[int, Iterable[int]]
 
 
 class Column:
-    """A field of all records of a batch: a memoryview of one number for each, over the records themselves."""
+    """A field of all records in a batch: a memoryview of numbers over the records."""
 
     def __init__(self, text: str) -> None:
         self.__doc__ = text
@@ -27,7 +27,7 @@ class Column:
 
 
 class Batch:
-    """Records one behind the other, as the library reads or writes them."""
+    """Consecutive records in the library's format."""
 
     LAYOUT: Layout
 
@@ -42,7 +42,7 @@ class Batch:
 
 
 class Answers(Batch, Sequence[Item], Generic[Item]):
-    """A batch that is read as a sequence of items too."""
+    """A batch that is also a sequence of items."""
 
     READ: Any
 
@@ -80,7 +80,7 @@ def read_fate(at: int, flow: int, packet: int, outcome: int) -> Fate:
 
 
 class Fates(Answers[Fate]):
-    """The fates of the packets of a `submit_many`, in their order."""
+    """The fates of the packets in a `submit_many`, in order."""
 
     LAYOUT, READ = FATE, staticmethod(read_fate)
     outcome = Column("Numbers of `Outcome`.")
@@ -100,10 +100,8 @@ class Deliveries(Answers[Delivery]):
 
 
 class Packets(Batch):
-    """Packets for `submit_many`. A column is given as one number for all packets, or as one for each, and can be written again
-    before a next call: item by item, whole by `packets.moment[:] = array("Q", moments)`, or, where numpy is at hand, by
-    `numpy.asarray(packets.moment)[:] = moments`.
-    """
+    """Packets for `submit_many`. A column is a number for all packets, or a number for each. Columns can be changed between calls:
+    by item, by `packets.moment[:] = array("Q", moments)`, or with numpy by `numpy.asarray(packets.moment)[:] = moments`."""
 
     LAYOUT = PACKET
     moment = Column("When they arrive, in ns: 0 to 2^62.")
@@ -132,7 +130,7 @@ class Packets(Batch):
         dport: Values = 0,
         word: Optional[Values] = None,
     ) -> None:
-        """`count` packets, each to the pipe or to the queue of its number. Where no word is given, each `submit_many` draws new ones."""
+        """Creates `count` packets, each for the pipe or queue with its number. Without words, each `submit_many` draws new ones."""
         number = queue if pipe is None else pipe
         if number is None or (pipe is not None and queue is not None):
             raise TypeError("packets are sent to a pipe or to a queue")

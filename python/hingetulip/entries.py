@@ -1,4 +1,4 @@
-"""The entries of a history: each a call of the emulator, with the reply to it."""
+"""The entries of a history: calls of the emulator with their replies."""
 
 from __future__ import annotations
 
@@ -9,15 +9,15 @@ from pathlib import Path
 from typing import NamedTuple, Optional, Sequence, Union
 
 from hingetulip.batches import read_fate
-from hingetulip.errors import HingetulipError, HistoryError
+from hingetulip.calls import read_flow
+from hingetulip.errors import HistoryError
 from hingetulip.layout import DELIVERY, ENTRY, FATE, FLOW, HISTORY, PACKET
-from hingetulip.library import BAD_RECORD, CALLS, LIBRARY, ROOM, failure, reason
+from hingetulip.library import BAD_RECORD, CALLS, ROOM, failure, reason
 from hingetulip.records import Delivery, Fate, FlowStatus, Rule
-from hingetulip.shaper import read_flow
 
 
 class EntryCall(IntEnum):
-    """What a call of a history asked for."""
+    """The kind of a call in a history."""
 
     CONFIGURE = 0
     SUBMIT = 1
@@ -27,10 +27,10 @@ class EntryCall(IntEnum):
 
 
 class EntryReply(IntEnum):
-    """What the reply to a call tells.
+    """The kind of a reply.
 
-    REFUSED: a reason alone. CONFIGURED, DELETED: the line was obeyed. FATE: what became of the packet. CLOCK: where the clock stands.
-    DELIVERIES: that and the packets that are due. FLOWS: the states of flows.
+    REFUSED: only a reason. CONFIGURED, DELETED: the line took effect. FATE: the packet's fate. CLOCK: the clock. DELIVERIES: the
+    clock and the due packets. FLOWS: the states of flows.
     """
 
     REFUSED = 0
@@ -43,7 +43,7 @@ class EntryReply(IntEnum):
 
 
 class Submitted(NamedTuple):
-    """The packet of a submit, by the names of `Shaper.submit`: `shaper.submit(**entry.packet._asdict())` submits it again."""
+    """The packet of a submit, with the names of `Shaper.submit`: `shaper.submit(**entry.packet._asdict())` repeats it."""
 
     moment: int
     length: int
@@ -58,11 +58,11 @@ class Submitted(NamedTuple):
 
 
 class Entry(NamedTuple):
-    """A call by a caller of a history, and the reply. What a call or a reply of its kind doesn't tell is None, and a list empty.
+    """A call by a history's caller, and its reply. Inapplicable fields are None or empty lists.
 
-    `moment` is that of a submit, an advance or a collect. `line` is a configuration line in its canonical form. `at` is the moment that
-    counted, or where the clock stands. `refusal` says why a call was refused, as `no such pipe`. Replies of a history that isn't
-    lawful can be of a kind that no call of this kind has.
+    `moment` is that of a submit, an advance or a collect. `line` is a configuration line in canonical form. `at` is the effective
+    moment, or the clock. `refusal` is the reason for a refusal, such as `no such pipe`. In an unlawful history, the reply may be of
+    a kind that the call never gets.
     """
 
     caller: int
@@ -101,7 +101,7 @@ def submitted(
 
 
 class Lists:
-    """What the library tells of a history's text. HistoryError: a record is none, or is missing."""
+    """The library's lists for a history's text. HistoryError: a record is malformed or missing."""
 
     def __init__(self, text: bytes) -> None:
         rooms = (text.count(b"\nc,"), LINE_ROOM * text.count(b",configure,"), text.count(b"\nd,"), text.count(b"\nf,"))
@@ -148,12 +148,9 @@ class Lists:
 
 
 def read_history(file: Union[str, Path, bytes]) -> History:
-    """The entries of a history, given as its path or as its bytes, or of the transcript of a live session.
+    """Returns the entries in a history or in a live session's transcript, from its path or bytes.
 
-    `audit` tells whether the replies are the emulator's. HistoryError: a record is none, or is missing. HingetulipError: the
-    library is of before 2.0.
+    `audit` checks the replies. HistoryError: a record is malformed or missing.
     """
-    if not hasattr(CALLS, "dn_read_history"):
-        raise HingetulipError(f"the library {LIBRARY} is of before 2.0 and reads no histories")
     lists = Lists(file if isinstance(file, bytes) else Path(file).read_bytes())
     return History(Rule(lists.rule), [lists.entry(*fields) for fields in ENTRY.record.iter_unpack(lists.entries)])

@@ -1,4 +1,4 @@
-"""What a call raises. A call that raised changed nothing, unless its exception says otherwise."""
+"""The exceptions of calls. A call that raised has changed nothing, unless its exception says otherwise."""
 
 from __future__ import annotations
 
@@ -9,7 +9,7 @@ if TYPE_CHECKING:
 
 
 class HingetulipError(Exception):
-    """What every exception of this module is."""
+    """The base of this module's exceptions."""
 
     fates: Optional[Fates] = None
     """Of `submit_many`: the fates of the packets before the one that wasn't answered."""
@@ -20,7 +20,7 @@ class ClosedError(HingetulipError, ValueError):
 
 
 class LineError(HingetulipError, ValueError):
-    """A line is no command, or a word is none of a link. The text has the word and what to write."""
+    """Raised for a line that isn't a command, or a word that isn't a link's. The text contains the word and advice."""
 
     def __init__(self, kind: str, word: int, line: str = "") -> None:
         fault = f"word {word}: {kind}" if word else kind
@@ -41,15 +41,15 @@ class LineError(HingetulipError, ValueError):
 
 
 class RefusedError(HingetulipError):
-    """A command isn't obeyed as things stand: `no such pipe`, `pipe has queues` or `no such queue`."""
+    """Raised for a command that can't take effect: `no such pipe`, `pipe has queues` or `no such queue`."""
 
 
 class RangeError(HingetulipError, ValueError):
-    """A number is out of its range."""
+    """Raised for a number outside its range."""
 
 
 class HistoryError(HingetulipError, ValueError):
-    """A history has a record that is none, or lacks one, or is longer than the limit of its audit. The audit has ended."""
+    """Raised for a history with a malformed or missing record, or beyond the audit's limit. The audit has ended."""
 
     def __init__(self, text: str, record: Optional[int] = None) -> None:
         super().__init__(text if record is None else f"history record {record}: bad")
@@ -61,7 +61,7 @@ class HistoryError(HingetulipError, ValueError):
 
 
 class RowError(HingetulipError, ValueError):
-    """A row of a packet file isn't of the packet form, or the first line isn't the header."""
+    """Raised for a row that isn't in the packet format, or a first line that isn't the header."""
 
     def __init__(self, row: int, field: int) -> None:
         super().__init__(f"packet row {row}, field {field}: bad")

@@ -1,19 +1,27 @@
-"""The file of a service's history, in which entries are once they are taken out."""
+"""Histories for writing: the file, and the text of a caller's calls, each entry after its predecessor."""
 
 from __future__ import annotations
 
+from ctypes import addressof, byref, c_char, c_size_t, c_uint32, c_uint64, c_void_p
 from io import FileIO
 from os import PathLike
-from typing import Optional, Union
+from typing import Any, Callable, Optional, Union
+
+from hingetulip.errors import RefusedError
+from hingetulip.layout import FAULT
+from hingetulip.library import CALLS, FAILURES, ROOM, failure
 
 FRONT, END = b"dummynet-history,3\n", b"end,%d\n"
 MOST_WAITING = 1 << 16  # bytes that are written by one call of the system
+LONGEST = 4096  # bytes of an entry, at first
+CALLER = c_uint64.from_param(0)  # an argument that is made once; a number would be made one at each call
+ANSWERED = {0, *(status for status, kind in FAILURES.items() if kind is RefusedError)}  # which a command was
 
 
 class HistoryFile:
-    """The file of a history, which is made anew. What a write that fails hasn't written, as on a full disk, the next one writes.
+    """The file of a history, created anew. After a failed write, as on a full disk, the next write continues.
 
-    Python's own buffer would be written twice where a process forks, and lost where it is killed.
+    Python's own buffer would be written twice after a fork, and lost after a kill.
     """
 
     def __init__(self, path: Union[str, PathLike[str]]) -> None:
@@ -28,7 +36,7 @@ class HistoryFile:
             self.flush()
 
     def flush(self) -> None:
-        """Writes what was appended."""
+        """Writes all appended text."""
         while self._waiting:
             del self._waiting[: self._file.write(self._waiting)]
 
@@ -39,3 +47,62 @@ class HistoryFile:
             self._waiting += END % entries
         self.flush()
         self._file.close()
+
+
+class Recording:
+    """A single caller's history, and its file."""
+
+    def __init__(self, path: Union[str, PathLike[str]]) -> None:
+        self._file, self._count, self._length = HistoryFile(path), 0, c_uint64()
+        self._place, self._room = c_void_p(), c_size_t()
+        self._make_room(LONGEST)
+
+    def _make_room(self, longest: int) -> None:
+        """Makes a buffer for the next entries, each of at most so many bytes."""
+        self._text = bytearray(MOST_WAITING + longest)
+        self._first = self._place.value = addressof((c_char * len(self._text)).from_buffer(self._text))
+        self._room.value = longest
+
+    def entry(self, *words: Any) -> tuple[Any, ...]:
+        """Returns the arguments of a library call that writes an entry. They are made once for calls that are often made."""
+        return CALLER, *words, self._place, self._room, byref(self._length)
+
+    def add(self, call: Callable[..., int], entry: tuple[Any, ...]) -> None:
+        """Adds the entry that a call writes. A line without words is no entry."""
+        status = call(*entry)
+        if status == ROOM:
+            self._gather()
+            self._make_room(2 * self._length.value)
+            status = call(*entry)
+        if status:
+            raise failure(status)
+        length = self._length.value
+        if length:
+            self._count += 1
+            self._place.value = behind = self._place.value + length  # type: ignore[operator]
+            if behind > self._first + MOST_WAITING:
+                self._gather()
+
+    def add_line(self, line: bytes, status: int) -> None:
+        """Adds a configuration line with its call's status, if the line is a command."""
+        if status in ANSWERED:
+            no_fault = byref((c_char * FAULT.size)())
+            self.add(CALLS.dn_configure_text, self.entry(line, c_size_t(len(line)), c_uint32(status), no_fault))
+
+    def add_advance(self, moment: int, clock: int) -> None:
+        self.add(CALLS.dn_advance_text, self.entry(c_uint64(moment), c_uint64(clock)))
+
+    def _gather(self) -> None:
+        length, self._place.value = self._place.value - self._first, self._first  # type: ignore[operator]
+        self._file.write(memoryview(self._text)[:length])
+
+    def flush(self) -> bytes:
+        """Writes all entries into the file; returns the line that would end the history."""
+        self._gather()
+        self._file.flush()
+        return END % self._count
+
+    def end(self) -> None:
+        """Ends the history and closes the file. After an OSError, you may call this again."""
+        self._gather()
+        self._file.end(self._count)

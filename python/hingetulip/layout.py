@@ -7,15 +7,17 @@ from typing import Union
 
 
 class Layout:
-    """The fields of a struct, each with its code of the module `struct`; those that are `x` are passed over."""
+    """A struct's fields, from a text with a code for the module `struct` before the names of its fields; `x` is reserved."""
 
-    def __init__(self, **codes: str) -> None:
-        self.codes = codes
-        self.record = Struct("=" + "".join(codes.values()))
+    def __init__(self, text: str) -> None:
+        self.codes: dict[str, str] = {}
+        for code, *names in map(str.split, text.split(",")):
+            self.codes.update(dict.fromkeys(names or ["reserved"], code))
+        self.record = Struct("=" + "".join(self.codes.values()))
         self.size = self.record.size
 
     def width(self, name: str) -> int:
-        """The bytes of a field."""
+        """Returns the length of a field in bytes."""
         return calcsize("=" + self.codes[name])
 
     def column(self, name: str, records: Union[bytearray, memoryview]) -> memoryview:
@@ -25,42 +27,11 @@ class Layout:
         return memoryview(records).cast("B").cast(self.codes[name])[first // width :: self.size // width]
 
 
-PACKET = Layout(
-    moment="Q", src="I", dst="I", word="I", sport="H", dport="H", length="H", number="H", kind="B", proto="B", reserved="2x"
-)
-FATE = Layout(at="Q", flow="Q", packet="Q", outcome="I", reserved="4x")
-DELIVERY = Layout(due="Q", packet="Q", flow="Q", start="Q", reserved="8x")
-FLOW = Layout(
-    flow="Q",
-    queued="Q",
-    bytes="Q",
-    lost="Q",
-    full="Q",
-    started="Q",
-    discarded="Q",
-    src="I",
-    dst="I",
-    sport="H",
-    dport="H",
-    number="H",
-    pipe="H",
-    kind="B",
-    proto="B",
-    reserved="6x",
-)
-FAULT = Layout(word="Q", kind="I", reserved="4x")
-ENTRY = Layout(
-    packet=f"{PACKET.size}s",
-    fate=f"{FATE.size}s",
-    caller="Q",
-    line="Q",
-    size="Q",
-    first="Q",
-    count="Q",
-    status="I",
-    call="B",
-    reply="B",
-    reserved="2x",
-)
-HISTORY = Layout(entries="Q", bytes="Q", deliveries="Q", flows="Q", rule="I", reserved="4x")
-VERDICT = Layout(entries="Q", first="Q", finding="I", reserved="4x")
+PACKET = Layout("Q moment, I src dst word, H sport dport length number, B kind proto, 2x")
+FATE = Layout("Q at flow packet, I outcome, 4x")
+DELIVERY = Layout("Q due packet flow start, 8x")
+FLOW = Layout("Q flow queued bytes lost full started discarded, I src dst, H sport dport number pipe, B kind proto, 6x")
+FAULT = Layout("Q word, I kind, 4x")
+ENTRY = Layout(f"{PACKET.size}s packet, {FATE.size}s fate, Q caller line size first count, I status, B call reply, 2x")
+HISTORY = Layout("Q entries bytes deliveries flows, I rule, 4x")
+VERDICT = Layout("Q entries first, I finding, 4x")

@@ -8,9 +8,9 @@ from pathlib import Path
 from typing import Union
 
 from hingetulip.batches import Packets
-from hingetulip.errors import HingetulipError, RowError
+from hingetulip.errors import RowError
 from hingetulip.layout import PACKET
-from hingetulip.library import BAD_ROW, CALLS, LIBRARY, failure
+from hingetulip.library import BAD_ROW, CALLS, failure
 
 HEADER = b"moment,target,number,src,dst,proto,sport,dport,len,word"
 MARK = b"\xef\xbb\xbf"  # a byte order mark, which the program skips too
@@ -18,7 +18,7 @@ QUOTED = re.compile(rb'(?<![^,])"([^",\r\n]*)(?:"(?!")|\Z)')  # a field whose fr
 
 
 def rows_of(text: bytes) -> bytes:
-    """What follows the header. RowError: the first record isn't the header."""
+    """Returns the text after the header. RowError: the first record isn't the header."""
     header, *rows = re.split(rb"([\r\n])", text.removeprefix(MARK).lstrip(b"\r\n"), maxsplit=1)
     if header and QUOTED.sub(rb"\1", header + b"".join(rows[:1])).rstrip(b"\r\n") != HEADER:
         raise RowError(0, 0)
@@ -30,12 +30,10 @@ def address(text: bytes) -> int:
 
 
 def read_packets(file: Union[str, Path, bytes]) -> Packets:
-    """The packets of a packet file, given as its path or as its bytes, in the order of its rows.
+    """Returns a packet file's packets, from its path or bytes, in row order.
 
-    RowError: a row isn't of the packet form. HingetulipError: the library is of before 1.4.
+    RowError: a row isn't in the packet format.
     """
-    if not hasattr(CALLS, "dn_read_packets"):
-        raise HingetulipError(f"the library {LIBRARY} is of before 1.4 and reads no packet files")
     rows = rows_of(file if isinstance(file, bytes) else Path(file).read_bytes())
     records = bytearray(PACKET.size * (rows.count(b"\n") + rows.count(b"\r") + 1))
     text, packets = address(rows), (c_char * len(records)).from_buffer(records)

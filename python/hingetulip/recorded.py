@@ -1,19 +1,19 @@
-"""A shaper that writes down its calls and their replies, as a history that `dummynet audit` reads."""
+"""A shaper that records its calls and replies as a history for `dummynet audit`."""
 
 from __future__ import annotations
 
-from ctypes import byref, c_char, c_size_t, c_uint32, c_uint64
+from ctypes import c_size_t, c_uint64
 from itertools import chain
 from pathlib import Path
-from typing import BinaryIO, Optional, Union
+from typing import Any, Optional, Union
 
 from hingetulip.audits import MOST_BYTES, audit, parts
 from hingetulip.batches import Deliveries, Fates, Packets
-from hingetulip.entry_text import ANSWERED, CALLER, EntryText
-from hingetulip.layout import FAULT
+from hingetulip.calls import Line, Turn, encoded, succeed
+from hingetulip.history_file import Recording
 from hingetulip.library import CALLS
 from hingetulip.records import Delivery, Fate, Verdict
-from hingetulip.shaper import Line, Shaper, Turn, encoded
+from hingetulip.shaper import Shaper
 
 ONE_BY_ONE = "a recorded shaper takes packets one by one"
 
@@ -21,59 +21,32 @@ ONE_BY_ONE = "a recorded shaper takes packets one by one"
 class RecordedShaper(Shaper):
     """A shaper that writes its calls to the history `path`, under the rule Ordered. `close` ends the history.
 
-    `show` and `wake` change nothing, and the history is lawful without them.
+    `show` and `wake` change nothing, and the history is valid without them.
     """
 
     def __init__(self, path: Union[str, Path], *, seed: Optional[int] = None) -> None:
-        self._noting, self._text = Turn(), EntryText()
+        self._noting = Turn()
         super().__init__(seed=seed)
-        self.path, self.entries = Path(path), 0
-        self._fault = byref((c_char * FAULT.size)())  # of a line that was refused before it is written
-        self._submit_text = CALLER, *self._submitted[1:], *self._text.for_short
-        self._advance_text = CALLER, self._moment, self._number, *self._text.for_short
-        self.file: Optional[BinaryIO] = open(path, "wb")
-        self.file.write(b"dummynet-history,3\n")
-
-    def _note(self, text: memoryview) -> None:
-        """Notes an entry, if there is one: a line without words is no call."""
-        if self.file is not None and text:
-            self.entries += 1
-            self.file.write(text)
+        self.path, self._recording = Path(path), Recording(path)
+        self._submit_entry = self._recording.entry(*self._submitted[1:])
 
     def configure(self, line: Line) -> None:
         text = encoded(line)
         with self._noting:
             status = self._obeyed(text)
-            if status in ANSWERED:
-                asked = text, c_size_t(len(text)), c_uint32(status), self._fault
-                self._note(self._text.written(CALLS.dn_configure_text, *asked))
-            self._succeed(status)
+            self._recording.add_line(text, status)
+            succeed(status)
 
-    def submit(
-        self,
-        moment: int,
-        length: int,
-        *,
-        pipe: Optional[int] = None,
-        queue: Optional[int] = None,
-        src: int = 0,
-        dst: int = 0,
-        proto: int = 0,
-        sport: int = 0,
-        dport: int = 0,
-        word: Optional[int] = None,
-    ) -> Fate:
+    def submit(self, *words: Any, **named: Any) -> Fate:
         with self._noting:
-            fate = super().submit(
-                moment, length, pipe=pipe, queue=queue, src=src, dst=dst, proto=proto, sport=sport, dport=dport, word=word
-            )
-            self._note(self._text.short(CALLS.dn_submit_text(*self._submit_text)))
+            fate = super().submit(*words, **named)
+            self._recording.add(CALLS.dn_submit_text, self._submit_entry)
             return fate
 
     def advance(self, moment: int) -> int:
         with self._noting:
             at = super().advance(moment)
-            self._note(self._text.short(CALLS.dn_advance_text(*self._advance_text)))
+            self._recording.add_advance(self._moment.value, at)
             return at
 
     def collect(self, moment: int) -> list[Delivery]:
@@ -82,7 +55,8 @@ class RecordedShaper(Shaper):
             asked = c_uint64(self._moment.value)
             super().advance(0)  # which tells the clock
             place = self._collected.room[1][-3]
-            self._note(self._text.written(CALLS.dn_collect_text, asked, self._number, place, c_size_t(len(found))))
+            entry = self._recording.entry(asked, self._number, place, c_size_t(len(found)))
+            self._recording.add(CALLS.dn_collect_text, entry)
             return found
 
     def submit_many(self, packets: Packets) -> Fates:
@@ -92,26 +66,16 @@ class RecordedShaper(Shaper):
         raise NotImplementedError(ONE_BY_ONE)
 
     def audit(self) -> Verdict:
-        """The verdict of `dummynet audit` on what was recorded so far, as a history of its own.
+        """Returns the verdict of `dummynet audit` on the record so far.
 
-        HingetulipError: the library is of before 1.4.
+        HingetulipError: the library is older than 1.4.
         """
         with self._noting:
-            end = b""
-            if self.file is not None:
-                self.file.flush()
-                end = self._end()
+            end = b"" if self.closed else self._recording.flush()
             with open(self.path, "rb") as file:
                 return audit(chain(parts(file), (end,)), MOST_BYTES)
 
-    def _end(self) -> bytes:
-        """The last line of the history."""
-        return b"end,%d\n" % self.entries
-
     def close(self) -> None:
-        if getattr(self, "file", None) is not None:
-            assert self.file is not None
-            self.file.write(self._end())
-            self.file.close()
-            self.file = None
+        if hasattr(self, "_recording"):
+            self._recording.end()
         super().close()

@@ -1,4 +1,4 @@
-"""What a Shaper answers and an Audit finds. Moments are ns, lengths bytes, and flows, packets and entries are numbered from 0."""
+"""The results of a Shaper and an Audit. Moments are in ns and lengths in bytes; flows, packets and entries are numbered from 0."""
 
 from __future__ import annotations
 
@@ -7,10 +7,10 @@ from typing import NamedTuple, Optional
 
 
 class Rule(IntEnum):
-    """How the packets of one link follow one another.
+    """The order of a link's packets.
 
-    ORDERED: a packet is due no sooner than the one before it. FREE: a packet is due when its bits and the pipe's delay have passed, so
-    where the delay is cut one can overtake another.
+    ORDERED: a packet is due no sooner than the one before it. FREE: a packet is due after its transmission and the pipe's delay, so
+    that a shorter delay lets packets overtake others.
     """
 
     ORDERED = 0
@@ -18,10 +18,10 @@ class Rule(IntEnum):
 
 
 class Outcome(IntEnum):
-    """What became of a packet that was submitted.
+    """The outcome of a submitted packet.
 
-    QUEUED: it was accepted, and a collect gives it unless a delete discards it first. LOST: it was lost by the loss rate (`plr`). FULL: its queue was full.
-    NO_TARGET: its pipe or queue isn't configured.
+    QUEUED: the packet was accepted, and a collect returns it unless a delete discards it first. LOST: the loss rate (`plr`) lost
+    it. FULL: its queue was full. NO_TARGET: its pipe or queue isn't configured.
     """
 
     QUEUED = 0
@@ -33,8 +33,8 @@ class Outcome(IntEnum):
 class Fate(NamedTuple):
     """The answer to a packet.
 
-    `at` is the moment that counted: the packet's own, or that of an earlier call where the clock stood later. `flow` is None without a
-    target. `packet` is how many packets were accepted before it, and None where it wasn't accepted.
+    `at` is the effective moment: the packet's moment, or an earlier call's if the clock was already later. `flow` is None without a
+    target. `packet` is the number of earlier accepted packets, or None for a refused packet.
     """
 
     outcome: Outcome
@@ -44,7 +44,8 @@ class Fate(NamedTuple):
 
 
 class Delivery(NamedTuple):
-    """A packet that leaves the emulator at `due`. `packet` is as `Fate` told it, and its transmission began at `start`."""
+    """A packet that leaves the emulator at `due`. `packet` is the number in the packet's `Fate`, and its transmission began at
+    `start`."""
 
     due: int
     packet: int
@@ -53,11 +54,12 @@ class Delivery(NamedTuple):
 
 
 class FlowStatus(NamedTuple):
-    """The state of a flow, and the counts of its packets so far.
+    """A flow's state, with the counts of its packets so far.
 
-    They were sent to `queue`, or, where that is None, to the pipe; `pipe` carries them. Addresses, protocol and ports are those of the
-    flow's packets in the bits of the mask, and 0 in the others. `queued` packets of `bytes` bytes wait in its queue. `lost` is by the
-    loss rate, and `full` by a full queue; the transmission of `started` has begun, and a delete took `discarded` out of the queue.
+    Its packets were sent to `queue`, or if that is None to the pipe; `pipe` carries them. Addresses, protocol and ports are the
+    flow's within the mask's bits, and 0 elsewhere. `queued` packets with `bytes` bytes wait in its queue. `lost` packets fell to
+    the loss rate, and `full` to a full queue; `started` have begun their transmission, and a delete discarded `discarded` from the
+    queue.
     """
 
     flow: int
@@ -77,10 +79,10 @@ class FlowStatus(NamedTuple):
 
 
 class Verdict(NamedTuple):
-    """What an audit finds of a history, which has so many `entries`, each a call and its reply.
+    """The result of an audit. The history contains `entries` calls with replies.
 
-    `differs` is the first entry whose reply isn't the emulator's after the calls before it, and None if the history is
-    lawful. A verdict is true if it is lawful.
+    `differs` is the first entry whose reply isn't the emulator's after the preceding calls, or None if the history is valid. A
+    lawful verdict is true.
     """
 
     entries: int

@@ -1,2 +1,1 @@
-"""The words by which people describe links, and what to say of a word that isn't one. `hinge` and `hingetulip` each
-need this, and neither needs the other for it."""
+"""The words that describe links, and advice on wrong ones. `hinge` and `hingetulip` both need them, and neither needs the other."""

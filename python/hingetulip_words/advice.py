@@ -1,8 +1,7 @@
-"""What to say of a word of a configuration line that the program doesn't take."""
+"""Advice on words of a configuration line that the program refuses."""
 
 from __future__ import annotations
 
-import difflib
 import re
 from typing import Sequence
 
@@ -23,21 +22,46 @@ OTHER_NAMES = {
     "limit": "queue",
     "qlen": "queue",
     "slots": "queue",
+    "buffer": "queue",
+    "backlog": "queue",
     "prio": "weight",
     "netmask": "mask",
 }
-UNIT = re.compile(r"[KMGkmg]?(bit|bits|[Bb]yte|[Bb]ytes)/s|ms|K|KB|Kbytes?|[KMG]")
+UNIT = r"[KMGkmg]?(bit|bits|[Bb]yte|[Bb]ytes)/s|ms|K|KB|Kbytes?|[KMG]"
 UNKNOWN_ELSEWHERE = ("jitter", "duplicate", "reorder", "corrupt")
+ACT = "cut|heal|kill|stop|cont|restart|crash|skew"
+NET_LINES = (  # what people write of a net, and the line that says it
+    (r"((?!nemesis).*) for (\d\S*)", r"\1 \2"),
+    (r"(?:node|machine|vertex|container|service|server|client) (.+)", r"host \1"),
+    (r"(?:edge|connect|cable|wire|path) (.+)", r"link \1"),
+    (r"link (\w[\w-]*?) ?(?:<?-+>?|,| and | to ) ?([A-Za-z][\w-]*)( .*)?", r"link \1 \2\3"),
+    (rf"(\d\S*) ((?:{ACT}|partition|disconnect|isolate|link) .*)", r"at \1 \2"),
+    (rf"((?:{ACT}|partition|disconnect|isolate) .*)", r"at 5s \1"),
+    (r"at (\S+) link (.*) down", r"at \1 cut \2"),
+    (r"at (\S+) link (.*) up", r"at \1 heal \2"),
+    (r"at (\S+) (?:partition|disconnect|isolate) (.*)", r"at \1 cut \2"),
+    (r"at (\S+) (cut|heal) ([A-Za-z][\w-]*?) ?(?:<?-+>?|,| and | ) ?(?!from )([A-Za-z][\w-]*)( \d\S*)?", r"at \1 \2 \3 from \4\5"),
+    (r"\w+:.*", "host NAME, and `link A B 20ms`, each in a line of its own, as a net isn't YAML"),
+)
 SHOWS_NOTHING = Advice("it shows nothing here", "leave this line out")
 
 
+def net_line(text: str) -> str:
+    """Returns a net's line that means the same, or an empty text."""
+    line = text
+    for pattern, form in NET_LINES:
+        match = re.fullmatch(pattern, line)
+        line = match.expand(form) if match else line
+    return line if line != text else ""
+
+
 def words_of(line: str) -> list[str]:
-    """The words of a line before its comment."""
+    """Returns the words of a line before its comment."""
     return re.findall(r"[^ \t\r]+", line.split("#", 1)[0])
 
 
 def first_word(text: str) -> Advice:
-    """Of the word where `pipe` or `queue` belongs."""
+    """Returns advice on a word in the place of `pipe` or `queue`."""
     if text.lower() in ("pipe", "queue"):
         return Advice("keywords are lower case", f"write {text.lower()}", text.lower())
     if found := re.fullmatch(r"(pipe|queue)(\d+)", text):
@@ -53,7 +77,7 @@ def first_word(text: str) -> Advice:
 
 
 def number_word(kind: str, text: str) -> Advice:
-    """Of the word where the number of a pipe or queue belongs."""
+    """Returns advice on a word in the place of a pipe's or queue's number."""
     if text in ("show", "list"):
         return SHOWS_NOTHING
     if found := re.fullmatch(r"(\d+)([a-z]+)", text):
@@ -62,14 +86,16 @@ def number_word(kind: str, text: str) -> Advice:
 
 
 def config_word(kind: str, number: str, text: str) -> Advice:
-    """Of the word where `config` belongs."""
+    """Returns advice on a word in the place of `config`."""
     if text in ("show", "list"):
         return SHOWS_NOTHING
+    if len(text) > 1 and "config".startswith(text.lower()):
+        return Advice("a word in full", f"write {kind} {number} config", "config")
     return Advice("`config` is missing before it", f"write {kind} {number} config {text}", f"config {text}")
 
 
 def missing_value(text: str, following: str = "") -> Advice:
-    """Of an option without its value, and the word behind it."""
+    """Returns advice on an option without a value, and on the word after the option."""
     if text != "mask":
         return Advice("its value is missing", FORMS.get(text, "write a number behind it"))
     bits = mask_bits(following) or "0xffffffff"
@@ -79,7 +105,7 @@ def missing_value(text: str, following: str = "") -> Advice:
 
 
 def left_out(before: str, text: str) -> Advice:
-    """Of a part of ipfw(8) that the program doesn't have."""
+    """Returns advice on a part of ipfw(8) that the program doesn't support."""
     if before == "bw":
         return Advice("the name of a device, which this program doesn't have", FORMS["bw"])
     if text.startswith("/"):
@@ -90,17 +116,21 @@ def left_out(before: str, text: str) -> Advice:
 
 
 def option_word(kind: str, before: str, text: str, more: Sequence[str] = ()) -> Advice:
-    """Of a word where an option belongs, or one of some more words that have a value."""
+    """Returns advice on a word in the place of an option; `more` lists further words with values."""
     options, other = OPTIONS.get(kind, []), "queue" if kind == "pipe" else "pipe"
     takes = f"a {kind} takes {', '.join(options)}"
-    if "=" in text and text.partition("=")[0] in (*options, *more):
-        return Advice("a blank parts an option from its value", f"write {text.replace('=', ' ', 1)}", text.replace("=", " ", 1))
+    if "jitter" in more:
+        takes = "write 10Mbit/s, 20ms, queue 100, loss 1%, jitter 5ms or duplicate 1%"
+    typed, equals, value = text.partition("=")
+    own = typed if typed in (*options, *more) else OTHER_NAMES.get(typed.lower(), typed)
+    if equals and own in (*options, *more):
+        return Advice("a blank parts an option from its value", f"write {own} {value}", f"{own} {value}")
     if text in (";", ","):
         return Advice(
             "blanks alone part the words, and a line one command from the next",
             "begin a new line" if text == ";" else "leave it out",
         )
-    if UNIT.fullmatch(text) and before.isdigit():
+    if re.fullmatch(UNIT, text) and before.isdigit():
         return Advice("a number and its unit are one word", f"write {before}{text}")
     if text in OPTIONS[other]:
         return Advice(f"an option of {other}s, and this line is of a {kind}", f"write it in the line of the {other}; {takes}")
@@ -109,15 +139,17 @@ def option_word(kind: str, before: str, text: str, more: Sequence[str] = ()) -> 
     if text in UNKNOWN_ELSEWHERE:
         return Advice("dummynet has no such option", "leave it and its value out")
     names = [*options, *more]
+    import difflib  # which a wrong word alone needs
+
     name = OTHER_NAMES.get(text.lower()) or next(iter(difflib.get_close_matches(text, names, 1)), None)
     name = "loss" if name == "plr" and "loss" in more else name
     if name in names and before not in (*FIELD_BITS, "all"):
-        return Advice("no option", f"write {name}", name)
-    return Advice("no option", takes)
+        return Advice("not an option", f"write {name}", name)
+    return Advice("not an option", takes)
 
 
 def advice(words: list[str], number: int, cause: str) -> Advice:
-    """What to say of the word with this number, from 1, by the program's cause, as `bad number`."""
+    """Returns advice on a word, counted from 1, from the program's cause, such as `bad number`."""
     place, start = number - 1, int(words[0] == "ipfw")
     at, text, before = place - start, words[place], words[place - 1] if place else ""
     kind = words[start] if len(words) > start else ""

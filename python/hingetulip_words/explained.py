@@ -1,4 +1,4 @@
-"""What is wrong with a configuration line, in a sentence: the word as it was typed, and what to write."""
+"""The error in a configuration line as a sentence, with the word as typed and advice."""
 
 from __future__ import annotations
 
@@ -12,7 +12,7 @@ NO_TEXT = "not UTF-8: a file of another kind, or of an older encoding"
 
 
 def explained(line: str, fault: str) -> str:
-    """A fault as the program has it, `word 5: bad number`, as `word 5 '1Mbps': not a bandwidth; write 1Mbit/s`."""
+    """Returns a program's fault such as `word 5: bad number` as `word 5 '1Mbps': not a bandwidth; write 1Mbit/s`."""
     words, cause = words_of(line), CAUSE.fullmatch(fault)
     if not cause or int(cause[1]) > len(words):
         return NO_TEXT if fault == "not UTF-8" else fault
@@ -21,7 +21,7 @@ def explained(line: str, fault: str) -> str:
 
 
 def replaced(line: str, fault: str) -> Optional[str]:
-    """The line with the word that its fault says to write, if a word can stand in the place of the wrong one."""
+    """Returns the line with the advised word, if there is one to put in the wrong word's place."""
     words, cause = words_of(line), CAUSE.fullmatch(fault)
     if not cause or int(cause[1]) > len(words):
         return None

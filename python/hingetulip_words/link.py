@@ -1,5 +1,5 @@
-"""The words of a link: `10Mbit/s 20ms queue 100 loss 1%`, or ipfw's options in full. This is the one place that reads
-them: of `hinge run`, nets, timelines, changes, presets, marks of tests and hingetulip.aio."""
+"""The words of links: `10Mbit/s 20ms queue 100 loss 1%`, or ipfw's options in full. This is the only reader, for `hinge run`, nets,
+timelines, changes, presets, marks of tests and hingetulip.aio."""
 
 from __future__ import annotations
 
@@ -9,24 +9,32 @@ from fractions import Fraction
 from typing import NamedTuple, Optional
 
 from hingetulip_words.advice import OPTIONS, left_out, missing_value, option_word
-from hingetulip_words.elsewhere import Netem
+from hingetulip_words.foreign import Meant
+from hingetulip_words.presets import PRESETS
 from hingetulip_words.values import FIELD_BITS, LONGEST_WORD, PERCENT, Advice, bandwidth, delay, fault_of, plain, room
 
 RATE = re.compile(r"\d+[kmg]?(bits?|bytes?)/s", re.ASCII | re.IGNORECASE)
 DELAY = re.compile(r"\d+ms", re.ASCII)
-LIKE_A_DELAY = re.compile(r"-?\d+(\.\d+)?(ns|us|µs|usec|ms|msec|s|sec)", re.ASCII | re.IGNORECASE)
-LIKE_ROOM = re.compile(r"\d+(pkts?|packets?|p|slots?|[km]?bytes?|kb|kib|mib)", re.ASCII | re.IGNORECASE)
-UNIT = re.compile(r"[kmg]?(bits?|bytes?|bps|b)(/s|ps)?|[munµ]?s|m?sec|usec|%", re.ASCII | re.IGNORECASE)
+LIKE_A_DELAY = r"(?ai)-?\d+(\.\d+)?(ns|us|µs|usec|ms|msec|s|sec)"
+LIKE_ROOM = r"(?ai)\d+(pkts?|packets?|p|slots?|[km]?bytes?|kb|kib|mib)"
+AROUND = r"(\d+)ms(?: ?(?:±|\+/?-) ?| )(\d+)ms"  # as netem's `20ms 5ms`
+UNIT = r"(?ai)[kmg]?(bits?|bytes?|bps|b)(/s|ps)?|[munµ]?s|m?sec|usec|%"
 LINE = ("ipfw", "pipe", "config")
 NETEMS = {"rate", "limit", "netem"}  # words that netem has, and no link
 LEFT_OUT = ("red", "gred", "ecn", "codel", "pie", "fq_codel", "fq_pie", "sched", "burst", "profile", "noerror", "droptail")
 LIKE_A_LINE = Advice("a link has the options alone", "leave out all before them, or give the whole line by --line")
-WRITTEN = re.compile(r"write ([^,;()]+)")
+WRITTEN = r"write ([^,;()]+)"
 MOST_CORRECTIONS = 12  # of one text
-NO_WORDS = "no words of a link, as 10Mbit/s 20ms"
+NO_WORDS = "no words of a link (example: 10Mbit/s 20ms)"
 MOST_JITTER = 1000  # ms: each has a pipe of its own
 CERTAIN = 2**31
 JITTER, DUPLICATE = "write jitter 5ms, a whole number from 1ms to 1000ms", "write duplicate 1%"
+ENDED = {
+    "bw": "bw 0",
+    "delay": "delay 0",
+    "queue": "queue 50",
+    "plr": "loss 0%",
+}  # how a change says that a link has no such option
 MISSING = {"loss": "write loss 1%", "jitter": JITTER, "duplicate": DUPLICATE}
 NAMES = {
     "bw": "bandwidth",
@@ -40,7 +48,7 @@ NAMES = {
 
 
 class Place(Enum):
-    """Where the words of a link stand. Jitter and duplicates aren't dummynet's: a run does both, from its beginning on."""
+    """The place of a link's words. Jitter and duplicates aren't dummynet's: a run adds them from its start."""
 
     DUMMYNET = "dummynet"
     RUN = "run"
@@ -54,32 +62,32 @@ OF_RUNS = {
 
 
 class WordError(ValueError):
-    """A word that isn't one of a link. The text has it as it was typed, and what to write."""
+    """Raised for a word that isn't a link's. The text contains the word as typed, and advice."""
 
     def __init__(self, word: str, advice: Advice) -> None:
         super().__init__(f"'{word}': {advice.wrong}; {advice.right}")
         self.word, self.advice = word, advice
 
     def right(self) -> Optional[str]:
-        """What may stand in the place of the word, if the advice says one thing."""
-        write = WRITTEN.fullmatch(self.advice.right)
+        """Returns the word's replacement, if the advice contains a single one."""
+        write = re.fullmatch(WRITTEN, self.advice.right)
         return write[1] if write else self.advice.word
 
 
 class Extra(NamedTuple):
-    """What a run does beside dummynet: the most ms that are drawn for a packet, and the chance of 2^31 that it enters twice."""
+    """A run's additions to dummynet: the maximum random delay in ms, and the chance (of 2^31) that a packet is doubled."""
 
     jitter: int = 0
     duplicate: int = 0
 
     @property
     def pipes(self) -> int:
-        """How many pipes its second passes take."""
+        """Returns the number of pipes for second passes."""
         return self.jitter + 1 if self.jitter else 0
 
 
 class Link(NamedTuple):
-    """What the words of a link ask for."""
+    """The content of a link's words."""
 
     options: dict[str, str]  # by ipfw's names, in the order in which they were given
     extra: Extra
@@ -91,7 +99,7 @@ class Link(NamedTuple):
 
 def number_alone(word: str, following: str) -> tuple[str, Advice]:
     """Of a number without a unit, which may be the next word."""
-    if not UNIT.fullmatch(following):
+    if not re.fullmatch(UNIT, following):
         return word, Advice("a number without a unit", f"write {word}ms for a delay, {word}Mbit/s for a bandwidth or queue {word}")
     joined = word + following
     if not (RATE.fullmatch(joined) or DELAY.fullmatch(joined)):
@@ -104,11 +112,13 @@ def unknown(word: str) -> Advice:
     parts = [part for part in re.split("[,;]", word) if part]
     if len(parts) > 1:
         return Advice("blanks alone part the words", f"write {' '.join(parts)}")
+    if spread := re.fullmatch(AROUND, word):
+        return Advice("a jitter adds to the delay", f"write {around(spread)}")
     if PERCENT.fullmatch(word):
         return Advice("a percentage of what", f"write loss {word}")
-    if LIKE_A_DELAY.fullmatch(word):
+    if re.fullmatch(LIKE_A_DELAY, word):
         return delay(word)
-    if LIKE_ROOM.fullmatch(word):
+    if re.fullmatch(LIKE_ROOM, word):
         limit = room(word.lower()).word
         return Advice("a queue limit has its word before it", f"write queue {limit}", f"queue {limit}")
     if word != (bare := word.rstrip(",;")):
@@ -117,7 +127,7 @@ def unknown(word: str) -> Advice:
 
 
 class Words:
-    """The words of one text, which are read from left to right into `options`, by their full names, and `extra`."""
+    """The words of a text, read from left to right into `options` by full name, and `extra`."""
 
     def __init__(self, text: str, kind: str, place: Place) -> None:
         self.kind, self.place, self.names = kind, place, [name for name in OPTIONS[kind] if name != "pipe"]
@@ -133,9 +143,11 @@ class Words:
         return Link(self.options, self.extra)
 
     def note(self, name: str, typed: str) -> None:
-        """Refuses a second word of one kind."""
+        """Refuses a second word of a kind."""
         if name in self.typed:
-            raise WordError(typed, Advice(f"a second {NAMES.get(name, name)} beside '{self.typed[name]}'", "write one of them"))
+            spread = re.fullmatch(AROUND, f"{self.typed[name]} {typed}")
+            right = "write one of them" + (f", or {around(spread)}" if spread else "")
+            raise WordError(typed, Advice(f"a second {NAMES.get(name, name)} beside '{self.typed[name]}'", right))
         self.typed[name], self.before = typed, typed.split()[-1]
 
     def put(self, name: str, text: str, typed: str) -> None:
@@ -143,7 +155,7 @@ class Words:
         self.options[name] = text
 
     def check(self, name: str, text: str, typed: str) -> str:
-        """A value of an option, if it is one; `typed` is what the user wrote of both."""
+        """Returns a value of an option if it is correct; `typed` is the user's text for both."""
         if fault := fault_of(name, text):
             raise WordError(typed, fault)
         return text
@@ -174,7 +186,7 @@ class Words:
             raise self.refused(word)
 
     def read_extra(self, word: str) -> None:
-        """What a run does beside dummynet."""
+        """Reads a word of a run's additions to dummynet."""
         if word == "reorder" or self.place is not Place.RUN:
             raise WordError(word, OF_RUNS[Place.RUN if word == "reorder" else self.place])
         text = self.value_of(word)
@@ -191,7 +203,7 @@ class Words:
             self.extra = self.extra._replace(duplicate=round(float(share[1]) * CERTAIN / 100))
 
     def part_of_one(self, text: str) -> str:
-        """A percentage as the part of one that `plr` takes."""
+        """Returns a percentage as a fraction for `plr`."""
         share = PERCENT.fullmatch(text)
         if not share:
             right = "write it as loss 1%"
@@ -204,7 +216,7 @@ class Words:
         return plain(part)
 
     def fields(self) -> str:
-        """The fields of a mask, with their values."""
+        """Returns the fields of a mask with their values."""
         fields: list[str] = []
         while self.rest and (self.rest[0] == "all" or self.rest[0] in FIELD_BITS):
             fields.append(field := self.rest.pop(0))
@@ -215,24 +227,51 @@ class Words:
         return " ".join(fields)
 
     def refused(self, word: str) -> WordError:
-        """What is wrong with a word that is none of these."""
+        """Returns the error for an unknown word."""
         if word in LINE:
             return WordError(word, LIKE_A_LINE)
         if word in LEFT_OUT:
             return WordError(word, left_out("", word))
-        if self.before.isdigit() and UNIT.fullmatch(word):
+        if self.before.isdigit() and re.fullmatch(UNIT, word):
             return WordError(f"{self.before} {word}", Advice("a number and its unit are one word", f"write {self.before}{word}"))
         if word.isdigit():
             return WordError(*number_alone(word, self.rest[0] if self.rest else ""))
+        if word in ("rtt", "±", "+-", "+/-") or PERCENT.fullmatch(word) or word.lower() in PRESETS:
+            return self.of_two(word, self.rest[0] if self.rest else "")
         is_value = word[:1].isdigit() or re.match(r"[-.]\d", word)
         more = ["loss"] if self.place is Place.DUMMYNET else [*MISSING]
         return WordError(word, unknown(word) if is_value else option_word(self.kind, self.before, word, more))
 
+    def of_two(self, word: str, following: str) -> WordError:
+        """Returns the error for a word that includes the next one, or for a preset's name."""
+        half = re.fullmatch(r"(\d*[02468])ms", following)
+        if word == "rtt":
+            advice = Advice(
+                "a link has the delay of one way", f"write {int(half[1]) // 2}ms" if half else "write half of it, as 20ms"
+            )
+            return WordError(f"{word} {following}".strip(), advice)
+        if spread := re.fullmatch(AROUND, f"{self.before} {word} {following}"):
+            return WordError(spread[0], Advice("a jitter adds to the delay", f"write {around(spread)}"))
+        if PERCENT.fullmatch(word) and following in ("loss", "duplicate"):
+            return WordError(f"{word} {following}", Advice("the name stands before its value", f"write {following} {word}"))
+        if word.lower() in PRESETS:
+            right = f"write --preset {word.lower()}, or preset {word.lower()} in a net's line"
+            return WordError(word, Advice("the name of a preset, and no word of a link", right))
+        return WordError(
+            word, unknown(word) if word[0].isdigit() else Advice("not an option", f"write jitter {following or '5ms'}")
+        )
+
+
+def around(spread: re.Match[str]) -> str:
+    """Returns a link's words for a delay with a symmetric deviation."""
+    delay_ms, off = int(spread[1]), int(spread[2])
+    return f"{delay_ms - off}ms jitter {2 * off}ms" if 0 < off < delay_ms else f"{delay_ms}ms"
+
 
 def read_words(text: str, place: Place, kind: str = "pipe") -> Link:
-    """What the words of a link ask for at a place, of a pipe or a queue.
+    """Returns the content of a link's words at a place, for a pipe or a queue.
 
-    WordError: a word isn't one of a link there, or a second one says the same.
+    WordError: a word isn't a link's there, or repeats another.
     """
     if long := next((word for word in text.split() if len(word) > LONGEST_WORD), ""):
         raise WordError(f"{long[:20]} ..", Advice(f"a word of {len(long):,} letters", f"at most {LONGEST_WORD} are taken"))
@@ -240,24 +279,24 @@ def read_words(text: str, place: Place, kind: str = "pipe") -> Link:
 
 
 def read_link(text: str, kind: str = "pipe") -> dict[str, str]:
-    """The options of a pipe, or of a queue, in the order in which they were given: `8Mbit/s loss 5%` is `bw` 8Mbit/s
-    and `plr` 0.05.
+    """Returns the options of a pipe or queue in order: `8Mbit/s loss 5%` becomes `bw` 8Mbit/s and `plr` 0.05.
 
-    WordError: a word isn't one of a link, or a second one says the same.
+    WordError: a word isn't a link's, or repeats another.
     """
     return read_words(text, Place.DUMMYNET, kind).options
 
 
-def corrected(text: str, place: Place = Place.RUN) -> Optional[str]:
-    """The words of a link that a text means which isn't one: netem's, or these with each wrong word exchanged for what its refusal says."""
+def corrected(text: str, place: Place = Place.RUN, kind: str = "pipe") -> Optional[str]:
+    """Returns the likely intended words: netem's converted, or the words with advised replacements."""
     text = " ".join(text.partition("#")[0].split())
     words = text.split()
-    netem = Netem(words[words.index("netem") + 1 :] if "netem" in words else words).read()
-    if NETEMS & {*words} or (words[:1] == ["delay"] and len(netem.link) > 1):
-        text = " ".join(netem.link) if netem.link and not netem.lacking + netem.others else text
+    netem = Meant("netem", words[words.index("netem") + 1 :] if "netem" in words else words)
+    link = netem.options()
+    if (NETEMS & {*words} or (words[:1] == ["delay"] and len(words) > 2)) and link[:1] == ["--up"] and not netem.left:
+        text = link[1]
     for _ in range(MOST_CORRECTIONS):
         try:
-            read_words(text, place)
+            read_words(text, place, kind)
             return text
         except WordError as wrong:
             right = wrong.right()
@@ -267,8 +306,24 @@ def corrected(text: str, place: Place = Place.RUN) -> Optional[str]:
     return None
 
 
+def refusal(begun: dict[str, str], changed: dict[str, str], place: str = "{}") -> str:
+    """Returns why a change with these options is refused, because the change leaves out an option that the link has at its
+    beginning, and the right words; otherwise an empty text. `place` contains the words before those of the link."""
+
+    def spelled(options: dict[str, str]) -> str:
+        texts = {name: f"{text}ms" if name == "delay" and text.isdigit() else text for name, text in options.items()}
+        return " ".join(
+            f"loss {plain(Fraction(text) * 100)}%" if name == "plr" else as_words(name, text) for name, text in texts.items()
+        )
+
+    ended = {name: begun[name] for name in ENDED if name not in changed and re.search("[1-9]", begun.get(name, ""))}
+    whole, ends = place.format(spelled({**ended, **changed})), " ".join(ENDED[name] for name in ended)
+    why = f"a change replaces the whole link, and this one leaves out {spelled(ended)}; write {whole}, or {ends} to end it"
+    return why if ended else ""
+
+
 def as_words(name: str, text: str) -> str:
-    """An option and its value as the words of a link."""
+    """Returns an option and its value as a link's words."""
     if RATE.fullmatch(text) or DELAY.fullmatch(text):
         return text
     return f"{'loss' if PERCENT.fullmatch(text) else name} {text}"

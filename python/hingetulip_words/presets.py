@@ -1,18 +1,16 @@
-"""Links by the names that people know: the way up, the way down, and whose figures they are.
+"""Links by familiar names, with both ways and the source of the figures.
 
-A source that gives a round trip has half of it each way here. No source gives queues: they have room for what the link
-carries in some 250 ms, in whole tens of packets, of 1,500 bytes, from 10 to 1,000. Real links vary, so a preset is a
-beginning and no measurement.
+If the source gives a round trip, each way gets half. No source states queues: queues hold about 250 ms of traffic, in multiples of
+ten packets of 1,500 bytes, from 10 to 1,000. Real links vary, so a preset is a starting point, not a measurement.
 """
 
 from __future__ import annotations
 
-import difflib
 from typing import NamedTuple, Optional
 
 
 class Preset(NamedTuple):
-    """Two links: `up` towards the server, and `down` from it."""
+    """Two links: `up` to the server, and `down` from it."""
 
     up: str
     down: str
@@ -42,16 +40,18 @@ PRESETS = {
 
 
 def preset(name: str) -> Preset:
-    """The links of a name, in letters of either case. ValueError: there is no such preset."""
+    """Returns the links of a name, in either case. ValueError: there is no such preset."""
     plain = "-".join(name.lower().split())
     if plain in PRESETS:
         return PRESETS[plain]
-    near = difflib.get_close_matches(plain, PRESETS, 1)
-    raise ValueError(f"'{name}': no preset; {f'write {near[0]}' if near else 'they are ' + ', '.join(PRESETS)}")
+    import difflib  # which a wrong name alone needs
+
+    near = ["--list-presets"] if plain in ("list", "help", "all") else difflib.get_close_matches(plain, PRESETS, 1)
+    raise ValueError(f"'{name}': not a preset; {f'write {near[0]}' if near else 'write one of ' + ', '.join(PRESETS)}")
 
 
 def either_way(name: str, up: Optional[str] = None, down: Optional[str] = None) -> tuple[str, str]:
-    """The two links of a name, each in the place of one that isn't given. ValueError: there is no such preset."""
+    """Returns the two links of a name, where not replaced. ValueError: there is no such preset."""
     found = preset(name)
     return found.up if up is None else up, found.down if down is None else down
 

@@ -1,4 +1,4 @@
-"""The values of options: how dummynet has them, what they mean, and what to say of one that it doesn't take."""
+"""The options' values: their format in dummynet, their meaning, and advice on wrong values."""
 
 from __future__ import annotations
 
@@ -17,17 +17,16 @@ FORMS = {
 }
 LONGEST_WORD = 200  # letters; no value that is taken has as many
 FIELD_BITS = {"src-ip": 32, "dst-ip": 32, "src-port": 16, "dst-port": 16, "proto": 8}
-BANDWIDTH = re.compile(
-    r"(\d+(?:\.\d+)?)([kmgt]?)i?" r"(b|bit|bits|byte|bytes|bps|b/s|bit/sec|bits/sec|bit/s|bits/s|byte/s|bytes/s|byte/sec|)"
-)
-DELAY = re.compile(r"(-?)(\d+(?:\.\d+)?)(us|µs|usec|ns|s|sec|ms|msec|)")
-ROOM = re.compile(r"(\d+)(kib|mb|mbyte|mbytes|m|mib|b|byte|bytes|pkt|pkts|packet|packets|p|slots?|k|kb|kbytes?)")
+# Patterns that wrong words alone need are texts, which no start compiles.
+BANDWIDTH = r"(\d+(?:\.\d+)?)([kmgt]?)i?(b|bit|bits|byte|bytes|bps|b/s|bit/sec|bits/sec|bit/s|bits/s|byte/s|bytes/s|byte/sec|)"
+DELAY = r"(-?)(\d+(?:\.\d+)?)(us|µs|usec|ns|s|sec|ms|msec|)"
+ROOM = r"(\d+)(kib|mb|mbyte|mbytes|m|mib|b|byte|bytes|pkt|pkts|packet|packets|p|slots?|k|kb|kbytes?)"
 MOST_KBYTES = 1024
 SCALE = {"": 1, "k": 10**3, "m": 10**6, "g": 10**9}
 
 
 class Form(NamedTuple):
-    """How dummynet has a value, and the least and the greatest number, in the unit that the number has if it has none."""
+    """The format of a value in dummynet, with the least and greatest number in the number's default unit."""
 
     pattern: re.Pattern[str]
     least: int
@@ -62,7 +61,7 @@ TAKEN = {
 
 
 class Advice(NamedTuple):
-    """What is wrong with a word, what to write, and the word that may stand in its place where there is one."""
+    """The error in a word, the advice, and the word's replacement if there is one."""
 
     wrong: str
     right: str
@@ -70,13 +69,13 @@ class Advice(NamedTuple):
 
 
 def plain(value: Fraction) -> str:
-    """A number without exponent, as short as it goes."""
+    """Returns a number in its shortest form without an exponent."""
     text = f"{int(value * 10**18):019d}"
     return f"{text[:-18]}.{text[-18:]}".rstrip("0").rstrip(".")
 
 
 def bandwidth(text: str) -> Advice:
-    found = BANDWIDTH.fullmatch(text.lower())
+    found = re.fullmatch(BANDWIDTH, text.lower())
     if not found:
         return Advice("not a bandwidth", FORMS["bw"])
     is_bytes = "byte" in found[3] or "B" in text[len(found[1]) + len(found[2]) :]
@@ -90,7 +89,7 @@ def bandwidth(text: str) -> Advice:
 
 
 def delay(text: str) -> Advice:
-    found = DELAY.fullmatch(text.lower())
+    found = re.fullmatch(DELAY, text.lower())
     if not found:
         return Advice("not a delay", FORMS["delay"])
     if found[1]:
@@ -110,7 +109,7 @@ def delay(text: str) -> Advice:
 
 
 def room(text: str) -> Advice:
-    found = ROOM.fullmatch(text.lower())
+    found = re.fullmatch(ROOM, text.lower())
     if not found:
         return Advice("not a queue limit", FORMS["queue"])
     number, unit = int(found[1]), found[2][0]
@@ -125,7 +124,7 @@ def room(text: str) -> Advice:
 def loss(text: str) -> Advice:
     if found := re.fullmatch(r"(\d+(?:\.\d+)?)%", text):
         rate = plain(Fraction(found[1]) / 100)
-        return Advice("a loss rate is no percentage", f"write {rate}", rate)
+        return Advice("a loss rate isn't a percentage", f"write {rate}", rate)
     try:
         value = Fraction(text)
     except (ValueError, ZeroDivisionError):
@@ -139,7 +138,7 @@ def loss(text: str) -> Advice:
 
 
 def mask_bits(text: str, width: int = 32) -> Optional[str]:
-    """A netmask or a prefix length as a mask's bits, None where it is neither."""
+    """Returns the bits of a mask for a netmask or a prefix length; None for other texts."""
     if re.fullmatch(r"\d+(\.\d+){3}", text):
         parts = [int(part) for part in text.split(".")]
         return "0x" + "".join(f"{part:02x}" for part in parts) if max(parts) < 256 else None
@@ -158,7 +157,7 @@ READERS: dict[str, Callable[[str], Advice]] = {"bw": bandwidth, "delay": delay, 
 
 
 def number_of(option: str, text: str) -> Fraction:
-    """What a value of the right form means, in the unit of its range."""
+    """Returns a value's number in the right format, in its range's unit."""
     if option == "plr":
         return Fraction(text.rstrip(".") or "0")
     if option == "bw" and (bits := TAKEN["bw"].pattern.fullmatch(text)):
@@ -167,7 +166,7 @@ def number_of(option: str, text: str) -> Fraction:
 
 
 def fault_of(option: str, text: str) -> Optional[Advice]:
-    """What is wrong with a word as a value of its option; None where it is one."""
+    """Returns the error in an option's value, or None."""
     bare, form = text.rstrip(",;"), TAKEN.get(option)
     if bare and bare != text:
         also = ", and a line one command from the next" if ";" in text else ""
@@ -181,7 +180,7 @@ def fault_of(option: str, text: str) -> Optional[Advice]:
 
 
 def wrong_form(option: str, text: str) -> Advice:
-    """What to say of a word that isn't written as a value of its option."""
+    """Returns advice on a word that isn't in the format for its option's values."""
     if len(text) > LONGEST_WORD:
         return Advice(f"a word of {len(text):,} letters", FORMS.get(option, "write a number"))
     if option in READERS:

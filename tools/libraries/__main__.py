@@ -3,7 +3,8 @@
     python3 tools/libraries [--seeds 200] [LIBRARY..]
 
 Each library's test runs by each seed in two processes, which have other hash seeds. Their histories have to be equal, byte for byte.
-A library that the machine lacks says so. The last line is `N passed, M failed`.
+The calls of a table then run alike (`calls.py`): each is exact, refused or told as real, and none hangs. A line names the libraries
+that the machine lacks. The last line is `N passed, M failed`.
 """
 
 from __future__ import annotations
@@ -20,21 +21,22 @@ from tempfile import TemporaryDirectory
 from typing import NamedTuple
 
 HERE = Path(__file__).resolve().parent
-TOP = HERE.parent.parent
-sys.path.insert(0, str(TOP / "tools" / "gate"))
+sys.path.insert(0, str(HERE.parent / "gate"))
 
-from tally import Tally  # noqa: E402
-from testing import python  # noqa: E402
+from calls import ROWS, fault_of  # noqa: E402
+from pytests import interpreter as python  # noqa: E402
+from tally import TOP, Tally, judge  # noqa: E402
 
 SEEDS = 200
 HASH_SEEDS = ("1", "77")
 LAST = re.compile(r"(\d+) passed")
+TEST = re.compile(r"^(?:async )?def test_", re.M)
 MOMENT = re.compile(r"^c,0,\w+,(?:.*,)?(\d+)$", re.M)
 NS = 10**9
 
 
 class Ran(NamedTuple):
-    """What a process did: its text and status, how many tests passed, its processor time in s, and its histories."""
+    """The result of a process: its output, status, number of passed tests, processor seconds, and histories."""
 
     text: str
     status: int
@@ -44,13 +46,13 @@ class Ran(NamedTuple):
 
     @property
     def simulated(self) -> float:
-        """The simulated s of all its tests."""
+        """Returns the simulated seconds of all its tests."""
         return sum(int(MOMENT.findall(text.decode())[-1]) for text in self.histories.values()) / NS
 
 
 @lru_cache(maxsize=None)
 def environment() -> dict[str, str]:
-    """What names the module and the library of the present sources, if no other one is named."""
+    """Returns the environment that names the present sources' module and library, unless others are named."""
     more = {
         "PYTHONPATH": os.pathsep.join([str(TOP / "python"), *filter(None, [os.environ.get("PYTHONPATH")])]),
         "PYTHONDONTWRITEBYTECODE": "1",
@@ -66,16 +68,8 @@ def environment() -> dict[str, str]:
 
 def ran(interpreter: str, file: Path, seeds: int, hash_seed: str) -> Ran:
     with TemporaryDirectory() as folder:
-        options = [
-            "-q",
-            "-rs",
-            "-p",
-            "hinge.pytest_plugin",
-            "-p",
-            "no:cacheprovider",
-            f"--basetemp={folder}/run",
-            f"--seeds={seeds}",
-        ]
+        plugins = ["-p", "hinge.pytest_plugin", "-p", "no:cacheprovider"]
+        options = ["-q", "-rs", *plugins, f"--basetemp={folder}/run", f"--seeds={seeds}"]
         env = {**environment(), "PYTHONHASHSEED": hash_seed}
         begun = resource.getrusage(resource.RUSAGE_CHILDREN).ru_utime
         done = subprocess.run([interpreter, "-m", "pytest", *options, str(file)], cwd=HERE, env=env, capture_output=True, text=True)
@@ -86,7 +80,7 @@ def ran(interpreter: str, file: Path, seeds: int, hash_seed: str) -> Ran:
 
 
 def tried(tally: Tally, interpreter: str, file: Path, seeds: int) -> None:
-    """Runs a library's test in two processes, and prints a line of its table."""
+    """Runs a library's test in two processes, and prints its table line."""
     name = file.stem.removeprefix("test_")
     first, again = (ran(interpreter, file, seeds, hash_seed) for hash_seed in HASH_SEEDS)
     lacks = re.search(r"^SKIPPED .*: (.*)$", first.text, re.M)
@@ -95,32 +89,48 @@ def tried(tally: Tally, interpreter: str, file: Path, seeds: int) -> None:
         return
     equal = sum(again.histories.get(name) == text for name, text in first.histories.items())
     print(
-        f"{name}: {first.passed} of {seeds} passed, {equal} equal, {first.simulated:,.0f} simulated s in "
+        f"{name}: {first.passed} tests of {seeds} seeds passed, {equal} histories equal, {first.simulated:,.0f} simulated s in "
         f"{first.took:.1f} s of processor time",
         flush=True,
     )
+    wanted = seeds * len(TEST.findall(file.read_text(encoding="utf-8")))
     tally.note(
         f"{name}, tests that passed",
-        "" if first.passed == seeds and not first.status else first.text,
-        "" if again.passed == seeds and not again.status else again.text,
+        "" if first.passed == wanted and not first.status else first.text,
+        "" if again.passed == wanted and not again.status else again.text,
     )
-    tally.note(f"{name}, two processes", "" if equal == seeds else f"{equal} of {seeds} histories are equal")
+    count = max(seeds, len(first.histories))
+    tally.note(f"{name}, two processes", "" if equal == count else f"{equal} of {count} histories are equal")
 
 
-def main() -> int:
+def tried_calls(tally: Tally, interpreter: str, libraries: list[str]) -> None:
+    """Tries the calls of the table, and prints the libraries that the machine lacks."""
+    lacking = []
+    for row in ROWS:
+        if not libraries or row.package in libraries:
+            fault = fault_of(interpreter, row, environment())
+            if fault is None:
+                lacking.append(f"python3-{row.package}")
+            else:
+                tally.note(f"{row.package}, {row.outcome}", fault)
+    if lacking:
+        print(f"not tried, since the machine lacks them: {', '.join(dict.fromkeys(lacking))}")
+
+
+def main(tally: Tally, *words: str) -> None:
     parser = argparse.ArgumentParser(description=(__doc__ or "").partition("\n")[0])
     parser.add_argument("libraries", nargs="*", metavar="LIBRARY", help="as zeroconf; all if none is given")
     parser.add_argument("--seeds", type=int, default=SEEDS, metavar="N", help=f"seeds 1 to N (default: {SEEDS})")
-    options = parser.parse_args()
-    tally, interpreter = Tally(), python()
+    options = parser.parse_args(words)
+    interpreter = python()
     if interpreter is None:
         print("libraries in simulated time: skipped, since no Python has pytest: apt-get install python3-pytest")
-        return tally.end()
+        return
     for file in sorted(HERE.glob("test_*.py")):
         if not options.libraries or file.stem.removeprefix("test_") in options.libraries:
             tried(tally, interpreter, file, options.seeds)
-    return tally.end()
+    tried_calls(tally, interpreter, options.libraries)
 
 
 if __name__ == "__main__":
-    sys.exit(main())
+    judge(main)

@@ -1,4 +1,4 @@
-"""The calls by which aioquic opens its sockets: one of IPv6 that takes IPv4 too, bound and handed to the loop."""
+"""aioquic's calls to open its sockets: an IPv6 socket that also accepts IPv4, bound and passed to the loop."""
 
 import asyncio
 import socket

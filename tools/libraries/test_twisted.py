@@ -48,6 +48,7 @@ async def ask(loop):
     return asks
 
 
+@pytest.mark.real("descriptors of the system")  # a reactor of Twisted wakes itself through a pair of sockets
 @pytest.mark.link("8Mbit/s 20ms plr 0.1")
 async def test_it(sim_net, pair, link_seed):
     (client, server), loop = pair, asyncio.get_running_loop()

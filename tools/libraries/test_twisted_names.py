@@ -29,6 +29,7 @@ async def look_up(loop):
         assert [it.payload.dottedQuad() for it in found] == ["192.0.2.1"]
 
 
+@pytest.mark.real("descriptors of the system")  # a reactor of Twisted wakes itself through a pair of sockets
 @pytest.mark.link("8Mbit/s 20ms plr 0.2")
 async def test_it(sim_net, pair, link_seed):
     (client, server), loop = pair, asyncio.get_running_loop()

@@ -1,4 +1,4 @@
-"""asyncio in simulated time: hosts whose datagrams go over emulated links, and a clock that jumps to what happens next.
+"""asyncio in simulated time: hosts whose datagrams pass emulated links, and a clock that jumps to the next event.
 
     import asyncio
     from hingetulip import aio
@@ -12,26 +12,27 @@
 
     print(aio.run(main(), seed=1))
 
-Timers, datagram endpoints and `socket.socket` of datagrams are those of asyncio and of Python, so that a protocol runs as it is. Nothing
-waits: a minute of the protocol takes the time that its computing takes. During a run the module `time` returns the simulated time, and
-`random`, `secrets` and `os.urandom` follow from the seed. For one seed every run is the same, except where the protocol asks the clock in
-C code: the library that `hinge kernel --clock` names, preloaded, is for that.
+Timers, datagram endpoints and datagram sockets are those of asyncio and Python, so that protocols run unchanged. Nothing waits: a
+simulated minute lasts only as long as its computation. In a run's thread `time` and `datetime` return the simulated time, and
+`random`, `secrets` and `os.urandom` depend on the seed. Equal seeds give equal runs, unless C code other than OpenSSL asks for the
+time; preload the library that `hinge kernel --clock` names for such code.
 
-There is no TCP. `hinge run --simulated` takes real programs, with the kernel's TCP, into simulated time.
+There is no TCP. `hinge run --simulated` runs real programs with the kernel's TCP in simulated time.
 """
 
 from __future__ import annotations
 
 from hingetulip.aio import private_names
+from hingetulip.aio.border import ClockWarning
 from hingetulip.aio.clock import Stuck
-from hingetulip.aio.clock_in_c import ClockWarning
 from hingetulip.aio.datagram import Address, Datagram, Dropped, Refusal
 from hingetulip.aio.datagram_socket import DatagramSocket
+from hingetulip.aio.disturbances import Disturbance, Unmet
 from hingetulip.aio.host import Host, current_host
 from hingetulip.aio.link import Link, Words
 from hingetulip.aio.loop import Loop
 from hingetulip.aio.network import Network, network, run
-from hingetulip.aio.real import RealTimeError
+from hingetulip.aio.refusals import RealTimeError
 from hingetulip.aio.task import Task
 from hingetulip.aio.transport import Transport
 
@@ -42,6 +43,7 @@ __all__ = [
     "ClockWarning",
     "Datagram",
     "DatagramSocket",
+    "Disturbance",
     "Dropped",
     "Host",
     "Link",
@@ -52,6 +54,7 @@ __all__ = [
     "Stuck",
     "Task",
     "Transport",
+    "Unmet",
     "Words",
     "current_host",
     "network",

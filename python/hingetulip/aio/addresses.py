@@ -1,4 +1,4 @@
-"""Addresses of hosts and groups, as texts: those of IPv4, and those of IPv6 as second names of the same hosts."""
+"""Addresses of hosts and groups, as text. A host's IPv6 addresses are further names for the same host."""
 
 from __future__ import annotations
 
@@ -12,6 +12,7 @@ MAPPED = "::ffff:"  # before an IPv4 address, as a socket of IPv6 has it
 BROADCAST = "255.255.255.255"
 WRITTEN = {"": ANY, "<broadcast>": BROADCAST}  # as sockets of Python have them
 LOW = (1 << 32) - 1
+FLAGS = socket.SOCK_NONBLOCK | socket.SOCK_CLOEXEC  # beside the kind of a socket
 
 
 def is_of_6(address: str) -> bool:
@@ -19,7 +20,7 @@ def is_of_6(address: str) -> bool:
 
 
 def is_address(text: str) -> bool:
-    """Whether a text is an address, and no name."""
+    """Returns whether the text is an address instead of a name."""
     try:
         ipaddress.ip_address(text)
     except ValueError:
@@ -28,12 +29,12 @@ def is_address(text: str) -> bool:
 
 
 def any_of(version: int) -> str:
-    """The address that means all of a host's."""
+    """Returns the address that stands for all of a host's addresses."""
     return ANY if version == 4 else ANY_OF_6
 
 
 def is_group(address: str) -> bool:
-    """Whether a datagram to it is for all hosts of a link that want it."""
+    """Returns whether a datagram to this address reaches each subscribed host on a link."""
     if is_of_6(address):
         return address.startswith("ff")
     return address == BROADCAST or address.split(".")[0] in GROUPS
@@ -43,7 +44,7 @@ GROUPS = frozenset(map(str, range(224, 240)))  # first bytes
 
 
 def plain(address: Any) -> str:
-    """An address or name as the network has it: without a scope, an IPv4 address without what stands before it in IPv6."""
+    """Returns an address or name in the network's form: without a scope, and without the IPv6 prefix of a mapped IPv4 address."""
     text = address.decode() if isinstance(address, (bytes, bytearray)) else str(address)
     text = text.partition("%")[0]
     if not is_of_6(text):
@@ -56,17 +57,17 @@ def plain(address: Any) -> str:
 
 
 def number(address: str) -> int:
-    """The number of an address in a history: an IPv4 address, or the last 32 bits of another."""
+    """Returns an address as a history's number: all bits of an IPv4 address, or an IPv6 address's last 32 bits."""
     return int(ipaddress.ip_address(address)) & LOW
 
 
 def version_of(family: int) -> int:
-    """4 or 6, by the family of a socket."""
+    """Returns 4 or 6, from a socket's address family."""
     return 6 if family == socket.AF_INET6 else 4
 
 
 def port_of(port: Any, is_stream: bool) -> int:
-    """The number of a port, which may be the name of a service, as getaddrinfo takes it. gaierror: no service has the name."""
+    """Returns a port's number; like getaddrinfo, it accepts service names. gaierror: no service has this name."""
     text = port.decode() if isinstance(port, (bytes, bytearray)) else str(port or 0)
     if text.isdecimal():
         return int(text)

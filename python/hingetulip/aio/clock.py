@@ -1,11 +1,12 @@
-"""What the loop waits on in place of sockets: it moves the clock to the next timer or to the next moment of a link."""
+"""The loop's substitute for a selector: instead of waiting for sockets, it moves the clock to the next timer or link event."""
 
 from __future__ import annotations
 
 import asyncio
 import math
 import threading
-from typing import TYPE_CHECKING, Callable, NoReturn, Optional, Sequence
+from ctypes import addressof, c_int64
+from typing import TYPE_CHECKING, NoReturn, Optional, Sequence
 
 from hingetulip.aio.datagram import NS
 from hingetulip.aio.waiting import waiting
@@ -19,34 +20,38 @@ MOST_STEPS = 100_000  # of the loop while the clock stays where it is
 
 
 def other_threads() -> str:
-    """A hint at threads, for which a simulated clock doesn't wait."""
+    """Returns a hint about threads, for which a simulated clock doesn't wait."""
     names = [thread.name for thread in threading.enumerate() if thread is not threading.current_thread()]
     return f" Other threads run ({', '.join(names)}), and simulated time waits for none." if names else ""
 
 
 class Stuck(RuntimeError):
-    """Nothing can happen any more. The text has the tasks that wait, and for what."""
+    """Raised if no event can happen any more. The message lists the waiting tasks, and the reasons for waiting."""
 
 
 class Clock:
-    """A clock in whole ns, in the place of the loop's selector."""
+    """A clock in whole ns, used as the loop's selector."""
 
     def __init__(self, loop: Loop) -> None:
         self.loop, self.net, self.descriptors = loop, loop.net, loop.descriptors
         self.now: int = 0
-        self.seconds = 0.0  # of `now`
+        self.seconds: float = 0.0  # of `now`
         self.steps = 0
-        self.moved: list[Callable[[int], None]] = []
-        """What is called with each new moment from `told_at` on."""
-        self.told_at: int = 0
+        self.asked, self.asked_since = 0, 0.0  # how often code asked for the time in this step of the loop, and since when often
+        self.told = memoryview(bytearray(8)).cast("q")  # `now`, for C code
+        self.place = addressof(c_int64.from_buffer(self.told))
 
     def select(self, timeout: Optional[float]) -> Sequence[asyncio.Handle]:
-        """The loop has nothing to do for `timeout` seconds, or, where that is None, until something comes."""
-        net, descriptors = self.net, self.descriptors
+        """Moves the clock by `timeout` seconds or to the next event; returns the handles to run. None: there is no timer."""
+        net, descriptors, self.asked = self.net, self.descriptors, 0
+        if self.loop.baton.members and self.loop.baton.step():
+            timeout = 0
         waits = descriptors.readers or descriptors.writers
         if waits and descriptors.ready():
             timeout = 0
         wake = net.wake() if net.changed else net.next_moment
+        if self.loop.baton.members:
+            wake = min(wake, self.loop.baton.until())
         if timeout is None:
             self._move(wake)
         elif timeout > 0:
@@ -61,7 +66,7 @@ class Clock:
         return descriptors.ready() if waits else ()
 
     def close(self) -> None:
-        """A selector has this too."""
+        """Part of the selector interface."""
 
     def _move(self, moment: int) -> None:
         if moment > LAST_MOMENT:
@@ -73,12 +78,10 @@ class Clock:
             self.now, self.seconds, self.steps = moment, moment / NS, 0
             if moment >= EXACT:
                 self.loop.resolve(math.ulp(self.seconds))
-            if moment >= self.told_at:
-                for call in self.moved:
-                    call(moment)
+            self.told[0] = moment
 
     def _refuse_steps(self) -> NoReturn:
-        """A loop that always has something to do at once never lets the time pass."""
+        """Raises an error for a loop that is always busy, so that time can't pass."""
         self.steps = 0
         raise Stuck(
             f"the loop made {MOST_STEPS} steps at {self.now / NS:.9f} s: a task asks again and again without a timer.{waiting(self.loop)}"

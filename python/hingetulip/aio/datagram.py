@@ -1,4 +1,4 @@
-"""What goes over a network: datagrams, answers of closed ports, and what a link didn't take."""
+"""The contents of a network: datagrams, errors from closed ports, and drops on links."""
 
 from __future__ import annotations
 
@@ -16,7 +16,7 @@ NS = 10**9
 
 
 class Datagram(NamedTuple):
-    """A datagram on its way."""
+    """A datagram in transit."""
 
     source: Address
     target: Address
@@ -24,23 +24,23 @@ class Datagram(NamedTuple):
 
 
 class Refusal(Datagram):
-    """A closed port's answer to a datagram, as ICMP brings it. Its data are what it quotes of that datagram."""
+    """A closed port's ICMP error about a datagram. Its data is a quote from the datagram."""
 
 
 def headers(address: str) -> int:
-    """The bytes before the data of a datagram to an address."""
+    """Returns the length of the headers for this destination."""
     return HEADERS_OF_6 if ":" in address else HEADERS
 
 
 def refusal(it: Datagram) -> Refusal:
-    """The answer to a datagram that no socket takes."""
+    """Returns the error about a datagram that no socket receives."""
     before = headers(it.target[0])
     most = MOST_REFUSAL if before == HEADERS else MOST_REFUSAL_OF_6
     return Refusal(it.target, it.source, (bytes(before) + it.data)[: most - before])
 
 
 class Dropped(NamedTuple):
-    """A datagram that a link lost, or that met a full queue."""
+    """A datagram that was lost on a link, or arrived at a full queue."""
 
     row: int  # of the packet in the history, from 1, as `hinge look` counts them
     moment: int  # ns
@@ -58,5 +58,5 @@ class Dropped(NamedTuple):
 
 
 def place(address: str) -> str:
-    """An address as it stands before a port."""
+    """Returns an address in the form used before a port."""
     return f"[{address}]" if ":" in address else address

@@ -1,32 +1,32 @@
-"""`socket.socket` of datagrams during a run: a socket of a simulated host, with the calls of the system's."""
+"""`socket.socket` for datagrams during a run: a simulated host's socket with the usual methods."""
 
 from __future__ import annotations
 
 import errno
 import socket
+import struct
 from collections import deque
 from typing import TYPE_CHECKING, Any, Iterable, NoReturn, Optional
 
 from hingetulip.aio.addresses import ANY, ANY_OF_6, OWN, any_of, is_group, plain, version_of
-from hingetulip.aio.datagram import Datagram
+from hingetulip.aio.datagram import NS, Datagram
 from hingetulip.aio.endpoint import Endpoint, fault
 from hingetulip.aio.host import Host, current_host, here
-from hingetulip.aio.real import RealTimeError
 from hingetulip.aio.socket_options import option, set_option
 
 if TYPE_CHECKING:
     from hingetulip.aio.network import Network
     from hingetulip.aio.transport import Transport
 
-WAITS = "a socket that waits stops no simulated clock: write `await loop.sock_recv(..)`, or `setblocking(False)` and a reader"
+STAMPS = socket.SOL_SOCKET, 35  # SO_TIMESTAMPNS
 NO_COPY = "a socket of a simulated host has one descriptor: it isn't copied"
 Buffer = Any  # what a memoryview can be made of
 
 
 class DatagramSocket(socket.socket):
-    """A datagram socket of a host: that of the task that first uses it.
+    """A host's datagram socket; the first task that uses the socket decides the host.
 
-    It has a descriptor once it is asked for one, which `loop.add_reader` knows, and which nobody else can wait for.
+    The socket gets a descriptor on request, for `loop.add_reader` and `select`.
     """
 
     net: Network
@@ -39,6 +39,7 @@ class DatagramSocket(socket.socket):
         self._asked = (any_of(self._version), 0)  # what it is bound to, once it is on a host
         self._options: dict[tuple[int, int], Any] = {}
         self._queue: deque[Datagram] = deque()
+        self._came: dict[int, int] = {}  # when a datagram came, of a socket that asks for that
         self._refused: Optional[OSError] = None
         self._timeout = 0.0 if type & socket.SOCK_NONBLOCK and type > 0 else socket.getdefaulttimeout()
         self._descriptor = -1
@@ -47,15 +48,15 @@ class DatagramSocket(socket.socket):
 
     @classmethod
     def of(cls, endpoint: Endpoint) -> DatagramSocket:
-        """The socket of a transport, to set its options."""
+        """Returns a transport's socket, for setting options."""
         made = cls.__new__(cls)
         cls.__init__(made, socket.AF_INET6 if endpoint.version == 6 else socket.AF_INET, socket.SOCK_DGRAM)
         made.net, made._endpoint, made._timeout = endpoint.host.net, endpoint, 0.0
         return made
 
     def _place(self, host: Optional[Host] = None) -> Endpoint:
-        """Its place on a host: on this one, or the present one, if it hasn't any yet. RuntimeError: this task runs on no
-        host."""
+        """Returns the socket's endpoint, placing it on this or the current host if necessary. RuntimeError: this task runs on
+        no host."""
         if self._closed:
             raise fault(errno.EBADF)
         if self._endpoint is None:
@@ -69,31 +70,33 @@ class DatagramSocket(socket.socket):
         return self._endpoint
 
     def endpoint(self) -> Endpoint:
-        """Its place, bound to a port, for a transport that takes it over."""
+        """Returns the endpoint, bound to a port, for a transport."""
         place = self._place()
         if not place.local[1]:
             place.bind(*place.local)
         return place
 
     def given(self, transport: Transport) -> None:
-        """A transport has taken it over: what waits in it is the transport's."""
+        """Hands the socket over to a transport, including waiting datagrams."""
         while self._queue:
             transport.take(self._queue.popleft())
 
     # What the endpoint calls.
 
     def take(self, it: Datagram) -> None:
-        """A datagram has come."""
+        """Receives a datagram."""
         self._queue.append(it)
+        if self._options.get(STAMPS):
+            self._came[id(it)] = self.net.loop.clock.now
         self.net.loop.descriptors.readable(self)
 
     def refuse(self, fault: OSError) -> None:
-        """A datagram that was sent before found a closed port: the next call says so."""
+        """Records an error from a closed port; the next call raises it."""
         self._refused = fault
         self.net.loop.descriptors.readable(self)
 
     def abort(self) -> None:
-        """The host crashes."""
+        """Closes because the host crashes."""
         self.close()
 
     def is_readable(self) -> bool:
@@ -122,7 +125,7 @@ class DatagramSocket(socket.socket):
         return f"<hingetulip.aio.DatagramSocket{' [closed]' if self._closed else where}>"
 
     def fileno(self) -> int:
-        """A descriptor of its own, to which nothing ever comes; -1 after its end."""
+        """Returns a descriptor for select and similar functions; -1 after closing."""
         if self._descriptor < 0 and not self._closed:
             self._descriptor = self.net.loop.descriptors.new(self)
         return self._descriptor
@@ -140,7 +143,7 @@ class DatagramSocket(socket.socket):
         return self._timeout
 
     def setsockopt(self, level: int, optname: int, value: Any, optlen: Optional[int] = None) -> None:
-        """Sets an option. Groups, shared ports, datagrams to all, and IPV6_V6ONLY count; others are kept alone."""
+        """Sets an option. Only groups, shared ports, broadcasts and IPV6_V6ONLY have an effect; other options are just stored."""
         self._options[level, optname] = value
         if self._endpoint is not None:
             set_option(self._endpoint, level, optname, value)
@@ -152,8 +155,10 @@ class DatagramSocket(socket.socket):
         return option(self._options, level, optname, buflen)
 
     def bind(self, address: Any) -> None:
-        """Takes a port of the host. OSError: it is in use, or the task runs on another host. In a task of no host it is
-        taken on the host whose task uses the socket next."""
+        """Binds to a port on the host. Outside a host's tasks, the binding waits for the first host that uses the socket.
+
+        OSError: the port is in use, or the task runs on another host.
+        """
         name, port, host = plain(address[0]), address[1], here.get(None)
         if name in (ANY, ANY_OF_6, *OWN):
             name = any_of(self._version)
@@ -221,14 +226,22 @@ class DatagramSocket(socket.socket):
             raise error
         return len(data)
 
-    def recvfrom(self, bufsize: int, flags: int = 0) -> tuple[bytes, Any]:
-        """The next datagram. BlockingIOError: none has come. RealTimeError: none has, and the socket would wait."""
+    def _await(self, flags: int) -> Endpoint:
+        """Returns the endpoint once a datagram has arrived. A thread of the run yields meanwhile."""
         place = self._place()
         self._raise_refused()
         if not self._queue:
             if self._timeout == 0 or flags & socket.MSG_DONTWAIT:
                 raise fault(errno.EAGAIN)
-            raise RealTimeError(WAITS)
+            if not self.net.loop.baton.wait(self.is_readable, self._timeout):
+                raise socket.timeout("timed out")
+            self._raise_refused()
+        return place
+
+    def recvfrom(self, bufsize: int, flags: int = 0) -> tuple[bytes, Any]:
+        """Returns the next datagram. BlockingIOError: none has arrived. RealTimeError: no datagram has arrived, and the loop's
+        thread would wait."""
+        place = self._await(flags)
         it = self._queue[0] if flags & socket.MSG_PEEK else self._queue.popleft()
         return it.data[:bufsize], place.written(it.source)
 
@@ -245,15 +258,18 @@ class DatagramSocket(socket.socket):
         return self.recvfrom_into(buffer, nbytes, flags)[0]
 
     def recvmsg(self, bufsize: int, ancbufsize: int = 0, flags: int = 0) -> tuple[bytes, list[Any], int, Any]:
-        longest = len(self._queue[0].data) if self._queue else 0
+        self._await(flags)
+        it = self._queue[0]
         data, source = self.recvfrom(bufsize, flags)
-        return data, [], socket.MSG_TRUNC if longest > bufsize else 0, source
+        seconds = divmod(round(self.net.start * NS) + self._came.get(id(it), 0), NS)
+        stamps = [(*STAMPS, struct.pack("@ll", *seconds))] if self._came.pop(id(it), None) is not None else []
+        return data, stamps, socket.MSG_TRUNC if len(it.data) > bufsize else 0, source
 
     def shutdown(self, how: int) -> None:
         self.getpeername()
 
     def _real_close(self, *_: object) -> None:
-        """`close` calls it when no file made of the socket is open."""
+        """`close` calls this when all files made from the socket are closed."""
         self._closed = True
         if self._endpoint is not None and self._endpoint.receiver is self:
             self._endpoint.close()

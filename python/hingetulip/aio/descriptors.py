@@ -1,13 +1,15 @@
-"""Descriptors of a run: those of simulated sockets, and who waits until one can be read or written."""
+"""Descriptors during a run: simulated sockets, and the callbacks for reading and writing."""
 
 from __future__ import annotations
 
 import asyncio
+import os
 import select
 import socket
 from typing import TYPE_CHECKING, Any, Callable, Union
 
-from hingetulip.aio.real import ALLOWED, REAL_FAMILIES, SOCKET, RealTimeError, family_of
+from hingetulip.aio.real import family_of
+from hingetulip.aio.refusals import ALLOWED, SOCKET, RealTimeError
 
 if TYPE_CHECKING:
     from hingetulip.aio.datagram_socket import DatagramSocket
@@ -18,8 +20,10 @@ READABLE, WRITABLE = select.POLLIN | select.POLLHUP | select.POLLERR, select.POL
 
 
 class Descriptors:
-    """Who waits for a descriptor. A simulated socket can always be written. Others, as a pipe's, are asked at each step
-    of the loop, and nothing waits for them."""
+    """The callbacks for descriptors. Simulated sockets are always writable.
+
+    Descriptors of the system, such as pipes, are polled at each step of the loop, but time passes without waiting for them.
+    """
 
     def __init__(self, loop: Loop) -> None:
         self.loop = loop
@@ -28,39 +32,54 @@ class Descriptors:
         self.writers: dict[int, asyncio.Handle] = {}
         self._readable: dict[int, None] = {}  # those with a reader that have something, in the order in which it came
         self._others: set[int] = set()  # of the system, with a reader or a writer
+        self._ends: dict[int, int] = {}  # the other ends of simulated sockets' descriptors
+        self._settled: set[int] = set()  # those that the system calls readable
 
     def new(self, made: DatagramSocket) -> int:
-        """A descriptor for a simulated socket: a socket of the system to which nothing is sent."""
-        own = socket.socket(socket.AF_UNIX, socket.SOCK_DGRAM).detach()
-        self.sockets[own] = made
+        """Returns a descriptor for a simulated socket: one end of a real socket pair, which `settle` writes to."""
+        own, end = (it.detach() for it in socket.socketpair(socket.AF_UNIX, socket.SOCK_DGRAM))
+        self.sockets[own], self._ends[own] = made, end
         if made.is_readable():
             self._readable[own] = None
+        self.settle()
         return own
 
     def remove(self, descriptor: int) -> None:
-        """A simulated socket has closed."""
+        """Removes a closed simulated socket."""
         if self.sockets.pop(descriptor, None) is not None:
             self._readable.pop(descriptor, None)
+            self._settled.discard(descriptor)
             socket.close(descriptor)
+            socket.close(self._ends.pop(descriptor))
+
+    def settle(self, are_all: bool = False) -> None:
+        """Makes the system report each readable simulated socket, or report all as readable."""
+        for own, made in self.sockets.items():
+            if (are_all or made.is_readable()) != (own in self._settled):
+                if own in self._settled:
+                    os.read(own, 1)
+                else:
+                    os.write(self._ends[own], b"1")
+                self._settled ^= {own}
 
     def close(self) -> None:
         for made in list(self.sockets.values()):
             made.close()
 
     def readable(self, made: DatagramSocket) -> None:
-        """Something has come to a simulated socket."""
+        """Records that a simulated socket has data."""
         if made._descriptor >= 0:
             self._readable[made._descriptor] = None
 
     def number(self, descriptor: Descriptor) -> int:
-        """The number of a descriptor. ValueError: it is closed."""
+        """Returns a descriptor's number. ValueError: it is closed."""
         found: int = descriptor if isinstance(descriptor, int) else descriptor.fileno()
         if found < 0:
             raise ValueError(f"no descriptor: {descriptor!r}")
         return found
 
     def add(self, waits: dict[int, asyncio.Handle], descriptor: Descriptor, callback: Callable[..., object], args: Any) -> None:
-        """A callback for a descriptor, in the place of the one that it has."""
+        """Sets a descriptor's callback, replacing the previous callback."""
         found = self.number(descriptor)
         self.take_away(waits, found)
         waits[found] = asyncio.Handle(callback, args, self.loop, None)
@@ -69,14 +88,14 @@ class Descriptors:
             self._others.add(found)
 
     def _note_of_system(self, found: int) -> None:
-        """A descriptor of the system. RealTimeError: it is a socket of the real network, and `real` isn't set."""
+        """Adds a system descriptor. RealTimeError: it is a real network socket, and `real` isn't set."""
         if found not in self._others and not self.loop.net.real:
-            if family_of(found) in REAL_FAMILIES:
+            if family_of(found) != socket.AF_UNIX:
                 raise RealTimeError(SOCKET + ALLOWED)
             self.loop.net.real_uses.descriptors[found] = None
 
     def take_away(self, waits: dict[int, asyncio.Handle], descriptor: Descriptor) -> bool:
-        """Takes a callback away. False: there is none."""
+        """Removes a callback; returns False if there was no callback."""
         found = self.number(descriptor)
         handle = waits.pop(found, None)
         if found not in self.readers and found not in self.writers:
@@ -87,7 +106,7 @@ class Descriptors:
         return True
 
     def ready(self) -> list[asyncio.Handle]:
-        """The callbacks of what can be read or written."""
+        """Returns the callbacks of all descriptors ready for reading or writing."""
         for own in [it for it in self._readable if not self.sockets[it].is_readable()]:
             del self._readable[own]
         found = [self.readers[own] for own in self._readable if own in self.readers]

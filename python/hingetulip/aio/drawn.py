@@ -1,4 +1,5 @@
-"""Random words of a seed and a direction: splitmix64, as all of `hinge` draws them, so that one seed loses the same packets everywhere."""
+"""Random words from a seed and a direction. All of `hinge` uses splitmix64 this way, so a seed loses the same packets
+everywhere."""
 
 from __future__ import annotations
 
@@ -13,7 +14,7 @@ FEW, MANY = 2, 32  # words that are drawn at once: first, and then
 
 
 class Lanes:
-    """Words that are drawn at once, as one long number."""
+    """Several words, computed together as one long number."""
 
     def __init__(self, count: int) -> None:
         self.count, places = count, [8 * LANE * number for number in range(count)]
@@ -22,7 +23,7 @@ class Lanes:
         self.masks, self.low = self.each * MASK, self.each * LOW
 
     def drawn(self, place: int) -> memoryview:
-        """The words behind a place of the generator, 0 to 2^31 - 1 each."""
+        """Returns the words after this place in the sequence, each from 0 to 2^31 - 1."""
         masks = self.masks
         z = self.each * place + self.steps & masks
         z = (z ^ z >> 30 & masks) * FIRST & masks
@@ -35,7 +36,7 @@ AT_FIRST, THEN = Lanes(FEW), Lanes(MANY)
 
 
 def words(place: int) -> Iterator[int]:
-    """The words behind a place of the generator. A link that carries few packets draws few."""
+    """Yields the words after this place in the sequence. The first batch is small, since many links carry few packets."""
     yield from AT_FIRST.drawn(place)
     place += FEW * NUMBER
     while True:
@@ -44,8 +45,13 @@ def words(place: int) -> Iterator[int]:
         place += MANY * NUMBER
 
 
+def word(seed: int, direction: int, number: int) -> int:
+    """Returns the word for a packet in a direction, by its number from 1."""
+    return AT_FIRST.drawn(seed * SEED + (direction - 1) * DIRECTION + (number - 1) * NUMBER & MASK)[0]
+
+
 class Drawn:
-    """The words of a direction's packets, by their numbers from 1. A pipe's number is its direction, and that of a queue + QUEUES."""
+    """The words for a direction's packets, numbered from 1. The direction is a pipe's number, or a queue's number + QUEUES."""
 
     def __init__(self, seed: int, direction: int) -> None:
         self.next = words(seed * SEED + (direction - 1) * DIRECTION & MASK).__next__

@@ -1,4 +1,4 @@
-"""A socket's place on a host: where it is bound, to whom it is connected, and which groups it has joined."""
+"""A socket's place on a host: bound address, peer, and groups."""
 
 from __future__ import annotations
 
@@ -18,34 +18,35 @@ MOST_DATA_OF_6 = MOST_BYTES - HEADERS_OF_6
 
 
 class Receiver(Protocol):
-    """What takes the datagrams of an endpoint: a transport, or a socket."""
+    """The owner of an endpoint, which receives its datagrams: a transport or a socket."""
 
     def take(self, it: Datagram) -> None:
-        """A datagram has come."""
+        """Receives a datagram."""
 
     def refuse(self, fault: OSError) -> None:
-        """A datagram that was sent before found a closed port."""
+        """Receives an error from a closed port."""
 
     def abort(self) -> None:
-        """The host crashes."""
+        """Closes because the host crashes."""
 
 
 def fault(number: int, text: str = "") -> OSError:
-    """The exception of an error number of the system."""
+    """Returns the exception for an errno number."""
     return OSError(number, text or os.strerror(number))
 
 
 def families(address: str, only_6: bool) -> str:
-    """Whether a socket at an address takes datagrams of IPv4, of IPv6, or of both."""
+    """Returns the IP versions that a socket at this address receives, such as "46"."""
     if not is_of_6(address):
         return "4"
     return "46" if address == ANY_OF_6 and not only_6 else "6"
 
 
 class Endpoint:
-    """A socket's place on a host. The host gives it what comes, while it is bound.
+    """A socket's place on a host, which delivers datagrams while the endpoint is bound.
 
-    `version` is 4 or 6. One of IPv6 also takes datagrams of IPv4, whose addresses it writes in its own way, unless it is `only_6`.
+    `version` is 4 or 6. An IPv6 endpoint also receives IPv4 datagrams and shows their addresses in IPv6 form, unless `only_6`
+    is set.
     """
 
     receiver: Receiver
@@ -60,25 +61,25 @@ class Endpoint:
         self.broadcasts, self.hears_itself, self.only_6 = False, True, False
 
     def name(self) -> tuple[Any, ...]:
-        """Its own address, as getsockname tells it: of one that is connected the one that its datagrams come from."""
+        """Returns the local address like getsockname; after connecting, it is the source of sent datagrams."""
         address, port = self.local
         return self.written((self.source_to(self.remote[0]) if self.remote else address, port))
 
     def source_to(self, target: str) -> str:
-        """The address that its datagrams to a target come from; an empty text if the host has none of the family."""
+        """Returns the source address for datagrams to a target, or an empty text if the host lacks an address of that version."""
         address = self.local[0]
         if address not in (ANY, ANY_OF_6) and not is_group(address):
             return address
         return (self.host.address_of_6 or "") if is_of_6(target) else self.host.address
 
     def written(self, address: Address) -> tuple[Any, ...]:
-        """An address as a socket of its family has it."""
+        """Returns an address in the form of this socket's family."""
         if self.version == 4:
             return address
         return (address[0] if is_of_6(address[0]) else MAPPED + address[0], address[1], 0, 0)
 
     def target(self, address: Any) -> Address:
-        """The address and port of somebody by an address or name. gaierror: it is of another family."""
+        """Returns the address and port for an address or name. gaierror: it belongs to another family."""
         name, port = address[0], address[1]
         net = self.host.net
         if name in net.numbers:
@@ -94,7 +95,7 @@ class Endpoint:
         return found, port
 
     def bind(self, address: str, port: int) -> None:
-        """Takes a port at an address, or a free port (0). OSError: it is in use."""
+        """Binds to a port at an address; port 0 means any free port. OSError: the port is in use."""
         self.host.bind(self, address, port)
         self._sources.clear()
 
@@ -104,7 +105,7 @@ class Endpoint:
         self.remote = remote
 
     def send(self, data: bytes, target: Address) -> Optional[OSError]:
-        """Sends a datagram: what the system says if it takes none."""
+        """Sends a datagram; returns the system's error, if any."""
         source = self._sources.get(target[0])
         if source is None:
             try:
@@ -120,7 +121,8 @@ class Endpoint:
         return fault(errno.EMSGSIZE, f"more than {most} bytes")
 
     def _source(self, target: str) -> Address:
-        """The address and port that datagrams to a target come from. OSError: the host has none, or it may not send there."""
+        """Returns the source address and port for a target. OSError: there is no such address, or the socket may not send
+        there."""
         if not self.local[1]:
             self.bind(*self.local)
         if target == BROADCAST and not self.broadcasts:
@@ -134,7 +136,7 @@ class Endpoint:
         return found
 
     def accepts(self, it: Datagram) -> bool:
-        """Whether a datagram to its port is for it."""
+        """Returns whether this endpoint receives a datagram that was sent to its port."""
         if self.remote is not None and self.remote != it.source:
             return False
         local, target = self.local[0], it.target[0]
@@ -143,18 +145,18 @@ class Endpoint:
         return local == target or local == ANY_OF_6 and not (self.only_6 and ":" not in target)
 
     def rank(self) -> int:
-        """Of several sockets at a port the one that asks for the most gets a datagram."""
+        """Returns the endpoint's priority: among several at a port, the most specific receives a datagram."""
         return 2 * (self.remote is not None) + (self.local[0] not in (ANY, ANY_OF_6))
 
     def clashes(self, address: str, other: Endpoint) -> bool:
-        """Whether it has an address at its port that another one asks for."""
+        """Returns whether another endpoint's address conflicts with this endpoint's."""
         own = self.local[0]
         if not set(families(own, self.only_6)) & set(families(address, other.only_6)):
             return False
         return own == address or bool({own, address} & {ANY, ANY_OF_6})
 
     def join(self, group: str) -> None:
-        """Datagrams to a group come to this host too. OSError: it has joined before."""
+        """Joins a group, whose datagrams then reach this host. OSError: the endpoint is already a member."""
         if group in self.groups:
             raise fault(errno.EADDRINUSE)
         self.groups.append(group)

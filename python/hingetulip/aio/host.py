@@ -1,4 +1,4 @@
-"""A host: its addresses, its sockets, and the tasks that run on it."""
+"""A host: addresses, sockets, and tasks."""
 
 from __future__ import annotations
 
@@ -15,6 +15,7 @@ from hingetulip.aio.transport import Transport
 if TYPE_CHECKING:
     import asyncio
 
+    from hingetulip.aio.disturbances import Disturbance
     from hingetulip.aio.network import Network
 
 T = TypeVar("T")
@@ -24,7 +25,7 @@ here: contextvars.ContextVar[Host] = contextvars.ContextVar("here")
 
 
 def current_host() -> Host:
-    """The host on which this code runs. RuntimeError: it runs in no task of a host."""
+    """Returns the host on which this code runs. RuntimeError: the task belongs to no host."""
     try:
         return here.get()
     except LookupError:
@@ -32,10 +33,10 @@ def current_host() -> Host:
 
 
 class Host:
-    """A host. What runs in its tasks opens its sockets there, and its first address is the source of what it sends.
+    """A host. Its tasks open sockets there, and its first address is the source of their datagrams.
 
-    `offset` is by how many seconds its `time.time()` is ahead of the network's, and `drift` how many it gains in a second; timers and
-    `time.monotonic()` are the same on all hosts.
+    The host's `time.time()` is ahead of the network's time by `offset` seconds, and gains `drift` seconds per second. Timers
+    and `time.monotonic()` are the same on all hosts.
     """
 
     def __init__(self, net: Network, addresses: tuple[str, ...], name: Optional[str]) -> None:
@@ -47,17 +48,20 @@ class Host:
         """How many sockets have joined each group."""
         self.next_port = FIRST_FREE_PORT
         self.offset = self.drift = 0.0
+        self.looks = 0  # at the clock
+        self.skew: Optional[Disturbance] = None
+        self.programs: list[Callable[[], Coroutine[Any, Any, Any]]] = []
         self.is_up = True
 
     def __repr__(self) -> str:
         return f"<Host {self.name}>"
 
     def address_for(self, version: int) -> str:
-        """Its first address of a family, else its first of IPv4."""
+        """Returns the host's first address in this IP version, or otherwise its first IPv4 address."""
         return self.address_of_6 or self.address if version == 6 else self.address
 
     def create_task(self, coroutine: Coroutine[Any, Any, T], *, name: Optional[str] = None) -> asyncio.Task[T]:
-        """A task that runs on this host, and so do the tasks that it makes."""
+        """Creates a task that runs on this host; returns the task. Its child tasks run here too."""
         return self._task(coroutine, name)
 
     def _task(self, coroutine: Coroutine[Any, Any, T], name: Optional[str] = None) -> asyncio.Task[T]:
@@ -65,29 +69,41 @@ class Host:
         context.run(here.set, self)
         return context.run(lambda: self.net.loop.create_task(coroutine, name=name))
 
-    def stop(self) -> None:
-        """The host crashes: its sockets close, its tasks are cancelled, and it sends, takes and passes on nothing until
-        `start`."""
+    def boot(self, program: Callable[[], Coroutine[Any, Any, T]]) -> asyncio.Task[T]:
+        """Starts the program's coroutine on this host as a task now, and again after each crash; returns the task."""
+        self.programs.append(program)
+        return self.create_task(program())
+
+    def stop(self) -> int:
+        """Crashes the host: its sockets close, its tasks are cancelled, and until `start` the host neither sends, receives nor
+        forwards. Returns the number of sockets and tasks ended."""
         self.is_up = False
-        for endpoint in [it for found in self.sockets.values() for it in found]:
+        endpoints = [it for found in self.sockets.values() for it in found]
+        for endpoint in endpoints:
             endpoint.receiver.abort()
-        for task in self.net.loop.pending():
-            if task.host is self:
-                task.cancel()
+        tasks = [it for it in self.net.loop.pending() if it.host is self]
+        for task in tasks:
+            task.cancel()
+        return len(endpoints) + len(tasks)
 
     def start(self) -> None:
-        """The host is up again. What is to run on it is made anew, by `create_task`."""
-        self.is_up = True
+        """Starts the host again, and runs the function given to `boot`. Other tasks need a new `create_task`."""
+        if not self.is_up and not self.net.closing:
+            self.is_up = True
+            for program in self.programs:
+                self.create_task(program())
 
     async def endpoint(
         self, factory: Callable[[], Protocol], port: int = 0, remote: Optional[Address] = None
     ) -> tuple[Transport, Protocol]:
-        """A datagram endpoint on this host, for a caller in any task: at a port, or at a free one, and connected where
-        `remote` is given."""
+        """Creates a datagram endpoint on this host from any task, at `port` or a free port; returns its transport and protocol.
+
+        With `remote`, the endpoint is connected.
+        """
         return await self._task(self.net.loop.create_datagram_endpoint(factory, (ANY, port), remote))
 
     def free_port(self) -> int:
-        """A port without a socket, as systems give them: the next one, and after the last the first."""
+        """Returns an unused port. Like an operating system, it tries the next number, and wraps around after the last."""
         for _ in range(FIRST_FREE_PORT, PORTS):
             port, self.next_port = self.next_port, self.next_port + 1 if self.next_port < PORTS - 1 else FIRST_FREE_PORT
             if port not in self.sockets:
@@ -95,7 +111,7 @@ class Host:
         raise fault(errno.EADDRINUSE, f"{self.name} has no free port")
 
     def bind(self, endpoint: Endpoint, address: str, port: int) -> None:
-        """Gives a port to a socket, at an address or at all of them, or a free port (0)."""
+        """Binds an endpoint to a port at an address or all addresses; port 0 means any free port."""
         port = port or self.free_port()
         others = self.sockets.get(port, [])
         if any(it.clashes(address, endpoint) and not (it.shares and endpoint.shares) for it in others):
@@ -104,7 +120,7 @@ class Host:
         endpoint.local = address, port
 
     def free(self, endpoint: Endpoint) -> None:
-        """A socket has closed."""
+        """Removes a closed endpoint."""
         port = endpoint.local[1]
         found = self.sockets.get(port, [])
         if endpoint in found:
@@ -113,7 +129,7 @@ class Host:
                 del self.sockets[port]
 
     def take(self, it: Datagram) -> bool:
-        """Gives a datagram to the socket that it is for; False where there is none."""
+        """Delivers a datagram to its socket; returns False if there is no such socket."""
         found = self.sockets.get(it[1][1])
         if found is None or not self.is_up:
             return False
@@ -130,7 +146,7 @@ class Host:
         return True
 
     def take_of_group(self, it: Datagram) -> None:
-        """Gives a datagram of a group to all sockets at its port that want it, if any socket has joined the group."""
+        """Delivers a group datagram to all matching sockets at its port, if any socket here has joined the group."""
         group, port = it.target
         if self.is_up and (self.groups[group] or group == BROADCAST):
             for socket in list(self.sockets.get(port, ())):
@@ -138,7 +154,7 @@ class Host:
                     socket.receiver.take(it)
 
     def take_refusal(self, it: Refusal) -> None:
-        """Tells the connected socket that sent a datagram that it found a closed port."""
+        """Reports a closed port to the connected socket that sent the datagram."""
         for socket in self.sockets.get(it.target[1], ()):
             if socket.remote == it.source:
                 socket.receiver.refuse(fault(errno.ECONNREFUSED))

@@ -1,13 +1,15 @@
-"""An event loop whose time is simulated, and whose datagrams go over the links of a network."""
+"""An event loop in simulated time, whose datagrams pass the links of a network."""
 
 from __future__ import annotations
 
 import asyncio
 import errno
 import socket
+import threading
 from collections import deque
 from typing import TYPE_CHECKING, Any, Callable, NoReturn, Optional, TypeVar
 
+from hingetulip.aio.baton import Baton
 from hingetulip.aio.addresses import ANY, ANY_OF_6, OWN, any_of, is_of_6, plain, version_of
 from hingetulip.aio.clock import Clock
 from hingetulip.aio.datagram import Address
@@ -15,7 +17,7 @@ from hingetulip.aio.datagram_socket import DatagramSocket
 from hingetulip.aio.descriptors import Descriptor, Descriptors
 from hingetulip.aio.endpoint import Endpoint
 from hingetulip.aio.host import Protocol, current_host, here
-from hingetulip.aio.real import NO_TCP
+from hingetulip.aio.refusals import NO_TCP
 from hingetulip.aio.task import Task
 from hingetulip.aio.transport import Transport
 
@@ -48,13 +50,13 @@ OF_THE_SYSTEM = (
 
 
 class Loop(asyncio.BaseEventLoop):
-    """An event loop whose time is simulated, and whose datagrams go over the links of a network."""
+    """An event loop in simulated time, whose datagrams pass the links of a network."""
 
     _ready: deque[asyncio.Handle]
 
     def __init__(self, net: Network) -> None:
         super().__init__()
-        self.net, self.descriptors = net, Descriptors(self)
+        self.net, self.descriptors, self.baton = net, Descriptors(self), Baton(self)
         self._selector = self.clock = Clock(self)
         self._clock_resolution = RESOLUTION
         self.count = 0  # of tasks that were made
@@ -63,40 +65,55 @@ class Loop(asyncio.BaseEventLoop):
         self.set_task_factory(lambda loop, coroutine, **more: Task(coroutine, loop=self, **more))
 
     def time(self) -> float:
-        """Seconds since the loop was made. `clock.now` has the ns."""
+        """Returns the seconds since the loop was created. `clock.now` contains the ns."""
         return self.clock.seconds
 
     def resolve(self, resolution: float) -> None:
-        """Floats of a long run are this far apart, in seconds, and a timer is due at the nearest one."""
+        """Sets the distance between representable floats at the current time. A timer is due at the nearest."""
         self._clock_resolution = max(RESOLUTION, resolution)
 
     def _process_events(self, events: list[asyncio.Handle]) -> None:
-        """The callbacks of descriptors that can be read or written. The clock gives other datagrams to their sockets itself."""
+        """Adds the callbacks of readable and writable descriptors. The clock delivers other datagrams directly to their
+        sockets."""
         for handle in events:
             self._add_callback(handle)  # type: ignore[attr-defined]
 
     def _write_to_self(self) -> None:
-        """Nothing wakes this loop: what other threads ask for is done at its next step."""
+        """Does nothing: requests from other threads wait for the loop's next step."""
 
     def keep(self, task: Task[Any]) -> None:
-        """Refers to a task until it has ended. Without that, memory that is cleared could end one that waits for what nobody else knows."""
+        """Keeps a reference to a task until it ends. Otherwise the garbage collector could end a waiting task."""
         if len(self.tasks) >= self.room:
             self.tasks = [it for it in self.tasks if not it.done()]
             self.room = max(FEW_TASKS, 2 * len(self.tasks))
         self.tasks.append(task)
 
     def pending(self) -> list[Task[Any]]:
-        """The tasks that wait, in the order in which they were made."""
+        """Returns the waiting tasks, in the order of their creation."""
         current = asyncio.current_task(self)
         return [task for task in self.tasks if not task.done() and task is not current]
 
     def run_in_executor(self, executor: Any, func: Callable[..., T], *args: Any) -> asyncio.Future[T]:
-        """At once, in this thread: a thread of its own would take real time."""
+        """Runs the function in a thread of the run, which starts at once and yields when it waits; in this thread if the network is
+        `real`."""
         future: asyncio.Future[T] = self.create_future()
-        try:
-            future.set_result(func(*args))
-        except Exception as error:
-            future.set_exception(error)
+
+        def end(setter: Callable[[Any], None], value: object) -> None:
+            if not future.done():
+                setter(value)
+
+        def call() -> None:
+            try:
+                result = func(*args)
+            except Exception as error:
+                self.call_soon_threadsafe(end, future.set_exception, error)
+            else:
+                self.call_soon_threadsafe(end, future.set_result, result)
+
+        if self.net.real:
+            call()
+        else:
+            threading.Thread(target=call, name="to_thread").start()
         return future
 
     def add_reader(self, fd: Descriptor, callback: Callable[..., object], *args: Any) -> None:
@@ -112,7 +129,7 @@ class Loop(asyncio.BaseEventLoop):
         return self.descriptors.take_away(self.descriptors.writers, fd)
 
     async def _when_readable(self, sock: socket.socket, call: Callable[..., T], *args: Any) -> T:
-        """What a call of a simulated socket returns, once something has come to it."""
+        """Returns the result of a call on a simulated socket, as soon as the socket has data."""
         simulated(sock).setblocking(False)
         while True:
             try:
@@ -149,11 +166,11 @@ class Loop(asyncio.BaseEventLoop):
     async def getaddrinfo(
         self, host: Any, port: Any, *, family: int = 0, type: int = 0, proto: int = 0, flags: int = 0
     ) -> list[Any]:
-        """The addresses of a host of the network, by an address or its name."""
-        return self.net.addresses_of(host, port, family, type, proto, flags)
+        """Returns the addresses of a host in the network, from an address or a name."""
+        return self.net.names.addresses_of(host, port, family, type, proto, flags)
 
     async def getnameinfo(self, sockaddr: Any, flags: int = 0) -> tuple[str, str]:
-        """The numbers themselves."""
+        """Returns the address and port as numbers."""
         return str(sockaddr[0]), str(sockaddr[1])
 
     async def create_datagram_endpoint(  # type: ignore[override]
@@ -168,7 +185,7 @@ class Loop(asyncio.BaseEventLoop):
         sock: Optional[socket.socket] = None,
         **more: Any,
     ) -> tuple[Transport, Protocol]:
-        """A socket of the task's host, or of the host that has the local address."""
+        """Creates a transport on the task's host, or on the host with the local address; returns the transport and its protocol."""
         if sock is not None:
             endpoint = simulated(sock).endpoint()
         else:
@@ -183,28 +200,28 @@ class Loop(asyncio.BaseEventLoop):
         return transport, protocol
 
     def _bound(self, local: Optional[Address], remote: Optional[Address], family: int, shares: bool) -> Endpoint:
-        """A place at a local address, connected to a remote one."""
+        """Returns an endpoint at a local address, connected to the remote address if any."""
         names = [plain(it[0] or "localhost") for it in (local, remote) if it]
         version = version_of(family) if family else 6 if any(map(is_of_6, names)) and names[0] != "::1" else 4
         name, port = (names[0], int(local[1])) if local else (any_of(version), 0)
         if name in (ANY, ANY_OF_6, *OWN):
             host, address = current_host(), any_of(version)
         else:
-            address = self.net.address_of(name, version)
+            address = self.net.names.address_of(name, version)
             host = self.net.hosts[address]
             if here.get(host) is not host:
                 raise OSError(errno.EADDRNOTAVAIL, f"{current_host().name} hasn't the address {name}")
         endpoint = Endpoint(host, version)
         endpoint.shares = shares
         if remote:
-            self.net.address_of(names[-1], version)
+            self.net.names.address_of(names[-1], version)
         endpoint.bind(address, port)
         endpoint.remote = endpoint.target((names[-1], int(remote[1]))) if remote else None
         return endpoint
 
 
 def refusing(text: str) -> Callable[..., NoReturn]:
-    """A method that isn't there, and says what is."""
+    """Returns a substitute for a missing method, which raises an error with advice."""
 
     def refuse(loop: Loop, *words: Any, **named: Any) -> NoReturn:
         raise NotImplementedError(text)
@@ -219,7 +236,7 @@ for name in OF_THE_SYSTEM:
 
 
 def simulated(sock: socket.socket) -> DatagramSocket:
-    """A socket that a run has made. NotImplementedError: it is one of the system."""
+    """Returns the simulated socket. NotImplementedError: it is a system socket."""
     if not isinstance(sock, DatagramSocket):
         raise NotImplementedError(f"{NO_TCP}; {sock!r} isn't a datagram socket of the run")
     return sock

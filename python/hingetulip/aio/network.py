@@ -1,55 +1,68 @@
-"""Hosts and the links between them, which an event loop of simulated time drives."""
+"""Hosts and links in simulated time."""
 
 from __future__ import annotations
 
 import asyncio
 import inspect
 import ipaddress
-import socket
 from collections import Counter
 from contextlib import nullcontext
 from pathlib import Path
 from random import Random
 from typing import Any, Callable, Coroutine, Mapping, Optional, TypeVar, Union
 
-from hingetulip.aio.addresses import ANY, ANY_OF_6, OWN, is_address, is_of_6, number, plain, port_of
-from hingetulip.aio.clock_in_c import hint
-from hingetulip.aio.datagram import MOST_BYTES, UDP, Datagram
-from hingetulip.aio.history import History
-from hingetulip.aio.host import Host, current_host
-from hingetulip.aio.jitter import DelayOf
+from hingetulip.aio.addresses import number
+from hingetulip.aio.border import LIBRARY
+from hingetulip.aio.datagram import MOST_BYTES, Datagram
+from hingetulip.aio.disturbances import Disturbed
+from hingetulip.aio.extra import DelayOf, IsTwice, LateOf, of_words
+from hingetulip.aio.host import Host
 from hingetulip.aio.link import Classifier, Link, Words
 from hingetulip.aio.loop import Loop
+from hingetulip.aio.names import Names
 from hingetulip.aio.real import RealUses
 from hingetulip.aio.report import report
 from hingetulip.aio.simulated import simulated
-from hingetulip.aio.system import FLAGS, simulated_system
+from hingetulip.aio.system import simulated_system
 from hingetulip.aio.traffic import Traffic
 from hingetulip.aio.waiting import waiting
+from hingetulip.history_file import Recording
 from hingetulip.library import NEVER
 from hingetulip.shaper import Shaper
 from hingetulip_words.presets import either_way
 
 T = TypeVar("T")
 MOST_PIPES = 65535
+START = 1_700_000_000  # s since 1970
 PATIENCE = 3600  # s of simulated time that tasks have to end when the network is closed
 
 
-class Network(Traffic):
-    """Hosts and the links between them. With `history`, that file has the calls of the emulator when the network is closed.
+class Network(Disturbed, Traffic):
+    """Hosts and links. With `history`, this file contains the emulator calls after the network closes.
 
-    `dropped` has the datagrams that links lost, or that met a full queue. `unrouted` counts those to hosts without a way to them, `unheard`
-    those to ports without a socket, and `refused` those that are longer than a link's `mtu` or than a datagram can be. `options` are those
-    of links for which none are given, and `back` those of the way back of a path.
+    `dropped` lists the datagrams that were lost on links or dropped at full queues. `unrouted` counts datagrams without a
+    route, `unheard` those to a port without a socket, and `refused` those longer than a link's `mtu` or the longest possible
+    datagram. `options` are the default for links, and `back` is the default for the way back of a path.
     """
 
     def __init__(
-        self, *, seed: int = 1, history: Union[str, Path, None] = None, options: str = "", back: Optional[str] = None
+        self,
+        *,
+        seed: int = 1,
+        history: Union[str, Path, None] = None,
+        options: str = "",
+        back: Optional[str] = None,
+        start: float = START,
     ) -> None:
         self.seed, self.history, self.options, self.back = seed, history, options, back
+        self.start = start
+        """What `time.time()` returns at the beginning of the simulated time, in seconds since 1970."""
         self.random = Random(seed)
-        super().__init__(Shaper(seed=seed), History(history) if history else None)
+        super().__init__(Shaper(seed=seed), Recording(history) if history else None)
+        self.names = Names(self.hosts, self.numbers)
         self.links: dict[tuple[Host, Host], Link] = {}
+        self.unsaid: list[Link] = []
+        """The links with the options of the network, since none are said of them."""
         self.real_uses = RealUses()
         self.real = False
         """Whether `time.sleep` and sockets of the system may be used in a run."""
@@ -65,7 +78,7 @@ class Network(Traffic):
         loop.default_exception_handler(context)
 
     def number_of(self, kind: str) -> int:
-        """The number of a new pipe or queue. ValueError: there are none left."""
+        """Returns the number for a new pipe or queue. ValueError: all numbers are in use."""
         if self._made[kind] == MOST_PIPES:
             raise ValueError(f"a network has at most {MOST_PIPES} {kind}s")
         self._made[kind] += 1
@@ -75,8 +88,11 @@ class Network(Traffic):
         return Host(self, addresses, name)
 
     def host(self, *addresses: str, name: Optional[str] = None) -> Host:
-        """The host with these addresses, of which the first is one of IPv4, and which is made if there is none yet. Others
-        find it by its name too. A history has an address of IPv6 as the first one. ValueError: another host has one of them."""
+        """Returns the host with these addresses, creating the host if necessary. The first address must be IPv4.
+
+        Other hosts also find it by `name`. If there is an IPv6 address, histories use the first. ValueError: another host uses
+        an address.
+        """
         texts = (str(ipaddress.IPv4Address(addresses[0])), *(str(ipaddress.ip_address(it)) for it in addresses[1:]))
         if texts[0] in self.hosts:
             return self.hosts[texts[0]]
@@ -100,13 +116,13 @@ class Network(Traffic):
         jitter: Optional[DelayOf] = None,
         mtu: int = MOST_BYTES,
     ) -> Link:
-        """One direction between two hosts: a pipe with these options, as `bw 8Mbit/s delay 20ms plr 0.05` or `8Mbit/s 20ms loss 5%`.
+        """One direction between two hosts: a pipe with these options, as `bw 8Mbit/s delay 20ms plr 0.05` or `8Mbit/s 20ms loss 5% jitter 10ms`.
 
-        With `classes`, the options of a queue for each class, `classify` returns the class of a datagram. A model of loss gives the words
-        of the packets, under a loss rate of 0.5. `copies` returns how often a datagram enters the link, and `jitter` for how many ms more it is
-        under way, by a second pass. A datagram longer than `mtu` bytes with its headers isn't taken: the sender's socket is told so at
-        the first link, as one that forbids fragments. LineError: the options are none.
-        ValueError: there is one already. TypeError: an end is no host.
+        With `classes`, the options of a queue for each class, `classify` returns the class of a datagram. A loss model determines
+        the packets' words, under a loss rate of 0.5. `copies` returns how often a datagram enters the link, and `jitter` for how
+        many ms more it is under way, by a second pass. The first link refuses a datagram that exceeds `mtu` bytes with its headers,
+        as if it forbade fragments, and the sender's socket gets an error. LineError: the options are none. ValueError: there is one
+        already. TypeError: an end is no host.
         """
         for it in (near, far):
             if not isinstance(it, Host):
@@ -126,14 +142,20 @@ class Network(Traffic):
             jitter=jitter,
             mtu=mtu,
         )
+        self.unsaid += [made] * (options is None or options == self.options)
         self.routes.add(made)
         self.forget_ways()
         return made
 
+    def drawn_of(self, link: Link) -> tuple[Optional[LateOf], Optional[IsTwice]]:
+        """Returns each packet's extra delay in ms on a link, and whether the packet is doubled, according to the link's words."""
+        return of_words(link.options.extra, self.seed, link.pipe)
+
     def path(
         self, one: Host, other: Host, options: Optional[str] = None, back: Optional[str] = None, *, preset: Optional[str] = None
     ) -> tuple[Link, Link]:
-        """A link each way, alike if `back` isn't given; or those of a preset, as `lte`, whose server is `other`.
+        """Creates a link each way; returns both. Without `back`, both use `options`. With a preset such as `lte`, `other` is
+        the server.
 
         ValueError: there is no such preset.
         """
@@ -144,66 +166,26 @@ class Network(Traffic):
         return self.link(one, other, options), self.link(other, one, options if back is None else back)
 
     def route(self, near: Host, target: Host, via: Host) -> None:
-        """What goes from a host to another takes the link to a third. Without it a datagram goes over the fewest links."""
+        """Routes packets between two hosts through a third. Without a route, datagrams use the fewest links. ValueError: there is
+        no such link."""
+        if (near, via) not in self.links:
+            raise ValueError(f"there is no link from {near.name} to {via.name}")
         self.routes.give(near, target, self.links[near, via])
         self.forget_ways()
 
-    def links_of(self, host: Host) -> list[Link]:
-        """The links to and from a host."""
-        return [link for ends, link in self.links.items() if host in ends]
-
-    def cut(self, host: Host, seconds: float) -> None:
-        """The links of a host lose all packets that come to them, for so long."""
-        for link in self.links_of(host):
-            link.cut(seconds)
-
-    def hold(self, host: Host, seconds: float) -> None:
-        """What comes to the links of a host waits there for so long."""
-        for link in self.links_of(host):
-            link.hold(seconds)
-
-    def address_of(self, name: str, version: int = 4) -> str:
-        """The address of a host by its address or name. gaierror: there is no such host."""
-        if name in OWN:
-            return current_host().address
-        if name in self.numbers:
-            return name
-        if name not in self.hosts:
-            raise socket.gaierror(socket.EAI_NONAME, f"there is no simulated host {name}")
-        return self.hosts[name].address_for(version)
-
-    def addresses_of(self, host: Any, port: Any, family: int = 0, type: int = 0, proto: int = 0, flags: int = 0) -> list[Any]:
-        """What getaddrinfo returns of a host. gaierror: there is none, or it has no address of the family."""
-        name = "" if host is None else plain(host)
-        if host is None or name in OWN:
-            found = (ANY, ANY_OF_6) if host is None and flags & socket.AI_PASSIVE else current_host().addresses
-        elif is_address(name):
-            found = (name,)
-        elif name not in self.hosts:
-            raise socket.gaierror(socket.EAI_NONAME, f"there is no simulated host {name}")
-        else:
-            found = self.hosts[name].addresses
-        is_stream = type & ~FLAGS == socket.SOCK_STREAM
-        place = port_of(port, is_stream)
-        kinds = [(socket.AF_INET6, (it, place, 0, 0)) if is_of_6(it) else (socket.AF_INET, (it, place)) for it in found]
-        wanted = [it for it in kinds if family in (0, it[0])]
-        if not wanted:
-            raise socket.gaierror(socket.EAI_ADDRFAMILY, f"{host} has no address of {socket.AddressFamily(family).name}")
-        protocol = proto or (socket.IPPROTO_TCP if is_stream else UDP)
-        return [(kind, socket.SocketKind(type or socket.SOCK_DGRAM), protocol, "", address) for kind, address in wanted]
-
     def obey(self, line: str) -> None:
-        """A configuration line counts from the moment of the loop's clock."""
+        """Applies a configuration line at the current moment."""
         self.changed = True
         self._emulator.configure(self.loop.clock.now, line)
 
     def run(self, main: Coroutine[Any, Any, T], *, timeout: Optional[float] = None, patch: bool = True) -> T:
-        """Runs a coroutine to its end, and returns what it returns.
+        """Runs a coroutine to its end, and returns its result.
 
-        TimeoutError of asyncio: it hasn't ended after `timeout` simulated seconds. Stuck: nothing can happen any more. RealTimeError: code
-        slept or used a socket of the system, without `real`. With `patch` the modules `time` and `random`, and `os.urandom`, are those of
-        the simulation meanwhile.
+        asyncio's TimeoutError: it takes more than `timeout` simulated seconds. Stuck: no event can happen any more.
+        RealTimeError: code slept or used a system socket, without `real`. With `patch`, the modules `time` and `random`, and
+        `os.urandom`, are simulated during the run.
         """
+        self.real_uses.is_unwatched |= not patch or LIBRARY is None
         with simulated(self.loop, self.random) if patch else nullcontext(), nullcontext() if self.real else simulated_system(self):
             if timeout is None:
                 return self.loop.run_until_complete(main)
@@ -216,11 +198,11 @@ class Network(Traffic):
             text = waiting(self.loop)
             task.cancel()
             await asyncio.wait({task})
-            raise asyncio.TimeoutError(f"it hasn't ended after {timeout} s of simulated time.{hint()}{text}")
+            raise asyncio.TimeoutError(f"it hasn't ended after {timeout} s of simulated time.{text}")
         return task.result()
 
     def close(self) -> None:
-        """Cancels the tasks, in the order in which they were made, and ends the history. They can send nothing any more."""
+        """Cancels the tasks in the order of their creation, and ends the history. The tasks can't send anything more."""
         if self.loop.is_closed():
             return
         self.closing = True
@@ -234,9 +216,26 @@ class Network(Traffic):
             if task.has_lost_exception():
                 self.faults.append(f"{task.get_name()}{f' on {task.host.name}' if task.host else ''}: {task.exception()!r}")
         self.loop.run_until_complete(self.loop.shutdown_asyncgens())
+        self.loop.baton.close()
         self.loop.descriptors.close()
         self.loop.close()
         self._emulator.close()
+
+    def __repr__(self) -> str:
+        return f"<Network of {len(set(self.hosts.values()))} hosts at {self.loop.time():g} s>"
+
+    async def __aenter__(self) -> Network:
+        """RuntimeError: the network's own loop doesn't run."""
+        if asyncio.get_running_loop() is not self.loop:
+            raise RuntimeError("a network has a loop of its own: write `with Network() as net: net.run(main())`")
+        return self
+
+    async def __aexit__(self, *_: object) -> None:
+        """Cancels the tasks of hosts, and waits for their ends."""
+        tasks = [task for task in self.loop.pending() if task.host is not None]
+        for task in tasks:
+            task.cancel()
+        await asyncio.gather(*tasks, return_exceptions=True)
 
     def __enter__(self) -> Network:
         return self
@@ -245,17 +244,17 @@ class Network(Traffic):
         self.close()
 
     def waiting(self) -> str:
-        """The tasks that wait, and for what, a line each; an empty text if there are none."""
+        """Returns a line for each waiting task, with the reason for waiting."""
         text = waiting(self.loop)
         return f"\n{text.strip()}" if text else ""
 
     def report(self) -> str:
-        """What each link did, and the first of the datagrams that links dropped."""
+        """Returns a report about each link, and about the first dropped datagrams."""
         return report(self)
 
 
 def network() -> Network:
-    """The network of the loop that runs. RuntimeError: no loop of simulated time runs."""
+    """Returns the running loop's network. RuntimeError: no simulated loop is running."""
     loop = asyncio.get_running_loop()
     if not isinstance(loop, Loop):
         raise RuntimeError("this loop isn't one of simulated time: hingetulip.aio.run makes one")
@@ -269,7 +268,11 @@ def run(
     history: Union[str, Path, None] = None,
     timeout: Optional[float] = None,
     patch: bool = True,
+    start: float = START,
 ) -> T:
-    """Runs a coroutine in a new network, which `network()` returns to it, and returns what it returns. `Network.run` has the errors."""
-    with Network(seed=seed, history=history) as net:
-        return net.run(main, timeout=timeout, patch=patch)
+    """Runs a coroutine in a new network, available as `network()`; returns its result. Raises the errors of `Network.run`, and
+    Unmet if a cut or hold met no packet."""
+    with Network(seed=seed, history=history, start=start) as net:
+        found = net.run(main, timeout=timeout, patch=patch)
+        net.check()
+        return found

@@ -1,34 +1,27 @@
-"""The random numbers of OpenSSL during a run: numbers of the seed, where the process has the shared library libcrypto."""
+"""OpenSSL's random numbers during a run, which depend on the seed if the process uses the shared library libcrypto."""
 
 from __future__ import annotations
 
 import ctypes
-import random
 import re
 from contextlib import contextmanager
 from pathlib import Path
 from typing import Iterator, Optional
 
-Bytes = ctypes.CFUNCTYPE(ctypes.c_int, ctypes.c_void_p, ctypes.c_int)
-Status = ctypes.CFUNCTYPE(ctypes.c_int)
+from hingetulip.aio.border import LIBRARY
+
 LOADED = re.compile(r"(/\S*libcrypto[^/\s]*\.so\S*)$", re.M)
+FUNCTIONS = "seed", "bytes", "cleanup", "add", "pseudorand", "status"
 
 
 class Method(ctypes.Structure):
-    """RAND_METHOD of OpenSSL. What isn't given isn't called."""
+    """OpenSSL's RAND_METHOD."""
 
-    _fields_ = [
-        ("seed", ctypes.c_void_p),
-        ("bytes", Bytes),
-        ("cleanup", ctypes.c_void_p),
-        ("add", ctypes.c_void_p),
-        ("pseudorand", Bytes),
-        ("status", Status),
-    ]
+    _fields_ = [(name, ctypes.c_void_p) for name in FUNCTIONS]
 
 
 def libcrypto() -> Optional[ctypes.CDLL]:
-    """The library of this process, if it has loaded one that lets its random numbers be given."""
+    """Returns this process's libcrypto, if loaded and open to a replacement for its random numbers."""
     found = LOADED.search(Path("/proc/self/maps").read_text())
     try:
         library = ctypes.CDLL(found[1]) if found else None
@@ -38,19 +31,16 @@ def libcrypto() -> Optional[ctypes.CDLL]:
 
 
 @contextmanager
-def random_of_openssl(source: random.Random) -> Iterator[None]:
-    """While this lasts OpenSSL's random numbers come from `source`."""
+def random_of_openssl(seed: int) -> Iterator[None]:
+    """Within this block, OpenSSL's random numbers come from a seed, if hinge-clock.so is there."""
     library = libcrypto()
-    if library is None:
+    if library is None or LIBRARY is None:
         yield
         return
-
-    def fill(place: int, count: int) -> int:
-        ctypes.memmove(place, source.randbytes(count), count)
-        return 1
-
-    drawn = Bytes(fill)
-    method = Method(bytes=drawn, pseudorand=drawn, status=Status(lambda: 1))
+    library.RAND_OpenSSL.restype = ctypes.c_void_p
+    method = Method.from_buffer_copy(Method.from_address(library.RAND_OpenSSL()))
+    method.bytes = method.pseudorand = ctypes.cast(LIBRARY.hinge_random, ctypes.c_void_p)
+    LIBRARY.hinge_seed(seed)
     library.RAND_set_rand_method(ctypes.byref(method))
     try:
         yield

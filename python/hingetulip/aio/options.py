@@ -1,28 +1,28 @@
-"""The options of a link, by their names."""
+"""The options of a link, by name."""
 
 from __future__ import annotations
 
 from hingetulip.errors import LineError
-from hingetulip_words.link import NO_WORDS, WordError, in_full, read_link
+from hingetulip_words.link import NO_WORDS, Place, WordError, in_full, read_words
 
 MS = 10**6  # ns
 BY_MODEL = "0.5"  # the loss rate under which a model's words 0 and 2^31 - 1 decide
 
 
 def said(words: str) -> str:
-    """Words that change a link. LineError: there are none."""
+    """Returns the words for changing a link. LineError: there are no words."""
     if not words.partition("#")[0].strip():
         raise LineError(NO_WORDS, 0)
     return words
 
 
 class Options:
-    """The options of a pipe or queue, by their names in full. LineError: a word isn't one of them."""
+    """A pipe's or queue's options, by their full names, and the drawn effects beside them. LineError: a word is unknown."""
 
-    def __init__(self, text: str = "", kind: str = "pipe", has_model: bool = False) -> None:
-        """Where a model decides about losses, the link needs a loss rate under which it does."""
+    def __init__(self, text: str = "", kind: str = "pipe", has_model: bool = False, place: Place = Place.DUMMYNET) -> None:
+        """With `has_model`, the link gets the loss rate at which the model decides."""
         try:
-            self.settings = read_link(text, kind)
+            self.settings, self.extra = read_words(text, place, kind)
         except WordError as wrong:
             raise LineError(str(wrong), 0) from None
         if has_model:
@@ -30,15 +30,15 @@ class Options:
 
     @property
     def delay(self) -> int:
-        """ns of the delay."""
+        """The delay in ns."""
         return int(self.settings.get("delay", "0").rstrip("ms")) * MS
 
     def without(self, name: str) -> str:
-        """All but one."""
+        """Returns all options except this one."""
         return in_full({key: text for key, text in self.settings.items() if key != name})
 
     def all_lost(self) -> str:
-        """The same with the loss of all packets."""
+        """Returns the options with a loss rate of 1."""
         return f"{self.without('plr')} plr 1".strip()
 
     def __str__(self) -> str:

@@ -1,4 +1,4 @@
-"""The names of asyncio that this package uses and that Python may change: they are looked for when it is imported."""
+"""Private names in asyncio that this package uses. They are checked on import, since a new Python version may change them."""
 
 from __future__ import annotations
 
@@ -6,6 +6,8 @@ import asyncio
 import sys
 from types import FunctionType
 from typing import Mapping
+
+from hingetulip.aio.switched import is_known
 
 NAMES = {
     "_run_once": ("_selector", "select", "_process_events", "_clock_resolution"),
@@ -16,7 +18,7 @@ NAMES = {
 
 
 def changed(functions: Mapping[str, object]) -> list[str]:
-    """The functions of a loop that no longer have a name, each with that name."""
+    """Returns the missing names, each with the loop function that used the name."""
     found = []
     for function, names in NAMES.items():
         code = functions.get(function)
@@ -26,7 +28,7 @@ def changed(functions: Mapping[str, object]) -> list[str]:
 
 
 def check() -> None:
-    """ImportError: this Python's asyncio has another event loop than those for which this package was written."""
-    faults = changed(vars(asyncio.BaseEventLoop))
+    """ImportError: this Python's event loop differs from those that this package supports."""
+    faults = changed(vars(asyncio.BaseEventLoop)) + ["other functions in C, or no GIL"] * (not is_known())
     if faults:
-        raise ImportError(f"hingetulip.aio doesn't know the event loop of Python {sys.version.split()[0]}: {', '.join(faults)}")
+        raise ImportError(f"hingetulip.aio doesn't know Python {sys.version.split()[0]}, but 3.9 to 3.13: {', '.join(faults)}")

@@ -1,94 +1,201 @@
-"""What is real in a run of simulated time, and is refused there: a sleep of the thread, sockets of the system, and other event loops."""
+"""Real calls during a run in simulated time. Python's audit events reveal some in advance; these are refused in the run's thread.
+Others are reported."""
 
 from __future__ import annotations
 
+import functools
 import os
+import select
 import socket
 import sys
 import threading
 import time
-from contextlib import ExitStack, contextmanager
-from typing import Any, Callable, Iterator
-from unittest import mock
+from collections import Counter
+from contextlib import contextmanager
+from typing import TYPE_CHECKING, Any, Callable, Iterator, Optional
 
-from hingetulip.aio.switched import switched
+from hingetulip.aio.addresses import FLAGS
+from hingetulip.aio.baton import LONGEST
+from hingetulip.aio.border import calls
+from hingetulip.aio.refusals import ALLOWED, NO_TCP, SOCKET, RealTimeError
+from hingetulip.aio.switched import Either, Function, of_run, switched, switched_methods
 
-SLEEP = "time.sleep stops no simulated clock: write `await asyncio.sleep(..)`"
-SOCKET = "a socket of the system reaches the real network: simulated hosts have datagrams alone, by `socket.socket` and the loop"
-NO_TCP = "simulated hosts have datagrams alone: `hinge run --simulated` takes programs with the kernel's TCP into simulated time"
-OTHER_LOOP = "another event loop waits by the real clock: simulated time has asyncio's loop alone, and `hinge run --simulated` takes any program"
-ALLOWED = ", or set `real` of the network"
-REACHING = ("bind", "connect", "connect_ex", "listen", "sendto", "sendmsg")
-REAL_FAMILIES = (socket.AF_INET, socket.AF_INET6, getattr(socket, "AF_PACKET", socket.AF_INET))
+if TYPE_CHECKING:
+    from hingetulip.aio.descriptors import Descriptors
 
-
-class RealTimeError(RuntimeError):
-    """Code in a run of simulated time did what the real clock or the real network decides."""
+UNWATCHED = "what C code did wasn't watched, without hinge-clock.so or by patch=False"
+REACHING = ("socket.connect", "socket.bind", "socket.sendto", "socket.sendmsg")
+OF_PROCESSES = ("subprocess.Popen", "os.system", "os.fork", "os.forkpty", "os.posix_spawn", "os.exec", "pty.spawn")
 
 
 class RealUses:
-    """What other threads did with sockets of the system during a run, and which descriptors of the system the loop was given: nothing refuses
-    that, and a report tells it."""
+    """Real calls during a network's runs that are allowed, for the report: system sockets, processes and waits in other threads and
+    C code, and system descriptors passed to the loop."""
 
     def __init__(self) -> None:
         self.threads: dict[str, None] = {}
         self.descriptors: dict[int, None] = {}
+        self.calls, self.refused = Counter[str](), Counter[str]()
+        self.is_unwatched = False
 
-    def lines(self) -> Iterator[str]:
-        for name in self.threads:
-            yield f"real: the thread {name} used a socket of the system"
+    def saw(self, event: str, words: Any) -> None:
+        """Counts what Python's audit hook is told during a run. RealTimeError: a socket of the system is refused."""
+        if event in OF_PROCESSES:
+            self.calls[event] += 1
+        elif words[0].family == socket.AF_UNIX:
+            return  # of programs of this machine, which C code's counts have
+        elif threading.get_ident() in of_run:
+            is_tcp = is_stream(words[0]) and words[0].family in (socket.AF_INET, socket.AF_INET6)
+            why = NO_TCP if is_tcp else SOCKET + ALLOWED
+            self.refused[why] += 1
+            raise RealTimeError(why)
+        else:
+            self.threads[threading.current_thread().name] = None
+
+    def gather(self) -> None:
+        """Adds C code's calls so far, if they belong to a run of this network."""
+        if watches and watches[-1] is self:
+            self.calls.update(calls())
+
+    def all(self) -> Counter[str]:
+        """Returns how often each real function was called; a thread or descriptor counts once."""
+        self.gather()
+        found = Counter({f"the thread {name} used a socket of the system": 1 for name in self.threads})
         if self.descriptors:
-            yield f"real: the loop waited for descriptors of the system ({', '.join(map(str, self.descriptors))})"
+            numbers = ", ".join(map(str, self.descriptors))
+            found[f"the loop waited for descriptors of the system ({numbers})"] = len(self.descriptors)
+        return found + self.calls
+
+    def lines(self) -> list[str]:
+        """Returns the report's lines; refusals are among them, since libraries may swallow these."""
+        lines = [f"real: {name}{f', {count} calls' if count > 1 else ''}" for name, count in self.all().items()]
+        lines += [f"real: {it}" for it in self.unwatched()]
+        return lines + [f"refused, {count} calls: {why}" for why, count in self.refused.items()]
+
+    def unwatched(self) -> list[str]:
+        return [UNWATCHED] * self.is_unwatched
+
+
+class Sum:
+    """The real calls in all of the process's runs since the last reset, for reports on several runs."""
+
+    def __init__(self) -> None:
+        self.runs, self.calls, self.unwatched = 0, Counter[str](), list[str]()
+
+    def add(self, calls: Counter[str], unwatched: list[str]) -> None:
+        self.runs, self.calls, self.unwatched = self.runs + 1, self.calls + calls, unwatched
+
+    def taken(self) -> Sum:
+        """The sum, which begins anew."""
+        made = Sum()
+        made.__dict__, self.__dict__ = self.__dict__, made.__dict__
+        return made
+
+
+OF_PROCESS = Sum()
 
 
 def is_stream(sock: socket.socket) -> bool:
-    return sock.type & ~(socket.SOCK_NONBLOCK | socket.SOCK_CLOEXEC) == socket.SOCK_STREAM
-
-
-def refusal(sock: socket.socket) -> RealTimeError:
-    """Of a socket of the system that would reach the real network."""
-    return RealTimeError(NO_TCP if is_stream(sock) and sock.family in (socket.AF_INET, socket.AF_INET6) else SOCKET + ALLOWED)
+    return sock.type & ~FLAGS == socket.SOCK_STREAM
 
 
 def family_of(descriptor: int) -> int:
-    """The family of a socket of the system; 0 of what is none."""
+    """Returns the family of a system socket; AF_UNIX for other descriptors."""
     copy = os.dup(descriptor)
     try:
         made = socket.socket(fileno=copy)
     except OSError:
         os.close(copy)
-        return 0
+        return socket.AF_UNIX
     with made:
         return made.family
 
 
+SEEN = frozenset(REACHING + OF_PROCESSES)
+watches: list[RealUses] = []  # those of the run, if one is under way
+
+
+def hook(event: str, words: Any) -> None:
+    if watches and event in SEEN:
+        watches[-1].saw(event, words)
+
+
+@functools.lru_cache(None)
+def installed() -> list[RealUses]:
+    """Returns the real uses that the audit hook asks. Hooks can't be removed, so there is a single one."""
+    sys.addaudithook(hook)
+    return watches
+
+
+class Selecting:
+    """Calls that wait until a descriptor is ready, where simulated sockets have descriptors."""
+
+    def __init__(self, descriptors: Descriptors) -> None:
+        self.descriptors, self.baton = descriptors, descriptors.loop.baton
+
+    def answer(self, ask: Callable[[Any], Any], timeout: Any, nothing: Any, scale: float = 1, has_own: bool = False) -> Any:
+        """Returns what is ready, now or (in a yielding thread) before the timeout. A call only for system descriptors, such as a
+        process's pipes, waits really, unless it `has_own` timers, like another event loop."""
+        answers = [nothing]
+
+        def ready() -> bool:
+            self.descriptors.settle()
+            answers[0] = ask(0)
+            return bool(answers[0] != nothing)
+
+        def really() -> Optional[bool]:
+            is_bounded = seconds is not None and seconds < LONGEST or self.baton.gives_way()
+            answers[0] = ask(timeout if is_bounded else LONGEST * scale)
+            return bool(answers[0] != nothing) or (False if is_bounded else None)
+
+        seconds = None if timeout is None or timeout < 0 else timeout / scale
+        if has_own or self.is_simulated(ask, nothing):
+            self.baton.wait(ready, seconds)
+        elif not self.baton.gives_way():
+            self.baton.wait(ready, seconds, really)
+        elif not ready():
+            really()
+        return answers[0]
+
+    def is_simulated(self, ask: Callable[[Any], Any], nothing: Any) -> bool:
+        """Returns whether a call concerns a simulated socket."""
+        ask(0)  # gives each simulated socket its descriptor
+        self.descriptors.settle(are_all=True)
+        found = ask(0) != nothing
+        self.descriptors.settle()
+        return bool(self.descriptors.sockets) and found
+
+    def select(self, own: Function) -> Function:
+        def selected(*words: Any) -> Any:
+            timeout = (*words[3:], None)[0]
+            return self.answer(lambda it: own(*words[:3], it), timeout, ([], [], []), has_own=not any(words[:3]))
+
+        return selected
+
+    def poll(self, own: Function) -> Function:
+        return lambda poll, timeout=None: self.answer(lambda it: own(poll, it), timeout, [], 1000)
+
+    def epoll(self, own: Function) -> Function:
+        return lambda epoll, timeout=None, maxevents=-1: self.answer(
+            lambda it: own(epoll, it, maxevents), timeout, [], has_own=True
+        )
+
+
 @contextmanager
-def real_refused(uses: RealUses) -> Iterator[None]:
-    """Within it, what is real is refused in this thread, and kept of others."""
-    thread = threading.get_ident()
-
-    def refusing(call: Callable[..., Any], text: str) -> Callable[..., Any]:
-        def refuse(*words: Any, **named: Any) -> Any:
-            if threading.get_ident() == thread:
-                raise RealTimeError(text + ALLOWED)
-            return call(*words, **named)
-
-        return refuse
-
-    def reaching(call: Callable[..., Any]) -> Callable[..., Any]:
-        def reach(sock: socket.socket, *words: Any, **named: Any) -> Any:
-            if sock.family in REAL_FAMILIES:
-                if threading.get_ident() == thread:
-                    raise refusal(sock)
-                uses.threads[threading.current_thread().name] = None
-            return call(sock, *words, **named)
-
-        return reach
-
-    with ExitStack() as stack:
-        stack.enter_context(switched(time, "sleep", refusing(time.sleep, SLEEP)))
-        if trio := sys.modules.get("trio"):
-            stack.enter_context(switched(trio, "run", refusing(getattr(trio, "run"), OTHER_LOOP)))
-        for name in REACHING:
-            stack.enter_context(mock.patch.object(socket.socket, name, reaching(getattr(socket.socket, name)), create=True))
-        yield
+def real_refused(uses: RealUses, descriptors: Descriptors) -> Iterator[None]:
+    """Refuses real calls in this thread, or reports them, within the context."""
+    selecting = Selecting(descriptors)
+    functions = {(time, "sleep"): descriptors.loop.baton.sleep, (select, "select"): selecting.select}
+    methods: dict[tuple[type, str], Either] = {
+        (type(select.poll()), "poll"): selecting.poll,
+        (select.epoll, "poll"): selecting.epoll,
+    }
+    before = uses.all()
+    installed().append(uses)
+    try:
+        with switched(functions), switched_methods(methods):
+            yield
+    finally:
+        uses.gather()
+        watches.pop()
+        OF_PROCESS.add(uses.all() - before, uses.unwatched())

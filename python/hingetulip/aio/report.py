@@ -1,4 +1,4 @@
-"""What a network did, in words."""
+"""A network's activities, in words."""
 
 from __future__ import annotations
 
@@ -16,15 +16,12 @@ def report(net: Network) -> str:
     lines = []
     for link in net.links.values():
         count = link.counts
-        lines.append(
-            f"{link.near.name} > {link.far.name}: {sum(count.values())} sent, {count[Outcome.LOST]} lost, "
-            f"{count[Outcome.FULL]} met a full queue"
-        )
-    lines += [f"{place}: {count} without a way" for place, count in net.unrouted.items()]
-    lines += [f"{place}: {count} without a socket" for place, count in net.unheard.items()]
-    lines += [f"{place}: {count} refused" for place, count in net.refused.items()]
+        lines.append(f"{link.name}: {sum(count.values())} sent, {count[Outcome.LOST]} lost, {count[Outcome.FULL]} met a full queue")
+    for what, counts in (("without a way", net.unrouted), ("without a socket", net.unheard), ("refused", net.refused)):
+        lines += [f"{place}: {count} {what}" for place, count in counts.items()]
     lines += [f"  {it}" for it in net.dropped[:MOST_DROPPED]]
     if len(net.dropped) > MOST_DROPPED:
         lines.append(f"  and {len(net.dropped) - MOST_DROPPED} more")
+    lines += [it.report() for it in net.disturbances[:MOST_DROPPED]]
     lines += net.real_uses.lines()
     return "\n".join([*lines, f"simulated time {net.loop.time():.9f} s"])

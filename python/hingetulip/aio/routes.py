@@ -1,4 +1,4 @@
-"""The way of a datagram over several links."""
+"""Routes over several links."""
 
 from __future__ import annotations
 
@@ -11,7 +11,7 @@ if TYPE_CHECKING:
 
 
 class Routes:
-    """Which link a datagram takes next: the first of a way over the fewest links, of equals over those that were made first."""
+    """Finds the next link for a datagram: on a path with the fewest links, or, among equal paths, the links created first."""
 
     def __init__(self) -> None:
         self.out: dict[Host, list[Link]] = {}
@@ -25,12 +25,12 @@ class Routes:
         self.first.clear()
 
     def give(self, near: Host, target: Host, link: Link) -> None:
-        """What goes from a host to another takes this link."""
+        """Sets the link for datagrams from a host to a target."""
         self.given[near, target] = link
         self.chosen.clear()
 
     def next(self, near: Host, target: Host) -> Optional[Link]:
-        """The link from one host on the way to another; None where there is no way."""
+        """Returns the next link from a host to a target, or None if there is no path."""
         try:
             return self.chosen[near, target]
         except KeyError:
@@ -45,7 +45,7 @@ class Routes:
         return self._ways(near).get(target)
 
     def _ways(self, near: Host) -> dict[Host, Link]:
-        """The first link from a host to each that can be reached from it."""
+        """Returns the first link to each reachable host."""
         if near not in self.first:
             self.first[near] = self._found(near)
         return self.first[near]

@@ -1,4 +1,4 @@
-"""The options of a datagram socket, as the system has them: which of them count on a simulated host."""
+"""The options of a datagram socket, and the subset that has an effect on a simulated host."""
 
 from __future__ import annotations
 
@@ -28,19 +28,19 @@ DEFAULTS = {
 
 
 def whole(value: Any) -> int:
-    """The number of an option, which is an int or its bytes."""
+    """Returns an option's number, from an int or its bytes."""
     return value if isinstance(value, int) else int.from_bytes(value, "little")
 
 
 def group_of(level: int, value: bytes) -> str:
-    """The group that a membership names first."""
+    """Returns the group address at the start of a membership request."""
     if level == IP:
         return socket.inet_ntop(socket.AF_INET, value[:ADDRESS_LENGTH])
     return socket.inet_ntop(socket.AF_INET6, value[:ADDRESS_OF_6_LENGTH])
 
 
 def set_option(endpoint: Endpoint, level: int, name: int, value: Any) -> None:
-    """Sets an option of a socket of a host. OSError: it joins a group twice, or leaves one that it hasn't joined."""
+    """Sets an option on a host's socket. OSError: the socket joins a group twice, or leaves a group without membership."""
     option = level, name
     if option in SHARED:
         endpoint.shares = bool(whole(value))
@@ -59,7 +59,7 @@ def set_option(endpoint: Endpoint, level: int, name: int, value: Any) -> None:
 
 
 def option(known: Mapping[tuple[int, int], Any], level: int, name: int, length: int) -> Any:
-    """What an option was set to, else its default: a number, or its bytes if a length is given."""
+    """Returns an option's value or default: a number, or bytes if a length is given."""
     value = known.get((level, name), DEFAULTS.get((level, name), 0))
     if length:
         return struct.pack("=i", value)[:length] if isinstance(value, int) else bytes(value)[:length]

@@ -1,41 +1,145 @@
-"""Functions of Python's own modules that a run replaces. What stands in their place asks which of the two counts, so that a module that binds
-one of them during a run, as by `from time import monotonic`, has the system's own behind the run and the next run's in the next one."""
+"""C functions of the system that behave differently in a run's thread.
+
+The function object itself changes during a run, rather than a name for the function. So every reference, however old, calls the
+run's function in the run's thread, and the system's function in other threads. Names stay unchanged, even if a test has replaced
+one.
+"""
 
 from __future__ import annotations
 
+import functools
+import gc
+import sys
+import threading
 from contextlib import contextmanager
-from functools import update_wrapper
-from types import ModuleType
-from typing import Any, Callable, Iterator, Optional
+from ctypes import Structure, addressof, c_char_p, c_int, c_void_p, cast, py_object, sizeof
+from types import BuiltinFunctionType, ClassMethodDescriptorType, MethodDescriptorType, ModuleType
+from typing import Any, Callable, Iterator, Mapping, Optional
+
+try:
+    from ctypes import pythonapi
+except ImportError:
+    raise ImportError(f"hingetulip.aio changes functions of CPython, and this is {sys.implementation.name}") from None
 
 Function = Callable[..., Any]
+Either = Callable[[Function], Function]  # of the system's own function the run's
+WORDS, NAMED, OF_CLASS = 1, 2, 0x200  # METH_VARARGS, METH_KEYWORDS, METH_METHOD
+HEAD, FIELDS = object.__basicsize__, 5  # of a function in C: its method, its object, its module, its weak references, its fast call
+METHOD, OBJECT, MODULE, FAST = 0, 1, 2, 4
+IN_C = ClassMethodDescriptorType, MethodDescriptorType
+
+new_function = pythonapi.PyCFunction_NewEx
+new_function.restype, new_function.argtypes = py_object, [c_void_p] * 3
+call = cast(pythonapi.PyObject_Call, c_void_p).value
+for count in (pythonapi.Py_IncRef, pythonapi.Py_DecRef, pythonapi.PyType_Modified):
+    count.argtypes, count.restype = [py_object], None
 
 
-class Switch:
-    """A function of a module, and what counts in its place while a run is under way."""
-
-    def __init__(self, own: Function) -> None:
-        self.own = own
-        self.of_run: Optional[Function] = None
-
-        def function(*words: Any, **named: Any) -> Any:
-            return (self.of_run or self.own)(*words, **named)
-
-        self.function: Function = update_wrapper(function, own, updated=())
+of_run: set[int] = set()  # the threads of the run that is under way
 
 
-SWITCHES: dict[tuple[str, str], Switch] = {}
+class Method(Structure):
+    """PyMethodDef."""
+
+    _fields_ = [("name", c_char_p), ("function", c_void_p), ("flags", c_int), ("doc", c_char_p)]
+
+
+def fields_of(function: object) -> Any:
+    return (c_void_p * FIELDS).from_address(id(function) + HEAD)
+
+
+def is_known() -> bool:
+    """Returns whether C functions have the expected memory layout, and no other thread can call one while it changes."""
+    return (
+        getattr(sys, "_is_gil_enabled", lambda: True)()
+        and BuiltinFunctionType.__basicsize__ == HEAD + FIELDS * sizeof(c_void_p)
+        and Method.from_address(fields_of(len)[METHOD]).name == b"len"
+    )
+
+
+def is_own(function: Any, module: ModuleType, name: str) -> bool:
+    return type(function) is BuiltinFunctionType and function.__self__ is module and function.__name__ == name
+
+
+class Changed:
+    """A C function, its fields, and a copy of the original."""
+
+    def __init__(self, function: object) -> None:
+        self.function, self.fields = function, fields_of(function)  # which stays as long as its fields are known here
+        self.before = list(self.fields)
+        self.own: Function = new_function(*self.before[: MODULE + 1])
+        self.method = Method.from_buffer_copy(Method.from_address(self.before[METHOD]))
+        self.method.function, self.method.flags = call, WORDS | NAMED
+        self.made: Optional[Function] = None  # of the last run: another thread may be in it
+
+
+@functools.lru_cache(None)
+def changed(module: ModuleType, name: str) -> Optional[Changed]:
+    """Returns a module's C function, even if its name refers to another function; None if the function can't be changed."""
+    found = [getattr(module, name, None)]
+    if not is_own(found[0], module, name):
+        found = [it for it in gc.get_objects() if is_own(it, module, name)]
+    return next((Changed(it) for it in found if not Method.from_address(fields_of(it)[METHOD]).flags & OF_CLASS), None)
+
+
+def own_of(module: ModuleType, name: str) -> Function:
+    """The same function, which no run changes."""
+    found = changed(module, name)
+    return getattr(module, name) if found is None else found.own  # type: ignore[no-any-return]
+
+
+def of_thread(own: Function, in_run: Either) -> Function:
+    """Returns a function that calls the run's version in the run's threads, and the original in others."""
+    here, ident, threads = in_run(own), threading.get_ident, of_run
+
+    def function(*words: Any, **named: Any) -> Any:
+        return (here if ident() in threads else own)(*words, **named)
+
+    return function
 
 
 @contextmanager
-def switched(module: ModuleType, name: str, of_run: Function) -> Iterator[None]:
-    """While this lasts the function of a module is that of a run."""
-    own = getattr(module, name)
-    switch = SWITCHES.setdefault((module.__name__, name), Switch(own))
-    switch.own, switch.of_run = own, of_run
-    setattr(module, name, switch.function)
+def switched(functions: Mapping[tuple[ModuleType, str], Either]) -> Iterator[None]:
+    """Replaces modules' C functions by the run's in this thread, within the context."""
+    kept = []
+    for (module, name), in_run in functions.items():
+        it = changed(module, name)
+        if it is not None:
+            made = it.made = of_thread(it.own, in_run)
+            pythonapi.Py_IncRef(made)  # what the function refers to from now on, as to the object of a method
+            it.fields[METHOD], it.fields[OBJECT], it.fields[FAST] = addressof(it.method), id(made), None
+            kept.append((it, made))
     try:
         yield
     finally:
-        switch.of_run = None
-        setattr(module, name, own)
+        for it, made in kept:
+            it.fields[METHOD], it.fields[OBJECT], it.fields[FAST] = it.before[METHOD], it.before[OBJECT], it.before[FAST]
+            pythonapi.Py_DecRef(made)
+
+
+def bound(own: ClassMethodDescriptorType, kind: type, *words: Any, **named: Any) -> Any:
+    """Returns the result of a class method for that class."""
+    return own.__get__(None, kind)(*words, **named)
+
+
+@contextmanager
+def switched_methods(methods: Mapping[tuple[type, str], Either]) -> Iterator[None]:
+    """Replaces methods of C types likewise."""
+    kept = []
+    for (kind, name), in_run in methods.items():
+        kind = next(it for it in kind.__mro__ if isinstance(vars(it).get(name), IN_C))  # and not a subclass in its place
+        (names,) = gc.get_referents(kind.__dict__)
+        own = names[name]
+        if isinstance(own, ClassMethodDescriptorType):
+            made: Any = classmethod(of_thread(functools.partial(bound, own), in_run))
+        else:
+            made = of_thread(own, in_run)
+        kept.append((kind, names, name, own))
+        names[name] = made
+        pythonapi.PyType_Modified(kind)
+    try:
+        yield
+    finally:
+        for kind, names, name, own in kept:
+            names[name] = own
+            pythonapi.PyType_Modified(kind)

@@ -1,4 +1,4 @@
-"""A task of the loop, which knows its number and its host."""
+"""A task of the loop, with a number and a host."""
 
 from __future__ import annotations
 
@@ -14,7 +14,7 @@ T = TypeVar("T")
 
 
 class Task(asyncio.Task[T]):
-    """A task whose hash is its number: sets of tasks, as those of asyncio.wait and of a TaskGroup, have one order in every run."""
+    """A task whose hash is its number, so that sets of tasks, as in asyncio.wait or a TaskGroup, keep their order in each run."""
 
     def __init__(self, coroutine: Coroutine[Any, Any, T], *, loop: Loop, **more: Any) -> None:
         loop.count += 1
@@ -28,5 +28,5 @@ class Task(asyncio.Task[T]):
         return self.number
 
     def has_lost_exception(self) -> bool:
-        """Whether it ended by an exception that nobody has asked for."""
+        """Returns whether the task failed with an exception that nobody has retrieved."""
         return self.done() and not self.cancelled() and bool(self._log_traceback)

@@ -1,4 +1,4 @@
-"""A datagram socket of a host, as a transport of asyncio."""
+"""A host's datagram socket as an asyncio transport."""
 
 from __future__ import annotations
 
@@ -18,7 +18,7 @@ Data = Union[bytes, bytearray, memoryview]
 
 
 class Transport(asyncio.DatagramTransport):
-    """A datagram socket of a host."""
+    """A host's datagram socket."""
 
     def __init__(self, endpoint: Endpoint, protocol: asyncio.DatagramProtocol, socket: Optional[DatagramSocket] = None) -> None:
         self.host, self.endpoint, self.protocol, self.socket = endpoint.host, endpoint, protocol, socket
@@ -30,16 +30,16 @@ class Transport(asyncio.DatagramTransport):
 
     @property
     def local(self) -> Address:
-        """The address and port where it is bound."""
+        """The bound address and port."""
         return self.endpoint.local
 
     @property
     def remote(self) -> Optional[Address]:
-        """The one to whom it is connected."""
+        """The address and port of the peer, if connected."""
         return self.endpoint.remote
 
     def get_extra_info(self, name: str, default: Any = None) -> Any:
-        """As other transports: `socket`, `sockname` and `peername`."""
+        """Returns `socket`, `sockname` or `peername`, as other transports do."""
         if name == "socket":
             if self.socket is None:
                 from hingetulip.aio.datagram_socket import DatagramSocket
@@ -49,8 +49,10 @@ class Transport(asyncio.DatagramTransport):
         return super().get_extra_info(name, default)
 
     def sendto(self, data: Data, addr: Optional[Any] = None) -> None:
-        """Sends a datagram. What the system refuses, `error_received` gets, as with asyncio's own sockets.
-        OSError, TypeError and ValueError: as there."""
+        """Sends a datagram. As in asyncio, `error_received` gets the system's errors.
+
+        OSError, TypeError and ValueError: as in asyncio.
+        """
         if not isinstance(data, (bytes, bytearray, memoryview)):
             raise TypeError(f"data has to be bytes, not {type(data).__name__}")
         if self.closing:
@@ -68,7 +70,7 @@ class Transport(asyncio.DatagramTransport):
             self.protocol.error_received(fault)
 
     def take(self, it: Datagram) -> None:
-        """Takes a datagram."""
+        """Receives a datagram."""
         loop = self.loop
         loop._ready.append(Handle(self._give, (it,), loop, self.context))  # as loop.call_soon does
 
@@ -78,7 +80,7 @@ class Transport(asyncio.DatagramTransport):
             self.protocol.datagram_received(it.data, it.source if endpoint.version == 4 else endpoint.written(it.source))  # type: ignore[arg-type]
 
     def refuse(self, fault: OSError) -> None:
-        """A datagram that was sent before found a closed port."""
+        """Receives an error from a closed port."""
         self.loop.call_soon(self._tell, fault, context=self.context)
 
     def _tell(self, fault: OSError) -> None:

@@ -1,4 +1,4 @@
-"""Which tasks wait, and for what."""
+"""A report about the waiting tasks."""
 
 from __future__ import annotations
 
@@ -14,7 +14,7 @@ CHAINS = (("cr_frame", "cr_await"), ("gi_frame", "gi_yieldfrom"), ("ag_frame", "
 
 
 def step(awaited: object) -> tuple[Optional[FrameType], object]:
-    """The frame of something that waits, and what it waits for itself."""
+    """Returns a waiting object's frame, and the object that the frame waits for."""
     for frame, inner in CHAINS:
         if hasattr(awaited, inner):
             return getattr(awaited, frame), getattr(awaited, inner)
@@ -22,7 +22,7 @@ def step(awaited: object) -> tuple[Optional[FrameType], object]:
 
 
 def frames(task: asyncio.Task[object]) -> list[FrameType]:
-    """The frames of a task, from its coroutine to the innermost that waits."""
+    """Returns a task's frames, from its coroutine to the innermost waiting frame."""
     found: list[FrameType] = []
     awaited: object = task.get_coro()
     while awaited is not None:
@@ -33,13 +33,13 @@ def frames(task: asyncio.Task[object]) -> list[FrameType]:
 
 
 def own(frame: FrameType) -> bool:
-    """Whether a frame is of other code than asyncio's and this package's."""
+    """Returns whether a frame belongs to other code than asyncio or this package."""
     name = str(frame.f_globals.get("__name__", ""))
     return not name.startswith(("asyncio.", "hingetulip.aio"))
 
 
 def place(task: asyncio.Task[object]) -> str:
-    """Where a task waits: the innermost line that isn't asyncio's."""
+    """Returns a waiting task's position: the innermost line outside asyncio."""
     known = [frame for frame in frames(task) if own(frame)]
     if not known:
         return "it hasn't begun or isn't Python code"
@@ -50,7 +50,7 @@ def place(task: asyncio.Task[object]) -> str:
 
 
 def waiting(loop: Loop) -> str:
-    """The tasks of a loop that wait, a line each, in the order in which they were made."""
+    """Returns a line for each waiting task, in the order of creation."""
     lines = [
         f"\n  {task.get_name()}{f' on {task.host.name}' if task.host else ''} waits in {place(task)}" for task in loop.pending()
     ]

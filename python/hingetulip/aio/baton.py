@@ -1,0 +1,292 @@
+"""Threads of a run. A single thread runs at a time, and yields instead of waiting, so that the simulated clock can advance."""
+
+from __future__ import annotations
+
+import _thread
+import contextvars
+import math
+import os
+import socket
+import struct
+import sys
+import threading
+import time
+import traceback
+from contextlib import contextmanager
+from queue import SimpleQueue
+from typing import TYPE_CHECKING, Any, Callable, Iterator, Optional
+from unittest import mock
+
+from hingetulip.aio.datagram import NS
+from hingetulip.aio.refusals import ALLOWED, BLOCKS, HANGS, NO_THREADS, SLEEP, RealTimeError
+from hingetulip.aio.switched import Either, Function, of_run, own_of, switched, switched_methods
+from hingetulip.library import NEVER
+
+if TYPE_CHECKING:
+    from hingetulip.aio.loop import Loop
+
+Ready = Callable[[], bool]
+Really = Callable[[], Optional[bool]]
+
+MOST_TURNS = 100_000  # while the loop's own thread waits for the others
+LONGEST = 20.0  # real s that it waits for a thread of the system
+PATIENCE = 1  # real s that a thread has to end when its network is closed
+IDLE = 0.01  # s of a processor in each of these, below which the process waits, and doesn't work
+Lock: Any = _thread.LockType
+LockAgain: Any = type(threading.RLock())
+own_start = own_of(_thread, "start_new_thread")
+own_process_time = own_of(time, "process_time")
+own_acquire, own_acquire_again = Lock.acquire, LockAgain.acquire
+
+
+class Ended(SystemExit):
+    """Raised in a thread when its network ends."""
+
+
+def quiet(hook: Callable[[Any], object]) -> Callable[[Any], object]:
+    """Returns a hook for unhandled exceptions in threads that ignores `Ended`."""
+    return lambda words: None if words.exc_type is Ended else hook(words)
+
+
+def bounded_pipe() -> tuple[int, int]:
+    """Returns a pipe whose reads time out after PATIENCE. C code that waits for descriptors counts as real, but C code that reads
+    one doesn't."""
+    reader, writer = socket.socketpair()
+    reader.setsockopt(socket.SOL_SOCKET, socket.SO_RCVTIMEO, struct.pack("@ll", PATIENCE, 0))
+    return reader.detach(), writer.detach()
+
+
+class Member:
+    """A thread in a run, with its condition and its timeout in ns."""
+
+    def __init__(self) -> None:
+        self.ready: Ready = lambda: True
+        self.until = NEVER
+        self.is_ready = self.has_ended = False
+        self.sentinel: Any = None  # a lock that the system releases once the thread is gone
+        self.turn = os.pipe()
+
+
+class Baton:
+    """The threads started by a run's code. The loop's thread gives each a turn, and continues when that thread waits or ends."""
+
+    def __init__(self, loop: Loop) -> None:
+        self.loop, self.back, self.is_closing = loop, bounded_pipe(), False
+        self.has_lost = False  # a thread, which goes on as one of the system
+        self.members: dict[int, Member] = {}
+
+    def start(self, function: Callable[..., Any], words: Any = (), named: Any = {}) -> int:
+        """Starts a thread, whose first turn is in the loop's next step; returns its number."""
+        member, context, begun = Member(), contextvars.copy_context(), os.pipe()
+
+        def body() -> None:
+            of_run.add(threading.get_ident())
+            self.members[threading.get_ident()] = member
+            os.write(begun[1], b".")
+            os.read(member.turn[0], 1)
+            try:
+                if not self.is_closing:
+                    context.run(function, *words, **named)
+            finally:
+                member.has_ended = True
+                of_run.discard(threading.get_ident())
+                os.write(self.back[1], b".")
+
+        ident: int = own_start(body, ())
+        os.read(begun[0], 1)
+        for end in begun:
+            os.close(end)
+        return ident
+
+    def wait(self, ready: Ready, seconds: Optional[float] = None, really: Optional[Really] = None) -> bool:
+        """Yields until a condition is true, for at most some seconds; returns whether it is true. The loop's thread can't yield:
+        unless another thread of the run can make the condition true, the loop waits with `really`, which is None if no thread
+        could. RealTimeError: it can't wait."""
+        if ready():
+            return True
+        if seconds is not None and seconds <= 0:
+            return False
+        member = self.members.get(threading.get_ident())
+        if member is not None:
+            return self._given_way(member, ready, seconds)
+        for _ in range(MOST_TURNS):
+            if not self.step():
+                break
+            if ready():
+                return True
+        result = None if really is None else really()
+        if result is None:
+            raise RealTimeError(BLOCKS + ALLOWED)
+        return result
+
+    def _given_way(self, member: Member, ready: Ready, seconds: Optional[float]) -> bool:
+        member.ready, member.until = ready, NEVER if seconds is None else self.loop.clock.now + round(seconds * NS)
+        if not self.is_closing:
+            os.write(self.back[1], b".")
+            os.read(member.turn[0], 1)
+        if self.is_closing:
+            raise Ended
+        return member.is_ready
+
+    def gives_way(self) -> bool:
+        """Returns whether this is one of the threads, rather than the loop's thread."""
+        return threading.get_ident() in self.members
+
+    def step(self) -> bool:
+        """Gives a turn to each thread that can go on; whether there was one."""
+        turns = 0
+        for ident, member in list(self.members.items()):
+            member.is_ready = member.ready()
+            if member.is_ready or self.is_closing or self.loop.clock.now >= member.until:
+                turns += 1
+                self._turn(ident, member)
+        return bool(turns)
+
+    def _comes_back(self) -> bool:
+        """Returns whether the current thread yields or ends in time. While the network is open, a working thread has unlimited
+        time."""
+        seconds = 0
+        while seconds < (PATIENCE if self.is_closing else LONGEST):
+            worked = own_process_time()
+            try:
+                return bool(os.read(self.back[0], 1))
+            except BlockingIOError:
+                seconds += PATIENCE * (self.is_closing or own_process_time() - worked < IDLE)
+        return False
+
+    def _lost(self, ident: int) -> None:
+        """Lets a thread continue as an ordinary thread. RealTimeError: the network is open, and the run can't continue without the
+        thread."""
+        del self.members[ident]
+        of_run.discard(ident)
+        self.has_lost = True
+        if not self.is_closing:
+            self.is_closing = True
+            place = "".join(traceback.format_stack(sys._current_frames().get(ident), 3))
+            raise RealTimeError(f"{HANGS}{ALLOWED}\n{place}")
+
+    def _turn(self, ident: int, member: Member) -> None:
+        os.write(member.turn[1], b".")
+        if not self._comes_back():
+            self._lost(ident)
+        elif member.has_ended:
+            del self.members[ident]
+            for end in member.turn:
+                os.close(end)
+            while member.sentinel is not None and not own_acquire(member.sentinel, False):
+                os.stat("/")  # which lets the other thread go on and, unlike a wait for the lock, isn't counted as real
+            if member.sentinel is not None:
+                member.sentinel.release()
+
+    def until(self) -> int:
+        """Returns the next moment in ns at which a thread's timeout ends, or NEVER."""
+        return min((member.until for member in self.members.values()), default=NEVER)
+
+    def close(self) -> None:
+        """Ends all threads, where they wait."""
+        self.is_closing = True
+        with mock.patch.object(threading, "excepthook", quiet(threading.excepthook)):
+            self.step()
+        if not self.has_lost:
+            for end in self.back:
+                os.close(end)
+
+    # What the functions of the system are for threads of the run.
+
+    def sleep(self, own: Function) -> Function:
+        def sleep(seconds: float) -> None:
+            if not self.gives_way():
+                raise RealTimeError(SLEEP + ALLOWED)
+            self.wait(lambda: False, max(seconds, 1 / NS))
+
+        return sleep
+
+    def start_new_thread(self, own: Function) -> Function:
+        return self.start
+
+    def start_joinable_thread(self, own: Function) -> Function:
+        """Returns a function that refuses the threads of Python 3.13, which would be the system's."""
+
+        def refuse(*_: Any, **__: Any) -> int:
+            raise RealTimeError(NO_THREADS)
+
+        return refuse
+
+    def set_sentinel(self, own: Function) -> Function:
+        def sentinel() -> Any:
+            lock = own()
+            if threading.get_ident() in self.members:
+                self.members[threading.get_ident()].sentinel = lock
+            return lock
+
+        return sentinel
+
+    def acquire(self, own: Function) -> Function:
+        """Returns a lock's `acquire` that waits for another thread's release."""
+
+        def acquire(lock: Any, blocking: bool = True, timeout: float = -1) -> bool:
+            def really() -> Optional[bool]:
+                if _thread._count() <= len(self.members):
+                    return None  # and no thread of the system could release the lock
+                is_bounded = 0 <= timeout < LONGEST
+                return own_acquire(lock, True, timeout if is_bounded else LONGEST) or (False if is_bounded else None)
+
+            return (
+                bool(own_acquire(lock, False))
+                or blocking
+                and self.wait(lambda: bool(own_acquire(lock, False)), None if timeout == -1 else timeout, really)
+            )
+
+        return acquire
+
+    def acquire_again(self, own: Function) -> Function:
+        """Returns the `acquire` of a reentrant lock, which the thread itself must call."""
+
+        def is_free(lock: Any) -> bool:
+            return own_acquire_again(lock, False) and not lock.release()
+
+        def acquire(lock: Any, blocking: bool = True, timeout: float = -1) -> bool:
+            until = math.inf if timeout == -1 else self.loop.clock.seconds + timeout
+            while not own_acquire_again(lock, False):
+                left = until - self.loop.clock.seconds
+                if not self.gives_way():
+                    return bool(own_acquire_again(lock, blocking, *[timeout] * blocking))  # of a thread of the system
+                if not blocking or not self.wait(lambda: is_free(lock), None if left == math.inf else left):
+                    return False
+            return True
+
+        return acquire
+
+    def acquire_restore(self, own: Function) -> Function:
+        again = self.acquire_again(own)
+        return lambda lock, state: [again(lock) for _ in range(state[0])] and None
+
+    def get(self, own: Function) -> Function:
+        def get(queue: Any, block: bool = True, timeout: Optional[float] = None) -> Any:
+            if block:
+                self.wait(lambda: not queue.empty(), timeout)
+            return own(queue, False)
+
+        return get
+
+    @contextmanager
+    def held(self) -> Iterator[None]:
+        """Makes threads of the run yield within the context."""
+        methods: dict[tuple[type, str], Either] = {
+            **{(Lock, name): self.acquire for name in ("acquire", "acquire_lock", "__enter__")},
+            **{(LockAgain, name): self.acquire_again for name in ("acquire", "__enter__")},
+            (LockAgain, "_acquire_restore"): self.acquire_restore,
+            (SimpleQueue, "get"): self.get,
+        }
+        functions: dict[Any, Either] = {
+            (_thread, "start_new_thread"): self.start_new_thread,
+            (_thread, "start_new"): self.start_new_thread,
+            (_thread, "start_joinable_thread"): self.start_joinable_thread,
+            (_thread, "_set_sentinel"): self.set_sentinel,
+        }
+        of_run.update({threading.get_ident(), *self.members})
+        try:
+            with switched(functions), switched_methods(methods):
+                yield
+        finally:
+            of_run.clear()

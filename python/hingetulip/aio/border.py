@@ -1,0 +1,93 @@
+"""C code during a run, controlled by hinge-clock.so: OpenSSL's clock, random numbers from the seed, and the calls that reached the
+system."""
+
+from __future__ import annotations
+
+import ctypes
+import os
+from collections import Counter
+from contextlib import contextmanager
+from ctypes import POINTER, c_char_p, c_int, c_int64, c_size_t, c_uint, c_uint64, c_void_p
+from pathlib import Path
+from typing import Any, Callable, Iterator, Optional
+
+from hingetulip.aio.clock import Clock
+from hingetulip.aio.switched import switched
+
+PYTHON = Path(__file__).resolve().parents[2]
+PLACES = ("../built", "../release", "hinge")  # of a clone, and of what is installed
+BEHIND = 2**32 - 1  # what the library answers behind the last count
+FUNCTIONS = {
+    "hinge_border": (None,),
+    "hinge_seed": (None, c_uint64),
+    "hinge_random": (c_int, c_void_p, c_int),
+    "hinge_run": (None, c_void_p, c_int64, c_uint64),
+    "hinge_called": (c_uint, c_size_t, POINTER(c_char_p), POINTER(c_char_p)),
+}
+
+
+class ClockWarning(UserWarning):
+    """A warning of earlier versions for OpenSSL's use of the real clock. OpenSSL uses the simulated clock now, so the module never
+    raises this warning."""
+
+
+def loaded() -> Optional[Any]:
+    """Returns the library: preloaded, named by HINGE_CLOCK, or built or installed with this package."""
+    own = os.environ.get("HINGE_CLOCK")
+    for place in (None, *([own] if own else (str(PYTHON / place / "hinge-clock.so") for place in PLACES))):
+        try:
+            library = ctypes.PyDLL(place)
+            for name, (result, *words) in FUNCTIONS.items():
+                function = getattr(library, name)
+                function.restype, function.argtypes = result, words
+        except (AttributeError, OSError):
+            continue
+        return library
+    return None
+
+
+LIBRARY = loaded()
+
+
+def calls() -> Counter[str]:
+    """Returns how often libraries called real functions since the last call, such as `libzmq.so.5 connect`."""
+    found, library, function = Counter[str](), c_char_p(), c_char_p()
+    for place in range(BEHIND):
+        count = LIBRARY.hinge_called(place, library, function) if LIBRARY is not None else BEHIND
+        if count == BEHIND:
+            break
+        if count:
+            found[f"{os.path.basename(library.value or b'').decode()} {(function.value or b'').decode()}"] += count
+    return found
+
+
+def bound_anew(own: Callable[..., Any]) -> Callable[..., Any]:
+    """Returns a loader of libraries that gives each one the run's functions."""
+
+    def load(*words: Any, **named: Any) -> Any:
+        try:
+            return own(*words, **named)
+        finally:
+            LIBRARY.hinge_border()  # type: ignore[union-attr]
+
+    return load
+
+
+@contextmanager
+def border(clock: Clock, epoch: int, seed: int) -> Iterator[None]:
+    """Gives this thread's C code a run's clock and random numbers within the context, and counts its calls."""
+    if LIBRARY is None:
+        yield
+        return
+    import _ctypes
+    import _imp
+
+    loads = {(_imp, "create_dynamic"): bound_anew, (_ctypes, "dlopen"): bound_anew}
+    LIBRARY.hinge_border()
+    calls()
+    LIBRARY.hinge_run(clock.place, epoch, seed)
+    try:
+        with switched(loads):
+            yield
+    finally:
+        LIBRARY.hinge_run(None, 0, 0)

@@ -1,0 +1,35 @@
+"""A link's effects beyond dummynet's: doubled packets, and each packet's extra delay in ms."""
+
+from __future__ import annotations
+
+from typing import TYPE_CHECKING, Callable, Optional
+
+from hingetulip.aio.datagram import Datagram
+from hingetulip.aio.drawn import word
+
+if TYPE_CHECKING:
+    from hingetulip_words.link import Extra
+
+OF_JITTER, OF_COPIES = 1 << 20, 2 << 20  # streams of random words apart from those of losses, as the hosts of links have them
+LOSES_NONE = 2**31 - 1
+IS_LOST, IS_TWICE, IS_LATE = "lost", "twice", "late"  # what happens to a packet
+MOST = 3_600_000  # ms that a pipe can delay
+DelayOf = Callable[[Datagram], float]
+LateOf = Callable[[int], int]  # of a packet's number, from 1
+IsTwice = Callable[[int], bool]
+
+
+def of_words(extra: Extra, seed: int, pipe: int) -> tuple[Optional[LateOf], Optional[IsTwice]]:
+    """Returns the effects that a link's words request, such as `jitter 10ms duplicate 1%`."""
+    late: LateOf = lambda number: word(seed, OF_JITTER + pipe, number) % (extra.jitter + 1)
+    is_twice: IsTwice = lambda number: word(seed, OF_COPIES + pipe, number) < extra.duplicate
+    return late if extra.jitter else None, is_twice if extra.duplicate else None
+
+
+def whole(delay: float) -> int:
+    """Returns a delay in whole ms, 0 to 3,600,000. ValueError: the number isn't in this range."""
+    if delay != int(delay) or not 0 <= delay <= MOST:
+        raise ValueError(
+            f"jitter returned {delay!r}: a datagram is late by whole milliseconds, 0 to {MOST}; return round(..) of it"
+        )
+    return int(delay)

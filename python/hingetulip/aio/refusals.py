@@ -1,0 +1,15 @@
+"""The functions that a run in simulated time refuses, since they depend on the real clock or network."""
+
+from __future__ import annotations
+
+SOCKET = "a socket of the system reaches the real network: simulated hosts have datagrams alone, by `socket.socket` and the loop"
+NO_TCP = "simulated hosts have datagrams alone: `hinge run --simulated` takes programs with the kernel's TCP into simulated time"
+SLEEP = "time.sleep stops no simulated clock: write `await asyncio.sleep(..)`, or `await asyncio.to_thread(function, ..)`"
+BLOCKS = "a call that waits stops the loop, and with it the simulated clock: write `await asyncio.to_thread(function, ..)`, or `await loop.sock_recv(..)`"
+HANGS = "a thread of the run has waited for something real for 20 s, and the simulated clock stood still: give that wait a timeout"
+NO_THREADS = "this Python starts threads by another function: those of a run need Python 3.9 to 3.12"
+ALLOWED = ", or set `real` of the network"
+
+
+class RealTimeError(RuntimeError):
+    """Raised if code in simulated time depends on the real clock or the real network."""
