@@ -1,8 +1,8 @@
 """Tests by pytest: `cd python && pytest [-k NAME] [FILE ..]`. What a machine lacks is skipped, with the reason.
 
-The variables DUMMYNET, HINGE_LINK and HINGE_KERNEL name the program, the host and the kernel's folder, those of this
-checkout by default, and HINGETULIP_LIBRARY the library in C. HINGE_LONG=yes tries the long tests too. The module is the
-one that PYTHONPATH finds, else the one of this checkout.
+The variables DUMMYNET, HINGE_LINK and HINGE_KERNEL name the program, the host and the kernel's folder, those of this checkout by
+default, and HINGETULIP_LIBRARY the library in C. HINGE_LONG=yes tries the long tests too. The module comes from PYTHONPATH, or
+otherwise from this checkout.
 """
 
 from __future__ import annotations
@@ -61,6 +61,7 @@ def lacking_kernel() -> str:
 def pytest_configure() -> None:
     # A shell's command in the background ignores it, and so would the programs that the tests interrupt.
     signal.signal(signal.SIGINT, signal.default_int_handler)
+    signal.signal(signal.SIGHUP, signal.SIG_DFL)  # which nohup ignores, and so would all programs that tests end by it
     name_what_is_built()
 
 

@@ -5,6 +5,7 @@ from __future__ import annotations
 import importlib.util
 import os
 import re
+import shlex
 import subprocess
 import sys
 import tempfile
@@ -77,13 +78,7 @@ class Runs(unittest.TestCase):
         }
         command = [
             sys.executable,
-            "-m",
-            "pytest",
-            "-p",
-            "hinge.pytest_plugin",
-            "-p",
-            "no:cacheprovider",
-            f"--basetemp={folder.name}/tmp",
+            *shlex.split(f"-m pytest -p hinge.pytest_plugin -p no:cacheprovider --basetemp={folder.name}/tmp"),
             *words,
             str(file),
         ]

@@ -1,4 +1,4 @@
-"""The reference of this repository beside the module: its scenarios, and the module's answers in its words."""
+"""The repository's reference beside the module: its scenarios, and the module's answers in its words."""
 
 from __future__ import annotations
 
@@ -8,7 +8,7 @@ from pathlib import Path
 from typing import Iterable, Optional, Sequence
 
 TOOLS = Path(__file__).resolve().parents[2] / "tools"
-sys.path[:0] = [str(TOOLS / "reference"), str(TOOLS / "oracle")]
+sys.path.insert(0, str(TOOLS / "oracle"))
 
 import hingetulip  # noqa: E402
 import model  # noqa: E402

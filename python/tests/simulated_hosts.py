@@ -13,7 +13,7 @@ PROGRAM = os.environ.get("DUMMYNET") or str(TOP / "dummynet")
 
 
 class Ends(asyncio.DatagramProtocol):
-    """Keeps what came and when, and sends it back where it is asked to."""
+    """Keeps the arrivals with their moments, and sends them back on request."""
 
     def __init__(self, echoes: bool = False) -> None:
         self.echoes, self.got, self.faults = echoes, [], []

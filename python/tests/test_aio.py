@@ -92,7 +92,7 @@ class Moments(unittest.TestCase):
             self.assertEqual([it[2] for it in net.run(main()).got], [2 * MS])
 
     def test_a_route_and_a_link_under_way(self) -> None:
-        """What was sent before keeps its way, and what follows takes the new one: 1 ms + 1 ms, and then 50 ms."""
+        """Earlier packets keep their way, and later packets use the new way: 1 ms + 1 ms, and then 50 ms."""
         with aio.Network() as net:
             one, middle, far = (net.host(f"10.0.{n}.1") for n in range(3))
             net.path(one, middle, "1ms")
@@ -117,16 +117,16 @@ class Moments(unittest.TestCase):
         with network("bw 8Mbit/s delay 20ms plr 1 queue 5") as net:
             link = net.links[tuple(net.hosts.values())]
             for words, line in (
-                ("plr 0", "plr 0"),
-                ("bw 8Mbit/s mask src-ip 0xff", "bw 8Mbit/s mask src-ip 0xff"),
-                ("loss 0.5% 4ms 1MByte/s", "plr 0.005 delay 4ms bw 1MByte/s"),
+                ("plr 0 bw 0 delay 0 queue 50", "plr 0 bw 0 delay 0 queue 50"),
+                ("bw 8Mbit/s 20ms plr 0 queue 5 mask src-ip 0xff", "bw 8Mbit/s delay 20ms plr 0 queue 5 mask src-ip 0xff"),
+                ("loss 0.5% 4ms 1MByte/s queue 5", "plr 0.005 delay 4ms bw 1MByte/s queue 5"),
             ):
                 link.change(words)
                 self.assertEqual(link.line, f"pipe 1 config {line}")
-            for words in ("plr lots", "", " "):
+            for words in ("plr lots", "", " ", "plr 0"):
                 with self.assertRaises(LineError):
                     link.change(words)
-            self.assertEqual(link.line, "pipe 1 config plr 0.005 delay 4ms bw 1MByte/s")
+            self.assertEqual(link.line, "pipe 1 config plr 0.005 delay 4ms bw 1MByte/s queue 5")
             self.assertRaises(TypeError, lambda: link.change(plr=0))
 
     def test_a_change_under_way(self) -> None:
@@ -188,3 +188,50 @@ class Moments(unittest.TestCase):
             done = subprocess.run([PROGRAM, "audit", history], capture_output=True, text=True)
         self.assertEqual([(it[0][:1], it[2]) for it in got], [(b"1", 3 * MS), (b"1", 4 * MS), (b"2", 10 * MS), (b"0", 12 * MS)])
         self.assertRegex(done.stdout, r"^lawful \d+\n$")
+
+    def test_words_of_jitter_and_duplicates(self) -> None:
+        with network("20ms jitter 9ms duplicate 50%", seed=3) as net:
+
+            async def main() -> Ends:
+                one, other = list(net.hosts.values())
+                _, there = await other.endpoint(Ends, 7)
+                transport, _ = await one.endpoint(Ends, remote=("10.0.0.2", 7))
+                for number in range(20):
+                    transport.sendto(b"%d" % number)
+                await asyncio.sleep(1)
+                return there
+
+            moments = [moment // MS for _, _, moment in net.run(main()).got]
+        self.assertTrue(20 < len(moments) < 40 and 20 <= min(moments) <= 21 and 28 <= max(moments) <= 29, moments)
+
+
+class Ended(unittest.TestCase):
+    def test_a_socket_that_outlives_its_run(self) -> None:
+        async def main() -> asyncio.DatagramTransport:
+            net = aio.network()
+            one, other = net.host("10.0.0.1", name="one"), net.host("10.0.0.2")
+            net.path(one, other, "20ms")
+            return (await one.endpoint(asyncio.DatagramProtocol, 5, remote=("10.0.0.2", 7)))[0]
+
+        with aio.Network() as net:
+            transport = net.run(main())
+            self.assertEqual(repr(net), "<Network of 2 hosts at 0 s>")
+            transport.sendto(b"")
+            socket = transport.get_extra_info("socket")
+        with self.assertRaisesRegex(RuntimeError, "a socket of one at port 5 outlives its run"):
+            socket.send(b"")
+
+    def test_a_network_in_a_coroutine(self) -> None:
+        async def main() -> bool:
+            async with aio.network() as net:
+                task = net.host("10.0.0.1").create_task(asyncio.sleep(99))
+                await asyncio.sleep(1)
+            return task.cancelled()
+
+        async def beside() -> None:
+            async with aio.Network():
+                pass
+
+        self.assertTrue(aio.run(main()))
+        with self.assertRaisesRegex(RuntimeError, "a network has a loop of its own: write `with"):
+            asyncio.run(beside())

@@ -3,6 +3,7 @@
 from __future__ import annotations
 
 import asyncio
+import errno
 import threading
 import unittest
 
@@ -99,28 +100,19 @@ class Faults(unittest.TestCase):
 
             net.run(elsewhere())
 
-    def test_what_a_socket_refuses(self) -> None:
+    def test_what_leads_nowhere_is_counted(self) -> None:
         with network("") as net:
             net.host("10.0.0.9")
 
             async def main() -> list[Exception]:
                 ends = await opened()
-                with self.assertRaises(OSError):
-                    ends.transport.sendto(b"to nobody")
-                with self.assertRaises(TypeError):
-                    ends.transport.sendto("text", ("10.0.0.2", 1))
-                for data, host in ((bytes(65508), "10.0.0.2"), (b"x", "10.0.0.9"), (b"x", "10.9.9.9"), (bytes(65507), "10.0.0.2")):
+                for data, host in ((b"x", "10.0.0.9"), (b"x", "10.9.9.9"), (bytes(65507), "10.0.0.2")):
                     ends.transport.sendto(data, (host, 1))
                 await asyncio.sleep(1)
-                connected = await opened(remote=("10.0.0.2", 1))
-                with self.assertRaises(ValueError):
-                    connected.transport.sendto(b"x", ("10.0.0.9", 1))
                 return ends.faults
 
-            async def on_host() -> list[Exception]:
-                return await net.hosts["10.0.0.1"].create_task(main())
-
-            self.assertEqual([it.errno for it in net.run(on_host())], [90, 101, 101])  # EMSGSIZE, ENETUNREACH
+            faults = net.run(net.hosts["10.0.0.1"].create_task(main()))
+            self.assertEqual([it.errno for it in faults], [errno.ENETUNREACH] * 2)
             self.assertEqual(dict(net.unrouted), {"10.0.0.1 > 10.0.0.9": 1, "10.0.0.1 > 10.9.9.9": 1})
             self.assertEqual(dict(net.unheard), {"10.0.0.2:1": 1})
 

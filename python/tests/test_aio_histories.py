@@ -1,7 +1,8 @@
-"""Histories of runs in simulated time: lawful, plain, and those of a shaper that writes one."""
+"""Histories of runs in simulated time: valid, plain, and from a shaper that writes a history."""
 
 from __future__ import annotations
 
+import re
 import subprocess
 import tempfile
 import unittest
@@ -9,8 +10,10 @@ from contextlib import nullcontext
 from pathlib import Path
 from unittest import mock
 
+import pytest
+
 from hingetulip import LineError, Outcome, RefusedError
-from hingetulip.aio.history import History
+from hingetulip.history_file import Recording
 from hingetulip.recorded import RecordedShaper
 from simulated_hosts import PROGRAM, exchange, network
 
@@ -36,16 +39,14 @@ class Histories(unittest.TestCase):
 
                 net.run(main())
                 dropped = list(net.dropped)
-            self.assertEqual({it.outcome for it in dropped}, {Outcome.LOST, Outcome.FULL})
+            assert {it.outcome for it in dropped} == {Outcome.LOST, Outcome.FULL}
             lines = history.read_text().splitlines()
             done = subprocess.run([PROGRAM, "audit", history], capture_output=True, text=True)
-        self.assertRegex(done.stdout, r"^lawful \d+\n$")
-        self.assertEqual(lines[0], "dummynet-history,3")
-        self.assertEqual([it for it in lines if it.startswith("#")], [])
+        assert re.search(r"^lawful \d+\n$", done.stdout)
+        assert lines[0] == "dummynet-history,3"
+        assert [it for it in lines if it.startswith("#")] == []
         replies = [reply for call, reply in zip(lines, lines[1:]) if call.startswith("c,0,submit")]
-        self.assertEqual(
-            [it.row for it in dropped], [row for row, reply in enumerate(replies, 1) if not reply.startswith("r,queued")]
-        )
+        assert [it.row for it in dropped] == [row for row, reply in enumerate(replies, 1) if not reply.startswith("r,queued")]
 
     def test_lines_that_are_refused_or_say_nothing(self) -> None:
         with tempfile.TemporaryDirectory() as folder:
@@ -59,7 +60,7 @@ class Histories(unittest.TestCase):
                         ("pipe 7 delete", RefusedError),
                         ("pipe 1 bad", LineError),
                     ):
-                        with self.assertRaises(error):
+                        with pytest.raises(error):
                             net.obey(line)
                     for line in ("# nothing", "pipe 2\rconfig  delay 5ms # a note", "pipe delete 2"):
                         net.obey(line)
@@ -67,26 +68,24 @@ class Histories(unittest.TestCase):
                 net.run(main())
             lines = history.read_text().splitlines()
             done = subprocess.run([PROGRAM, "audit", history], capture_output=True, text=True)
-        self.assertRegex(done.stdout, r"^lawful \d+\n$")
-        self.assertEqual(
-            [
-                ("c,0,configure,queue 9 config pipe 999", "r,no-such-pipe"),
-                ("c,0,configure,pipe delete 7", "r,no-such-pipe"),
-                ("c,0,configure,pipe 2 config delay 5", "r,configured"),
-                ("c,0,configure,pipe delete 2", "r,deleted"),
-            ],
-            [pair for pair in zip(lines, lines[1:]) if pair[0].startswith("c,0,configure")][2:],
-        )
+        assert re.search(r"^lawful \d+\n$", done.stdout)
+        assert [
+            ("c,0,configure,queue 9 config pipe 999", "r,no-such-pipe"),
+            ("c,0,configure,pipe delete 7", "r,no-such-pipe"),
+            ("c,0,configure,pipe 2 config delay 5", "r,configured"),
+            ("c,0,configure,pipe delete 2", "r,deleted"),
+        ] == [pair for pair in zip(lines, lines[1:]) if pair[0].startswith("c,0,configure")][2:]
 
     def test_what_was_not_written_is_written_once(self) -> None:
-        entry = b"c,0,configure,pipe 1 config\nr,configured\n" * 2000
+        entry = b"c,0,configure,pipe 1 config\nr,configured\n"
         with tempfile.TemporaryDirectory() as folder:
-            history = History(Path(folder) / "h")
-            history.add(memoryview(entry))
+            history = Recording(Path(folder) / "h")
+            for _ in range(1000):
+                history.add_line(b"pipe 1 config", 0)
             with mock.patch.object(history._file, "_file", mock.Mock(write=mock.Mock(side_effect=OSError))):
-                self.assertRaises(OSError, history.end)
+                pytest.raises(OSError, history.end)
             history.end()
-            self.assertEqual((Path(folder) / "h").read_bytes(), b"dummynet-history,3\n" + entry + b"end,1\n")
+            assert (Path(folder) / "h").read_bytes() == b"dummynet-history,3\n" + 1000 * entry + b"end,1000\n"
 
 
 class Recorded(unittest.TestCase):
@@ -107,19 +106,19 @@ class Recorded(unittest.TestCase):
                     ("queue delete 1", RefusedError),
                     ("queue 1 config pipe 9", RefusedError),
                 ):
-                    with self.assertRaises(error):
+                    with pytest.raises(error):
                         shaper.configure(line)
                 shaper.submit(0, 1000, pipe=1)
                 shaper.submit(0, 1000, pipe=2)
                 shaper.submit(True, 1000, pipe=True, queue=None, dst=Number())
                 shaper.advance(5)
-                self.assertEqual([it.due for it in shaper.collect(MS)], [MS])
+                assert [it.due for it in shaper.collect(MS)] == [MS]
                 shaper.collect(0)
                 for call, given in ((shaper.submit_many, None), (shaper.collect_many, 0)):
-                    with self.assertRaises(NotImplementedError):
+                    with pytest.raises(NotImplementedError):
                         call(given)
             done = subprocess.run([PROGRAM, "audit", history], capture_output=True, text=True)
-        self.assertEqual(done.stdout, "lawful 12\n")
+        assert done.stdout == "lawful 12\n"
 
     def test_lines_are_written_in_their_canonical_form(self) -> None:
         lines = {
@@ -141,7 +140,7 @@ class Recorded(unittest.TestCase):
             done = subprocess.run([PROGRAM, "audit", history], capture_output=True, text=True)
             text = history.read_bytes().decode()
         wanted = "".join(f"c,0,configure,{line}\nr,{reply}\n" for line, reply in zip(lines.values(), replies))
-        self.assertEqual((done.stdout, text), ("lawful 7\n", f"dummynet-history,3\n{wanted}end,7\n"))
+        assert (done.stdout, text) == ("lawful 7\n", f"dummynet-history,3\n{wanted}end,7\n")
 
     def test_its_texts_are_the_programs(self) -> None:
         with tempfile.TemporaryDirectory() as folder:
@@ -156,10 +155,10 @@ class Recorded(unittest.TestCase):
                         shaper.advance(i * MS // 3)
                     if i % 40 == 0:
                         shaper.collect(i * MS // 4)
-                self.assertGreater(len(shaper.collect(10**10)), 10)
+                assert len(shaper.collect(10**10)) > 10
             text = history.read_bytes()
         calls = b"".join(line for line in text.splitlines(keepends=True) if line.startswith(b"c,"))
         done = subprocess.run([PROGRAM, "live"], input=calls, capture_output=True)
-        self.assertEqual(done.stdout.partition(b"\n")[2], text.partition(b"\n")[2])
+        assert done.stdout.partition(b"\n")[2] == text.partition(b"\n")[2]
         for reply in (b"\nr,lost,", b"\nr,full,", b"\nr,no-target,", b"\nd,"):
-            self.assertIn(reply, text)
+            assert reply in text

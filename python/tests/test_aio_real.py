@@ -1,25 +1,27 @@
-"""What a run leaves behind in modules that were imported in it, and what is real and refused or told."""
+"""Effects that a run leaves in modules imported meanwhile, and real calls that are refused or reported."""
 
 from __future__ import annotations
 
 import asyncio
 import importlib
 import os
+import select
 import socket
 import subprocess
 import sys
 import tempfile
 import threading
 import time
-import types
 import unittest
 from pathlib import Path
 from textwrap import dedent
 from typing import Any, Callable
 from unittest import mock
 
+import pytest
+
 from hingetulip import aio
-from hingetulip.aio.jitter import whole
+from hingetulip.aio import simulated
 
 TOP = Path(__file__).resolve().parents[2]
 LATER = """
@@ -61,22 +63,22 @@ class ModulesImportedInARun(unittest.TestCase):
 
     def test_three_runs_by_a_seed_are_one(self) -> None:
         runs = {aio.run(self.main(), seed=5) for _ in range(3)}
-        self.assertEqual(1, len(runs), runs)
+        assert 1 == len(runs), runs
         ((_, monotonic, moment),) = runs
-        self.assertEqual((7.0, 1_700_000_007.0), (monotonic, moment))
-        self.assertNotEqual(runs, {aio.run(self.main(), seed=6)})
+        assert (7.0, 1_700_000_007.0) == (monotonic, moment)
+        assert runs != {aio.run(self.main(), seed=6)}
 
     def test_behind_the_run_they_are_the_systems(self) -> None:
         aio.run(self.main())
         later: Any = sys.modules["imported_in_a_run"]
         before = time.monotonic()
-        self.assertTrue(before <= later.monotonic() <= time.monotonic())
-        self.assertNotEqual(later.urandom(16), later.urandom(16))
-        self.assertEqual(socket.gethostname(), later.gethostname())
+        assert before <= later.monotonic() <= time.monotonic()
+        assert later.urandom(16) != later.urandom(16)
+        assert socket.gethostname() == later.gethostname()
         later.sleep(0)
-        self.assertTrue(later.getaddrinfo("127.0.0.1", 9))
+        assert later.getaddrinfo("127.0.0.1", 9)
 
-    def test_queues_of_threads_wait_by_the_real_clock(self) -> None:
+    def test_queues_of_the_loops_own_thread_are_refused(self) -> None:
         done = run_alone(
             """
             import asyncio
@@ -86,8 +88,8 @@ class ModulesImportedInARun(unittest.TestCase):
                 await asyncio.sleep(5)
                 try:
                     queue.Queue().get(timeout=0.01)
-                except queue.Empty:
-                    print("empty in the run")
+                except aio.RealTimeError:
+                    print("refused in the run")
             aio.run(main())
             import queue
             try:
@@ -96,7 +98,7 @@ class ModulesImportedInARun(unittest.TestCase):
                 print("empty behind the run")
             """
         )
-        self.assertEqual(("empty in the run\nempty behind the run\n", ""), (done.stdout, done.stderr))
+        assert ("refused in the run\nempty behind the run\n", "") == (done.stdout, done.stderr)
 
 
 class Real(unittest.TestCase):
@@ -104,7 +106,7 @@ class Real(unittest.TestCase):
         async def main() -> None:
             call()
 
-        with self.assertRaisesRegex(fault, text):
+        with pytest.raises(fault, match=text):
             aio.run(main())
 
     def test_a_stream_socket_says_how_tcp_is_had(self) -> None:
@@ -130,30 +132,24 @@ class Real(unittest.TestCase):
                 socket.getaddrinfo("server", port, type=kind)[0][1:]
                 for port, kind in (("ntp", socket.SOCK_DGRAM), ("http", socket.SOCK_STREAM), (b"domain", 0), ("8080", 0))
             ]
-            with self.assertRaises(socket.gaierror):
+            with pytest.raises(socket.gaierror):
                 socket.getaddrinfo("server", "no-such-service")
             return [(int(kind), protocol, address) for kind, protocol, _, address in found]
 
-        self.assertEqual(
-            [
-                (socket.SOCK_DGRAM, 17, ("10.0.0.1", 123)),
-                (socket.SOCK_STREAM, 6, ("10.0.0.1", 80)),
-                (socket.SOCK_DGRAM, 17, ("10.0.0.1", 53)),
-                (socket.SOCK_DGRAM, 17, ("10.0.0.1", 8080)),
-            ],
-            aio.run(main()),
-        )
+        assert [
+            (socket.SOCK_DGRAM, 17, ("10.0.0.1", 123)),
+            (socket.SOCK_STREAM, 6, ("10.0.0.1", 80)),
+            (socket.SOCK_DGRAM, 17, ("10.0.0.1", 53)),
+            (socket.SOCK_DGRAM, 17, ("10.0.0.1", 8080)),
+        ] == aio.run(main())
 
     def test_packets_of_a_card_and_other_loops_are_refused(self) -> None:
         def sends() -> None:
             with socket.socket(socket.AF_PACKET, socket.SOCK_RAW) as card:
                 card.sendto(b"", ("lo", 0))
 
-        trio = types.ModuleType("trio")
-        setattr(trio, "run", lambda main: "by the real clock")
-        with mock.patch.dict(sys.modules, {"trio": trio}):
-            self.refused(lambda: getattr(trio, "run")(None), "another event loop")
-        self.assertEqual("by the real clock", getattr(trio, "run")(None))
+        with select.epoll() as epoll:
+            self.refused(lambda: epoll.poll(9), "await asyncio.to_thread")
         try:
             socket.socket(socket.AF_PACKET, socket.SOCK_RAW).close()
         except PermissionError:
@@ -168,48 +164,87 @@ class Real(unittest.TestCase):
             return aio.network().report()
 
         with socket.socket(socket.AF_INET, socket.SOCK_DGRAM) as own:
-            with self.assertRaisesRegex(aio.RealTimeError, "the real network"):
+            with pytest.raises(aio.RealTimeError, match="the real network"):
                 aio.run(waits_for(own.fileno()))
         one, other = socket.socketpair()
         with one, other:
-            self.assertIn(f"real: the loop waited for descriptors of the system ({one.fileno()})", aio.run(waits_for(one.fileno())))
+            assert f"real: the loop waited for descriptors of the system ({one.fileno()})" in aio.run(waits_for(one.fileno()))
 
     def test_a_thread_that_reached_the_system_is_told(self) -> None:
+        is_under_way, has_asked = threading.Event(), threading.Event()
+
         def asks() -> None:
+            is_under_way.wait()
             with socket.socket(socket.AF_INET, socket.SOCK_STREAM) as own:
                 own.connect_ex(("127.0.0.1", 9))
+            has_asked.set()
 
         async def main() -> str:
-            thread = threading.Thread(target=asks, name="asker")
-            thread.start()
-            thread.join()
+            is_under_way.set()
+            assert has_asked.wait(9)
             return aio.network().report()
 
-        self.assertIn("real: the thread asker used a socket of the system", aio.run(main()))
+        thread = threading.Thread(target=asks, name="asker")
+        thread.start()
+        assert "real: the thread asker used a socket of the system" in aio.run(main())
+        thread.join()
 
 
-class LongRuns(unittest.TestCase):
-    def test_timers_of_years(self) -> None:
-        async def main() -> list[float]:
-            moments = []
-            for days in (97, 98, 365, 20_000):
-                await asyncio.sleep(days * 86_400.25)
-                await asyncio.sleep(0.001)
-                moments.append(asyncio.get_running_loop().time())
-            return moments
+class OfOneThread(unittest.TestCase):
+    """A run replaces the system's functions in its thread, by whatever name, and only there."""
 
-        seconds = [97, 195, 560, 20_560]
-        for moment, days in zip(aio.run(main()), seconds):
-            self.assertAlmostEqual(days * 86_400.25, moment, delta=0.1)
+    def test_a_name_that_a_test_gives_another_function(self) -> None:
+        """As by pytest's monkeypatch, which puts back what it found in the run when that has ended."""
+        own = {name: getattr(time, name) for name in ("sleep", "time", "monotonic")}
+        patches = mock.patch.multiple(time, **{name: lambda *_: 5 for name in own})
 
+        async def main() -> None:
+            patches.start()
+            assert (5, 5) == (time.time(), time.sleep(9))
 
-class Jitter(unittest.TestCase):
-    def test_whole_milliseconds_alone(self) -> None:
-        self.assertEqual([0, 80, 3_600_000], [whole(0), whole(80.0), whole(3_600_000)])
-        for delay in (1.5, -1, 3_600_001):
-            with self.assertRaisesRegex(ValueError, "jitter returned .* whole milliseconds"):
-                whole(delay)
+        aio.run(main())
+        patches.stop()
+        aio.run(asyncio.sleep(1))
+        assert own == {name: getattr(time, name) for name in own}
+        time.sleep(0)
+        assert time.time() > 1_700_000_100
 
+    def test_a_loop_in_another_thread_goes_on(self) -> None:
+        beats, is_over = [0.0], threading.Event()
 
-if __name__ == "__main__":
-    unittest.main()
+        async def beat() -> None:
+            while not is_over.is_set():
+                await asyncio.sleep(0.01)
+                beats.append(time.monotonic())
+
+        async def main() -> int:
+            await asyncio.sleep(1e6)
+            count = len(beats)
+            while len(beats) < count + 3:
+                is_over.wait(0.01)
+            thread = threading.Thread(target=lambda: beats.append(asyncio.run(asyncio.sleep(0.01, -1.0))))
+            thread.start()
+            await asyncio.to_thread(thread.join)
+            return count
+
+        other = threading.Thread(target=asyncio.run, args=(beat(),))
+        other.start()
+        try:
+            aio.run(main())
+            count = len(beats)
+            while len(beats) < count + 3:
+                is_over.wait(0.01)
+        finally:
+            is_over.set()
+            other.join()
+        assert -1.0 in beats
+        assert max(beats) - min(beats[1:], key=abs) < 1e5
+
+    def test_code_that_waits_for_a_clock_that_stands_still(self) -> None:
+        async def main() -> None:
+            until = time.monotonic() + 1
+            while time.monotonic() < until:
+                pass
+
+        with mock.patch.object(simulated, "LONG", 0.01), pytest.raises(aio.RealTimeError, match="await asyncio.sleep"):
+            aio.run(main())

@@ -5,7 +5,6 @@ from __future__ import annotations
 import asyncio
 import errno
 import os
-import random
 import socket
 import subprocess
 import sys
@@ -13,7 +12,6 @@ import tempfile
 import threading
 import time
 import unittest
-import uuid
 from pathlib import Path
 
 from hinge.loss import GilbertElliott
@@ -51,7 +49,7 @@ with network("8Mbit/s 20ms plr 0.1", seed=5, history=sys.argv[1]) as net:
 
 
 def text_of_run(folder: str, hash_seed: str) -> str:
-    """The history of a process of its own."""
+    """Returns the history from a separate process."""
     history = Path(folder) / f"h{hash_seed}"
     subprocess.run(
         [sys.executable, "-c", RUN.format(path=sys.path), history], check=True, env={**os.environ, "PYTHONHASHSEED": hash_seed}
@@ -267,15 +265,3 @@ class Repeats(unittest.TestCase):
         self.assertEqual(b"hi", aio.run(pairs()))
         self.assertIs(before, time.sleep)
         self.assertNotIn("connect", vars(socket.socket))
-
-    def test_clock_and_random_numbers_of_python(self) -> None:
-        async def main() -> list[object]:
-            found = [time.time(), time.monotonic_ns(), random.random(), uuid.uuid4().hex, os.urandom(4)]
-            await asyncio.sleep(90)
-            return [*found, time.time(), time.monotonic(), time.perf_counter_ns()]
-
-        before = time.monotonic
-        first, again = (aio.run(main(), seed=9) for _ in range(2))
-        self.assertEqual(first, again)
-        self.assertEqual((first[5] - first[0], first[6], first[7]), (90, 90, 90 * 10**9))
-        self.assertIs(time.monotonic, before)

@@ -9,14 +9,12 @@ import subprocess
 import tempfile
 import unittest
 from pathlib import Path
-from unittest import mock
 
 import hingetulip
 from hingetulip import (
     HISTORY_LIMIT,
     Audit,
     ClosedError,
-    HingetulipError,
     HistoryError,
     InUseError,
     RangeError,
@@ -156,10 +154,6 @@ class Parts(unittest.TestCase):
         again = pickle.loads(pickle.dumps(fault))
         self.assertEqual((type(again), str(again), again.record), (HistoryError, str(fault), 7))
 
-    def test_an_older_library(self) -> None:
-        with mock.patch.object(audits, "CALLS", object()), self.assertRaisesRegex(HingetulipError, "before 1.4"):
-            Audit()
-
 
 class Recorded(unittest.TestCase):
     def test_a_recorded_shaper(self) -> None:
@@ -188,7 +182,3 @@ class Recorded(unittest.TestCase):
                 service.callers[1].show()
             with open(path, "rb") as file:
                 self.assertEqual(hingetulip.audit(file), Verdict(3, None))
-
-
-if __name__ == "__main__":
-    unittest.main()

@@ -1,4 +1,4 @@
-"""Each call of the module, and each way in which it raises, against values worked out by hand.
+"""Calls of the module beyond those that test_scenarios.py compares with the reference, against values worked out by hand.
 
 A packet of 1,000 bytes takes 1 ms at 8 Mbit/s.
 """
@@ -10,7 +10,6 @@ from array import array
 from concurrent.futures import ThreadPoolExecutor
 from typing import Callable
 
-import hingetulip
 from hingetulip import Deliveries, Delivery, Fate, FlowStatus, InUseError, Outcome, Packets, RangeError, Shaper
 
 MS = 1_000_000
@@ -22,26 +21,6 @@ class Calls(unittest.TestCase):
         self.shaper = Shaper()
         self.addCleanup(self.shaper.close)
         self.shaper.configure(LINE)
-
-    def test_the_four_fates(self) -> None:
-        fates = [self.shaper.submit(5, 1000, pipe=1) for _ in range(3)]
-        self.assertEqual([Fate(Outcome.QUEUED, 5, 0, 0), Fate(Outcome.QUEUED, 5, 0, 1), Fate(Outcome.FULL, 5, 0, None)], fates)
-        self.assertEqual(Fate(Outcome.NO_TARGET, 7, None, None), self.shaper.submit(7, 1000, queue=1))
-        self.shaper.configure("pipe 2 config plr 0.5")
-        self.assertEqual(Fate(Outcome.LOST, 7, 1, None), self.shaper.submit(0, 1000, pipe=2, word=2**30 - 1))
-        self.assertEqual(Fate(Outcome.QUEUED, 7, 1, 2), self.shaper.submit(0, 1000, pipe=2, word=2**30))
-
-    def test_wake_collect_and_advance(self) -> None:
-        self.assertIsNone(self.shaper.wake())
-        for _ in range(2):
-            self.shaper.submit(0, 1000, pipe=1)
-        self.assertEqual(MS, self.shaper.wake())
-        self.assertEqual([], self.shaper.collect(MS))
-        self.assertEqual(21 * MS, self.shaper.wake())
-        self.assertEqual(3 * MS, self.shaper.advance(3 * MS))
-        self.assertEqual(3 * MS, self.shaper.advance(0))
-        self.assertEqual([Delivery(21 * MS, 0, 0, 0), Delivery(22 * MS, 1, 0, MS)], self.shaper.collect(2**62))
-        self.assertIsNone(self.shaper.wake())
 
     def test_reserve(self) -> None:
         self.shaper.configure("queue 3 config pipe 1 mask dst-port 0xffff")
@@ -87,17 +66,6 @@ class Calls(unittest.TestCase):
             self.assertEqual(list(range(count)), list(fates.flow))
             self.assertEqual(count, len(self.shaper.show()))
             self.assertEqual(list(fates.packet), [delivery.packet for delivery in self.shaper.collect(0)])
-
-    def test_rules(self) -> None:
-        """A packet that is sent when the delay was cut overtakes by one rule, and waits for the one before it by the
-        other."""
-        for rule, dues in ((hingetulip.Rule.ORDERED, [20 * MS, 20 * MS]), (hingetulip.Rule.FREE, [0, 20 * MS])):
-            with Shaper(rule) as shaper:
-                shaper.configure("pipe 1 config delay 20")
-                shaper.submit(0, 1, pipe=1)
-                shaper.configure("pipe 1 config")
-                shaper.submit(0, 1, pipe=1)
-                self.assertEqual(dues, [delivery.due for delivery in shaper.collect(20 * MS)])
 
     def test_words_follow_from_the_seed(self) -> None:
         told = []

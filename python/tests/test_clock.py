@@ -3,27 +3,22 @@
 from __future__ import annotations
 
 import asyncio
+import ctypes
+import importlib.util
 import os
 import shutil
 import subprocess
 import sys
 import tempfile
-import types
 import unittest
-import warnings
-from ssl import RAND_bytes
-from unittest import mock
 
 from hingetulip import aio
-from hingetulip.aio import clock_in_c
-from hingetulip.aio.openssl import libcrypto
+from hingetulip.aio.border import LIBRARY
 from simulated_hosts import TOP
 
 ASKED = """
 import asyncio, ctypes, time
 from hingetulip import aio
-from hingetulip.aio import clock_in_c
-from hingetulip.aio.openssl import libcrypto
 
 libc = ctypes.CDLL(None)
 
@@ -69,40 +64,26 @@ class WithClock(unittest.TestCase):
         )
 
 
-class Warnings(unittest.TestCase):
-    def warned(self, seconds: float, **modules: types.ModuleType) -> list[str]:
-        with mock.patch.dict(sys.modules, modules), warnings.catch_warnings(record=True) as found:
-            warnings.simplefilter("always")
-            aio.run(asyncio.sleep(seconds))
-        return [str(it.message) for it in found if issubclass(it.category, aio.ClockWarning)]
+@unittest.skipIf(LIBRARY is None or importlib.util.find_spec("OpenSSL") is None, "no hinge-clock.so or no python3-openssl")
+class ClockOfOpenSSL(unittest.TestCase):
+    def test_a_timer_of_dtls_runs_in_simulated_time(self) -> None:
+        from OpenSSL import SSL
+        from OpenSSL._util import ffi
 
-    def test_an_hour_with_ssl(self) -> None:
-        user = types.ModuleType("user_of_ssl")
-        user.ssl, user.__file__ = sys.modules["ssl"], "/elsewhere/user_of_ssl.py"
-        self.assertEqual(self.warned(3599, user_of_ssl=user), [])
-        (told,) = self.warned(7200, user_of_ssl=user)
-        self.assertRegex(told, "user_of_ssl may use it: preload the clock, as LD_PRELOAD=")
+        def left(asker: SSL.Connection) -> float:
+            parts = (ctypes.c_long * 2)()
+            ctypes.CDLL("libssl.so.3").SSL_ctrl(
+                ctypes.c_void_p(int(ffi.cast("uintptr_t", asker._ssl))), 73, ctypes.c_long(0), parts
+            )
+            return parts[0] + parts[1] / 1e6
 
-    def test_an_hour_without(self) -> None:
-        with mock.patch.object(clock_in_c, "users_of_ssl", list):
-            self.assertEqual(self.warned(7200), [])
+        async def main() -> list[float]:
+            asker = SSL.Connection(SSL.Context(SSL.DTLS_METHOD))
+            asker.set_connect_state()
+            with self.assertRaises(SSL.WantReadError):
+                asker.do_handshake()
+            first = left(asker)
+            await asyncio.sleep(0.75)
+            return [first, left(asker)]
 
-    def test_a_run_with_dtls_that_does_not_end(self) -> None:
-        with mock.patch.dict(sys.modules, OpenSSL=types.ModuleType("OpenSSL")), self.assertRaisesRegex(
-            asyncio.TimeoutError, "hinge kernel --clock"
-        ):
-            aio.run(asyncio.sleep(10), timeout=5)
-
-
-class RandomOfOpenSSL(unittest.TestCase):
-    def test_numbers_follow_from_the_seed(self) -> None:
-        if libcrypto() is None:
-            self.skipTest("no shared libcrypto in this process")
-
-        async def main() -> bytes:
-            return RAND_bytes(16)
-
-        first, again, other = (aio.run(main(), seed=seed) for seed in (1, 1, 2))
-        self.assertEqual(first, again)
-        self.assertNotEqual(first, other)
-        self.assertNotEqual(RAND_bytes(16), RAND_bytes(16))
+        self.assertEqual([1.0, 0.25], aio.run(main()))

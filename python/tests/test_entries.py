@@ -104,8 +104,6 @@ class Entries(unittest.TestCase):
             with self.assertRaises(HistoryError) as raised:
                 hingetulip.read_history(text)
             self.assertEqual((raised.exception.record, str(raised.exception)), (record, f"history record {record}: bad"))
-        with mock.patch.object(entries, "CALLS", object()), self.assertRaisesRegex(hingetulip.HingetulipError, "before 2.0"):
-            hingetulip.read_history(one)
 
     def test_lines_without_room_at_first(self) -> None:
         text = history([*KINDS])
@@ -132,7 +130,3 @@ class Entries(unittest.TestCase):
                 else:
                     self.assertEqual(again.collect(one.moment or 0), one.deliveries)
             self.assertEqual({one.fate.outcome for one in made if one.fate}, {Outcome.QUEUED, Outcome.LOST, Outcome.FULL})
-
-
-if __name__ == "__main__":
-    unittest.main()

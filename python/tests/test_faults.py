@@ -4,6 +4,7 @@ from __future__ import annotations
 
 import asyncio
 import tempfile
+import time
 import unittest
 from pathlib import Path
 from random import Random
@@ -13,11 +14,12 @@ from planted import Adder, Asker, Receiver, Sender
 from pytest_runs import Runs, lacking
 from simulated_hosts import Ends
 
-from hinge.fault_lines import Fault, Faults, read_faults
+from hinge.fault_lines import Drawn, Fault, Faults, read_faults
 from hinge.faults import FaultyNetwork, run, some_faults
 from hingetulip import aio
 
 MOST_RUNS = 200  # until a bug is found
+NO_ACTS = "at 1s cut a", "at cut a 1s", "at 1s skew a 1s", "at 1s cut a +1s", "at 1s crash a > b 1s", "at 1s kill a 1s"
 Protocol = Callable[[str], Awaitable[None]]
 
 
@@ -100,13 +102,20 @@ class Lines(unittest.TestCase):
             path.write_text(f"# of a test\n\n{Faults(*lines)}  a > b packet 4 lost  # one more\n")
             faults = read_faults(path)
             path.write_text("a > b packet 3 late\n")
-            with self.assertRaisesRegex(ValueError, "link.faults line 1: 'a > b packet 3 late': no fault; write "):
+            with self.assertRaisesRegex(ValueError, "link.faults line 1: 'a > b packet 3 late': not a fault; write "):
                 read_faults(path)
         self.assertEqual(faults, (*Faults(*lines), Fault("a > b", 4, "lost")))
         self.assertEqual(eval(repr(faults)), faults)
 
     def test_what_is_no_fault(self) -> None:
-        for line in ("", "a > b 3 lost", "a > b packet 0 lost", "a > b packet 3 late 80", "a > b packet 3 late 3600001ms"):
+        for line in (
+            "",
+            "a > b 3 lost",
+            "a > b packet 0 lost",
+            "a > b packet 3 late 80",
+            "a > b packet 3 late 3600001ms",
+            *NO_ACTS,
+        ):
             with self.assertRaises(ValueError, msg=line):
                 Faults(line)
 
@@ -137,11 +146,11 @@ class Packets(unittest.TestCase):
         self.assertEqual(self.unmet, Faults("a > b packet 6 lost"))
 
     def test_beside_copies_and_jitter_of_a_test(self) -> None:
-        """Copies that a test makes are packets of their own, and delays add up."""
+        """Copies that a test makes are packets of their own, of which a fault delays one, and delays add up."""
         faults = "a > b packet 2 lost", "a > b packet 3 late 4ms", "a > b packet 7 twice"
         came = self.moments(*faults, copies=lambda it: 2, jitter=lambda it: 1)
         self.assertEqual([data for data, _ in came], [b"1", b"2", b"2", b"3", b"3", b"4", b"4", b"4", b"5", b"5"])
-        self.assertEqual([moment for _, moment in came], [21, 35, 35, 41, 41, 51, 51, 51, 61, 61])
+        self.assertEqual([moment for _, moment in came], [21, 31, 35, 41, 41, 51, 51, 51, 61, 61])
 
     def test_answers_of_closed_ports_count(self) -> None:
         with FaultyNetwork(Faults("b > a packet 2 lost", "a > b packet 3 twice")) as net:
@@ -156,6 +165,64 @@ class Packets(unittest.TestCase):
                 return len(ends.faults)
 
             self.assertEqual(net.run(main()), 3)
+
+
+class Unmet(unittest.TestCase):
+    def test_a_link_that_is_not_there_and_a_packet_that_never_came(self) -> None:
+        for kind, line, text in (
+            (Faults, "x > b packet 1 lost", "x > b packet 1 lost: there is no such link; there are a > b, b > a"),
+            (Drawn, "x > b packet 1 lost", "x > b packet 1 lost: there is no such link"),
+            (Faults, "a > b packet 9000 lost", "a > b packet 9000 lost: it came to no packet"),
+        ):
+            with self.assertRaisesRegex(aio.Unmet, text):
+                run(transfer(""), kind(line))
+        run(transfer(""), Drawn("a > b packet 9000 lost"))
+
+
+class Acts(unittest.TestCase):
+    def run_acts(self, *lines: str, kind: type[Faults] = Faults) -> tuple[list[tuple[bytes, int]], list[float]]:
+        """What came to a host to which a packet is sent each second from 0.5 s on, and in which ms, and when its program began."""
+        begun, came = list[float](), list[tuple[bytes, int]]()
+
+        class Come(Ends):
+            def datagram_received(self, data: bytes, source: object) -> None:
+                came.append((data, round(asyncio.get_running_loop().time() * 1000)))
+
+        async def serve(host: aio.Host) -> None:
+            begun.append(time.time() - 1_700_000_000)
+            await asyncio.get_running_loop().create_datagram_endpoint(Come, ("0.0.0.0", 7))
+            await asyncio.Event().wait()
+
+        async def main() -> None:
+            one, other = two_hosts("20ms")
+            other.boot(lambda: serve(other))
+            transport, _ = await one.endpoint(Ends, remote=("b", 7))
+            await asyncio.sleep(0.5)
+            for number in range(8):
+                transport.sendto(b"%d" % number)
+                await asyncio.sleep(1)
+
+        run(main(), kind(*lines))
+        return came, begun
+
+    def test_what_each_does(self) -> None:
+        lines = "at 1s cut a > b 2s", "at 4s hold b 1000ms", "at 5.2s skew b +30s", "at 6s crash b 1s"
+        came, begun = self.run_acts(*lines)
+        self.assertEqual([(b"0", 520), (b"3", 3520), (b"4", 5020), (b"5", 5520), (b"7", 7520)], came)
+        self.assertEqual([0, 37], begun)
+        self.assertEqual(lines[1].replace("1000ms", "1s"), str(Faults(lines[1])[0]))
+
+    def test_one_that_met_nothing(self) -> None:
+        for line, text in (
+            ("at 9s cut a > b 1s", "at 9s cut a > b 1s: the run ended before, at 8.5"),
+            ("at 1s hold x 1s", "at 1s hold x 1s: there is no host 'x'; there are a, b"),
+            ("at 1s cut b > c 1s", "at 1s cut b > c 1s: there is no link 'b > c'; there are a > b, b > a"),
+            ("at 1s cut b > a 1s", "cut of b > a at 1.000000 s for 1 s: it met no packet"),
+            ("at 1s skew a -2s", "skew of a at 1.000000 s by -2 s: it met no look at the clock"),
+        ):
+            with self.subTest(line), self.assertRaisesRegex(aio.Unmet, text):
+                self.run_acts(line)
+        self.run_acts("at 9s cut a > b 1s", "at 1s cut b > a 1s", kind=Drawn)
 
 
 class OfTests(Runs):
@@ -174,6 +241,8 @@ class OfTests(Runs):
             path = Path(folder) / "link.faults"
             path.write_text("".join(f"{line}\n" for line in least_lines) + "b > a packet 1 twice\n")
             again = self.run_pytest(self.BODY, f"--link-faults={path}")
+            absent = self.run_pytest(self.BODY, f"--link-faults={folder}/none")
+        self.assertRegex(absent.text, r"error: argument --link-faults: .*No such file or directory: '\S+/none'")
         self.assertEqual(again.counts, {"failed": 1}, again.text)
         self.assertIn(f"fault: {least_lines[0]}\nfault: ", again.text)
         self.assertIn("fault: b > a packet 1 twice: it came to no packet\n", again.text)
@@ -192,5 +261,5 @@ class OfTests(Runs):
             """,
             "--link-shrink",
         )
-        self.assertIn("\nno such failure by its losses alone\n", done.text)
+        self.assertIn("\nno such failure by these faults alone\n", done.text)
         self.assertRegex(done.text, r"least faults -+\nfails by 0 of \d faults, found in 2 runs\n")

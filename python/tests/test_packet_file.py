@@ -71,7 +71,3 @@ class Rows(unittest.TestCase):
             fates = shaper.submit_many(hingetulip.read_packets(str(path)))
             self.assertEqual([fate.outcome.name for fate in fates], ["LOST", "QUEUED"])
             self.assertEqual(shaper.collect(2_000_000), [hingetulip.Delivery(due=1_000_005, packet=0, flow=0, start=5)])
-
-
-if __name__ == "__main__":
-    unittest.main()

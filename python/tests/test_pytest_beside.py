@@ -142,11 +142,11 @@ class Beside(Runs):
         failed, never, word = re.split(r"\n_{4,}", done.text)[1:]
         self.assertRegex(failed, r"CommandFailed: b: echo what b says; ping -c 1 -W 1 a: status 1\nE +what b says\n")
         section = failed.partition("emulated link")[2]
-        self.assertRegex(section, r"(?m)^b > a: 1 came, 0 delivered, 1 lost, 0 met a full queue, 0 under way, late ")
+        self.assertRegex(section, r"(?m)^b > a: 1 came, 0 delivered, 1 lost, 0 met a full queue, 0 under way$")
         self.assertRegex(section, r"(?m)^  \d+\.\d{6} s, changed: pipe 1 config delay 2 plr 0\.99999\d+$")
         self.assertRegex(section, r"(?m)^  row  *1, \d+\.\d{9} s, b:0 > a:0, 84 bytes: lost$")
         self.assertRegex(section, r"(?m)^a printed last \(/.*/net/logs/a\.log\):\n  what a says$")
         self.assertRegex(section, r"(?m)^seed 4, lawful \d+: hinge look /.*/net/net\.history$")
         self.assertIn("NetError: the link: '1mss': ", never)
-        self.assertRegex(word, r"NetError: /.*/described\.net line 1: 'hots': no word of a net, .*; did you mean 'host'\?")
+        self.assertRegex(word, r"NetError: /.*/described\.net line 1: 'hots': not a word of a net; did you mean 'host'\?")
         self.assertNotIn("def run(self", done.text)  # a test's own line is shown

@@ -1,5 +1,4 @@
-"""The plugin of pytest: what a passing test has, what a failing one says, and whether it gets along with xdist and
-pytest-asyncio.
+"""The pytest plugin: a passing test's fixtures, a failing test's report, and its use with xdist and pytest-asyncio.
 
 Each test is a run of pytest over a file, in a process of its own.
 """
@@ -32,14 +31,14 @@ class Plugin(Runs):
                 assert sim_net.run(session(sim_net)) >= 45 and sim_net.seed == link_seed
 
             @pytest.mark.link(preset="dsl")
-            def test_a_preset(sim_net):
-                sim_net.path(sim_net.host("10.0.0.1"), sim_net.host("10.0.0.2"))
+            async def test_a_preset(sim_net):
+                await session(sim_net, 1)
                 assert [link.line for link in sim_net.links.values()] == [
                     "pipe 1 config bw 384Kbit/s delay 25ms queue 10", "pipe 2 config bw 1500Kbit/s delay 25ms queue 30"]
 
             @pytest.mark.link(preset="Slow 3G")
-            def test_a_preset_in_capital_letters(sim_net):
-                sim_net.path(sim_net.host("10.0.0.1"), sim_net.host("10.0.0.2"))
+            async def test_a_preset_in_capital_letters(sim_net):
+                await session(sim_net, 1)
                 assert {link.line[14:] for link in sim_net.links.values()} == {"bw 400Kbit/s delay 200ms queue 10"}
 
             async def two_hosts(sim_net):
@@ -84,7 +83,7 @@ class Plugin(Runs):
             "link()": "the mark link has no words of a link; write link(",
             "vary(dealy='5ms')": "the mark vary takes no 'dealy'; write delay",
             "vary('5ms')": "the mark vary takes spans by their names alone",
-            'link(preset="ltee")': "'ltee': no preset; write lte",
+            'link(preset="ltee")': "'ltee': not a preset; write lte",
             'simulated("lte")': "takes options by name alone",
         }
         body = "".join(f"@pytest.mark.{mark}\ndef test_{number}(sim_net):\n    pass\n" for number, mark in enumerate(rows))
@@ -149,7 +148,7 @@ class Plugin(Runs):
             """
             async def test_it(sim_net):
                 await session(sim_net)
-                sim_net._emulator.history.add(memoryview(b"c,0,advance,1\\nr,advanced,0\\n"))
+                sim_net._emulator.history.add_advance(1, 0)
             """
         )
         self.assertEqual(done.counts.get("passed"), 1, done.text)
@@ -157,7 +156,7 @@ class Plugin(Runs):
         self.assertRegex(done.text, r"the history /.*/link\.history isn't lawful: ")
 
     def test_fixtures_that_are_coroutines(self) -> None:
-        """They run in the loop of their test: with pytest-asyncio too, whose own fixtures stay its own."""
+        """Such fixtures run in their test's loop: with pytest-asyncio too, whose fixtures stay unchanged."""
         body = """
             import time
             ended = []

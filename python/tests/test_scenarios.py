@@ -116,7 +116,3 @@ class Lines(unittest.TestCase):
                     except hingetulip.RefusedError:
                         kinds.add("refused")
         self.assertEqual(7, len(kinds), kinds)
-
-
-if __name__ == "__main__":
-    unittest.main()

@@ -1,6 +1,6 @@
-"""Sockets of simulated hosts by the calls of the system's: what comes, and what is refused.
+"""Simulated hosts' sockets through the system's calls: arrivals and refusals.
 
-A packet of 1,000 bytes takes 1 ms at 8 Mbit/s. A datagram has 28 bytes more than its data, and one of IPv6 has 48.
+A packet of 1,000 bytes takes 1 ms at 8 Mbit/s. A datagram has 28 bytes more than its data, and an IPv6 datagram 48.
 """
 
 from __future__ import annotations
@@ -9,12 +9,15 @@ import asyncio
 import errno
 import fcntl
 import os
+import re
 import socket
 import subprocess
 import tempfile
 import unittest
 from pathlib import Path
 from typing import Any, Callable, Optional
+
+import pytest
 
 from hingetulip import aio
 from simulated_hosts import PROGRAM, Ends, opened
@@ -35,19 +38,19 @@ class Calls(unittest.TestCase):
                 made.sendto(data, (OTHER, 7))
             told = made.getsockname(), made.family, made.type, made.getblocking()
             await asyncio.sleep(1)
-            self.assertTrue(loop.remove_reader(made))
-            self.assertFalse(loop.remove_reader(made))
-            with self.assertRaises(BlockingIOError):
+            assert loop.remove_reader(made)
+            assert not loop.remove_reader(made)
+            with pytest.raises(BlockingIOError):
                 made.recv(1)
             made.close()
-            self.assertEqual(-1, made.fileno())
+            assert -1 == made.fileno()
             return [*got, told]
 
         with both() as net:
             first, second, told = on(net, ONE, main(net))
-        self.assertEqual(((b"x" * 100, (OTHER, 7)), 42 * MS), first)
-        self.assertEqual(((b"y", (OTHER, 7)), 42 * MS + 29_000), second)
-        self.assertEqual((("0.0.0.0", 5000), socket.AF_INET, socket.SOCK_DGRAM, False), told)
+        assert ((b"x" * 100, (OTHER, 7)), 42 * MS) == first
+        assert ((b"y", (OTHER, 7)), 42 * MS + 29_000) == second
+        assert (("0.0.0.0", 5000), socket.AF_INET, socket.SOCK_DGRAM, False) == told
 
     def test_calls_of_the_loop(self) -> None:
         async def serve(net: aio.Network) -> None:
@@ -61,7 +64,7 @@ class Calls(unittest.TestCase):
         async def ask(net: aio.Network) -> tuple[bytes, int, float]:
             loop, made = asyncio.get_running_loop(), udp()
             await loop.sock_connect(made, ("other", 7))
-            self.assertEqual((OTHER, 7), made.getpeername())
+            assert (OTHER, 7) == made.getpeername()
             await loop.sock_sendall(made, b"one")
             answer = await loop.sock_recv(made, 100)
             made.sendmsg([b"t", b"wo"])
@@ -69,8 +72,8 @@ class Calls(unittest.TestCase):
 
         with both("20ms") as net:
             task = net.hosts[OTHER].create_task(serve(net))
-            self.assertEqual((b"ONE", 2, 0.08), on(net, ONE, ask(net)))
-            self.assertTrue(task.done())
+            assert (b"ONE", 2, 0.08) == on(net, ONE, ask(net))
+            assert task.done()
 
     def test_a_closed_port_answers_along_the_link(self) -> None:
         """The question has 29 bytes and the answer 28 more than it, at 8 Mbit/s and 20 ms each way."""
@@ -79,7 +82,7 @@ class Calls(unittest.TestCase):
             made, ends = udp(), await opened(remote=(OTHER, 9))
             made.connect((OTHER, 9))
             made.send(b"x")
-            with self.assertRaises(ConnectionRefusedError):
+            with pytest.raises(ConnectionRefusedError):
                 await asyncio.get_running_loop().sock_recv(made, 100)
             at = net.loop.clock.now
             ends.transport.sendto(b"x" * 2000)
@@ -87,23 +90,21 @@ class Calls(unittest.TestCase):
             lonely.transport.sendto(b"x", (OTHER, 9))
             made.send(b"x")
             await asyncio.sleep(1)
-            self.assertEqual(errno.ECONNREFUSED, made.getsockopt(socket.SOL_SOCKET, socket.SO_ERROR))
-            self.assertEqual([], lonely.faults)
+            assert errno.ECONNREFUSED == made.getsockopt(socket.SOL_SOCKET, socket.SO_ERROR)
+            assert [] == lonely.faults
             return [it.errno for it in ends.faults], at
 
         with tempfile.TemporaryDirectory() as folder:
             history = Path(folder) / "h"
             with both(history=history) as net:
                 faults, at = on(net, ONE, main(net))
-                self.assertEqual({f"{OTHER}:9": 4}, net.unheard)
+                assert {f"{OTHER}:9": 4} == net.unheard
             lines = history.read_text().splitlines()
             done = subprocess.run([PROGRAM, "audit", history], capture_output=True, text=True)
-        self.assertEqual(([errno.ECONNREFUSED], 2 * 20 * MS + (29 + 57) * 1000), (faults, at))
+        assert ([errno.ECONNREFUSED], 2 * 20 * MS + (29 + 57) * 1000) == (faults, at)
         answers = [line.split(",") for line in lines if line.startswith("c,0,submit,pipe,2")]
-        self.assertEqual(
-            [[OTHER, ONE, "1", "0", "0", length] for length in ("57", "576", "57", "57")], [it[5:11] for it in answers]
-        )
-        self.assertRegex(done.stdout, r"^lawful \d+\n$")
+        assert [[OTHER, ONE, "1", "0", "0", length] for length in ("57", "576", "57", "57")] == [it[5:11] for it in answers]
+        assert re.search(r"^lawful \d+\n$", done.stdout)
 
     def test_a_host_that_is_down_answers_nothing(self) -> None:
         async def main(net: aio.Network) -> list[Exception]:
@@ -114,66 +115,50 @@ class Calls(unittest.TestCase):
             return ends.faults
 
         with both() as net:
-            self.assertEqual([], on(net, ONE, main(net)))
+            assert [] == on(net, ONE, main(net))
 
     def test_what_is_refused(self) -> None:
-        async def main(net: aio.Network) -> list[Optional[int]]:
+        async def main(net: aio.Network) -> None:
             def number(call: Callable[..., object], *words: Any) -> Optional[int]:
-                with self.assertRaises(OSError) as caught:
+                with pytest.raises(OSError) as caught:
                     call(*words)
-                return caught.exception.errno
+                return caught.value.errno
 
             one, second, third = udp(), udp(), udp()
             one.bind((ONE, 7))
-            found = [
-                number(second.bind, ("", 7)),
-                number(second.bind, (OTHER, 7)),
-                number(second.bind, ("10.9.9.9", 7)),
-                number(one.bind, (ONE, 8)),
-                number(second.send, b"x"),
-                number(second.getpeername),
-                number(second.sendto, b"x" * 65508, (OTHER, 9)),
-                number(second.sendto, b"x", ("10.9.9.9", 9)),
-                number(second.sendto, b"x", ("255.255.255.255", 9)),
-                number(second.listen),
-                second.connect_ex(("10.0.0.2", 1)),
-                number(second.sendto, b"x", (OTHER_OF_6, 9)),
-            ]
+            refusals = (
+                (errno.EADDRINUSE, second.bind, ("", 7)),
+                (errno.EADDRNOTAVAIL, second.bind, (OTHER, 7)),
+                (errno.EADDRNOTAVAIL, second.bind, ("10.9.9.9", 7)),
+                (errno.EINVAL, one.bind, (ONE, 8)),
+                (errno.EDESTADDRREQ, second.send, b"x"),
+                (errno.ENOTCONN, second.getpeername),
+                (errno.EMSGSIZE, second.sendto, b"x" * 65508, (OTHER, 9)),
+                (errno.ENETUNREACH, second.sendto, b"x", ("10.9.9.9", 9)),
+                (errno.EACCES, second.sendto, b"x", ("255.255.255.255", 9)),
+                (errno.EOPNOTSUPP, second.listen),
+                (socket.EAI_ADDRFAMILY, second.sendto, b"x", (OTHER_OF_6, 9)),
+            )
+            for wanted, call, *words in refusals:
+                assert number(call, *words) == wanted
+            assert second.connect_ex(("10.0.0.2", 1)) == 0
             third.setblocking(True)
-            with self.assertRaisesRegex(aio.RealTimeError, "await loop.sock_recv"):
+            with pytest.raises(aio.RealTimeError, match="await loop.sock_recv"):
                 third.recv(100)
-            with self.assertRaises(NotImplementedError):
+            with pytest.raises(NotImplementedError):
                 third.dup()
             third.close()
-            return [*found, number(third.send, b"x")]
+            assert number(third.send, b"x") == errno.EBADF
 
         with both() as net:
-            found = on(net, ONE, main(net))
-        self.assertEqual(
-            [
-                errno.EADDRINUSE,
-                errno.EADDRNOTAVAIL,
-                errno.EADDRNOTAVAIL,
-                errno.EINVAL,
-                errno.EDESTADDRREQ,
-                errno.ENOTCONN,
-                errno.EMSGSIZE,
-                errno.ENETUNREACH,
-                errno.EACCES,
-                errno.EOPNOTSUPP,
-                0,
-                socket.EAI_ADDRFAMILY,
-                errno.EBADF,
-            ],
-            found,
-        )
+            on(net, ONE, main(net))
 
     def test_outside_a_run_sockets_are_the_systems(self) -> None:
         aio.run(asyncio.sleep(1))
         with socket.socket(socket.AF_INET, socket.SOCK_DGRAM) as made:
-            self.assertIs(socket.socket, type(made))
+            assert socket.socket is type(made)
             made.bind(("127.0.0.1", 0))
-        self.assertNotIn("__new__", vars(socket.socket))
+        assert "__new__" not in vars(socket.socket)
 
     def test_a_pipe_of_the_system_has_readers(self) -> None:
         async def main() -> bytes:
@@ -188,7 +173,7 @@ class Calls(unittest.TestCase):
                 os.close(end)
             return got
 
-        self.assertEqual(b"x", aio.run(main()))
+        assert b"x" == aio.run(main())
 
     def test_names_and_options_before_a_socket_has_a_port(self) -> None:
         """Outside the tasks of hosts it keeps them for the host whose task uses it next."""
@@ -199,19 +184,19 @@ class Calls(unittest.TestCase):
 
         async def main(net: aio.Network) -> list[Any]:
             four, six = udp(), udp(socket.AF_INET6)
-            self.assertEqual((("0.0.0.0", 0), ("::", 0, 0, 0)), (four.getsockname(), six.getsockname()))
-            self.assertEqual((socket.IPPROTO_UDP, 0.0), (four.proto, four.gettimeout()))
+            assert (("0.0.0.0", 0), ("::", 0, 0, 0)) == (four.getsockname(), six.getsockname())
+            assert (socket.IPPROTO_UDP, 0.0) == (four.proto, four.gettimeout())
             four.setsockopt(socket.SOL_SOCKET, socket.SO_BROADCAST, 1)
             four.bind(("", 5000))
-            self.assertEqual("<hingetulip.aio.DatagramSocket>", repr(four))
+            assert "<hingetulip.aio.DatagramSocket>" == repr(four)
             found = await net.hosts[ONE].create_task(ask(four))
-            self.assertIn(" on one, laddr=('0.0.0.0', 5000)>", repr(four))
+            assert " on one, laddr=('0.0.0.0', 5000)>" in repr(four)
             four.close()
-            self.assertEqual("<hingetulip.aio.DatagramSocket [closed]>", repr(four))
+            assert "<hingetulip.aio.DatagramSocket [closed]>" == repr(four)
             return found
 
         with both() as net:
-            self.assertEqual((("0.0.0.0", 5000), 1), net.run(main(net)))
+            assert (("0.0.0.0", 5000), 1) == net.run(main(net))
 
     def test_a_datagram_that_is_longer_than_its_room(self) -> None:
         async def main(net: aio.Network) -> list[Any]:
@@ -223,15 +208,15 @@ class Calls(unittest.TestCase):
                 ends.transport.sendto(data)
             await asyncio.sleep(1)
             cut, whole = made.recvmsg(3), made.recvmsg(5)
-            self.assertEqual((3, b"thi"), (made.recv_into(room), bytes(room)))
-            with self.assertRaises(OSError) as unconnected:
+            assert (3, b"thi") == (made.recv_into(room), bytes(room))
+            with pytest.raises(OSError) as unconnected:
                 made.shutdown(socket.SHUT_RDWR)
-            self.assertEqual(errno.ENOTCONN, unconnected.exception.errno)
-            self.assertRaises(NotImplementedError, made.detach)
+            assert errno.ENOTCONN == unconnected.value.errno
+            pytest.raises(NotImplementedError, made.detach)
             return [cut[:3], whole[:3]]
 
         with both() as net:
-            self.assertEqual([(b"lon", [], socket.MSG_TRUNC), (b"short", [], 0)], on(net, ONE, main(net)))
+            assert [(b"lon", [], socket.MSG_TRUNC), (b"short", [], 0)] == on(net, ONE, main(net))
 
     def test_what_a_transport_refuses(self) -> None:
         """As asyncio's own do: wrong calls raise, and the protocol is told what the system refuses. Nothing is sent."""
@@ -239,36 +224,36 @@ class Calls(unittest.TestCase):
         async def main(net: aio.Network) -> list[Any]:
             server = await net.hosts[OTHER].create_task(opened(local=("0.0.0.0", 7)))
             free, bound, later = await opened(), await opened(remote=(OTHER, 7)), Ends()
-            with self.assertRaisesRegex(TypeError, "not str"):
+            with pytest.raises(TypeError, match="not str"):
                 free.transport.sendto("text", (OTHER, 7))
-            with self.assertRaises(OSError) as without_peer:
+            with pytest.raises(OSError) as without_peer:
                 free.transport.sendto(b"x")
-            with self.assertRaisesRegex(ValueError, "connected to .*10.0.0.2"):
+            with pytest.raises(ValueError, match="connected to .*10.0.0.2"):
                 bound.transport.sendto(b"x", (OTHER, 8))
             bound.transport.sendto(b"x" * 65508)
             told = [fault.errno for fault in bound.faults]
             bound.transport.set_protocol(later)
-            self.assertIs(later, bound.transport.get_protocol())
+            assert later is bound.transport.get_protocol()
             bound.transport.sendto(b"x" * 65508, (OTHER, 7))
             bound.transport.abort()
             bound.transport.sendto(b"x")
             bound.transport.close()
             await asyncio.sleep(1)
-            return [without_peer.exception.errno, told, len(later.faults), bound.transport.is_closing(), server.got]
+            return [without_peer.value.errno, told, len(later.faults), bound.transport.is_closing(), server.got]
 
         with both() as net:
-            self.assertEqual([errno.EDESTADDRREQ, [errno.EMSGSIZE], 1, True, []], on(net, ONE, main(net)))
+            assert [errno.EDESTADDRREQ, [errno.EMSGSIZE], 1, True, []] == on(net, ONE, main(net))
 
     def test_options_of_a_transport(self) -> None:
         async def main(net: aio.Network) -> tuple[int, bytes]:
             ends = await opened()
             made = ends.transport.get_extra_info("socket")
             made.setsockopt(socket.SOL_SOCKET, socket.SO_RCVBUF, 5000)
-            self.assertEqual(ends.transport.get_extra_info("sockname"), made.getsockname())
-            self.assertIs(made, ends.transport.get_extra_info("socket"))
-            self.assertGreater(made.fileno(), 0)
+            assert ends.transport.get_extra_info("sockname") == made.getsockname()
+            assert made is ends.transport.get_extra_info("socket")
+            assert made.fileno() > 0
             net.loop.call_soon(ends.transport.close)
             return made.getsockopt(socket.SOL_SOCKET, socket.SO_RCVBUF), made.getsockopt(socket.IPPROTO_IP, socket.IP_TTL, 4)
 
         with both() as net:
-            self.assertEqual((5000, b"\x40\0\0\0"), on(net, ONE, main(net)))
+            assert (5000, b"\x40\0\0\0") == on(net, ONE, main(net))

@@ -1,4 +1,4 @@
-"""What a seed varies in a test, cuts and holds of hosts, and the table at the end of a run."""
+"""What a seed varies in a test, and cuts and holds of hosts."""
 
 from __future__ import annotations
 
@@ -8,7 +8,6 @@ import unittest
 from typing import Callable
 
 from planted import Node, Store, now
-from pytest_runs import Runs
 from simulated_hosts import Ends
 
 from hinge.testing.marks import Variation, variation_of
@@ -125,21 +124,38 @@ class Apart(unittest.TestCase):
         self.assertEqual(self.moments(act), {b"0": 520, b"1": 1520, b"2": 4020, b"3": 4020, b"4": 4520, b"5": 5520})
 
 
-class OfTests(Runs):
-    def test_the_table_of_a_sweep(self) -> None:
-        done = self.run_pytest(
-            """
-            @pytest.mark.vary(delay="1..9ms")
-            @pytest.mark.parametrize("link_seed", range(1, 21))
-            @pytest.mark.link("20ms plr 0.01")
-            async def test_swept(sim_net):
-                assert await session(sim_net) == 60 and sim_net.links[sim_net.host("10.0.0.1"), sim_net.host("10.0.0.2")].delay < 10**7
-            """,
-            "--strict-markers",
-        )
-        self.assertRegex(done.text, r"\n\S+::test_swept: (\d+) of 20 seeds failed: [\d, ]+( and \d more)? \(delay 1\.\.9ms\)\n")
-        self.assertNotIn("in no test was a packet", done.text)
+class Unmet(unittest.TestCase):
+    def disturbed(self, act: Callable[[aio.Network], object], *, sends: bool = True) -> None:
+        async def main() -> None:
+            net = aio.network()
+            one, other = net.host("10.0.0.1", name="one"), net.host("10.0.0.2", name="other")
+            net.host("10.0.0.3", name="alone")
+            net.path(one, other, "20ms")
+            transport, _ = await one.endpoint(Ends, remote=("10.0.0.2", 7))
+            act(net)
+            if sends:
+                transport.sendto(b"x")
+            await asyncio.sleep(3)
 
-    def test_that_nothing_ever_happened(self) -> None:
-        done = self.run_pytest("async def test_it(sim_net):\n    assert await session(sim_net, 3) == 3\n")
-        self.assertIn("\nin no test was a packet lost, late or out of order: ", done.text)
+        aio.run(main())
+
+    def test_hosts_by_name_and_address(self) -> None:
+        for host in ("other", "10.0.0.2"):
+            self.disturbed(lambda net: (net.cut(host, 1), net.hold(host, 1)))
+
+    def test_what_is_no_host_or_no_time(self) -> None:
+        for act, text in (
+            (lambda net: net.cut("othr", 1), "no host 'othr'; there are one, other, alone"),
+            (lambda net: net.hold(7, 1), "no host 7"),
+            (lambda net: net.cut("alone", 1), "alone has no links"),
+            (lambda net: net.cut("one", -1), "a cut lasts for more than 0 s"),
+            (lambda net: net.hold("one", float("nan")), "a hold lasts for more than 0 s"),
+            (lambda net: next(iter(net.links.values())).cut(0), "a cut lasts for more than 0 s"),
+        ):
+            with self.assertRaisesRegex(ValueError, text):
+                self.disturbed(act)
+
+    def test_a_cut_and_a_hold_that_no_packet_met(self) -> None:
+        text = "cut of one at 0.000000 s for 1 s: it met no packet\nhold of other > one at 0.000000 s for 2 s: it met no packet"
+        with self.assertRaisesRegex(aio.Unmet, text):
+            self.disturbed(lambda net: (net.cut("one", 1), list(net.links.values())[1].hold(2)), sends=False)

@@ -1,4 +1,4 @@
-"""A test with a folder of its own, which goes with it."""
+"""A test with a temporary folder, removed with the test."""
 
 from __future__ import annotations
 

@@ -121,7 +121,7 @@ def odd_ethernet(path: Path) -> list[Expected]:
 
 
 def other_links(folder: Path) -> list[Expected]:
-    """A pcapng with an interface of raw IP and one of Linux cooked frames, whose packets come in turn."""
+    """A pcapng with an interface for raw IP and an interface for Linux cooked frames, whose packets alternate."""
     raw, sll = folder / "raw.pcap", folder / "sll.pcap"
     write(
         raw,

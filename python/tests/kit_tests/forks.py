@@ -12,7 +12,7 @@ from contextlib import suppress
 from pathlib import Path
 from typing import IO, NoReturn
 
-DRAWS = ("look", "sweep")  # commands that may import matplotlib
+DRAWS = ("look",)  # commands that may import matplotlib
 
 
 def load(command: str) -> None:

@@ -32,8 +32,8 @@ def folder() -> Path:
 
 
 def run(command: str, *words: object, **more: object) -> subprocess.CompletedProcess[str]:
-    """Runs a command of the kit: in a fork of this process, which has its modules already, or if more than an input is
-    wanted in a process of its own."""
+    """Runs a command of the kit: in a fork of this process, whose modules are loaded, or in a separate process for more than an
+    input."""
     if set(more) <= {"input"} and "coverage" not in sys.modules:  # which saves what it saw at the end of a process
         return forked_in(folder(), [command, *map(str, words)], str(more.get("input", "")))
     return subprocess.run(

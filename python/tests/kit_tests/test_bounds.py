@@ -66,34 +66,32 @@ class Bounds(unittest.TestCase):
     def test_a_full_queue_of_slots_reaches_both(self) -> None:
         """Fifty packets of 12 ms before the last one, its own 12 ms, and 20 ms."""
         ms = 10**6
-        self.assertEqual(pipes(history(*FULL)), [figures(1, 1500, 600 * ms, 600 * ms, 632 * ms, 632 * ms)])
+        assert pipes(history(*FULL)) == [figures(1, 1500, 600 * ms, 600 * ms, 632 * ms, 632 * ms)]
 
     def test_the_bound_is_of_the_longest_packet_that_was_accepted(self) -> None:
         """Room for two: the third waits for 1,000 and 500 bytes at 8 Mbit/s. The fourth, of 1,400, is refused."""
         rows = [packet(1000), packet(500), packet(250), packet(1400)]
         found = pipes(history("pipe 1 config bw 8Mbit/s delay 5 queue 2", rows))
-        self.assertEqual(found, [figures(1, 1000, 1_500_000, 2_000_000, 6_750_000, 8_000_000)])
+        assert found == [figures(1, 1000, 1_500_000, 2_000_000, 6_750_000, 8_000_000)]
 
     def test_kbytes_and_a_link_without_a_bandwidth(self) -> None:
         """1,024 bytes at 8 Mbit/s take 1,024,000 ns, and 1,024 are for rounding. The second packet waits 0.5 ms."""
         lines = "pipe 1 config bw 8Mbit/s queue 1Kbytes\npipe 2 config delay 3"
         found = pipes(history(lines, [packet(500), packet(500), packet(40, 5, "pipe,2")]))
-        self.assertEqual(
-            found, [figures(1, 500, 500_000, 1_525_024, 1_000_000, 2_025_024), figures(2, 40, 0, 0, 3_000_000, 3_000_000)]
-        )
+        assert found == [figures(1, 500, 500_000, 1_525_024, 1_000_000, 2_025_024), figures(2, 40, 0, 0, 3_000_000, 3_000_000)]
 
     def test_pipes_without_a_bound(self) -> None:
         """A queue names the first, the second got no packet, and the third lost its packet."""
         lines = "pipe 1 config bw 8Mbit/s\nqueue 1 config pipe 1\npipe 2 config\npipe 3 config plr 1"
         path = history(lines, [packet(500, 0, "queue,1"), packet(500, 0, "pipe,3")])
-        self.assertEqual(pipes(path), [])
-        self.assertNotIn("bound", run("look", path).stdout)
-        self.assertEqual(bound_lines(delays(path)), [])
+        assert pipes(path) == []
+        assert "bound" not in run("look", path).stdout
+        assert bound_lines(delays(path)) == []
 
     def test_packets_that_are_still_held(self) -> None:
         path = live(["pipe 1 config bw 8Mbit/s queue 1", f"c,0,submit,{packet(1000).removeprefix('0,')},7"])
-        self.assertEqual(pipes(path), [figures(1, 1000, None, 1_000_000, None, 2_000_000)])
-        self.assertEqual(run("look", path).stdout.splitlines()[-1].split(), ["1", "1,000", "-", "1.000", "-", "2.000"])
+        assert pipes(path) == [figures(1, 1000, None, 1_000_000, None, 2_000_000)]
+        assert run("look", path).stdout.splitlines()[-1].split() == ["1", "1,000", "-", "1.000", "-", "2.000"]
 
     def test_a_link_that_was_changed_has_none(self) -> None:
         path = live(
@@ -104,37 +102,34 @@ class Bounds(unittest.TestCase):
                 "c,0,collect,5000000",
             ]
         )
-        self.assertIsNone(pipes(path))
-        self.assertNotIn("bound", run("look", path).stdout)
-        self.assertEqual(bound_lines(delays(path)), [])
+        assert pipes(path) is None
+        assert "bound" not in run("look", path).stdout
+        assert bound_lines(delays(path)) == []
 
     def test_the_table_of_look(self) -> None:
         path = history(*FULL)
-        self.assertEqual(
-            run("look", path).stdout.split("\n\n")[-1],
+        assert run("look", path).stdout.split("\n\n")[-1] == (
             """\
 pipe  longest  max wait  wait bound  max delay  delay bound
         bytes        ms          ms         ms           ms
 1       1,500   600.000     600.000    632.000      632.000
-""",
+"""
         )
-        self.assertNotIn("bound", run("look", path, "--csv").stdout)
+        assert "bound" not in run("look", path, "--csv").stdout
 
     def test_the_line_of_a_picture(self) -> None:
         [line] = bound_lines(delays(history(*FULL)))
-        self.assertEqual(
-            (line.name, line.x.tolist(), line.y.tolist()), ("bound on the delay of pipe 1: 632 ms", [0, 0.632], [632, 632])
-        )
+        assert (line.name, line.x.tolist(), line.y.tolist()) == ("bound on the delay of pipe 1: 632 ms", [0, 0.632], [632, 632])
 
     def test_a_bound_far_above_the_delays_is_a_note(self) -> None:
         """One packet takes 32 ms, and 632 ms are more than twice that."""
         panel = delays(history(FULL[0], [packet(1500)]))
-        self.assertEqual(bound_lines(panel), [])
-        self.assertEqual(panel.notes, ["bound on the delay of pipe 1: 632 ms; the greatest is 32 ms"])
+        assert bound_lines(panel) == []
+        assert panel.notes == ["bound on the delay of pipe 1: 632 ms; the greatest is 32 ms"]
 
     def test_a_bound_is_far_above_by_its_own_pipe(self) -> None:
         """The delays of the first pipe reach 632 ms, and the one packet of the second takes 32 ms."""
         both = f"{FULL[0]}\npipe 2 config bw 1Mbit/s delay 20"
         panel = delays(history(both, [*FULL[1], packet(1500, 0, "pipe,2")]))
-        self.assertEqual([line.name for line in bound_lines(panel)], ["bound on the delay of pipe 1: 632 ms"])
-        self.assertEqual(panel.notes, ["bound on the delay of pipe 2: 632 ms; the greatest is 32 ms"])
+        assert [line.name for line in bound_lines(panel)] == ["bound on the delay of pipe 1: 632 ms"]
+        assert panel.notes == ["bound on the delay of pipe 2: 632 ms; the greatest is 32 ms"]

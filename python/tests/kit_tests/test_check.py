@@ -4,6 +4,7 @@ from __future__ import annotations
 
 import re
 import subprocess
+import sys
 import unittest
 from pathlib import Path
 
@@ -26,7 +27,7 @@ REPLACED = {  # a line, what is said of it; the word that is advised makes it go
     "pipe 1 config bw 1Gbps": "write 1Gbit/s",
     "pipe 1 config bw 100kb": "write 100Kbit/s",
     "pipe 1 bw 8Mbit/s": "`config` is missing",
-    "pipe 1 config loss 0.01": "word 4 'loss': no option; write plr",
+    "pipe 1 config loss 0.01": "word 4 'loss': not an option; write plr",
     "pipe 1 config plr 1%": "write 0.01",
     "pipe 1 config plr 5": "write 0.05 for 5 %",
     "pipe 1 config plr 1e-3": "write 0.001",
@@ -125,12 +126,10 @@ class Lines(unittest.TestCase):
             with self.subTest(line):
                 path = file("link.config", "pipe 1 config\n" * line.startswith("queue") + line + "\n")
                 (status, out), program = check(path), verdict(line)
-                self.assertEqual((status, program.returncode), (3, 3))
+                assert (status, program.returncode) == (3, 3)
                 number = re.search(r"line (\d+)(?:, word (\d+))?", program.stderr)
-                self.assertTrue(
-                    out.startswith(f"{path}:{number[1]}: " + (f"word {number[2]} " if number[2] else "")), (out, program.stderr)
-                )
-                self.assertIn(said, out)
+                assert out.startswith(f"{path}:{number[1]}: " + (f"word {number[2]} " if number[2] else "")), (out, program.stderr)
+                assert said in out
 
     def test_a_corrected_line_is_taken_whole(self) -> None:
         for line, whole in (
@@ -139,9 +138,9 @@ class Lines(unittest.TestCase):
             ("pipe 1 config bandwidth 56k, mask dst-ip /24", "pipe 1 config bw 56k mask dst-ip 0xffffff00"),
         ):
             with self.subTest(line):
-                self.assertIn(f"; in full: {whole}\n", check(file("link.config", f"{line}\n"))[1])
-                self.assertEqual(verdict(whole).returncode, 0)
-        self.assertNotIn("in full", check(file("link.config", "pipe 1 config red 1/2/3/4\n"))[1])
+                assert f"; in full: {whole}\n" in check(file("link.config", f"{line}\n"))[1]
+                assert verdict(whole).returncode == 0
+        assert "in full" not in check(file("link.config", "pipe 1 config red 1/2/3/4\n"))[1]
 
     def test_the_word_that_is_advised_is_taken(self) -> None:
         for line in REPLACED:
@@ -149,31 +148,30 @@ class Lines(unittest.TestCase):
                 found = re.search(r"word (\d+): (.*)", verdict(line).stderr)
                 words = words_of(line)
                 words[int(found[1]) - 1] = advice(words, int(found[1]), found[2]).word or ""
-                self.assertEqual(verdict(" ".join(words)).returncode, 0, words)
+                assert verdict(" ".join(words)).returncode == 0, words
 
     def test_every_bad_line_is_told(self) -> None:
         path = file(
             "many.config", "pipe 1 config bw 8Mbps\n\nqueue 1 config pipe 1\npipe 2 config delay 1s # late\npipe 3 config\n"
         )
         status, out = check(path)
-        self.assertEqual(status, 3)
-        self.assertEqual([line.split(": ", 1)[0] for line in out.splitlines()], [f"{path}:{number}" for number in (1, 3, 4)])
-        self.assertIn("pipe 1 isn't configured here (line 1, which is of it, has a fault)", out)
+        assert status == 3
+        assert [line.split(": ", 1)[0] for line in out.splitlines()] == [f"{path}:{number}" for number in (1, 3, 4)]
+        assert "pipe 1 isn't configured here (line 1, which is of it, has a fault)" in out
 
     def test_random_lines_as_the_program_has_them(self) -> None:
-        self.assertGreater(compare(0, 60), 200)
+        assert compare(0, 60) > 200
 
     def test_the_examples_have_no_findings(self) -> None:
-        files = [
-            path
-            for path in sorted((TOP / "examples").glob("*"))
-            if path.suffix in (".config", ".csv") and "report" not in path.name
-        ]
+        scenes = folder() / "scenes"
+        scenes.mkdir()
+        subprocess.run([sys.executable, TOP / "tools" / "release" / "examples.py", scenes], check=True)
+        files = [path for path in sorted(scenes.glob("*")) if path.suffix in (".config", ".csv") and "report" not in path.name]
         configs = [path for path in files if path.suffix == ".config"]
-        self.assertGreater(len(configs), 5)
+        assert len(configs) > 5
         for config in configs:
             packets = [path for path in files if path == config.with_suffix(".csv")]
-            self.assertEqual(check(config, *packets), (0, ""), config)
+            assert check(config, *packets) == (0, ""), config
 
 
 class Rows(unittest.TestCase):
@@ -184,16 +182,16 @@ class Rows(unittest.TestCase):
                 path = file("p.csv", HEAD + "\n" + GOOD + "7\n" + row + "\n")
                 status, out = check(config, path)
                 program = subprocess.run([dummynet(), "replay", config, path], capture_output=True, text=True)
-                self.assertEqual((status, program.returncode), (4, 4))
-                self.assertIn("packet row 2, field", program.stderr)
-                self.assertTrue(out.startswith(f"{path}:4: ") and said in out, out)
+                assert (status, program.returncode) == (4, 4)
+                assert "packet row 2, field" in program.stderr
+                assert out.startswith(f"{path}:4: ") and said in out, out
 
     def test_a_field_as_long_as_a_file(self) -> None:
         """Longer than a field of Python's csv is by default, 131,072 bytes."""
         config, path = file("c.config", "pipe 1 config\n"), file("p.csv", HEAD + GOOD + "1" * 200_000 + "\n")
         status, out = check(config, path)
-        self.assertEqual(status, 4)
-        self.assertTrue(out.startswith(f"{path}:2: "), out[:200])
+        assert status == 4
+        assert out.startswith(f"{path}:2: "), out[:200]
 
     def test_every_bad_row_is_told(self) -> None:
         rows = [
@@ -208,9 +206,8 @@ class Rows(unittest.TestCase):
         ]
         path = file("p.csv", HEAD + "\n".join(rows) + "\n")
         status, out = check(path)
-        self.assertEqual(
-            (status, [line.split(": ", 1)[0] for line in out.splitlines()]), (4, [f"{path}:{number}" for number in (3, 6, 7, 9)])
-        )
+        assert status == 4
+        assert [line.split(": ", 1)[0] for line in out.splitlines()] == [f"{path}:{number}" for number in (3, 6, 7, 9)]
 
     def test_headers(self) -> None:
         for head, said in (
@@ -219,12 +216,12 @@ class Rows(unittest.TestCase):
             (HEAD.replace("moment", "time"), "another header"),
         ):
             status, out = check(file("p.csv", head))
-            self.assertEqual((status, out.count("\n")), (4, 1))
-            self.assertIn(said, out)
+            assert (status, out.count("\n")) == (4, 1)
+            assert said in out
 
     def test_a_joined_input_has_the_lines_of_the_whole(self) -> None:
         path = file("joined", "pipe 1 config\n--\n" + HEAD + GOOD.replace("17", "tcp") + "1\n")
-        self.assertEqual(check(path), (4, f"{path}:4: field 6 (proto) 'tcp': a protocol is its number; write 6\n"))
+        assert check(path) == (4, f"{path}:4: field 6 (proto) 'tcp': a protocol is its number; write 6\n")
 
 
 class Warnings(unittest.TestCase):
@@ -236,7 +233,7 @@ class Warnings(unittest.TestCase):
         )
         rows = GOOD.replace("0,pipe", "5,pipe", 1) + "0\n" + GOOD + "0\n" + GOOD.replace("pipe,1,", "queue,4,") + "0\n"
         status, out = check(config, file("p.csv", HEAD + rows))
-        self.assertEqual(status, 0)
+        assert status == 0
         for said in (
             "bw 8 is 8 bit/s",
             "delay 30000 is 30 s",
@@ -249,19 +246,19 @@ class Warnings(unittest.TestCase):
             "p.csv:4: warning: 1 of 3 rows go to queue 4",
             "all packets have one fate (lost)",
         ):
-            self.assertIn(said, out)
+            assert said in out
 
     def test_nanoseconds_and_targets(self) -> None:
         many = file("q.csv", HEAD + "".join(f"{moment},pipe,2{GOOD[8:]}{moment}\n" for moment in range(200)))
         status, out = check(file("d.config", "pipe 1 config\n"), many)
-        self.assertEqual(status, 0)
-        self.assertIn("200 packets within 199 ns", out)
-        self.assertIn("NO row has a target", out)
+        assert status == 0
+        assert "200 packets within 199 ns" in out
+        assert "NO row has a target" in out
 
     def test_other_files(self) -> None:
-        self.assertIn("hinge packets", check(file("a.csv", b"\xd4\xc3\xb2\xa1" + bytes(20)))[1])
-        self.assertEqual(check(file("good.config", "# a comment\n\nipfw pipe 1 config bw 8Mbit/s\r\n")), (0, ""))
-        self.assertEqual(run("check", "nowhere").returncode, 6)
+        assert "hinge packets" in check(file("a.csv", b"\xd4\xc3\xb2\xa1" + bytes(20)))[1]
+        assert check(file("good.config", "# a comment\n\nipfw pipe 1 config bw 8Mbit/s\r\n")) == (0, "")
+        assert run("check", "nowhere").returncode == 6
 
 
 class Waits(unittest.TestCase):
@@ -270,7 +267,7 @@ class Waits(unittest.TestCase):
     def told(self, line: str) -> str:
         path = file("wait.config", line + "\n")
         done = run("check", path)
-        self.assertEqual((done.returncode, done.stdout), (0, ""))
+        assert (done.returncode, done.stdout) == (0, "")
         return done.stderr.replace(f"{path}: ", "")
 
     def test_the_bound_is_told(self) -> None:
@@ -281,16 +278,16 @@ class Waits(unittest.TestCase):
             "pipe 1 config bw 8Mbit/s queue 10Kbytes": "starts within 11.750240 ms and is due within 13.250240 ms",
             "pipe 1 config delay 5": "starts within 0.000000 ms and is due within 5.000000 ms",
         }.items():
-            self.assertEqual(self.told(line), f"pipe 1: an accepted packet {bound}{none_longer}")
-        self.assertEqual(self.told("pipe 1 config bw 1Mbit/s\nqueue 1 config pipe 1"), "nothing to say\n")
+            assert self.told(line) == f"pipe 1: an accepted packet {bound}{none_longer}"
+        assert self.told("pipe 1 config bw 1Mbit/s\nqueue 1 config pipe 1") == "nothing to say\n"
 
     def test_a_full_queue_reaches_the_bound_of_slots(self) -> None:
         config = file("wait.config", "pipe 1 config bw 1Mbit/s delay 20\n")
         packets = file("p.csv", HEAD + (GOOD.removesuffix("1000,") + "1500,0\n") * 60)
         report = subprocess.run([dummynet(), "replay", config, packets], capture_output=True, text=True, check=True).stdout
         out = [line.split(",") for line in report.splitlines() if line.startswith("out,")]
-        self.assertEqual(len(out), 51)
-        self.assertEqual(max(int(fields[-1]) for fields in out), 632 * 10**6)
+        assert len(out) == 51
+        assert max(int(fields[-1]) for fields in out) == 632 * 10**6
 
 
 class Histories(unittest.TestCase):
@@ -299,7 +296,7 @@ class Histories(unittest.TestCase):
         subprocess.run([dummynet(), "replay", config, packets, "--history", path], stdout=subprocess.DEVNULL, check=True)
         text = path.read_text()
         lines = text.splitlines(True)
-        self.assertEqual(check(path), (0, ""))
+        assert check(path) == (0, "")
         cases = {
             "".join(lines[:-1]): "was cut",
             "".join(lines[:6]): "was cut",
@@ -312,11 +309,11 @@ class Histories(unittest.TestCase):
         }
         for changed, said in cases.items():
             status, out = check(file("h2", changed))
-            self.assertIn(said, out)
-            self.assertIn(status, (1, 4))
+            assert said in out
+            assert status in (1, 4)
 
     def test_remarks_are_records_of_a_history_and_not_of_a_transcript(self) -> None:
         for first, number, where in (("dummynet-history,3", 2, "h:2"), ("dummynet-live,1", 2, "h:3")):
             records = HistoryRecords(f"{first}\n#,next\nx\nend,0\n".encode())
             found, said = bad_record("h", records, number)
-            self.assertEqual((found, "a remark" in said), (where, first == "dummynet-history,3"))
+            assert (found, "a remark" in said) == (where, first == "dummynet-history,3")

@@ -1,4 +1,4 @@
-"""The frame of every command: what it tells on a terminal, and how it ends where the system refuses something."""
+"""The frame around every command: its progress on a terminal, and its end if the system refuses something."""
 
 from __future__ import annotations
 
@@ -47,11 +47,23 @@ class Progress(unittest.TestCase):
         self.assertEqual(self.told([2.1, 9.0], io.StringIO()), "")
 
 
+class Steps(unittest.TestCase):
+    def test_a_bar_counts_steps_and_failures(self) -> None:
+        clock, terminal = mock.patch.object(command.time, "monotonic", side_effect=[0, 1, 2.5, 2.6, 4]), Terminal()
+        with clock, contextlib.redirect_stderr(terminal):
+            bar = command.Bar("runs", 8)
+            for failed in (False, True, False, False):
+                bar.step(failed)
+            bar.clear()
+        counts = f"{CLEARED}2 of 8 runs, 1 failed, 8 s left{CLEARED}4 of 8 runs, 1 failed, 4 s left{CLEARED}"
+        self.assertEqual(terminal.getvalue(), counts)
+
+
 class Working(unittest.TestCase):
     def told(self, terminal: io.StringIO, after: float) -> str:
         with mock.patch.object(command, "PROGRESS_AFTER", after), contextlib.redirect_stderr(terminal):
             with command.working("reading"):
-                end = command.time.monotonic() + 2
+                end = command.time.monotonic() + 60
                 while after < 1 and terminal.isatty() and not terminal.getvalue() and command.time.monotonic() < end:
                     command.time.sleep(0.005)
         return terminal.getvalue()
@@ -103,9 +115,10 @@ class Ends(unittest.TestCase):
         self.assertEqual(self.raised(KeyboardInterrupt()), (130, ""))
 
     def test_an_interrupt_while_python_loads_the_kit_ends_it_without_a_word(self) -> None:
-        module, kit = folder() / "early" / "textwrap.py", TOP / "python" / "hinge" / "__main__.py"
+        module, kit = folder() / "early" / "sitecustomize.py", TOP / "python" / "hinge" / "__main__.py"
         module.parent.mkdir()
-        module.write_text("import os, signal\nos.kill(os.getpid(), signal.SIGINT)\n")
+        kill = "about[0] == 'typing' and os.kill(os.getpid(), signal.SIGINT)"
+        module.write_text(f"import os, signal, sys\nsys.addaudithook(lambda event, about: event == 'import' and {kill})\n")
         for words in ([TOP / "hinge"], [sys.executable, kit]):
             done = subprocess.run(
                 [*words, "help"], env={**os.environ, "PYTHONPATH": str(module.parent)}, capture_output=True, text=True
@@ -123,7 +136,7 @@ class Ends(unittest.TestCase):
 
 class Streams(unittest.TestCase):
     def test_a_closed_one_takes_no_file_of_the_command(self) -> None:
-        """What is opened later would have its number, and what is told would be written there."""
+        """A file opened later would get the closed stream's number, and messages would be written there."""
         script = (
             "from hinge import command; import os, sys; command.open_closed_streams(); "
             "made = os.open('stream', os.O_CREAT | os.O_RDWR); "

@@ -20,10 +20,10 @@ TYPED = {
     "hinge help doct": "hinge help doctor x",
     "hinge run --preset 3": "hinge run --preset 3g x",
     "hinge run --simul": "hinge run --simulated x",
-    "hinge sweep gat": "hinge sweep gather x",
     "hinge docs EMB": "hinge docs EMBEDDING x",
     "hinge status two": "hinge status twohosts x",
     "hinge exec twohosts ro": "hinge exec twohosts router x",
+    "hinge change twohosts rest": "hinge change twohosts restart x",
     "hinge look mixed": "hinge look mixed.pcap x",
 }
 HINGE = f"""#!/bin/sh
@@ -33,7 +33,7 @@ exec {TOP}/hinge "$@"
 
 
 def typed(shell: str, place: Path) -> list[str]:
-    """What each line becomes by a tab and an x: then it is put behind `echo`, by the keys to its begin and its end."""
+    """Returns each line's completion after a tab and an x; the keys for the line's begin and end then put it behind `echo`."""
     (place / "run" / "hinge" / "twohosts").mkdir(parents=True)
     for file, name in ((MIXED, MIXED.name), (COMPLETION.with_suffix(".zsh"), "_hinge"), (COMPLETION, COMPLETION.name)):
         shutil.copy(file, place / name)
@@ -56,7 +56,3 @@ class Completion(unittest.TestCase):
     def test_words_files_and_names_in_a_terminal(self) -> None:
         for shell in filter(shutil.which, QUIET):
             self.assertEqual(typed(shell, folder() / shell), list(TYPED.values()), shell)
-
-
-if __name__ == "__main__":
-    unittest.main()

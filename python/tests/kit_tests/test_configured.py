@@ -60,7 +60,3 @@ class Settings(unittest.TestCase):
     def test_no_command(self) -> None:
         with self.assertRaisesRegex(LineFault, "^config line 1, word 5: bad number$"):
             spelled_lines(b"pipe 1 config bw 8Mbps")
-
-
-if __name__ == "__main__":
-    unittest.main()

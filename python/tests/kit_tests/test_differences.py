@@ -85,7 +85,6 @@ one.history and reply.history part in call 3, at 0.000000500 s: its replies diff
         for words, status in (
             ((one,), 2),
             ((one, one, one), 2),
-            ((one, one, "--why", 1), 2),
             ((one, "text"), 4),
             ((one, "none"), 6),
         ):

@@ -15,9 +15,9 @@ class Doctor(unittest.TestCase):
     def test_each_trial_has_its_line(self) -> None:
         done = run("doctor")
         lines = done.stdout.splitlines()[: len(TRIALS)]
-        self.assertEqual([trial.what for trial in TRIALS], [line[5 : 5 + len(trial.what)] for line, trial in zip(lines, TRIALS)])
+        self.assertEqual([*TRIALS], [line[5 : 5 + len(what)] for line, what in zip(lines, TRIALS)])
         self.assertLessEqual({line[:5] for line in lines}, {"yes  ", "no   "})
-        works = f"yes  {TRIALS[1].what}" in lines
+        works = f"yes  {[*TRIALS][1]}" in lines
         self.assertEqual(done.returncode, 0 if works else 7, done.stdout + done.stderr)
 
     def test_what_is_missing_is_named_with_its_package(self) -> None:
@@ -37,7 +37,3 @@ class Doctor(unittest.TestCase):
 
     def test_a_run_that_fails_says_why(self) -> None:
         self.assertEqual(doctor.of_run("--net", "nonsense").why.partition(":")[0], "--net nonsense")
-
-
-if __name__ == "__main__":
-    unittest.main()

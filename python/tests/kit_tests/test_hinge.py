@@ -1,4 +1,4 @@
-"""`hinge` itself: its help and version, a word that is no command, and the programs that it takes."""
+"""`hinge` itself: help and version, a word that is no command, and the programs that it accepts."""
 
 from __future__ import annotations
 
@@ -54,7 +54,7 @@ class Help(unittest.TestCase):
         self.assertEqual(told.stdout, run("--help").stdout)
 
     def test_each_help_fits_a_terminal_and_ends_with_an_example_and_the_statuses(self) -> None:
-        self.assertEqual(len(COMMANDS), 19)
+        self.assertEqual(len(COMMANDS), 18)
         for name in COMMANDS:
             out, words = io.StringIO(), {"argv": ["hinge", "--help"]}
             with mock.patch.multiple(sys, **words), mock.patch.dict(os.environ, COLUMNS="80"), contextlib.redirect_stdout(out):
@@ -84,7 +84,7 @@ class Help(unittest.TestCase):
         self.assertEqual((wrong.returncode, wrong.stderr), (2, "hinge docs: no page 'LIVES'; did you mean `hinge docs LIVE`?\n"))
 
     def test_each_page_that_a_help_names_is_there(self) -> None:
-        """By `hinge docs`, since an installation has no folder docs/ of its own."""
+        """The check uses `hinge docs`, since an installation contains no folder docs/."""
         pages, named = {page.stem for page in (TOP / "docs").glob("*.md")}, 0
         for command in COMMANDS:
             told = run(command, "--help").stdout
@@ -129,7 +129,7 @@ class Help(unittest.TestCase):
 
 
 class Programs(unittest.TestCase):
-    """A package that is installed in a prefix of its own, without a clone round it."""
+    """A package installed in a separate prefix, without a clone around it."""
 
     def setUp(self) -> None:
         place = tempfile.TemporaryDirectory()
@@ -163,4 +163,4 @@ class Programs(unittest.TestCase):
     def test_the_variable_goes_before_all(self) -> None:
         self.assertEqual(self.told(DUMMYNET=f"{self.other}/dummynet"), f"9.8.7 {self.other}/dummynet\n")
         told = self.told(DUMMYNET=str(self.other))
-        self.assertTrue(told.endswith(f"DUMMYNET names {self.other}, which is no program"))
+        self.assertTrue(told.endswith(f"DUMMYNET names {self.other}, which isn't a program"))

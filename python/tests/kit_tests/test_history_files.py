@@ -1,19 +1,19 @@
-"""Histories, transcripts and packet files of each form, however their bytes come in blocks."""
+"""Histories, transcripts and packet files of each form, however their bytes come in blocks; and reports of live sessions."""
 
 from __future__ import annotations
 
+import os
 import random
+import shutil
 import subprocess
+import sys
 import unittest
 from unittest.mock import patch
 
-import numpy as np
-
 from hinge.program import dummynet
-from hinge.replays import columns, record_lines
 from hinge.replays.history import read_history
 from hinge.replays.replay import NONE, OUT, Replay, read_packets, read_report
-from kit import folder, mixed, run, write
+from kit import TOP, folder, mixed, needs_tshark, run, write
 from looked import history_of, live
 
 SUBMIT = "c,0,submit,pipe,1,10.0.0.1,10.0.0.2,17,1,2,1000,0,"
@@ -79,7 +79,7 @@ class Forms(unittest.TestCase):
         whole = live(["pipe 1 config bw 8Mbit/s delay 20 queue 3", f"{SUBMIT}0", "c,0,collect,21000000"])
         canonical, other = "configure,pipe 1 config bw 8000000bit/s delay 20 queue 3", "configure,ipfw pipe 1 config bw 8Mbit/s"
         self.assertIn(canonical, whole)
-        told = run("look", write("spelled.history", whole.replace(canonical, f"{other} delay 20ms queue 3 # slow")), "--why", 1)
+        told = run("why", 1, write("spelled.history", whole.replace(canonical, f"{other} delay 20ms queue 3 # slow")))
         self.assertEqual(told.returncode, 0, told.stderr)
         self.assertIn("(1,000 bytes at 8,000,000 bit/s). The link's delay was 20.000000 ms.", told.stdout)
         path = write("spelled.history", whole.replace(canonical, "configure,pipe 1 config bw 8Mbps"))
@@ -104,9 +104,18 @@ def told(replay: Replay) -> object:
     packets = replay.packets
     numbers = [getattr(replay, name).tolist() for name in ("event", "flow", "packet", "at", "start", "due")]
     rows = [getattr(packets, name).tolist() for name in ("moment", "target", "five_tuple", "length", "word")]
-    return numbers, rows, packets.targets, packets.tuples
+    return numbers, rows, packets.targets, list(packets.tuples)
 
 
+def reader(together: int) -> str:
+    """hinge-packets that reads so many bytes of a text together."""
+    path = folder() / f"hinge-packets-{together}"
+    words = ["cc", "-std=c17", "-D_GNU_SOURCE", f"-DREAD_TOGETHER={together}", *map(str, (TOP / "hosts" / "packets").glob("*.c"))]
+    subprocess.run([*words, "-o", path], check=True)
+    return str(path)
+
+
+@unittest.skipUnless(shutil.which("cc"), "there is no cc")
 class Blocks(unittest.TestCase):
     """What a file tells doesn't depend on where its blocks end."""
 
@@ -115,36 +124,41 @@ class Blocks(unittest.TestCase):
             _, packets, report = mixed(name)
             path = history_of(name)
             wanted = told(read_history(path).replay), told(read_report(str(report), read_packets(str(packets))))
-            with patch.object(record_lines, "BLOCK", 60_001):
+            with patch.dict(os.environ, HINGE_PACKETS=reader(61)):
                 found = told(read_history(path).replay), told(read_report(str(report), read_packets(str(packets))))
             self.assertEqual(found, wanted, name)
 
     def test_a_transcript(self) -> None:
-        """Its changes, remarks, line ends and quotes, and a block that ends between a call and its reply."""
+        """Its changes, remarks, line ends and quotes."""
         lines = [f"pipe 1 config bw 8Mbit/s delay {row}\n{SUBMIT}{row * 900_000}\nc,0,show" for row in range(6)]
         text = live([*lines, "next", "c,0,collect,9000000"]).replace("\nend,", "\n#,late,1000000000,5,6,7,8\n#,seed,5\nend,")
-        path = folder() / "blocks.history"
+        path, readers = folder() / "blocks.history", [reader(size) for size in (1, 7, 300)]
         for form in (text, text.replace("\n", "\r\n"), text.replace("pipe,1", '"pipe","1"'), text[:-6], text + "\n\n"):
             path.write_bytes(form.encode())
             one = read_history(str(path))
-            for size in (7, 40, 111, 300, 1000):
-                with patch.object(record_lines, "BLOCK", size):
+            for other_reader in readers:
+                with patch.dict(os.environ, HINGE_PACKETS=other_reader):
                     other = read_history(str(path))
-                self.assertEqual(told(other.replay), told(one.replay), size)
+                self.assertEqual(told(other.replay), told(one.replay))
                 for name in ("changes", "cut", "seed", "is_history", "configuration"):
-                    self.assertEqual(getattr(other, name), getattr(one, name), (name, size))
+                    self.assertEqual(getattr(other, name), getattr(one, name), name)
                 self.assertEqual(other.most_late("late"), one.most_late("late"))
 
-    def test_numbers_of_combinations(self) -> None:
-        """By a table whose slots several share, and where that fails one by one."""
-        rng = np.random.default_rng(7)
-        for rows, values in ((0, 1), (1, 1), (50, 3), (4000, 2), (4000, 40), (4000, 10**6)):
-            keys = [rng.integers(0, values, rows) for _ in range(3)]
-            wanted = [column.tolist() for column in columns.numbered_one_by_one(*keys)]
-            self.assertEqual([column.tolist() for column in columns.numbered_at_once(*keys) or ()], wanted)
-            with patch.object(columns, "MOST_ROUNDS", 0):
-                self.assertEqual([column.tolist() for column in columns.numbered(*keys)], wanted)
 
-
-if __name__ == "__main__":
-    unittest.main()
+@needs_tshark
+class OnePipe(unittest.TestCase):
+    def test_the_report_of_a_live_session_is_that_of_the_replay(self) -> None:
+        """For losses, full queues and targets that aren't configured."""
+        for name in ("dsl", "shared"):
+            config, packets, report = mixed(name)
+            calls = [line for line in config.read_text().splitlines() if not line.startswith("#")]
+            for row, line in enumerate(packets.read_text().splitlines()[1:], 1):
+                moment, *rest = line.split(",")
+                calls += [f"c,0,submit,{','.join(rest)},{moment}", *[f"c,0,collect,{moment}"][: row % 1000 == 0]]
+            calls.append(f"c,0,collect,{2**62}")
+            session = subprocess.run(
+                [dummynet(), "live"], input="\n".join(calls) + "\n", capture_output=True, text=True, check=True
+            )
+            script = TOP / "examples" / "live" / "live_report.py"
+            done = subprocess.run([sys.executable, script], input=session.stdout, capture_output=True, text=True)
+            self.assertEqual((done.stdout, done.stderr), (report.read_text(), ""))

@@ -1,21 +1,23 @@
-"""Histories and packet files that nobody would write: each ends with a line and a status, in time and memory in proportion to its length."""
+"""Histories, packet files and texts that nobody would write: each ends with a line and a status, in time and memory in proportion to its length."""
 
 from __future__ import annotations
 
-import os
 import subprocess
-import unittest
+import sys
 from pathlib import Path
 from typing import NamedTuple, Sequence
 
 from with_folder import WithFolder
 
+from hinge.border.files import MOST_SAID
+from hinge.paths.folder import NET
 from hinge.program import HINGE
 
 SIZE = 3_000_000  # bytes
-TIMES, MORE = 10, 4 << 20  # bytes of memory for each byte of a file, and for what a system gives more
+TIMES, MORE = 9, 4 << 20  # bytes of memory for each byte of a file, and for what a system gives more
 LONGEST = 10.0  # s of the processor, of a busy machine
 HISTORY, HEADER = b"dummynet-history,3\n", b"moment,target,number,src,dst,proto,sport,dport,len,word\n"
+REPORT = b"event,row,flow,packet,at,start,due\nout,1,0,0,0,0,1000000\n"
 ROW, DIGITS = b"1,pipe,1,1.1.1.1,2.2.2.2,17,1,2,1000,0\n", b"9" * 100_000
 HISTORIES = {
     "one line": b"x" * SIZE + b"\n",
@@ -39,6 +41,53 @@ PACKETS = {
     "quotes": b'"' * SIZE,
     "fields in quotes": b'"1"\n' * (SIZE // 4),
 }
+LINES = 300_000
+TEXTS = {
+    "letters": b"x\n" * LINES,
+    "comments": b"#\n" * LINES,
+    "empty lines": b"\n" * LINES,
+    "carriage returns": b"\r" * LINES,
+    "one line": b"x" * SIZE,
+    "words": b"x " * (SIZE // 2),
+    "digits": b"1\n" * LINES,
+    "quotes": b'"' * SIZE,
+    "NULs": b"\0" * SIZE,
+    "blanks": b"pipe" + b" " * 1_000_000 + b"x",
+    "commas": b"," * SIZE,
+    "doubled variables": b"A=xxxxxxxx\n" + b"A=$A$A\n" * 60 + b"ipfw pipe 1 config bw $A\n",
+    "variables without an end": b"ipfw pipe 1 config bw " + b"${a-" * 250_000,
+}
+OF_TWO = "host a\nhost b\nlink a b 1Mbit/s\n"
+SAYING = {  # a command, and what its text begins with and says again and again
+    "acts of a net": (["net", "x", "--dry-run"], OF_TWO, "at {}ms a b 1Mbit/s\n"),
+    "hosts of a net": (["net", "x", "--dry-run"], "", "host h{}\n"),
+    "links of a net": (["net", "x", "--dry-run"], OF_TWO, "link a b\n"),
+    "changes": (["run", "--link", "1ms", "--timeline", "x", "--", "true"], "", "{}ms pipe 1 config bw 1Mbit/s\n"),
+    "lines of ipfw": (["ipfw", "x"], "", "ipfw pipe {} config\n"),
+}
+OF_A_LINE = 2048  # bytes of memory for each that says something, of MOST_SAID
+PLACES = ("x", "p.addresses", "net/net.json", f"net/{NET}")  # at which the text stands
+READERS = {  # by what each module of the kit that reads a text is reached; tools/gate/border.py asks for a row of each
+    "run/words.py": (
+        ["net", "x", "--dry-run"],
+        *(["run", option, "x", "--", "true"] for option in ("--config", "--timeline", "--up-trace")),
+    ),
+    "commands/ipfw.py": (["ipfw", "x"],),
+    "commands/check.py": (["check", "x"],),
+    "plans/meaning.py": (["check", "net"],),
+    "replays/links.py": (["why", "1", "x", "p", "r"],),
+    "captures/addresses.py": (["look", "p", "r"],),
+    "paths/folder.py": (["look", "net"],),
+    "fault_lines.py": (["run", "--faults", "x", "--", "true"],),
+    "simulated/failures.py": (["run", "--like", "x", "--", "true"],),
+    "pictures/operations.py": (["look", "x", "--model", "set", "-o", "y.svg"], ["look", "p", "x", "--model", "set", "-o", "y.svg"]),
+}
+
+
+LAUNCHER = """import os, sys
+_, status, used = os.wait4(os.posix_spawn(sys.argv[2], sys.argv[2:], os.environ), 0)
+with open(sys.argv[1], "w") as result:
+    print(os.waitstatus_to_exitcode(status), used.ru_maxrss << 10, used.ru_utime + used.ru_stime, file=result)"""
 
 
 class Ended(NamedTuple):
@@ -49,13 +98,15 @@ class Ended(NamedTuple):
 
 
 def ended(words: Sequence[object], folder: Path) -> Ended:
+    """Returns the end of a command with its memory limited, as its parent is a small process."""
+    result = folder / "result"
     with open(folder / "told", "w+b") as told:
-        process = subprocess.Popen([*HINGE, *map(str, words)], stdout=subprocess.DEVNULL, stderr=told)
-        _, status, used = os.wait4(process.pid, 0)
-        process.returncode = os.waitstatus_to_exitcode(status)
+        launcher = [sys.executable, "-S", "-c", LAUNCHER, result, *HINGE, *words]
+        subprocess.run([*map(str, launcher)], stdout=subprocess.DEVNULL, stderr=told, check=True)
         told.seek(0)
         text = told.read().decode()
-    return Ended(process.returncode, text, used.ru_maxrss << 10, used.ru_utime + used.ru_stime)
+    status, memory, seconds = result.read_text().split()
+    return Ended(int(status), text, int(memory), float(seconds))
 
 
 class OfFiles(WithFolder):
@@ -89,6 +140,40 @@ class OfFiles(WithFolder):
             with self.subTest(name):
                 self.check(["why", 1, self.config, self.file, self.file], data, {0, 4})
 
+    def test_texts(self) -> None:
+        """Beside what a command takes for a line without a meaning."""
+        self.net.write_bytes(HISTORY + b"end,0\n")
+        for name, data in (("p", HEADER + ROW), ("r", REPORT)):
+            (self.folder / name).write_bytes(data)
+        for words in (words for commands in READERS.values() for words in commands):
+            start = self.of_text(words, b"#\n").memory
+            for name, data in TEXTS.items():
+                with self.subTest(name, command=words):
+                    done = self.of_text(words, data)
+                    self.assertIn(done.status, {0, 2, 3, 4}, done.told[-500:])
+                    self.assertNotIn("Traceback", done.told)
+                    self.assertLess(done.memory, start + MORE + TIMES * len(data))
+                    self.assertLess(done.seconds, LONGEST)
 
-if __name__ == "__main__":
-    unittest.main()
+    def test_lines_that_say_something(self) -> None:
+        for name, (words, front, line) in SAYING.items():
+            data = (front + "".join(map(line.format, range(1, MOST_SAID + 1)))).encode() + b"x\n"
+            with self.subTest(name):
+                done = self.of_text(words, data)
+                self.assertIn(done.status, {2, 4}, done.told[-500:])
+                self.assertLessEqual(done.told.count("\n"), 2, done.told[-500:])
+                self.assertLess(done.memory, self.start + MORE + TIMES * len(data) + OF_A_LINE * MOST_SAID)
+
+    def test_no_command_is_cut(self) -> None:
+        """Behind what a live session takes of a line."""
+        for text, statuses in ((b"pipe 1 config " + b"delay 1 " * 9000, {3}), (b"pipe 1 config #" + b"x" * 70_000, {0})):
+            done = self.of_text(["check", "x"], text)
+            self.assertEqual({done.status}, statuses, done.told[-200:])
+            self.assertEqual("more than 65,000 bytes in a line" in done.told, done.status == 3)
+
+    def of_text(self, words: Sequence[str], data: bytes) -> Ended:
+        """How a command ends where it reads this text."""
+        for place in PLACES:
+            (self.folder / place).write_bytes(data)
+        is_here = {one.name for one in self.folder.iterdir()}
+        return ended([words[0], *(self.folder / word if word in is_here else word for word in words[1:])], self.folder)

@@ -34,30 +34,28 @@ LEFT_OUT = {16: "${UNSET}", 17: "left out", 18: "no such pipe", 24: "src-ip /24"
 class Ipfw(unittest.TestCase):
     def test_a_script(self) -> None:
         done = run("ipfw", DATA / "rc.firewall")
-        self.assertEqual(done.stdout, EXPECTED)
-        self.assertEqual(done.returncode, 3)
+        assert done.stdout == EXPECTED
+        assert done.returncode == 3
         notes = done.stderr.splitlines()
         for line, told in LEFT_OUT.items():
-            self.assertTrue(
-                any(f"rc.firewall:{line}: left out" in note and told in note for note in notes), (line, told, done.stderr)
-            )
-        self.assertIn("5 commands for pipes and queues were left out", notes[-1])
+            assert any(f"rc.firewall:{line}: left out" in note and told in note for note in notes), (line, told, done.stderr)
+        assert "5 commands for pipes and queues were left out" in notes[-1]
 
     def test_a_file_that_is_no_text_is_one_fault(self) -> None:
         path = folder() / "picture.png"
         path.write_bytes(b"\x89PNG\r\n\x1a\n\0\0\0\rIHDR\n" * 50)
         done = run("ipfw", path)
-        self.assertEqual((done.returncode, done.stdout, done.stderr), (3, "", f"hinge ipfw: {path}: it is no text\n"))
-        told = "neither a configuration nor a packet file nor a history, as it is no text"
+        assert (done.returncode, done.stdout, done.stderr) == (3, "", f"hinge ipfw: {path}: it isn't text\n")
+        told = "neither a configuration nor a packet file nor a history, as it isn't text"
         done = run("check", path)
-        self.assertEqual((done.returncode, done.stdout, done.stderr), (4, f"{path}: {told}\n", "1 fault, 0 warnings\n"))
+        assert (done.returncode, done.stdout, done.stderr) == (4, f"{path}: {told}\n", "1 fault, 0 warnings\n")
         net = write("two.net", "# a net\n\nhost a\n")
         told = f"a net, not a configuration; `hinge net {net} --dry-run` checks it"
-        self.assertEqual(run("check", net).stdout, f"{net}: {told}\n")
+        assert run("check", net).stdout == f"{net}: {told}\n"
 
     def test_what_comes_out_is_taken(self) -> None:
         replies = configured(FastDummynet(), EXPECTED.encode())
-        self.assertEqual(len(replies), len(EXPECTED.splitlines()))
+        assert len(replies) == len(EXPECTED.splitlines())
 
     def test_units_of_bandwidth_are_ipfws(self) -> None:
         for text, value in (
@@ -70,31 +68,27 @@ class Ipfw(unittest.TestCase):
             ("3Kb/s", "3Kbit/s"),
             ("eth0", "eth0"),
         ):
-            self.assertEqual(ipfw_bandwidth(text), value)
+            assert ipfw_bandwidth(text) == value
 
     def test_loss_rates_lose_their_exponent(self) -> None:
-        self.assertEqual([loss_rate(text) for text in ("1e-3", "0.05", "5E-2", "1e0", "x")], ["0.001", "0.05", "0.05", "1", "x"])
+        assert [loss_rate(text) for text in ("1e-3", "0.05", "5E-2", "1e0", "x")] == ["0.001", "0.05", "0.05", "1", "x"]
 
     def test_a_flush_forgets_what_was_before(self) -> None:
         script = write("flush.sh", "ipfw pipe 1 config bw 1Mbit/s\nipfw -f pipe flush\nipfw pipe 2 config delay 3\n")
         done = run("ipfw", script)
-        self.assertEqual((done.returncode, done.stdout), (0, "pipe 2 config delay 3\n"))
+        assert (done.returncode, done.stdout) == (0, "pipe 2 config delay 3\n")
 
     def test_loops_count_where_the_script_runs_with_a_function_that_prints(self) -> None:
         """As the page says. The file itself has a variable that no line sets."""
         script = write("loop.sh", "for i in 1 2; do\n  ipfw pipe $i config bw ${i}Mbit/s \\\n    delay 5\ndone\n")
         done = run("ipfw", script)
-        self.assertEqual((done.returncode, done.stdout), (3, ""))
-        self.assertIn(
-            "loop.sh:2: left out: ipfw pipe $i config bw ${i}Mbit/s      delay 5 ($i isn't set in these files)", done.stderr
-        )
+        assert (done.returncode, done.stdout) == (3, "")
+        assert "loop.sh:2: left out: ipfw pipe $i config bw ${i}Mbit/s delay 5 ($i isn't set in these files)" in done.stderr
         printed = subprocess.run(
             ["sh", "-c", f"ipfw() {{ echo ipfw $*; }}; . {script}"], capture_output=True, text=True, check=True
         ).stdout
         done = run("ipfw", input=printed)
-        self.assertEqual(
-            (done.returncode, done.stdout), (0, "pipe 1 config bw 1Mbit/s delay 5\npipe 2 config bw 2Mbit/s delay 5\n")
-        )
+        assert (done.returncode, done.stdout) == (0, "pipe 1 config bw 1Mbit/s delay 5\npipe 2 config bw 2Mbit/s delay 5\n")
 
     def test_what_configures_no_pipe_has_a_status(self) -> None:
         for text in (
@@ -104,7 +98,7 @@ class Ipfw(unittest.TestCase):
             "",
         ):
             done = run("ipfw", write("none.sh", text))
-            self.assertEqual((done.returncode, done.stdout), (3, ""), (text, done.stderr))
+            assert (done.returncode, done.stdout) == (3, ""), (text, done.stderr)
 
     def test_many_lines_are_judged_by_one_session(self) -> None:
         script = write(
@@ -115,15 +109,16 @@ class Ipfw(unittest.TestCase):
         program.write_text(f'#!/bin/sh\necho called >>"{calls}"\nexec "{dummynet()}" "$@"\n')
         program.chmod(0o755)
         done = run("ipfw", script, env={**os.environ, "DUMMYNET": str(program)})
-        self.assertEqual((done.stdout.count("\n"), done.returncode, calls.read_text()), (2000, 3, "called\n"), done.stderr)
+        assert (done.stdout.count("\n"), done.returncode, calls.read_text()) == (2000, 3, "called\n"), done.stderr
 
     def test_standard_input_and_a_missing_file(self) -> None:
-        self.assertEqual(run("ipfw", input="dnctl pipe 1 config bw 1Mbit/s\n").stdout, "pipe 1 config bw 1Mbit/s\n")
-        self.assertEqual(run("ipfw", "missing").returncode, 6)
+        assert run("ipfw", input="dnctl pipe 1 config bw 1Mbit/s\n").stdout == "pipe 1 config bw 1Mbit/s\n"
+        assert run("ipfw", "missing").returncode == 6
 
     def test_a_line_of_ipfw_in_place_of_a_file_is_answered(self) -> None:
         config, line = "pipe 1 config bw 1Mbit/s", "hinge run --line 'pipe 1 config bw 1Mbit/s' -- COMMAND"
         answers = {f"{option}{config}": line for option in ("", "-q ", "-n ", "-f ", "-S ")}
-        for words, wanted in {**answers, "-f pipe flush": "hinge down NAME", "-S pipe list": "hinge status NAME"}.items():
+        answers |= {"-f pipe flush": "hinge down NAME; a run ends with its COMMAND", "-S pipe list": "hinge status NAME"}
+        for words, wanted in answers.items():
             done = run("ipfw", *words.split())
-            self.assertEqual((done.returncode, done.stderr.rpartition("written so: ")[2]), (2, f"{wanted}\n"), words)
+            assert (done.returncode, done.stderr.rpartition("written so: ")[2]) == (2, f"{wanted}\n"), words

@@ -30,23 +30,20 @@ class Look(unittest.TestCase):
                 done = run("look", *files)
                 self.assertEqual((done.returncode, done.stdout, done.stderr), (0, wanted.stdout, wanted.stderr))
 
-    def test_files_of_a_table_and_several_reports(self) -> None:
-        config, packets, report = mixed("dsl")
-        done = run("look", packets, report, "--config", config, "-o", "table.csv", "-o", "table.txt")
-        self.assertEqual((folder() / "table.txt").read_text(), done.stdout)
-        self.assertEqual((folder() / "table.csv").read_text(), run("look", packets, report, "--config", config, "--csv").stdout)
+    def test_several_reports_have_a_table_each(self) -> None:
+        _, packets, report = mixed("dsl")
         one = run("look", packets, report).stdout
         self.assertEqual(run("look", packets, report, report).stdout, f"{report}\n{one}\n{report}\n{one}")
 
     def test_files_are_written_before_a_reader_goes_away(self) -> None:
         config, packets, report = mixed("dsl")
-        words = [sys.executable, "-m", "hinge", "look", packets, report, "--config", config, "-o", "gone.svg", "-o", "gone.csv"]
+        words = [sys.executable, "-m", "hinge", "look", packets, report, "--config", config, "-o", "gone.svg", "-o", "gone.html"]
         process = subprocess.Popen(words, cwd=folder(), stdout=subprocess.PIPE)
         assert process.stdout
         process.stdout.close()
         self.assertEqual(process.wait(), 0)
         self.assertIn("</svg>", (folder() / "gone.svg").read_text())
-        self.assertEqual((folder() / "gone.csv").read_text(), run("look", packets, report, "--config", config, "--csv").stdout)
+        self.assertIn("</html>", (folder() / "gone.html").read_text())
 
     def test_a_history_and_a_report_with_its_configuration_have_one_picture(self) -> None:
         config, packets, report = mixed("dsl")
@@ -78,10 +75,8 @@ class Look(unittest.TestCase):
             rows = range(1, count + 1, max(1, count // 50))
             wanted = run("why", *rows, config, packets, report).stdout
             for words in (
-                ("look", history_of(name), "--why", *rows),
                 ("why", *rows, history_of(name)),
                 ("why", *rows, packets, report, "--config", config),
-                ("look", packets, report, "--config", config, "--why", *rows),
             ):
                 self.assertEqual(run(*words).stdout.replace(history_of(name), str(config)), wanted)
 
@@ -92,25 +87,26 @@ class Look(unittest.TestCase):
             (("why", 1, packets, report, report, "--config", config), 2, "a packet file has one report here, and these are 2"),
             (("look", *[packets] * 6), 2, "a packet file has up to four reports"),
             (("look", packets, report, report, "-o", "x.html"), 2, "of several reports there are pictures"),
+            (("look", packets, report, "-o", "x.csv"), 2, "; --csv prints the table"),
             (("look", packets, report, "-o", "x.pcap"), 2, "--capture, --index and -o FILE.pcap or FILE.pcapng go together"),
             (("look", packets, report, "--capture", "c", "--index", "i"), 2, "go together"),
             (("look", history_of("dsl"), "--config", config), 2, "is alone: a history has its configuration"),
             (("why", 1, packets, report), 2, "a paragraph needs the configuration: --config FILE"),
             (("why", 1), 2, "behind the rows comes a history, or a packet file and its report"),
-            (("why", 0, history_of("dsl")), 2, "'0' is no number from 1"),
-            (("look", "--audit", packets, report), 2, "--audit is of a history"),
+            (("why", 0, history_of("dsl")), 2, "'0' isn't a number from 1"),
         ):
             done = run(*words)
             self.assertEqual((done.returncode, told in done.stderr), (status, True), done.stderr)
 
-    def test_a_link_that_was_changed_has_no_parts(self) -> None:
+    def test_a_link_that_was_changed_has_the_parts_of_each_moment(self) -> None:
+        """The second packet waits 1 ms for the first, and takes 8 ms at the rate that came meanwhile."""
         submit = "c,0,submit,pipe,1,10.0.0.1,10.0.0.2,17,1,2,1000,0,0"
-        lines = ["pipe 1 config bw 8Mbit/s", submit, "pipe 1 config bw 1Mbit/s", "c,0,collect,5000000"]
+        lines = ["pipe 1 config bw 8Mbit/s", submit, submit, "pipe 1 config bw 1Mbit/s", "c,0,collect,50000000"]
         (folder() / "changed.history").write_text(live(lines))
-        done = run("look", "changed.history", "-o", "changed.png")
-        self.assertEqual(
-            (done.returncode, done.stderr), (0, "hinge look: the links were changed while packets came: no parts of the delay\n")
-        )
+        done = run("look", "changed.history", "-o", "changed.png", "--json", "changed.json")
+        self.assertEqual((done.returncode, done.stderr), (0, ""))
+        [*_, every] = json.loads((folder() / "changed.json").read_text())["flows"]
+        self.assertEqual([every[f"{part}_ns"] for part in ("queueing", "transmission", "link_delay")], [500_000, 4_500_000, 0])
         capacity = [(at, text) for at, text in read_history(str(folder() / "changed.history")).changes]
         self.assertEqual([at for at, _ in capacity], [0, 0])
 
@@ -162,11 +158,3 @@ class Look(unittest.TestCase):
             self.assertIn(f"`{key}`", page_of_runs)
             for inner in value if isinstance(value, dict) else ():
                 self.assertIn(f"`{inner}`", page_of_runs)
-
-    def test_why_of_a_link_that_was_changed_is_a_fault(self) -> None:
-        (folder() / "changed.history").write_text(
-            live(["pipe 1 config", "c,0,submit,pipe,1,10.0.0.1,10.0.0.2,17,1,2,1000,0,0", "pipe 1 config plr 1"])
-        )
-        done = run("look", "changed.history", "--why", 1)
-        self.assertEqual(done.returncode, 4)
-        self.assertIn("the links were changed while packets came", done.stderr)

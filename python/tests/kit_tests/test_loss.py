@@ -120,7 +120,7 @@ class Models(unittest.TestCase):
                     net.run(asyncio.sleep(0.001))
                 rows = [dropped.row for dropped in net.dropped]
             told[name] = provenance_of(read_sources([str(path)], None, [], 1, []))[0]
-            why = run("look", path, "--why", rows[0]).stdout
+            why = run("why", rows[0], path).stdout
             self.assertIn({"gilbert": "lost by a model", "random": "lost by the loss rate"}[name], why)
         self.assertRegex(
             told["gilbert"],

@@ -4,6 +4,7 @@ from __future__ import annotations
 
 import errno
 import os
+import shutil
 import signal
 import subprocess
 import sys
@@ -13,7 +14,7 @@ from unittest import mock
 
 from kit import MIXED, folder, mixed, needs_tshark, replay, run, write
 
-from hinge.border.scratch import scratch
+from hinge.border.scratch import MARK, remove_all, scratch
 from hinge.outputs import written
 
 ROWS = "moment,target,number,src,dst,proto,sport,dport,len,word\n0,pipe,1,1.1.1.1,2.2.2.2,17,1,2,1000,0\n"
@@ -35,7 +36,6 @@ class Outputs(unittest.TestCase):
             self.refused(kept, "look", packets, report, "--config", config, "--json", kept)
         picture = write("o.png", report.read_text())
         self.refused(picture, "look", packets, picture, "-o", "other.svg", "-o", picture)
-        self.refused(packets, "look", packets, report, "-o", packets)
         history = write("h.png", "dummynet-history,3\nend,0\n")
         self.refused(history, "look", history, "-o", history)
 
@@ -46,7 +46,7 @@ class Outputs(unittest.TestCase):
             (folder() / name).unlink(missing_ok=True)
             link(packets, folder() / name)
             self.refused(packets, "look", packets, report, "--json", name)
-        self.refused(packets, "look", packets, report, "-o", f"../{folder().name}/n.csv")
+        self.refused(packets, "look", packets, report, "--json", f"../{folder().name}/n.csv")
 
     @needs_tshark
     def test_captures_and_what_is_beside_a_packet_file(self) -> None:
@@ -65,14 +65,6 @@ class Outputs(unittest.TestCase):
         self.assertEqual("a file of the user\n", own.read_text())
         _, packets, report = mixed("shared")
         self.refused(capture, "look", packets, report, "--capture", capture, "--index", folder() / "shared.index", "-o", capture)
-
-    def test_a_sweep(self) -> None:
-        config, packets = write("s.config", "pipe 1 config bw {bw}\n"), write("s.csv", ROWS)
-        self.assertEqual(0, run("sweep", "plan", "study", packets, config, "--set", "bw=8Mbit/s,9Mbit/s").returncode)
-        self.assertEqual(0, run("sweep", "run", "study", "-P", 1).returncode)
-        for name in ("study.json", "link.config", "packets.csv", "run-2.csv"):
-            self.refused(folder() / "study" / name, "sweep", "gather", "study", "-o", folder() / "study" / name)
-        self.assertEqual(0, run("sweep", "gather", "study", "-o", folder() / "study" / "table.csv").returncode)
 
     def test_what_fails_leaves_the_older_file(self) -> None:
         packets, wrong, report = write("f.csv", ROWS), write("f.wrong", "no report\n"), write("f.report", "older\n")
@@ -113,6 +105,18 @@ class Outputs(unittest.TestCase):
             beside.write_text("whole")
         self.assertEqual("whole", place.read_text())
 
+    @unittest.skipUnless(os.geteuid() == 0, "only root can give a file away")
+    def test_what_another_user_made_in_a_folder_for_all(self) -> None:
+        shared, kept = folder() / "shared", write("kept", "kept")
+        shared.mkdir()
+        (shared / "link").symlink_to(kept)
+        for mode, uid, status in ((0o1777, 65534, 6), (0o1777, 0, 0), (0o755, 65534, 0)):
+            shared.chmod(mode)
+            os.lchown(shared / "link", uid, uid)
+            self.assertEqual(status, run("packets", MIXED, "-o", shared / "link").returncode)
+            self.assertEqual(kept.read_text() == "kept", status != 0)
+            kept.write_text("kept")
+
     def test_streams_and_devices_are_no_files(self) -> None:
         config, packets = write("d.config", "pipe 1 config\n"), write("d.csv", ROWS)
         report = replay("d", config, packets)
@@ -121,11 +125,17 @@ class Outputs(unittest.TestCase):
             (0, run("look", packets, report).stdout + "{\n"), (done.returncode, done.stdout.partition('"format"')[0].rstrip(" "))
         )
         self.assertEqual(0, run("look", packets, report, "--json", "/dev/null").returncode)
+        os.mkfifo(fifo := folder() / "fifo")
+        done = run("look", packets, report, "--json", fifo)
+        self.assertEqual((6, f"hinge look: {fifo}: No such device or address\n"), (done.returncode, done.stderr))
+        with open(os.open(fifo, os.O_RDONLY | os.O_NONBLOCK)) as reader:
+            self.assertEqual(0, run("look", packets, report, "--json", fifo).returncode)
+            self.assertIn('"format"', reader.read())
 
 
 SCRATCH = """
 import signal, sys, time
-from hinge.border.scratch import scratch
+from hinge.border.scratch import MARK, remove_all, scratch
 signal.signal(signal.SIGHUP, signal.SIG_DFL)  # which nohup has ignored
 with scratch(sys.argv[1]) as folder:
     (folder / "file").touch()
@@ -134,7 +144,7 @@ with scratch(sys.argv[1]) as folder:
 """
 TWICE = """
 import os, signal, sys
-from hinge.border.scratch import scratch
+from hinge.border.scratch import MARK, remove_all, scratch
 for number in (signal.SIGTERM, signal.SIGHUP):
     signal.signal(number, signal.SIG_DFL)
 number, another = map(int, sys.argv[2:])
@@ -171,12 +181,10 @@ class OfScratch(unittest.TestCase):
         self.place.mkdir(exist_ok=True)
 
     def holder(self) -> tuple[subprocess.Popen[str], Path]:
-        """A process with such a folder, and its folder, which looks old."""
+        """A process with such a folder, and its folder."""
         process = subprocess.Popen([sys.executable, "-c", SCRATCH, str(self.place)], stdout=subprocess.PIPE, text=True)
         assert process.stdout
-        made = Path(process.stdout.readline().strip())
-        os.utime(made, (0, 0))
-        return process, made
+        return process, Path(process.stdout.readline().strip())
 
     def ended(self, process: subprocess.Popen[str], number: int) -> int:
         process.send_signal(number)
@@ -212,12 +220,33 @@ class OfScratch(unittest.TestCase):
         self.assertEqual(done.stdout, f"{self.place} []\n", done.stderr)
 
     def test_others_stay(self) -> None:
-        young, other, link = (self.place / name for name in (".hinge-young", "hinge-0", ".hinge-link"))
-        young.mkdir(), other.mkdir(), link.symlink_to(other)
-        os.utime(other, (0, 0))
+        """A name like ours without a mark belongs to the user, or to a copy of an old folder."""
+        process, left = self.holder()
+        self.ended(process, signal.SIGKILL)
+        copy, other = self.place / ".hinge-copy", self.place / ".hinge-other"
+        shutil.copytree(left, copy)
+        left.rename(other)
+        (notes := self.place / ".hinge-notes").mkdir()
+        (self.place / ".hinge-link").symlink_to(notes)
+        for path in (copy, other, notes):
+            (path / "text").write_text("kept")
+            os.utime(path, (0, 0))
+        with scratch(self.place) as own:
+            self.assertTrue(own.is_dir() and (own / MARK).is_file())
+        self.assertEqual(
+            sorted((path.name, (path / "text").read_text()) for path in self.place.iterdir()),
+            [(f".hinge-{name}", "kept") for name in ("copy", "link", "notes", "other")],
+        )
+        shutil.rmtree(self.place)
+
+    def test_a_removal_that_is_killed_is_ended_by_the_next(self) -> None:
+        process, left = self.holder()
+        self.ended(process, signal.SIGKILL)
+        with mock.patch("shutil.rmtree"):
+            remove_all(left)
+        self.assertEqual(os.listdir(left), [MARK])
         with scratch(self.place):
-            self.assertTrue(young.exists() and other.exists() and link.is_symlink())
-        young.rmdir(), link.unlink(), other.rmdir()
+            self.assertFalse(left.exists())
 
 
 class OfBudgets(unittest.TestCase):
@@ -225,10 +254,12 @@ class OfBudgets(unittest.TestCase):
         for words in (
             ["run", "--timeline", "/dev/zero", "--", "true"],
             ["net", "/dev/zero", "--dry-run"],
-            ["sweep", "plan", folder() / "s", "p", "/dev/zero"],
         ):
+            self.assertRegex(run(*words).stderr, "has more than (268,435,456 bytes|65,536 letters in a line)", words)
+        for words in (["check", "/dev/zero"], ["look", "/dev/zero"], ["look", "--diff", "/dev/zero", "/dev/zero"]):
             done = run(*words)
-            self.assertIn("has more than 268,435,456 bytes", done.stderr, words)
+            self.assertRegex(done.stderr, r"/dev/zero: it has more than [\d,]+ (bytes|letters)( in a line)?\n\Z")
+            self.assertEqual((done.returncode, done.stdout), (4, ""), words)
 
     def test_where_an_exception_came_from(self) -> None:
         text = "try:\n  with untrusted('f'):\n    [][0]\nexcept Fault as fault:\n  print(fault)"
@@ -258,11 +289,7 @@ class OfTerminals(unittest.TestCase):
         write("own.csv.addresses", "stand-in,address\n1.1.1.1,fd00::1\x1b[31m\n")
         done = run("look", packets, replay("own", config, packets))
         self.assertEqual((done.returncode, done.stdout), (4, ""))
-        self.assertEqual(done.stderr, f"hinge look: {packets}.addresses: 'fd00::1\\x1b[31m' is no address of IPv6\n")
+        self.assertEqual(done.stderr, f"hinge look: {packets}.addresses: 'fd00::1\\x1b[31m' isn't an address of IPv6\n")
         write("own.csv.addresses", "stand-in,address\n1.1.1.1,fe80::1%\x1b[31m\n")  # a zone may be any text
         done = run("look", packets, replay("own", config, packets))
         self.assertEqual((done.returncode, "\x1b" in done.stdout + done.stderr), (4, False))
-
-
-if __name__ == "__main__":
-    unittest.main()

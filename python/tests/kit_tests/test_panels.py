@@ -6,6 +6,8 @@ import unittest
 from functools import lru_cache
 from pathlib import Path
 
+import pytest
+
 import numpy as np
 from captures import ETHERNET, ethernet, ip6, udp
 from captures import write as write_capture
@@ -40,16 +42,16 @@ class Panels(unittest.TestCase):
         found = series(replay, group(replay, "tuple").largest(replay.packets.length, 3), NS_PER_S, span, changes)
         carried = figure([found], "").axes[0]
         lines = {line.get_label(): line.get_ydata().tolist() for line in carried.get_lines()}
-        self.assertEqual(lines["capacity of pipe 1: 6 Mbit/s"], [6, 6])
-        self.assertEqual(set(found.carried), {"pipe 1"}, "queue 7 has no pipe")
+        assert lines["capacity of pipe 1: 6 Mbit/s"] == [6, 6]
+        assert set(found.carried) == {"pipe 1"}, "queue 7 has no pipe"
         sent, events = rows_of(packets), rows_of(report)
         bits = sum(
             8 * int(sent[int(line["row"]) - 1]["len"])
             for line in events
             if line["event"] == "out" and 7 * NS_PER_S <= int(line["due"]) < 8 * NS_PER_S
         )
-        self.assertAlmostEqual(lines["all of pipe 1"][7], bits / 1e6, places=9)
-        self.assertLessEqual(max(lines["all of pipe 1"]), 6.02)
+        assert lines["all of pipe 1"][7] == pytest.approx(bits / 1e6, abs=5e-10)
+        assert max(lines["all of pipe 1"]) <= 6.02
 
     def test_a_capacity_far_above_is_told_and_not_drawn(self) -> None:
         replay = parts_of(*mixed("dsl")).replay
@@ -57,11 +59,10 @@ class Panels(unittest.TestCase):
             replay, group(replay, "tuple"), NS_PER_S, span_of([replay]), [(0, "pipe 1 config bw 1000000000bit/s mask src-ip 0xff")]
         )
         carried = figure([found.__class__(**{**vars(found), "flows": found.flows[:8]})], "").axes[0]
-        self.assertIn(
-            "capacity of pipe 1, a flow: 1000 Mbit/s, above this panel",
-            [text.get_text() for text in carried.get_legend().get_texts()],
-        )
-        self.assertLess(carried.get_ylim()[1], 20)
+        assert "capacity of pipe 1, a flow: 1000 Mbit/s, above this panel" in [
+            text.get_text() for text in carried.get_legend().get_texts()
+        ]
+        assert carried.get_ylim()[1] < 20
 
     def test_the_packets_that_wait(self) -> None:
         """At each moment, those that came and didn't begin to be sent."""
@@ -71,8 +72,8 @@ class Panels(unittest.TestCase):
         events = [line for line in rows_of(report) if line["event"] == "out" and rows_of_one(packets)[int(line["row"]) - 1] == "1"]
         for moment in (3, 6, 9.5, 12.25):
             there = sum(int(line["at"]) <= moment * NS_PER_S < int(line["start"]) for line in events)
-            self.assertEqual(lengths[np.searchsorted(moments, moment, side="right") - 1], there)
-        self.assertEqual(lengths.max(), 50)
+            assert lengths[np.searchsorted(moments, moment, side="right") - 1] == there
+        assert lengths.max() == 50
 
     def test_each_pipe_has_its_sum_where_its_flows_are_among_the_others(self) -> None:
         """Forty flows to pipe 1 and one to pipe 2, of which three have a color: the others are by pipe, and their rates
@@ -81,31 +82,29 @@ class Panels(unittest.TestCase):
         replay.packets.target[39::40] = 1
         replay.packets.targets.append(("pipe", 2))
         found = series(replay, group(replay, "tuple").largest(replay.packets.length, 3), NS_PER_S // 2, span_of([replay]))
-        self.assertEqual([flow.name for flow in found.flows][3:], ["36 others of pipe 1", "1 other of pipe 2"])
-        self.assertEqual(list(found.carried), ["pipe 1", "pipe 2"])
-        self.assertEqual(found.carried["pipe 2"].tolist(), found.flows[4].carried.tolist())
-        self.assertAlmostEqual(
-            sum(found.carried["pipe 1"]) + sum(found.carried["pipe 2"]), sum(sum(flow.carried) for flow in found.flows)
+        assert [flow.name for flow in found.flows][3:] == ["36 others of pipe 1", "1 other of pipe 2"]
+        assert list(found.carried) == ["pipe 1", "pipe 2"]
+        assert found.carried["pipe 2"].tolist() == found.flows[4].carried.tolist()
+        assert sum(found.carried["pipe 1"]) + sum(found.carried["pipe 2"]) == pytest.approx(
+            sum(sum(flow.carried) for flow in found.flows), abs=5e-8
         )
 
     def test_a_color_has_one_meaning(self) -> None:
         grays = [*RESTS, *(color for color, _ in PIPES), *CAUSE_COLORS.values()]
-        self.assertEqual(len(set(COLORS)), len(COLORS))
-        self.assertFalse(set(COLORS) & set(grays))
+        assert len(set(COLORS)) == len(COLORS)
+        assert not set(COLORS) & set(grays)
         for gray in grays:
-            self.assertEqual(len({gray[1:3], gray[3:5], gray[5:7]}), 1, gray)
+            assert len({gray[1:3], gray[3:5], gray[5:7]}) == 1, gray
         found = PanelsOf(series_of("dsl"))
         used = [color for number, _, color in found.flows() if not found.found.flows[number].is_rest]
-        self.assertEqual(len(set(used)), len(used))
+        assert len(set(used)) == len(used)
 
     def test_empty_panels_are_left_out(self) -> None:
         replay = full_link(2)
         found = series(replay, group(replay, "tuple"), NS_PER_S // 2, span_of([replay]))
         panels = [panel and panel.title for panel in drawing(found).panels]
-        self.assertEqual([title is None for title in panels], [False, False, False, False, True, True, True, True], panels)
-        self.assertEqual(
-            [axes.get_title() for axes in figure([found], "").axes if axes.axison], [title for title in panels if title]
-        )
+        assert [title is None for title in panels] == [False, False, False, False, True, True, True, True], panels
+        assert [axes.get_title() for axes in figure([found], "").axes if axes.axison] == [title for title in panels if title]
 
     def test_the_limit_of_a_queue_is_a_line(self) -> None:
         config, packets, report = mixed("dsl")
@@ -114,37 +113,32 @@ class Panels(unittest.TestCase):
         found = series(replay, group(replay, "tuple").largest(replay.packets.length, 3), NS_PER_S, span_of([replay]), changes)
         panel = next(panel for panel in drawing(found).panels if panel and panel.title == "Packets that wait")
         lines = {item.name: item for item in panel.items}
-        self.assertEqual(lines["limit of pipe 1: 50 packets"].y.tolist(), [50, 50])
-        self.assertEqual(
-            [note for note in panel.notes if "Kbytes" in note] or any(not line.y.any() for line in panel.items),
-            ["limit of pipe 2: 64 Kbytes"] if panel.notes else True,
+        assert lines["limit of pipe 1: 50 packets"].y.tolist() == [50, 50]
+        assert ([note for note in panel.notes if "Kbytes" in note] or any(not line.y.any() for line in panel.items)) == (
+            ["limit of pipe 2: 64 Kbytes"] if panel.notes else True
         )
 
     def test_percentiles_are_nearest_ranks(self) -> None:
         moments, values = np.array([0, 1, 2, 3, 12, 13]), np.array([4.0, 1.0, 3.0, 2.0, 7.0, 9.0])
         low, middle, high = percentiles(moments, values, Steps(5, 20))
-        self.assertEqual([row[[0, 2]].tolist() for row in (low, middle, high)], [[1, 7], [2, 7], [4, 9]])
-        self.assertTrue(np.isnan(low[[1, 3]]).all())
+        assert [row[[0, 2]].tolist() for row in (low, middle, high)] == [[1, 7], [2, 7], [4, 9]]
+        assert np.isnan(low[[1, 3]]).all()
 
     def test_what_a_picture_was_made_of_is_under_it(self) -> None:
         packets, report = forty()
         config = write("forty.config", "pipe 1 config\n")
         assert run("look", packets, report, "--config", config, "-o", "under.svg").returncode == 0
         told = (folder() / "under.svg").read_text()
-        self.assertIn("<!-- pipe 1 config -->", told)
-        self.assertIn(f"<!-- of forty.csv, forty.report, forty.config; hinge {version()} -->", told)
+        assert "<!-- pipe 1 config -->" in told
+        assert f"<!-- of forty.csv, forty.report, forty.config; hinge {version()} -->" in told
 
     def test_drops_by_flow_are_those_of_the_report(self) -> None:
         found = series_of("dsl")
         whole = sum(line["event"] in ("lost", "full", "none") for line in rows_of(mixed("dsl")[2]))
-        self.assertEqual(sum(int(flow.drops.sum()) for flow in found.flows), whole)
-        told = [
-            text.get_text()
-            for axes in figure([found], "").axes
-            if not axes.axison and axes.get_legend()
-            for text in axes.get_legend().get_texts()
-        ]
-        self.assertEqual(told, [f"{flow.name}: {int(flow.drops.sum()):,} of {flow.packets:,} dropped" for flow in found.flows])
+        assert sum(int(flow.drops.sum()) for flow in found.flows) == whole
+        [legend] = figure([found], "").legends
+        told = [text.get_text() for text in legend.get_texts()]
+        assert told == [f"{flow.name}: {int(flow.drops.sum()):,} of {flow.packets:,} dropped" for flow in found.flows]
 
     def test_ipv6_flows_have_their_own_addresses(self) -> None:
         frames = [
@@ -152,8 +146,8 @@ class Panels(unittest.TestCase):
             ethernet(0x86DD, ip6("2001:db8::2", "2001:db8::1", 58, bytes(8))),
         ]
         write_capture(folder() / "six.pcap", ETHERNET, [(number, frame) for number, frame in enumerate(frames)])
-        self.assertEqual(run("packets", "six.pcap", "-o", "six.csv").returncode, 0)
+        assert run("packets", "six.pcap", "-o", "six.csv").returncode == 0
         names = [read_packets(str(folder() / "six.csv")).tuple_name(number) for number in (0, 1)]
-        self.assertEqual(names, ["udp [2001:db8::1]:1 > [2001:db8::2]:2", "icmpv6 2001:db8::2 > 2001:db8::1"])
-        self.assertEqual(run("packets", MIXED, "-o", "six.csv").returncode, 0)
-        self.assertFalse((folder() / "six.csv.addresses").exists(), "that of the earlier capture")
+        assert names == ["udp [2001:db8::1]:1 > [2001:db8::2]:2", "icmpv6 2001:db8::2 > 2001:db8::1"]
+        assert run("packets", MIXED, "-o", "six.csv").returncode == 0
+        assert not (folder() / "six.csv.addresses").exists(), "that of the earlier capture"

@@ -11,12 +11,16 @@ from base64 import b64decode
 from typing import Any
 
 import numpy as np
-from kit import folder, mixed, needs_tshark, parts_of, rows_of, run
+from kit import folder, mixed, needs_tshark, parts_of, rows_of, run, write
+from looked import live
 
-from hinge.pictures.html_page import HtmlPage, outline
+from hinge.pictures.drawn import of_run
+from hinge.pictures.html_page import HtmlPage, outline, teller
 from hinge.pictures.panels import MOST_FLOWS, drawing
 from hinge.pictures.series import NS_PER_MS, NS_PER_S, Series, Steps, fitting_step, round_step, series, span_of, thinned
+from hinge.replays.explain import Explainer
 from hinge.replays.groups import group
+from hinge.replays.history import read_sources
 from hinge.replays.replay import read_packets, read_report
 from pictured import figure, forty, full_link, matplotlib_there, series_of
 
@@ -30,6 +34,20 @@ def drawn_by(page: str) -> dict[str, Any]:
 def series_of_forty() -> Series:
     replay = read_report(*(lambda packets, report: (str(report), read_packets(str(packets))))(*forty()))
     return series(replay, group(replay, "tuple").largest(replay.packets.length, 3), 1000, span_of([replay]))
+
+
+class OfARun(unittest.TestCase):
+    def test_a_picture_has_the_words_of_the_link_and_its_cuts(self) -> None:
+        """1 % and 2 Mbit/s as they were typed, and a cut from 1 to 2 s."""
+        words = "bw 2000000bit/s delay 20 plr 0.009999999776482583"
+        lines = [f"pipe {number} config {words}" for number in (1, 2)]
+        submit, cut = "c,0,submit,pipe,1,10.0.0.1,10.0.0.2,17,1,2,1000,2147483647,", "pipe 1 config bw 2000000bit/s delay 20 plr 1"
+        later = [f"{submit}1500000000", "c,0,advance,2000000000", lines[0], "c,0,collect,3000000000"]
+        text = live([*lines, f"{submit}0", "c,0,advance,1000000000", cut, *later])
+        path = write("run.history", text.replace("\n", "\n#,seed,7\n", 1))
+        [source] = read_sources([str(path)], None)
+        self.assertEqual(of_run(source), "2Mbit/s 20ms loss 1%")
+        self.assertEqual(Explainer(source.explained()).shades(3 * 10**9), {(10**9, 2 * 10**9)})
 
 
 @needs_tshark
@@ -62,8 +80,8 @@ class Figures(unittest.TestCase):
             if len(dots) <= 400:
                 self.assertEqual(line.get_ydata().tolist(), dots.tolist())
                 continue
-            second = sorted(dots[found.replay.at[flow.out_places] // NS_PER_S == 7])
-            self.assertEqual(line.get_ydata()[7], second[(len(second) + 1) // 2 - 1], "the median of the eighth second")
+            fifth = sorted(dots[found.replay.at[flow.out_places] // (NS_PER_S // 5) == 35])
+            self.assertEqual(line.get_ydata()[35], fifth[(len(fifth) + 1) // 2 - 1], "the median of a fifth of the eighth second")
         self.assertEqual(
             {flow.name for flow in found.flows if len(flow.out_places)}, {line.get_label() for line in distribution.get_lines()}
         )
@@ -121,7 +139,7 @@ class Figures(unittest.TestCase):
 
     def test_a_page_draws_what_the_series_has(self) -> None:
         found = series_of("shared")
-        carried, _, _, _, _, drops, *_ = HtmlPage(found, None, drawing(found)).record("")["panels"]
+        carried, _, _, _, _, drops, *_ = HtmlPage(drawing(found), teller(found, None), found).record("")["panels"]
         for number, flow in enumerate(found.flows):
             part = next(part for part in carried["items"] if part["group"] == f"flow {number}")
             self.assertEqual(part["y"][:-1:2], [float(f"{rate:.9g}") for rate in flow.carried])
@@ -192,7 +210,8 @@ class Thinning(unittest.TestCase):
 
     def test_steps_are_round(self) -> None:
         self.assertEqual(
-            [round_step(span) for span in (0, 199, 25 * NS_PER_S, 3600 * NS_PER_S)], [1, 1, NS_PER_S // 5, 20 * NS_PER_S]
+            [round_step(span) for span in (0, 49, 8 * NS_PER_S, 25 * NS_PER_S, 3600 * NS_PER_S)],
+            [1, 1, NS_PER_S // 5, NS_PER_S, 20 * NS_PER_S],
         )
 
     def test_a_step_has_packets_enough(self) -> None:

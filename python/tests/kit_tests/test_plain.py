@@ -51,7 +51,6 @@ class WithoutNumpy(unittest.TestCase):
         for words in ((), ("--csv",), ("--json", "-"), ("--by", "flow", "--top", 3)):
             self.same("look", packets, report, "--config", config, *words)
         self.assertIn("waiting + ", self.same("why", 5000, config, packets, report))
-        self.same("look", packets, report, "--ladder", "1-20")
 
     def test_a_history(self) -> None:
         path = self.history()
@@ -151,7 +150,3 @@ class Functions(unittest.TestCase):
             self.assertEqual(int(module.searchsorted(ordered, 7, side="right")), 2)
             self.assertEqual(module.searchsorted(ordered, module.array([7, 20], int)).tolist(), [0, 5])
             self.assertEqual((int(module.argmax(row)), int(row.min()), int(row[:0].max(initial=3))), (4, 7, 3))
-
-
-if __name__ == "__main__":
-    unittest.main()

@@ -6,10 +6,11 @@ import ipaddress
 import random
 import unittest
 
-from hinge.captures.frames import Frame
+from hinge.captures.frames import MAPPED, Asked, Frame
+from hinge.captures.random_words import direction_of
 from hinge.captures.rule_words import BadRule
 from hinge.captures.targets import UP, Targets, directions, read_rule
-from hinge.run.rules import MAPPED, Rule
+from hinge.run.rules import Rule
 from hinge.run.words import Wrong
 
 ADDRESSES = ("10.0.0.1", "10.0.0.9", "10.1.0.1", "fd08::1", "fd08:1::2")
@@ -26,7 +27,7 @@ CHOICES = {
     "dscp": ("dscp ef", "dscp 0", "dscp 0x2e"),
 }
 WRONG = (
-    ("sprot 5 => pipe 1", "'sprot': no word of a rule; write sport"),
+    ("sprot 5 => pipe 1", "'sprot': not a word of a rule; write sport"),
     ("port 5-4 => pipe 1", "'5-4': no port from 0 to 65535"),
     ("port => pipe 1", "'port': its value is missing"),
     ("tcp udp => pipe 1", "'udp' beside 'tcp': a rule has one of them"),
@@ -37,6 +38,7 @@ WRONG = (
     ("tcp", "it doesn't end in `=> pipe N` or `=> queue N`"),
     ("=> pipe 65536", "it doesn't end in"),
     ("tcp => pipe 01", "it doesn't end in"),
+    ("tcp.port == 443 => pipe 1", "'tcp.port': not a word of a rule; write "),
 )
 
 
@@ -65,6 +67,12 @@ def random_frame(rng: random.Random) -> Frame:
     return Frame(1, src, dst, proto, *ports, rng.choice((0, 46)))
 
 
+def asked(frame: Frame) -> Asked:
+    """A frame as a capture asks rules of it."""
+    ends = [int(it) | (MAPPED if it.version == 4 else 0) for it in map(ipaddress.ip_address, (frame.src, frame.dst))]
+    return Asked(ends, [0], [1], [frame.proto], [frame.sport], [frame.dport], [frame.dscp])
+
+
 class Rules(unittest.TestCase):
     def test_a_live_link_and_a_capture_mean_the_same(self) -> None:
         rng, met = random.Random(3), 0
@@ -75,7 +83,7 @@ class Rules(unittest.TestCase):
             self.assertEqual((live.way, of_capture.target), (of_capture.way, "queue,7"))
             lines = live.lines(way if live.way is None else live.way)
             there = any(fits(line, frame, way) for line in lines)
-            here = of_capture.way in (None, way) and all(test(frame) for test in of_capture.tests)
+            here = of_capture.way in (None, way) and all(test(asked(frame)) == [True] for test in of_capture.tests)
             self.assertEqual(there, here, (text, frame, way))
             met += here
         self.assertGreater(met, 300)
@@ -90,20 +98,11 @@ class Rules(unittest.TestCase):
                 self.assertTrue(str(of_capture.exception).startswith(told), of_capture.exception)
                 self.assertEqual(str(live.exception), f"--map {text}: {of_capture.exception}")
 
-    def test_display_filters_are_of_captures_alone(self) -> None:
-        for text in ("tcp.port == 443", "dns", "tcp and ip.src == 10.0.0.1", "!udp", "http.request", "udp || icmp"):
-            self.assertEqual(read_rule(f"{text} => pipe 1").filter, text)
-            self.assertRaisesRegex(Wrong, "; display filters are for captures alone$", Rule, f"{text} => pipe 1")
-
     def test_directions_are_by_the_sender(self) -> None:
         """`up` is from the sender; what no rule matches goes by direction."""
-        targets = Targets("", [read_rule("up udp => queue 1"), read_rule("down => pipe 9")], directions("10.0.0.1"))
-        targets.matched = {}
+        targets = Targets([read_rule("up udp => queue 1"), read_rule("down => pipe 9")], directions("10.0.0.1"))
         sent = [Frame(1, *ends, proto, 5, 5, 0) for ends in (ADDRESSES[:2], ADDRESSES[1::-1]) for proto in (17, 6)]
-        self.assertEqual([targets.of(frame) for frame in sent], ["queue,1", "pipe,1", "pipe,9", "pipe,9"])
+        found = [targets.of(asked(frame))[0] for frame in sent]
+        self.assertEqual(found, [direction_of("queue", 1), 1, 9, 9])
         self.assertEqual(UP, 0)
-        self.assertRaisesRegex(BadRule, "by --from", Targets, "", [read_rule("up => pipe 1")], [])
-
-
-if __name__ == "__main__":
-    unittest.main()
+        self.assertRaisesRegex(BadRule, "by --from", Targets, [read_rule("up => pipe 1")], [])

@@ -2,6 +2,7 @@
 
 from __future__ import annotations
 
+import shlex
 import subprocess
 import unittest
 from pathlib import Path
@@ -65,19 +66,8 @@ class Through(unittest.TestCase):
             for row in rows_of(report)
             if row["event"] == "full" and index.count(index[int(row["row"]) - 1]) == 1
         }
-        asked = [
-            "tshark",
-            "-r",
-            folder() / "why.pcapng",
-            "-Y",
-            'frame.comment contains "dropped"',
-            "-T",
-            "fields",
-            "-e",
-            "frame.number",
-            "-e",
-            "frame.comment",
-        ]
+        fields = shlex.split("-Y 'frame.comment contains \"dropped\"' -T fields -e frame.number -e frame.comment")
+        asked = ["tshark", "-r", folder() / "why.pcapng", *fields]
         found = dict(line.split("\t", 1) for line in subprocess.run(asked, capture_output=True, text=True).stdout.splitlines())
         self.assertGreater(len(dropped), 10)
         self.assertLessEqual({str(frame) for frame in dropped}, set(found))

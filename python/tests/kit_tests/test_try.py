@@ -62,8 +62,4 @@ class Try(unittest.TestCase):
 
     def test_a_preset_that_is_none(self) -> None:
         done = run("try", "--preset", "lt")
-        self.assertEqual((done.returncode, done.stderr.splitlines()[-1]), (2, "hinge try: error: 'lt': no preset; write lte"))
-
-
-if __name__ == "__main__":
-    unittest.main()
+        self.assertEqual((done.returncode, done.stderr.splitlines()[-1]), (2, "hinge try: error: 'lt': not a preset; write lte"))

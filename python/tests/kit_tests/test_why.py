@@ -1,4 +1,4 @@
-"""What `why` tells, for all rows of three scenarios: its figures add up to what the report has, and its queues are the
+"""The explanations from `why`, for all rows in three scenarios: the figures add up to the report's, and queues equal the
 reference's."""
 
 from __future__ import annotations
@@ -6,18 +6,22 @@ from __future__ import annotations
 import re
 import unittest
 from collections import Counter
+from copy import deepcopy
 from functools import lru_cache
 from pathlib import Path
+from random import Random
 
 from kit import folder, mixed, needs_tshark, parts_of, replay, run, rows_of, write
 
 from hinge.captures.packet_rows import HEADER
 from hinge.replays.explain import Explainer
 from hinge.replays.links import Parts
-from oracle import FastDummynet, configured
+from looked import live
+from oracle import STYLES, FastDummynet, call_text, configured, random_calls, reply_lines
 from hinge.captures.random_words import word
+from hinge.replays.history import read_history
 from hinge.replays.replay import EVENT_NAMES
-from model import FiveTuple, Packet, Submit, Target
+from model import Collect, FiveTuple, Full, Packet, Submit, Target
 
 DURATION = r"([\d,]+\.\d{6}) ms"
 SUM = re.compile(
@@ -70,21 +74,21 @@ class Sums:
                 self.judge(line, explainer.paragraph(int(line["row"])))
 
     def judge(self, line: dict[str, str], text: str) -> None:
-        self.assertEqual(ns(SENT.search(text)[1]), int(line["at"]))
+        assert ns(SENT.search(text)[1]) == int(line["at"])
         if line["event"] == "out":
             took, waited, *others = (ns(part) for part in SUM.search(text).groups())
-            self.assertEqual(took, int(line["due"]) - int(line["at"]))
-            self.assertEqual(waited, int(line["start"]) - int(line["at"]))
-            self.assertEqual(took, waited + sum(others))
-            self.assertEqual(ns(LEFT.search(text)[1]), int(line["due"]))
+            assert took == int(line["due"]) - int(line["at"])
+            assert waited == int(line["start"]) - int(line["at"])
+            assert took == waited + sum(others)
+            assert ns(LEFT.search(text)[1]) == int(line["due"])
             pieces = WAIT.search(text)
             told = [ns(piece) for piece in re.findall(DURATION, pieces[2])] if pieces else []
-            self.assertEqual(sum(told), waited)
+            assert sum(told) == waited
         elif line["event"] == "held" and (found := SUM.search(text)) is not None:
             took, *others = (ns(part) for part in found.groups())
-            self.assertEqual(took, sum(others))
-            self.assertEqual(int(line["at"]) + took, ns(LEFT.search(text)[1]))
-            self.assertGreater(int(line["at"]) + took, LAST)
+            assert took == sum(others)
+            assert int(line["at"]) + took == ns(LEFT.search(text)[1])
+            assert int(line["at"]) + took > LAST
 
     def test_queues_and_waits_are_the_references(self) -> None:
         config, packets, report = self.paths()
@@ -95,16 +99,13 @@ class Sums:
         for place, row in enumerate(found):
             before = self.backlog_of(net, parts, place, int(row["moment"]))
             reply = net.apply(submit_of(row))
-            self.assertEqual(
-                type(reply).__name__,
-                {"none": "NoTarget"}.get(
-                    event := EVENT_NAMES[parts.replay.event[place]], "Queued" if event in ("out", "held") else event.capitalize()
-                ),
+            assert type(reply).__name__ == {"none": "NoTarget"}.get(
+                event := EVENT_NAMES[parts.replay.event[place]], "Queued" if event in ("out", "held") else event.capitalize()
             )
             if event in ("out", "held"):
                 place_of[reply.packet] = place
             if event == "full":
-                self.assertEqual(order.backlog(place).tolist(), [place_of[packet] for packet in before])
+                assert order.backlog(place).tolist() == [place_of[packet] for packet in before]
 
     @staticmethod
     def backlog_of(net: FastDummynet, parts: Parts, place: int, moment: int) -> list[int]:
@@ -136,18 +137,131 @@ class Late(Sums, unittest.TestCase):
 
     def test_every_kind_of_row_is_there(self) -> None:
         packets, report = rows_of(late()[1]), rows_of(late()[2])
-        self.assertEqual({line["event"] for line in report}, set(EVENT_NAMES))
+        assert {line["event"] for line in report} == set(EVENT_NAMES)
         held = Counter(packets[int(line["row"]) - 1]["target"] for line in report if line["event"] == "held")
-        self.assertGreater(held["pipe"], 1)
-        self.assertGreater(held["queue"], 1)
+        assert held["pipe"] > 1
+        assert held["queue"] > 1
+
+
+class Changed(unittest.TestCase):
+    """Histories in which links are changed and deleted between packets."""
+
+    def test_random_histories_against_the_reference(self) -> None:
+        """Every figure in each row equals the reference's, including the packets ahead and the waiting packets; held packets leave
+        as in the reference that continues, and packets that the reference discards are discarded."""
+        kinds: Counter[str] = Counter()
+        for seed in range(60):
+            rng = Random(seed)
+            calls = random_calls(rng, STYLES[seed % len(STYLES)], 80, 2, True)
+            net, lines = FastDummynet(), ["dummynet-history,3"]
+            queues: list[list[int]] = []
+            for caller, call in calls:
+                if isinstance(call, Submit):
+                    queues.append(self.waiting(net, call))
+                lines += [call_text(caller, call), *reply_lines(net.apply(call), 3)]
+            path = write("changed.history", "\n".join([*lines, f"end,{len(calls)}"]) + "\n")
+            later = {one.packet: one for one in net.apply(Collect(2 * LAST - 1)).list}
+            self.judge(Explainer(read_history(str(path)).explained()), queues, later, kinds, seed)
+        wanted = {"out", "changed", "behind", "lost", "cut", "full", "discarded", "held", "leaves"}
+        assert wanted - set(kinds) == set(), kinds
+
+    @staticmethod
+    def waiting(net: FastDummynet, call: Submit) -> list[int]:
+        """The packets that wait in the flow of a packet when it comes."""
+        other = deepcopy(net)
+        reply = other.apply(call)
+        return [one.packet for one in other.flows[reply.flow].queue] if isinstance(reply, Full) else []
+
+    def judge(self, explainer: Explainer, queues: list[list[int]], later: dict, kinds: Counter, seed: int) -> None:
+        replay = explainer.replay
+        for place in range(len(replay.packets)):
+            text, event = explainer.paragraph(place + 1), EVENT_NAMES[replay.event[place]]
+            with self.subTest(seed=seed, row=place + 1, text=text):
+                kinds[event] += 1
+                if event == "out":
+                    took, *others = (ns(part) for part in re.findall(DURATION, text.partition("In all it took ")[2]))
+                    assert (took, sum(others)) == (int(replay.due[place] - replay.at[place]), took)
+                    kinds["behind"] += "It stayed" in text
+                    kinds["changed"] += "in force" in text
+                elif event == "full":
+                    found = replay.packet[explainer.order.backlog(place)].tolist()
+                    is_sure = "at most" not in text
+                    assert (found[-len(queues[place]) :] if not is_sure else found) == queues[place]
+                elif event == "held":
+                    one = later.get(int(replay.packet[place]))
+                    assert "discarded it at" in text if one is None else "unless" in text or "discarded" not in text, (seed, text)
+                    kinds["discarded" if one is None else "held"] += 1
+                    if one is not None and (found := LEFT.search(text)) is not None:
+                        kinds["leaves"] += 1
+                        assert ns(found[1]) <= one.due
+                        assert ns(SUM.search(text)[2]) == one.start - int(replay.at[place])
+                kinds["cut"] += "It was lost in a cut" in text
+
+    def told(self, lines: list[str]) -> list[str]:
+        return run(
+            "why", *range(1, sum(",submit," in line for line in lines) + 1), write("told.history", live(lines))
+        ).stdout.split("\n\n")
+
+    def test_a_link_that_is_changed_by_hand(self) -> None:
+        """Two packets of 1,000 bytes at 0: the first takes 1 ms and 10 ms. Then the link has 4 Mbit/s and 2 ms, so the
+        second starts at 1 ms, takes 2 ms and would be there at 5 ms, but stays behind the first until 11 ms."""
+        submit = "c,0,submit,pipe,1,10.0.0.1,10.0.0.2,17,1,2,1000,0,{}"
+        one, two, three, four = self.told(
+            [
+                *("pipe 1 config bw 8Mbit/s delay 10", submit.format(0), submit.format(0), "pipe 1 config bw 4Mbit/s delay 2"),
+                *("c,0,collect,50000000", "pipe 1 config bw 4Mbit/s delay 2 plr 1", submit.format(60_000_000)),
+                *("c,0,advance,70000000", "pipe 1 config bw 4Mbit/s delay 2", submit.format(80_000_000), "c,0,collect,90000000"),
+            ]
+        )
+        assert "(1,000 bytes at 8,000,000 bit/s, in force until 0.000000000 s). The" in one
+        assert "11.000000 ms = 0.000000 ms waiting + 1.000000 ms transmission + 10.000000 ms delay, and" in one
+        assert "4,000,000 bit/s, in force from 0.000000000 s on). The link's delay was 2.000000 ms, in force from 0.0" in two
+        assert "It stayed 6.000000 ms more behind row 1, since a link keeps the order" in two
+        assert "2.000000 ms transmission + 2.000000 ms delay + 6.000000 ms behind another, and it left at 0.011000000 s" in two
+        assert "lost in a cut or a lossy outage: pipe 1 lost all packets from 0.050000000 s to 0.070000000 s." in three
+        assert "it left at 0.084000000 s" in four
+
+    def test_an_outage_that_holds_packets(self) -> None:
+        """As a host makes one: nobody's 1,500 bytes at 12,000 bit/s take a second."""
+        texts = self.told(
+            [
+                "pipe 1 config bw 12000bit/s",
+                f"c,0,submit,pipe,1,0.0.0.0,0.0.0.0,255,0,0,1500,{2**31 - 1},1000000000",
+                "pipe 1 config bw 8Mbit/s",
+                *(f"c,0,submit,pipe,1,10.0.0.1,10.0.0.2,17,1,2,1000,0,{moment}00000000" for moment in (12, 15)),
+                "c,0,collect,3000000000",
+            ]
+        )
+        outage = "an outage, in which pipe 1 held packets from 1.000000000 s to 2.000000000 s"
+        assert texts[0] == f"Row 1 is a packet that nobody sent. It stands for {outage}."
+        assert f"(pipe 1): 800.000000 ms until the end of {outage}. Its" in texts[1]
+        assert f"500.000000 ms until the end of {outage}; 1.000000 ms for 1 packet that came before it: row 2." in texts[2]
+
+    def test_a_run_over_a_trace(self) -> None:
+        """4 bytes of 1,500 may leave at each moment in a trace; each packet gets a separate rate."""
+        texts = self.told(
+            [
+                *("pipe 1 config", "pipe 1 config bw 89949bit/s"),
+                "c,0,submit,pipe,1,10.0.0.1,10.0.0.2,1,0,0,84,1,529152",
+                "c,0,collect,8000104",
+                "pipe 1 config bw 282098bit/s",
+                "c,0,submit,pipe,1,10.0.0.1,10.0.0.2,1,0,0,84,1,501617855",
+                "c,0,collect,600000000",
+            ]
+        )
+        assert (
+            "84 bytes at 89,949 bit/s, rounded up to whole ns, in force from 0.000000000 s to 0.008000104 s for this packet alone"
+            in texts[0]
+        )
+        assert "2.382151 ms transmission" in texts[1]  # 84 * 8 * 10^9 / 282,098 = 2,382,150.6
 
 
 class Command(unittest.TestCase):
     def test_a_paragraph_a_row(self) -> None:
         config, packets, report = late()
         done = run("why", 1, 2, config, packets, report)
-        self.assertEqual(done.returncode, 0, done.stderr)
-        self.assertEqual([text.split(" (")[0] for text in done.stdout.split("\n\n")], [f"Row {row}" for row in (1, 2)])
+        assert done.returncode == 0, done.stderr
+        assert [text.split(" (")[0] for text in done.stdout.split("\n\n")] == [f"Row {row}" for row in (1, 2)]
 
     def test_four_packets_by_hand(self) -> None:
         config = write("hand.config", "pipe 1 config bw 8Mbit/s queue 1\n")
@@ -161,21 +275,20 @@ class Command(unittest.TestCase):
             "out,4,0,2,1000000,2000000,3000000\nfull,3,0,,0,,\n",
         )
         texts = run("why", 1, 2, 3, 4, config, packets, report).stdout.split("\n\n")
-        self.assertIn("The link was free", texts[0])
-        self.assertIn(f"1.000000 ms until row {1}, which was under transmission, had been sent. Its", texts[1])
-        self.assertIn(
+        assert "The link was free" in texts[0]
+        assert f"1.000000 ms until row {1}, which was under transmission, had been sent. Its" in texts[1]
+        assert (
             f"1 packet waited there (row {2}), 1,000 bytes in all, and its limit is 1 packet. "
-            f"There was room again 1.000000 ms later, when row {2} began to be sent.",
-            texts[2],
-        )
-        self.assertIn(f"until row {2}, which", texts[3])
+            f"There was room again 1.000000 ms later, when row {2} began to be sent."
+        ) in texts[2]
+        assert f"until row {2}, which" in texts[3]
 
     def test_another_configuration_is_noticed(self) -> None:
         config, packets, report = late()
         other = write("other.config", config.read_text().replace("delay 7", "delay 8"))
         done = run("why", 1, other, packets, report)
-        self.assertEqual(done.returncode, 4, done.stdout)
-        self.assertIn("another configuration", done.stderr)
+        assert done.returncode == 4, done.stdout
+        assert "another configuration" in done.stderr
 
     def test_another_configuration_is_noticed_by_rows_that_did_not_leave(self) -> None:
         """One row each that was lost, met a full queue and had no target, by configurations that would have taken it."""
@@ -190,11 +303,11 @@ class Command(unittest.TestCase):
             (4, "plr 1", "", "row 4 would not have been lost"),
             (5, "pipe 2", "pipe 3 config\npipe 2", "row 5 would have had a target"),
         ):
-            self.assertEqual(run("why", row, "left.config", packets, report).returncode, 0)
+            assert run("why", row, "left.config", packets, report).returncode == 0
             done = run("why", row, write("other.config", told.replace(one, other)), packets, report)
-            self.assertEqual((done.returncode, done.stdout), (4, ""))
-            self.assertIn(f"{fault} by ", done.stderr)
-            self.assertIn("the report of another configuration", done.stderr)
+            assert (done.returncode, done.stdout) == (4, "")
+            assert f"{fault} by " in done.stderr
+            assert "the report of another configuration" in done.stderr
 
     def test_faults_are_one_line(self) -> None:
         config, packets, report = late()
@@ -206,7 +319,7 @@ class Command(unittest.TestCase):
         (folder() / "bytes.csv").write_bytes(f"{HEADER}\n1,pipe,1,10.0.0.1,10.0.0.2,17,1,\n".encode() + b"\xff\n")
         for words, status, told in (
             ((absent, config, packets, report), 4, f"no row {absent}"),
-            (("x", config, packets, report), 2, "'x' is no number of a row"),
+            (("x", config, packets, report), 2, "'x' isn't the number of a row"),
             ((1, bad_config, packets, report), 3, "config line 1, word 3: unknown word"),
             ((1, config, bad_row, report), 4, "line 3: bad len 'x'"),
             ((1, config, "bytes.csv", report), 4, "line 2: 8 fields in place of 10"),
@@ -215,6 +328,6 @@ class Command(unittest.TestCase):
             ((1, config, report, packets), 4, "line 1: the header isn't moment"),
         ):
             done = run("why", *words)
-            self.assertEqual(done.returncode, status, done.stderr)
-            self.assertIn(told, done.stderr)
-            self.assertNotIn("Traceback", done.stderr)
+            assert done.returncode == status, done.stderr
+            assert told in done.stderr
+            assert "Traceback" not in done.stderr

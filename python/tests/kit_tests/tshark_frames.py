@@ -8,22 +8,26 @@ from typing import Iterator, Optional
 
 from hinge.border.files import Input
 from hinge.captures.frames import Frame, Packet, Plan, read
-from hinge.captures.tshark import tshark
 
+PREFERENCES = (
+    "ip.defragment:FALSE ipv6.defragment:FALSE tcp.desegment_tcp_streams:FALSE "
+    "tcp.analyze_sequence_numbers:FALSE tcp.calculate_timestamps:FALSE"
+).split()
 PORTED = {6: "tcp", 17: "udp", 132: "sctp", 136: "udp", 33: "dccp"}
 EXTENSIONS = {0: "hopopts", 43: "routing", 44: "fraghdr", 60: "dstopts"}
-HEADER_BYTES = {  # of what may stand before an IP header, by tshark's name
+# The bytes of what may stand before an IP header, by tshark's name.
+HEADER_BYTES = {
     "eth": 14,
-    "ethertype": 0,
-    "vlan": 4,
-    "ieee8021ad": 4,
-    "pppoes": 6,
-    "ppp": 2,
     "sll": 16,
     "llc": 8,
-    "raw": 0,
+    "pppoes": 6,
+    "vlan": 4,
+    "ieee8021ad": 4,
     "null": 4,
     "mpls": 4,
+    "ppp": 2,
+    "ethertype": 0,
+    "raw": 0,
 }
 DSCP = {"ip": "ip.dsfield.dscp", "ipv6": "ipv6.tclass.dscp"}
 FIELDS = (
@@ -99,8 +103,9 @@ def frames_by_kit(capture: str) -> Iterator[tuple[int, Optional[Packet]]]:
 
 
 def frames_by_tshark(capture: str) -> Iterator[tuple[int, Optional[Packet]]]:
-    """Each frame's number, and its IP packet if it has one."""
+    """Each frame's number, and its IP packet if any."""
     fields = [word for field in FIELDS for word in ("-e", field)]
-    words = tshark(capture, "-T", "fields", "-E", "occurrence=f", "-E", "separator=/t", *fields)
+    preferences = [word for preference in PREFERENCES for word in ("-o", preference)]
+    words = ["tshark", "-n", "-r", capture, *preferences, "-T", "fields", "-E", "occurrence=f", "-E", "separator=/t", *fields]
     for number, line in enumerate(subprocess.run(words, capture_output=True, text=True).stdout.splitlines(), 1):
         yield number, frame_by_fields(number, dict(zip(FIELDS, line.split("\t"))))

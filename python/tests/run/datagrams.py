@@ -20,7 +20,7 @@ LOOPBACK = {socket.AF_INET: "127.0.0.1", socket.AF_INET6: "::1"}
 
 
 class Path:
-    """`hinge udp` that runs: where it listens, and in the end its status and what it said."""
+    """A running `hinge udp`: its address, and finally its status and output."""
 
     def __init__(self, *words: object, files: Optional[int] = None) -> None:
         """With `files`, so many descriptors at most."""
@@ -37,7 +37,7 @@ class Path:
         self.port = int(self.process.stdout.readline().rpartition(":")[2] or 0)
 
     def ended(self) -> tuple[int, str]:
-        said = self.process.communicate(timeout=30)[1]
+        said = self.process.communicate(timeout=60)[1]
         return self.process.returncode, said
 
     def end(self, number: int = signal.SIGTERM) -> tuple[int, str]:
@@ -47,12 +47,12 @@ class Path:
 
 @contextlib.contextmanager
 def sockets(count: int, family: int = socket.AF_INET) -> Iterator[list[socket.socket]]:
-    """UDP sockets at free ports of this machine; what they wait for comes within five seconds."""
+    """UDP sockets at free ports of this machine."""
     with contextlib.ExitStack() as stack:
         made = [stack.enter_context(socket.socket(family, socket.SOCK_DGRAM)) for _ in range(count)]
         for one in made:
             one.bind((LOOPBACK[family], 0))
-            one.settimeout(5)
+            one.settimeout(60)
         yield made
 
 
@@ -74,7 +74,7 @@ def rounds(client: socket.socket, server: socket.socket, path: Path, count: int)
 
 
 def counts(said: str, way: str) -> dict[str, int]:
-    line = found(rf"hinge udp: {way}: (\d+ came.*)", said)[0]
+    line = found(rf"hinge udp: .*?\b{way}: (\d+ came[^;\n]*)", said)[0]
     return {words: int(number) for number, words in re.findall(r"(\d+) ([a-zA-Z ]+)", line)}
 
 

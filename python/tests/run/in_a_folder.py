@@ -1,4 +1,4 @@
-"""A run of `hinge net`, and what it leaves in its folder."""
+"""A run of `hinge net`, and the files in its folder."""
 
 from __future__ import annotations
 

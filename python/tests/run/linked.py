@@ -20,6 +20,7 @@ from typing import Callable, Iterator, Optional, Sequence, Union
 
 from hinge.program import dummynet
 from hinge.run.host import program
+from hinge.run.host_lines import HostLines
 from hinge.run.page import STARTING, Counts, Page
 from hinge.run.summary import VOID
 from hinge.run.system import Missing
@@ -32,10 +33,7 @@ Word = Union[str, Path]
 
 
 AS_IN_A_CONTAINER = [
-    "unshare",
-    "-m",
-    "sh",
-    "-c",
+    *"unshare -m sh -c".split(),
     "mount --bind /proc/sys /proc/sys && mount -o remount,bind,ro /proc/sys && "
     'exec setpriv --bounding-set=-sys_admin --inh-caps=-sys_admin "$0" "$@"',
 ]  # root without its rights, and no setting to change
@@ -138,19 +136,24 @@ def web_server(folder: Word, address: str) -> Iterator[str]:
             server.terminate()
 
 
+def state_of(process: int) -> str:
+    """A letter: S where it sleeps, T where it is stopped."""
+    return Path(f"/proc/{process}/stat").read_text().rpartition(")")[2].split()[0]
+
+
 @contextmanager
 def stopped(process: int) -> Iterator[None]:
     """Stops a process meanwhile, so that what comes to it waits."""
     os.kill(process, signal.SIGSTOP)
     try:
-        until(lambda: ") T " in Path(f"/proc/{process}/stat").read_text())
+        until(lambda: state_of(process) == "T")
         yield
     finally:
         os.kill(process, signal.SIGCONT)
 
 
 class Ended:
-    """How a link ended: its status, what it counted, its transcript, and what it said."""
+    """A link's result: its status, counts, transcript, and output."""
 
     def __init__(self, status: int, counts: Counts, history: str, said: str) -> None:
         self.status, self.counts, self.history, self.said = status, counts, history, said
@@ -181,27 +184,37 @@ class Linked:
         self.process.stdin.close()
         for _, its in pairs:
             its.close()
-        until(lambda: self.page.state() != STARTING or self.process.poll() is not None)
+        until(lambda: self.page.head("state") != STARTING or self.process.poll() is not None)
         for own in self.ends:
-            own.settimeout(3)
+            own.settimeout(60)
 
     def came(self) -> int:
         return self.page.read().ways[0]["came"]
 
     def ended(self) -> Ended:
         """Waits for an end that comes by itself."""
-        status = self.process.wait(5)
+        status = self.process.wait(60)
         assert self.process.stderr
         with self.process.stderr as said, open(self.transcript) as history:
             return Ended(status, self.page.read(), history.read(), said.read().decode())
 
     def end(self) -> Ended:
+        """Ends it. What it did is lawful."""
         self.process.send_signal(signal.SIGTERM)
-        return self.ended()
+        ended = self.ended()
+        assert re.fullmatch(r"lawful \d+", told := audited(self.transcript)), told
+        return ended
+
+
+def with_lines(plan: str, links: int = 1) -> tuple[Linked, HostLines]:
+    """A host that takes lines while it runs."""
+    lines = HostLines()
+    os.set_inheritable(lines.descriptor(), True)
+    return Linked(plan + lines.line(), links=links, descriptors=[lines.descriptor()]), lines
 
 
 def run_in_time(case: unittest.TestCase, *words: Word) -> Done[str]:
-    """A run of some that kept its time by its own judgement; rates of others tell of the machine and not of the link."""
+    """Returns the first of some runs that kept its time by its verdict; rates in other runs describe the machine, not the link."""
     for _ in range(4):
         done = run("--late", "5ms", *words)
         if done.returncode != VOID:

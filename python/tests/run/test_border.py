@@ -5,6 +5,7 @@ from __future__ import annotations
 import contextlib
 import json
 import os
+import select
 import shutil
 import signal
 import socket
@@ -18,7 +19,8 @@ from typing import Iterator
 from linked import found, hinge, needs_rooms, until
 from test_control import InAFolder
 
-from hinge.border.messages import Order, Reply, Strange, line_of, read_message
+from hinge.border.serving import PATIENCE
+from hinge.run.cgroups import NAME, own_folder, remove_left
 from hinge.run.control import Control
 from hinge.run.host_lines import UNTAKEN, Answer
 from hinge.run.page import Page
@@ -42,21 +44,45 @@ ODD = (
     b'{"change": "up outage 1s"}\n',
     b'{"change": "up ' + b"9" * 5000 + b'bit/s"}\n',
 )
+PYTHON = Path(__file__).resolve().parents[2]
 ENDLESS = 600 << 20  # bytes of a line
 MOST_MORE = 8 << 10  # KiB of memory that a run may take for it
 
 
-class OfMessages(unittest.TestCase):
-    def test_each_comes_back(self) -> None:
-        for message in (Order(3, change="up 1ms"), Order(status=True), Order(end=True), Reply(3, refused="")):
-            self.assertEqual(read_message(type(message), line_of(message)), message)
-        told = read_message(Reply, b'{"told": [{"moment": 1, "line": "pipe 1 config"}]}').told
-        self.assertEqual([(one.moment, one.line, one.refused) for one in told or []], [(1, "pipe 1 config", "")])
+MAKES_CGROUPS = """
+import signal, sys
+from pathlib import Path
+from hinge.run.cgroups import Cgroup
+made = [Cgroup(Path(name)) for name in sys.argv[1:]]
+made[1].join()
+print(flush=True), signal.pause()
+"""
 
-    def test_all_others_are_refused(self) -> None:
-        for text in (*ODD[:9], b'{"number": 1.5}', b'{"number": ' + b"9" * 5000 + b"}", b'{"told": [{"moment": 1}]}'):
-            with self.subTest(text[:40]), self.assertRaises(Strange):
-                read_message(Reply if b"told" in text else Order, text)
+
+class OfCgroups(unittest.TestCase):
+    def test_those_of_a_killed_run_go_and_no_others(self) -> None:
+        """What holds a process or has no mark stays, by whatever name."""
+        above = own_folder()
+        if above is None or not os.access(above, os.W_OK):
+            self.skipTest("this user may make no cgroup")
+        names = [above / f"{NAME}test-{os.getpid()}-{kind}" for kind in ("left", "used", "unmarked")]
+        names[2].mkdir()
+        self.addCleanup(lambda: [one.rmdir() for one in names if one.exists()])
+        with subprocess.Popen([sys.executable, "-c", MAKES_CGROUPS, *names[:2]], stdout=subprocess.PIPE, cwd=PYTHON) as run:
+            assert run.stdout
+            run.stdout.read(1)
+            remove_left(above)
+            self.assertEqual([one.exists() for one in names], [True] * 3)
+            run.kill()
+        until(lambda: "populated 0" in (names[1] / "cgroup.events").read_text())
+        with subprocess.Popen(["sleep", "60"]) as user:
+            (names[1] / "cgroup.procs").write_text(str(user.pid))
+            remove_left(above)
+            self.assertEqual([one.exists() for one in names], [False, True, True])
+            user.kill()
+        until(lambda: "populated 0" in (names[1] / "cgroup.events").read_text())
+        remove_left(above)
+        self.assertEqual([one.exists() for one in names], [False, False, True])
 
 
 @needs_rooms
@@ -64,7 +90,7 @@ class OfClients(InAFolder):
     @contextlib.contextmanager
     def client(self) -> Iterator[socket.socket]:
         with socket.socket(socket.AF_UNIX) as line:
-            line.settimeout(20)
+            line.settimeout(60)
             line.connect(str(self.socket))
             yield line
 
@@ -91,7 +117,7 @@ class OfClients(InAFolder):
 
     def test_an_outage_is_one_line_for_the_host(self) -> None:
         taken, plan = list[str](), plan_of_two()
-        control = Control(str(self.socket), plan, Page(), lambda moment, words: plan.event([moment, *words.split()]), dict)
+        control = Control(str(self.socket), plan, Page(), plan.read, dict)
         self.addCleanup(control.end)
 
         def ask(text: str, until: object = None, is_wanted: object = None) -> Answer:
@@ -104,16 +130,16 @@ class OfClients(InAFolder):
         for is_refused in (False, True):
             taken.clear()
             told = control.change("up outage 7ns lossy")
-            self.assertEqual(taken, ["outage 7 cut 1"])
+            self.assertEqual(taken, ["line remark change,up outage 7ns", "outage 7 cut 1"])
             self.assertEqual([(one.moment, one.refused) for one in told], [(5, UNTAKEN)] if is_refused else [(5, ""), (12, "")])
 
     def test_an_idle_client_keeps_nobody_waiting(self) -> None:
         with self.running("run", "--up", "5ms"), contextlib.ExitStack() as idle:
-            for _ in range(5):
-                idle.enter_context(self.client())
+            clients = [idle.enter_context(self.client()) for _ in range(5)]
             begun = time.monotonic()
             self.assertEqual((self.change("up", "7ms").returncode, hinge("status", self.socket).returncode), (0, 0))
-            self.assertLess(time.monotonic() - begun, 9)
+            is_idle = [not select.select([line], [], [], 0)[0] for line in clients]  # those whose patience ends are sent away
+            self.assertTrue(all(is_idle) or time.monotonic() - begun >= PATIENCE, is_idle)
 
     def test_an_order_has_its_number_again(self) -> None:
         with self.running("run", "--up", "5ms"), self.client() as line:
@@ -123,7 +149,7 @@ class OfClients(InAFolder):
 
     def test_what_a_stalled_host_has_not_taken_is_never_obeyed(self) -> None:
         with self.running("run", "--up", "5ms") as begun:
-            until(lambda: bool(hosts_of(begun.pid)), 30)
+            until(lambda: bool(hosts_of(begun.pid)))
             hosts = hosts_of(begun.pid)
             for host in hosts:
                 os.kill(host, signal.SIGSTOP)
@@ -146,7 +172,7 @@ class OfClients(InAFolder):
         other = ["setpriv", "--reuid=65534", "--regid=65534", "--clear-groups", sys.executable, "-c", FALSE_RUN, str(self.socket)]
         with subprocess.Popen(other) as false:
             try:
-                until(self.socket.exists, 30)
+                until(self.socket.exists)
                 for words in (["status"], ["change", "up", "1ms"], ["down"], ["exec", "a", "--", "id"]):
                     done = hinge(words[0], self.socket, *words[1:])
                     self.assertEqual((done.returncode, "another user's process" in done.stderr), (2, True), done.stderr)
@@ -205,7 +231,3 @@ def descends(process: int, above: int) -> bool:
         while process > 1 and process != above:
             process = int(Path(f"/proc/{process}/stat").read_text().rpartition(")")[2].split()[1])
     return process == above
-
-
-if __name__ == "__main__":
-    unittest.main()

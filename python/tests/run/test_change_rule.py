@@ -2,7 +2,6 @@
 
 from __future__ import annotations
 
-import unittest
 
 from with_folder import WithFolder
 
@@ -20,12 +19,17 @@ from hingetulip import LineError, aio
 
 BEGUN, MODEL = "2Mbit/s 20ms queue 5", "up:gilbert:0.01,0.3"
 CHANGES = (  # words that change such a link, and the whole line of its pipe from then on
-    ("1Mbit/s", "bw 1000000bit/s"),
-    ("30ms", "delay 30"),
-    ("queue 7", "queue 7"),
-    ("loss 1%", "plr 0.01"),
-    ("30ms 1Mbit/s", "delay 30 bw 1000000bit/s"),
-    (BEGUN, "bw 2000000bit/s delay 20 queue 5"),
+    ("1Mbit/s 20ms queue 5", "bw 1000000bit/s delay 20 queue 5"),
+    ("30ms bw 0 queue 50", "delay 30"),
+    ("queue 7 1Mbit/s delay 0", "bw 1000000bit/s queue 7"),
+    (f"{BEGUN} loss 1%", "bw 2000000bit/s delay 20 queue 5 plr 0.01"),
+)
+LACKING = (  # words that leave out some of it, and what is to be written
+    ("loss 50%", "2Mbit/s 20ms queue 5 loss 50%, or bw 0 delay 0 queue 50 to end it"),
+    ("plr 0.5", "2Mbit/s 20ms queue 5 loss 50%, or bw 0 delay 0 queue 50 to end it"),
+    ("delay 10ms", "2Mbit/s queue 5 10ms, or bw 0 queue 50 to end it"),
+    ("bw 1Mbit/s queue 7", "20ms 1Mbit/s queue 7, or delay 0 to end it"),
+    ("1Mbit/s 20ms", "queue 5 1Mbit/s 20ms, or queue 50 to end it"),
 )
 
 
@@ -45,7 +49,7 @@ def begun() -> Plan:
 class OneRule(WithFolder):
     def by_change(self, words: str) -> str:
         taken, plan = list[str](), begun()
-        control = Control(str(self.folder / "s"), plan, Page(), lambda moment, words: plan.event([moment, *words.split()]), dict)
+        control = Control(str(self.folder / "s"), plan, Page(), plan.read, dict)
 
         def ask(text: str, until: object = None, is_wanted: object = None) -> Answer:
             taken.append(text.removeprefix("line "))
@@ -85,7 +89,14 @@ class OneRule(WithFolder):
             link.change(words)
             return options_of([link.line])
 
-    def test_what_is_left_out_has_its_default_in_each_way(self) -> None:
+    def test_what_is_left_out_is_named_in_each_way(self) -> None:
+        for words, wanted in LACKING:
+            for way in (self.by_change, self.by_timeline, self.by_plan, self.by_net, self.by_aio):
+                with self.subTest(way.__name__, words=words), self.assertRaises((Wrong, LineError)) as refused:
+                    way(words)
+                self.assertTrue(str(refused.exception).endswith(wanted), refused.exception)
+
+    def test_words_replace_the_whole_link_in_each_way(self) -> None:
         for words, wanted in CHANGES:
             for way in (self.by_change, self.by_timeline, self.by_plan, self.by_net, self.by_aio):
                 with self.subTest(way.__name__, words=words):
@@ -99,8 +110,8 @@ class OneRule(WithFolder):
     def test_a_model_of_losses_goes_on(self) -> None:
         plan = begun()
         plan.loss(MODEL)
-        plan.event(["5s", "up", "1Mbit/s"])
-        self.assertIn("at 5000000000 pipe 1 config bw 1Mbit/s plr 0.5", plan.text(1).splitlines())
+        plan.changes.add(plan.read(f"up {CHANGES[0][0]}", 5 * 10**9))
+        self.assertIn("at 5000000000 pipe 1 config bw 1Mbit/s delay 20ms queue 5 plr 0.5", plan.text(1).splitlines())
         with aio.Network() as net:
 
             class Losses:
@@ -108,9 +119,5 @@ class OneRule(WithFolder):
                     return 0
 
             link = net.link(net.host("10.0.0.1"), net.host("10.0.0.2"), BEGUN, loss=Losses())
-            link.change("1Mbit/s")
-            self.assertEqual(options_of([link.line]), options_of(["pipe 1 config bw 1Mbit/s plr 0.5"]))
-
-
-if __name__ == "__main__":
-    unittest.main()
+            link.change(CHANGES[0][0])
+            self.assertEqual(options_of([link.line]), options_of(["pipe 1 config bw 1Mbit/s delay 20ms queue 5 plr 0.5"]))

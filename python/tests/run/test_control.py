@@ -5,15 +5,19 @@ from __future__ import annotations
 import contextlib
 import json
 import os
+import shlex
 import shutil
 import signal
 import socket
+import stat
 import subprocess
 import sys
 import unittest
 from pathlib import Path
 from typing import Callable, Iterator, Optional
 from unittest import mock
+
+import pytest
 
 from linked import HINGE, Done, audited_as_lawful, found, hinge, needs, needs_host, needs_rooms, run, until
 from with_folder import WithFolder
@@ -46,26 +50,18 @@ class InAFolder(WithFolder):
     @contextlib.contextmanager
     def running(self, *words: object) -> Iterator["subprocess.Popen[str]"]:
         """A run with a socket, which lasts until the file `go` is there."""
-        command = [
-            *HINGE,
-            *map(str, words),
-            "--control",
-            str(self.socket),
-            "--transcript",
-            str(self.history),
-            "--quiet",
-            *["--no-realtime"] * (words[0] == "net"),  # of which a user without rights is told
-        ]
+        command = [*HINGE, *map(str, words), *f"--control {self.socket} --transcript {self.history} --quiet".split()]
+        command += ["--no-realtime"] * (words[0] == "net")  # of which a user without rights is told
         loop = ["--", "sh", "-c", f"until [ -e {self.go} ]; do sleep 0.05; done"] if words[0] != "udp" else []
         begun = subprocess.Popen([*command, *loop], stdout=subprocess.PIPE, stderr=subprocess.PIPE, text=True)
         try:
-            until(self.socket.exists, 30)
+            until(self.socket.exists)
             yield begun
             self.go.touch()
             if words[0] == "udp":
                 begun.terminate()
-            _, said = begun.communicate(timeout=30)
-            self.assertEqual((begun.returncode, said, self.socket.exists()), (0, "", False))
+            _, said = begun.communicate(timeout=60)
+            assert (begun.returncode, said, self.socket.exists()) == (0, "", False)
         finally:
             begun.kill(), begun.wait()
         audited_as_lawful(self, self.history)
@@ -87,25 +83,22 @@ class OfRuns(InAFolder):
                 (["2Mbit/s 3ms"], [f"pipe {pipe} config bw 2000000bit/s delay 3" for pipe in (1, 2)]),
             ):
                 done = self.change(*words)
-                self.assertEqual((done.returncode, found(r"^\d+\.\d{6} s: (.*)$", done.stdout)), (0, lines), done.stderr)
-        self.assertEqual(
-            self.obeyed()[2:],
-            [
-                "pipe 1 config bw 1000000bit/s",
-                "pipe 1 config delay 9",
-                "pipe 1 config bw 2000000bit/s delay 3",
-                "pipe 2 config bw 2000000bit/s delay 3",
-            ],
-        )
+                assert (done.returncode, found(r"^\d+\.\d{6} s: (.*)$", done.stdout)) == (0, lines), done.stderr
+        assert self.obeyed()[2:] == [
+            "pipe 1 config bw 1000000bit/s",
+            "pipe 1 config delay 9",
+            "pipe 1 config bw 2000000bit/s delay 3",
+            "pipe 2 config bw 2000000bit/s delay 3",
+        ]
 
     def test_an_outage_ends_with_the_line_that_holds(self) -> None:
         with self.running("run", "--up", "5ms"):
             self.change("up", "7ms")
             moments = [float(one) for one in found(r"^(\d+\.\d+) s: ", self.change("up", "outage", "200ms", "lossy").stdout)]
             after = moments[1] * 1e9
-            until(lambda: ask(str(self.socket), status=True).status["moment"] >= after, 20)  # type: ignore[index]
-        self.assertEqual(self.obeyed()[2:], ["pipe 1 config delay 7", "pipe 1 config delay 7 plr 1", "pipe 1 config delay 7"])
-        self.assertEqual(round((moments[1] - moments[0]) * 1e6), 200_000)
+            until(lambda: ask(str(self.socket), status=True).status["moment"] >= after)  # type: ignore[index]
+        assert self.obeyed()[2:] == ["pipe 1 config delay 7", "pipe 1 config delay 7 plr 1", "pipe 1 config delay 7"]
+        assert round((moments[1] - moments[0]) * 1e6) == 200_000
 
     def test_what_is_refused(self) -> None:
         with self.running("run", "--up", "5ms"):
@@ -118,15 +111,11 @@ class OfRuns(InAFolder):
                 (["up", f"{'9' * 5000}bit/s"], 2, "words of more than 4,000 letters"),
             ):
                 done = self.change(*words)
-                self.assertEqual(
-                    (done.returncode, wanted in done.stdout + done.stderr), (status, True), (words, done.stdout, done.stderr)
-                )
-        self.assertEqual(len(self.obeyed()), 2)
+                assert (done.returncode, wanted in done.stdout + done.stderr) == (status, True), (words, done.stdout, done.stderr)
+        assert len(self.obeyed()) == 2
         done = self.change("up", "5ms")
-        self.assertEqual(
-            (done.returncode, done.stderr),
-            (2, f"hinge change: {self.socket}: no run has this name, from `hinge up` or --control\n"),
-        )
+        assert done.returncode == 2
+        assert done.stderr == f"hinge change: {self.socket}: no run has this name, from `hinge up` or --control\n"
 
     def test_it_is_asked(self) -> None:
         with self.running("run", "--up", "5ms"):
@@ -135,8 +124,8 @@ class OfRuns(InAFolder):
                 stranger.connect(str(self.socket))
                 stranger.sendall(b"hello\n[]\n")
             status = ask(str(self.socket), status=True).status
-            self.assertEqual(status.keys(), told.keys())  # type: ignore[union-attr]
-        self.assertEqual((told["status"], told["up"]["came"], told["void"]), (None, 0, []))
+            assert status.keys() == told.keys()  # type: ignore[union-attr]
+        assert (told["status"], told["up"]["came"], told["void"]) == (None, 0, [])
 
     def test_a_signal_while_the_host_starts_leaves_nothing(self) -> None:
         host, mark = self.folder / "host", f"{5000 + os.getpid() % 1000}.63"
@@ -147,44 +136,52 @@ class OfRuns(InAFolder):
             with subprocess.Popen([*HINGE, *words], env={**os.environ, "HINGE_LINK": str(host)}) as process:
                 until(lambda: subprocess.run(["pgrep", "-f", f"^sleep {mark}"], capture_output=True).stdout)
                 process.terminate()
-            self.assertEqual((process.returncode, self.socket.exists()), (143, False), words)
-            until(lambda: not subprocess.run(["pgrep", "-f", f"^sleep {mark}"], capture_output=True).stdout, 5)
+            assert (process.returncode, self.socket.exists()) == (143, False), words
+            until(lambda: not subprocess.run(["pgrep", "-f", f"^sleep {mark}"], capture_output=True).stdout)
 
     def test_a_signal_while_a_process_ends_does_not_cut_the_wait(self) -> None:
         """As a ^C of which the launcher tells the first process, while the link ends because its command has."""
         done = subprocess.run([sys.executable, "-c", SLOW_END], capture_output=True, text=True)
-        self.assertEqual((done.stdout, done.stderr), ("5\n", ""))
+        assert (done.stdout, done.stderr) == ("5\n", "")
 
     def test_a_defect_of_the_first_process_is_no_silent_end(self) -> None:
         for fault, told in (("Wrong('no such word')", "no such word\n"), ("KeyError('gone')", "KeyError: 'gone'\n")):
-            script = f"from hinge.run.words import Wrong; from hinge.run.first import live\ndef run(): raise {fault}\nlive(run)"
+            script = (
+                "import os, sys; from hinge.run.words import Wrong; from hinge.run.first import first_process\n"
+                f"def run(): raise {fault}\nsys.exit(os.waitstatus_to_exitcode(os.waitpid(first_process(run), 0)[1]))"
+            )
             done = subprocess.run([sys.executable, "-c", script], capture_output=True, text=True)
-            self.assertEqual((done.returncode, done.stderr[-len(told) :]), (6, told))
+            assert (done.returncode, done.stderr[-len(told) :]) == (6, told)
 
     def test_a_wrong_word_is_told_by_what_was_typed(self) -> None:
         with self.running("run", "--up", "5ms"):
-            self.assertEqual(self.change("up", "9msec").stderr, "hinge change: 'up 9msec': '9msec': not a delay; write 9ms\n")
+            assert self.change("up", "9msec").stderr == "hinge change: 'up 9msec': '9msec': not a delay; write 9ms\n"
 
     def test_a_place_is_there_once_it_listens(self) -> None:
         there = list[bool]()
         with mock.patch("socket.socket.listen", side_effect=lambda: there.append(self.socket.exists())):
             server = Server(str(self.socket))
-        there.append(self.socket.exists())
+        there.append(self.socket.exists() and stat.S_IMODE(self.socket.stat().st_mode) == 0o600)
         server.end()
-        self.assertEqual((there, os.listdir(self.folder)), ([False, True], []))
+        assert (there, os.listdir(self.folder)) == ([False, True], [])
+
+    def test_what_the_user_has_beside_it_stays(self) -> None:
+        (notes := self.folder / ".hinge-notes").mkdir()
+        (notes / "text").write_text("kept")
+        os.utime(notes, (0, 0))
+        Server(str(self.socket)).end()
+        assert (notes / "text").read_text() == "kept"
 
     def test_a_place_that_is_taken_and_one_that_was_left(self) -> None:
         self.socket.write_text("")
         done = run("--up", "1ms", "--control", self.socket, "--", "true")
-        self.assertEqual(
-            (done.returncode, done.stderr), (6, f"hinge run: --control {self.socket}: a run or a file has this name\n")
-        )
+        assert (done.returncode, done.stderr) == (6, f"hinge run: --control {self.socket}: a run or a file has this name\n")
         self.socket.unlink()
         with socket.socket(socket.AF_UNIX) as left:
             left.bind(str(self.socket))
-        self.assertEqual(run("--quiet", "--control", self.socket, "--", "true").returncode, 0)
+        assert run("--quiet", "--control", self.socket, "--", "true").returncode == 0
         with self.running("run"):
-            self.assertEqual(run("--quiet", "--control", self.socket, "--", "true").returncode, 6)
+            assert run("--quiet", "--control", self.socket, "--", "true").returncode == 6
 
 
 @needs_rooms
@@ -195,15 +192,17 @@ class OfNets(InAFolder):
         net.write_text("host a\nhost b\nmain c\nlink a b 1ms\nlink a c 2ms\nlink b c 3ms\n")
         with self.running("net", net):
             done = self.change("cut", "c", "from", "a", "1h")
-            self.assertEqual(
-                found(r"s: (.*)$", done.stdout),
-                ["pipe 3 config delay 2 plr 1", "pipe 3 config delay 2", "pipe 4 config delay 2 plr 1", "pipe 4 config delay 2"],
-            )
-            self.assertEqual(found(r"s: (.*)$", self.change("c", "b", "up", "9ms").stdout), ["pipe 6 config delay 9"])
+            assert found(r"s: (.*)$", done.stdout) == [
+                "pipe 3 config delay 2 plr 1",
+                "pipe 3 config delay 2",
+                "pipe 4 config delay 2 plr 1",
+                "pipe 4 config delay 2",
+            ]
+            assert found(r"s: (.*)$", self.change("c", "b", "up", "9ms").stdout) == ["pipe 6 config delay 9"]
             refused = self.change("c", "d", "9ms")
-            self.assertEqual((refused.returncode, refused.stderr), (2, "hinge change: 'c d 9ms': 'd': no host of this net\n"))
-            self.assertEqual([way["pipe"] for way in json.loads(hinge("status", self.socket).stdout)["ways"]], [1, 2, 3, 4, 5, 6])
-        self.assertEqual(self.obeyed()[6:], ["pipe 3 config delay 2 plr 1", "pipe 4 config delay 2 plr 1", "pipe 6 config delay 9"])
+            assert (refused.returncode, refused.stderr) == (2, "hinge change: 'c d 9ms': 'd': no host of this net\n")
+            assert [way["pipe"] for way in json.loads(hinge("status", self.socket).stdout)["ways"]] == [1, 2, 3, 4, 5, 6]
+        assert self.obeyed()[6:] == ["pipe 3 config delay 2 plr 1", "pipe 4 config delay 2 plr 1", "pipe 6 config delay 9"]
 
 
 @needs_rooms
@@ -224,22 +223,14 @@ class OfHosts(InAFolder):
     def test_a_command_on_a_host_of_a_net(self) -> None:
         with self.net():
             done = self.exec(
-                "a",
-                "--",
-                "sh",
-                "-c",
-                "hostname; echo $HINGE_HOST $HINGE_NET; pwd; ping -c 1 -q c >/dev/null && exit 3",
+                *shlex.split("a -- sh -c 'hostname; echo $HINGE_HOST $HINGE_NET; pwd; ping -c 1 -q c >/dev/null && exit 3'"),
                 folder=self.folder,
             )
-            self.assertEqual(
-                (done.returncode, done.stdout.split()), (3, ["a", "a", str(self.folder), str(self.folder)]), done.stderr
-            )
-            self.assertEqual(
-                (hinge("net", "exec", self.socket, "r", "hostname").stdout, self.exec("c", "--", "/no/such").returncode),
-                ("r\n", 127),
-            )
+            assert (done.returncode, done.stdout.split()) == (3, ["a", "a", str(self.folder), str(self.folder)]), done.stderr
+            assert hinge("exec", self.socket, "r", "hostname").stdout == "r\n"
+            assert self.exec("c", "--", "/no/such").returncode == 127
             refused = self.exec("d", "--", "true")
-            self.assertEqual((refused.returncode, refused.stderr), (2, "hinge exec: 'd': no host of this net, which are a, r, c\n"))
+            assert (refused.returncode, refused.stderr) == (2, "hinge exec: 'd': no host of this net, which are a, r, c\n")
             shell = subprocess.run(
                 [*HINGE, "exec", str(self.socket), "r"],
                 input="hostname",
@@ -247,18 +238,18 @@ class OfHosts(InAFolder):
                 text=True,
                 env={**os.environ, "SHELL": "/bin/sh"},
             )
-            self.assertEqual((shell.returncode, shell.stdout), (0, "r\n"), shell.stderr)
-        self.assertEqual(self.history.read_text().count("\nc,0,submit,"), 4)
+            assert (shell.returncode, shell.stdout) == (0, "r\n"), shell.stderr
+        assert self.history.read_text().count("\nc,0,submit,") == 4
 
     def test_a_command_in_a_room_of_a_run(self) -> None:
         with self.running("run", "--up", "5ms"):
             done = self.exec("server", "--", "sh", "-c", "hostname; ping -c 1 -q client >/dev/null")
-            self.assertEqual((done.returncode, done.stdout), (0, "server\n"), done.stderr)
-            self.assertEqual(self.exec("a", "--", "true").stderr, "hinge exec: 'a': the hosts are client and server\n")
+            assert (done.returncode, done.stdout) == (0, "server\n"), done.stderr
+            assert self.exec("a", "--", "true").stderr == "hinge exec: 'a': the hosts are client and server\n"
 
     def test_a_path_of_a_udp_path_has_no_hosts(self) -> None:
         with self.running("udp", "0", "9"):
-            self.assertEqual(self.exec("a", "--", "true").stderr, "hinge exec: 'a': it has no hosts of its own\n")
+            assert self.exec("a", "--", "true").stderr == "hinge exec: 'a': it has no hosts of its own\n"
 
     def ended(self, end: Callable[["subprocess.Popen[str]", "subprocess.Popen[str]"], None]) -> "subprocess.Popen[str]":
         """A command on a host, which something ends, and what it began is gone."""
@@ -269,7 +260,7 @@ class OfHosts(InAFolder):
             [*HINGE, "net", str(net), "--control", str(self.socket), "--quiet"], stderr=subprocess.PIPE, text=True
         )
         try:
-            until(self.socket.exists, 30)
+            until(self.socket.exists)
             command = subprocess.Popen(
                 [*HINGE, "exec", str(self.socket), "a", "--", "sh", "-c", f"setsid sleep {mark} & exec sleep {mark}"],
                 stderr=subprocess.PIPE,
@@ -280,10 +271,10 @@ class OfHosts(InAFolder):
                 30,
             )
             end(run, command)
-            command.wait(20)
+            command.wait(60)
         finally:
             run.terminate()
-            run.communicate(timeout=20)
+            run.communicate(timeout=60)
         until(lambda: not subprocess.run(["pgrep", "-f", f"^sleep {mark}"], capture_output=True, text=True).stdout)
         return command
 
@@ -291,14 +282,13 @@ class OfHosts(InAFolder):
     def test_it_ends_with_the_net(self) -> None:
         for number in (signal.SIGTERM, signal.SIGKILL):
             command = self.ended(lambda run, command: run.send_signal(number))
-            self.assertEqual(
-                (command.returncode, command.communicate()[1]), (137, "hinge exec: the run has ended, and the command with it\n")
-            )
+            assert command.returncode == 137
+            assert command.communicate()[1] == "hinge exec: the run has ended, and the command with it\n"
 
     @needs("pgrep", "setsid")
     def test_it_is_ended(self) -> None:
         for number, status in ((signal.SIGTERM, 143), (signal.SIGKILL, -9)):
-            self.assertEqual(self.ended(lambda run, command: command.send_signal(number)).returncode, status)
+            assert self.ended(lambda run, command: command.send_signal(number)).returncode == status
 
     @unittest.skipUnless(shutil.which("setpriv") and os.geteuid() == 0, "only root can be another user")
     def test_no_root_is_needed(self) -> None:
@@ -310,28 +300,24 @@ class OfHosts(InAFolder):
             [*user, "net", str(net), "--control", str(self.socket), "--quiet"], stderr=subprocess.PIPE, text=True, cwd="/"
         )
         try:
-            until(lambda: self.socket.exists() or run.poll() is not None, 30)
+            until(lambda: self.socket.exists() or run.poll() is not None)
             if run.poll() == 6:
-                self.skipTest(run.communicate()[1].strip())
+                pytest.skip(run.communicate()[1].strip())
             done = subprocess.run(
                 [*user, "exec", str(self.socket), "a", "--", "sh", "-c", "id -u; hostname; ping -c 1 -q c >/dev/null"],
                 capture_output=True,
                 text=True,
                 cwd="/",
             )
-            self.assertEqual((done.returncode, done.stdout), (0, "65534\na\n"), done.stderr)
+            assert (done.returncode, done.stdout) == (0, "65534\na\n"), done.stderr
         finally:
             run.terminate()
-            run.communicate(timeout=20)
+            run.communicate(timeout=60)
 
 
 @needs_host
 class OfUdp(InAFolder):
     def test_a_path_is_changed(self) -> None:
         with self.running("udp", "0", "9"):
-            self.assertEqual(self.change("down", "4ms").returncode, 0)
-        self.assertEqual(self.obeyed()[2:], ["pipe 2 config delay 4"])
-
-
-if __name__ == "__main__":
-    unittest.main()
+            assert self.change("down", "4ms").returncode == 0
+        assert self.obeyed()[2:] == ["pipe 2 config delay 4"]

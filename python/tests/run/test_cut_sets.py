@@ -5,19 +5,21 @@ at its moment, and no clock decides anything."""
 
 from __future__ import annotations
 
-import os
 import random
-import unittest
 from typing import NamedTuple
 from unittest import mock
 
-from linked import Linked, audited_as_lawful, needs_host, until
+from linked import needs_host, until, with_lines
 from with_folder import WithFolder
 
 from hinge.border.messages import ObeyedLine, Reply
 from hinge.net import Net
+from hinge.events.parsed import parse
 from hinge.net.description import read_description
 from hinge.net.net_plan import NetPlan
+from hinge.plans.judged import Judge
+from hinge.plans.meaning import Meaning
+from hinge.run.changes import Happening
 from hinge.run.control import Control
 from hinge.run.host_lines import Answer, HostLines
 from hinge.run.page import Page
@@ -56,20 +58,26 @@ class Drawn:
         self.links = [(one, two) for at, one in enumerate(self.hosts) for two in self.hosts[at + 1 :]]
         self.lines: list[Line] = []
         while len(self.lines) < LINES:
-            line = self.line(len(self.lines), self.draw.randint(1, LAST))
-            if not line.is_heal or self.can_heal(line):
-                self.lines.append(line)
+            self.lines.append(self.line(len(self.lines), self.draw.randint(1, LAST)))
+        self.lines = [line for line in self.lines if not line.is_heal or self.can_heal(line)]
 
     def can_heal(self, heal: Line) -> bool:
-        """Whether a cut that was drawn before, of one of its pipes, has begun and not ended."""
-        return any(cut.pipes & heal.pipes and cut.moment < heal.moment < cut.end for cut in self.lines)
+        """Returns whether a cut of some pipe continues then, which no earlier heal has ended."""
+        before = [line for line in self.lines if line[1::-1] < heal[1::-1]]
+        return any(
+            heal.moment < cut.end and not any(other.ends(cut, pipe, heal.moment) for other in before)
+            for cut in before
+            for pipe in cut.pipes & heal.pipes
+        )
 
     def some(self) -> tuple[str, str, set[tuple[str, str]]]:
         """A host, words that name others or nobody, and the pipes between them."""
         one, *others = self.draw.sample(self.hosts, HOSTS)
         named = others[: self.draw.randint(0, 2)]
-        pipes = {way for other in named or others for way in ((one, other), (other, one))}
-        return one, " ".join(["", "from", *named] if named else []), pipes
+        side = self.draw.choice(("up", "down", ""))
+        ways = [way for other in named or others for way in (("up", one, other), ("down", other, one))]
+        words = ["", *(["from", *named] if named else []), *[side] * bool(side)]
+        return one, " ".join(words), {(sender, receiver) for way, sender, receiver in ways if side in (way, "")}
 
     def line(self, place: int, moment: int) -> Line:
         kind, length = self.draw.choice(("cut", "cut", "cut", "heal", "outage", "link")), self.draw.randint(1, 40)
@@ -152,14 +160,14 @@ class OfNets(WithFolder):
 class AgainstSets(OfNets):
     def obeyed(self, made: NetPlan, has_main: bool) -> dict[int, dict[int, State]]:
         """What a host makes of a net's plan."""
-        lines = HostLines()
-        os.set_inheritable(lines.descriptor(), True)
-        link = Linked(made.plan.text(1) + lines.line(), links=len(made.net.links), descriptors=[lines.descriptor()])
+        link, lines = with_lines(made.plan.text(1), len(made.net.links))
         base = lines.ask("main").moment if has_main else 0
         until(lambda: link.page.read()["moment"] >= base + END)
         ended = link.end()
         self.assertEqual((ended.status, ended.said), (0, ""))
-        audited_as_lawful(self, link.transcript)
+        judge = Judge(Meaning(str(self.folder / "x.net"), base or None).read(), 0)
+        judge.read(ended.history.splitlines())
+        self.assertEqual(judge.faults, [])
         return courses(ended.history, base)
 
     def test_random_plans(self) -> None:
@@ -180,7 +188,7 @@ class ByOtherWays(OfNets):
     """The same words by the control socket and from Python."""
 
     def taken(self, made: NetPlan, plan: Drawn) -> list[tuple[int, str]]:
-        """What the host is given where the lines of a plan come by the socket, each at its moment."""
+        """Returns the host's input if a plan's lines arrive through the socket, each at its moment."""
         moment, taken = 0, list[tuple[int, str]]()
 
         class Lines(HostLines):
@@ -189,11 +197,14 @@ class ByOtherWays(OfNets):
                 later, _, behind = line.partition(" ") if kind in ("at", "outage") else ("0", "", line)
                 if kind == "outage":
                     taken.extend([(moment, behind), (moment + int(later), behind.replace("cut", "open", 1))])
-                elif kind != "moment":
+                elif kind != "moment" and not line.startswith("remark "):
                     taken.append((moment + int(later), behind))
-                return Answer(moment, "", "")
+                return Answer(moment, "", "the line\nand that behind the end")
 
-        control = Control(str(self.folder / "control"), made.plan, Page(made.plan.ways), made.at_once, dict, lines=Lines())
+        def obey(words: str, moment: int) -> "list[Happening]":
+            return made.happenings(parse(words, made.net), moment, made.plan.changes)
+
+        control = Control(str(self.folder / "control"), made.plan, Page(made.plan.ways), obey, dict, lines=Lines())
         for moment, words in ((line.moment, line.words) for line in plan.lines):
             control.change(words)
         control.end()
@@ -209,7 +220,7 @@ class ByOtherWays(OfNets):
 
     def test_python(self) -> None:
         def acts(net: Net, **at: str) -> None:
-            net.cut("a", 2, off=["b", "c"], **at), net.cut("a", **at), net.heal("a", off=["b"], **at)
+            net.cut("a", 2, off=["b", "c"], **at), net.cut("a", way="up", **at), net.heal("a", off=["b"], **at)
             net.kill("b", 1, **at), net.kill("b", **at), net.restart("b", **at)
             net.stop("b", "5ms", **at), net.cont("b", **at)
             net.change("a", "b", "5ms", **at), net.obey("a b outage 1s lossy", **at)
@@ -221,8 +232,4 @@ class ByOtherWays(OfNets):
         ):
             acts(net)
         self.assertEqual(net.lines, [f"at 5s {words}" for words in asked])
-        self.assertEqual(asked[:3], ["cut a from b c 2s", "cut a", "heal a from b"])
-
-
-if __name__ == "__main__":
-    unittest.main()
+        self.assertEqual(asked[:3], ["cut a from b c 2s", "cut a up", "heal a from b"])

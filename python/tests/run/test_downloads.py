@@ -4,6 +4,7 @@ from __future__ import annotations
 
 import os
 import re
+import shlex
 import shutil
 import subprocess
 import sys
@@ -27,20 +28,9 @@ class OfDownloads(Behind):
             file.write(data)
         serve = f"cd {self.folder} && exec {sys.executable} -m http.server 8080 2>/dev/null >&2"
         done = run(
-            "--up",
-            "20ms",
-            "--down",
-            "8Mbit/s 20ms queue 100",
-            "--server",
+            *shlex.split("--up 20ms --down '8Mbit/s 20ms queue 100' --server"),
             serve,
-            "--",
-            "curl",
-            "-s",
-            "-o",
-            f"{self.folder}/got",
-            "-w",
-            "%{time_total}",
-            "http://server:8080/data",
+            *shlex.split(f"-- curl -s -o {self.folder}/got -w '%{{time_total}}' http://server:8080/data"),
         )
         self.assertEqual(done.returncode, 0, done.stderr)
         with open(f"{self.folder}/got", "rb") as file:
@@ -57,22 +47,9 @@ class OfDownloads(Behind):
         serve = f"cd {self.folder} && exec {sys.executable} -m http.server 8080 --bind :: 2>/dev/null >&2"
         for name in ("10.8.0.2", "[fd08::2]"):
             done, told = self.summary(
-                "--up",
-                "1ms",
-                "--down",
-                "1ms",
-                "--mtu",
-                "1400",
-                "--transcript",
-                f"{self.folder}/h",
-                "--server",
+                *shlex.split(f"--up 1ms --down 1ms --mtu 1400 --transcript {self.folder}/h --server"),
                 serve,
-                "--",
-                "curl",
-                "-s",
-                "-o",
-                f"{self.folder}/got",
-                f"http://{name}:8080/data",
+                *shlex.split(f"-- curl -s -o {self.folder}/got http://{name}:8080/data"),
             )
             self.assertEqual(done.returncode, 0, done.stderr)
             with open(f"{self.folder}/got", "rb") as file:
@@ -118,22 +95,11 @@ class OfDownloads(Behind):
             file.write(bytes(10**5))
         serve = f"exec gtlsserver -q -d {self.folder} 10.8.0.2 4433 {key} {certificate}"
         done, told = self.summary(
-            "--up",
-            "20ms",
-            "--down",
-            "8Mbit/s 20ms",
-            "--loss",
-            "down:list:20,40-42",
-            "--server",
+            *shlex.split("--up 20ms --down '8Mbit/s 20ms' --loss down:list:20,40-42 --server"),
             serve,
-            "--",
-            "gtlsclient",
-            "-q",
-            "--exit-on-all-streams-close",
-            f"--download={self.folder}/got",
-            "10.8.0.2",
-            "4433",
-            "https://server/data",
+            *shlex.split(
+                f"-- gtlsclient -q --exit-on-all-streams-close --download={self.folder}/got 10.8.0.2 4433 " "https://server/data"
+            ),
         )
         self.assertEqual(done.returncode, 0, done.stdout + done.stderr)
         self.assertEqual(os.path.getsize(f"{self.folder}/got/data"), 10**5)
@@ -145,11 +111,11 @@ class OfDownloads(Behind):
         inside = f"{self.folder}/inside"
         serve = (
             "LC_ALL=C.UTF-8 mosh-server new -i 10.8.0.2 -p 60001 -- sh -c 'echo $((6 * 7))-there; sleep 3' >"
-            f" {inside} 2>&1; sleep 20"
+            f" {inside} 2>&1; sleep 40"
         )
         ask = (
             f"until grep -q '^MOSH CONNECT' {inside}; do sleep 0.05; done; MOSH_KEY=$(sed -n 's/^MOSH CONNECT 60001"
-            f" //p' {inside} | tr -d '\\r') LC_ALL=C.UTF-8 TERM=xterm timeout 6 script -qec 'stty rows 24 cols 80;"
+            f" //p' {inside} | tr -d '\\r') LC_ALL=C.UTF-8 TERM=xterm timeout 30 script -qec 'stty rows 24 cols 80;"
             " mosh-client 10.8.0.2 60001' /dev/null </dev/null"
         )
         done, told = self.summary("--up", "30ms", "--down", "30ms", "--server", serve, "--", "sh", "-c", ask)
@@ -178,7 +144,7 @@ class OfOutside(Behind):
                 [*before, *HINGE, "run", "--quiet", option, "--up", "30ms", "--down", "30ms", "--", *ask],
                 capture_output=True,
                 text=True,
-                timeout=30,
+                timeout=60,
                 stdin=subprocess.DEVNULL,
                 env={**os.environ, "PATH": path},
             )

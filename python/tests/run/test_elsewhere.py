@@ -1,10 +1,11 @@
-"""What hinge answers to other tools' commands and options: each answer is taken as it stands."""
+"""hinge's answers to other tools' commands and options: each answer is accepted unchanged."""
 
 from __future__ import annotations
 
 import contextlib
 import io
 import os
+import re
 import shlex
 import shutil
 import subprocess
@@ -16,13 +17,17 @@ from pathlib import Path
 from typing import Any, Optional
 from unittest import mock
 
+import pytest
+
 from hinge.__main__ import COMMANDS
 from hinge.commands.docs import folder_of_pages
 from hinge.commands.run import options
-from hinge.elsewhere import WORDS, answer_of
+from hinge.foreign import WORDS, answer_of
+from hinge.foreign_options import OF_LINK, OPTIONS
 from hinge.run import hints as hints_of_run
 from hinge.run.hints import far_host, hints, lacking, link_as_command
-from hinge.run.options import ELSEWHERE, OTHERS, plan_of
+from hinge.run.losses import remedy
+from hinge.run.plan_of_options import plan_of
 from hinge.run.settings import RunOptions
 from hinge.run.words import Wrong, link_of
 from hingetulip_words.link import Place, corrected
@@ -30,34 +35,7 @@ from linked import needs, needs_rooms
 from with_folder import WithFolder
 
 PYTHON, DATA = Path(__file__).resolve().parents[2], Path(__file__).resolve().parents[1] / "kit_data"
-LINES = {
-    "tc qdisc add dev eth0 root netem delay 100ms": "--link 100ms",
-    "tc qdisc add dev eth0 root netem rate 10mbit delay 20ms 5ms loss 1%": "--link '10Mbit/s 20ms jitter 5ms loss 1%'",
-    "tc qdisc change dev eth0 root netem delay 100ms 10ms 25% distribution normal": "--link '100ms jitter 10ms'",
-    "tc qdisc add dev wlan0 root handle 1: netem loss 0.3% 25% limit 1000": "--link 'loss 0.3% queue 1000'",
-    "tc qdisc add dev eth0 root netem loss gemodel 1% 30% 70% 0.1%": "--loss gilbert:0.01,0.3,0.7,0.001",
-    "tc qdisc add dev eth0 root netem duplicate 1%": "--link 'duplicate 1%'",
-    "tc qdisc add dev eth0 root netem rate 1mbps": "--link 8Mbit/s",
-    "tc qdisc add dev eth0 root netem delay 20000us": "--link 20ms",
-    "tc qdisc add dev eth0 root netem loss random 5%": "--link 'loss 5%'",
-    "tc qdisc add dev eth0 root tbf rate 1mbit burst 32kbit latency 400ms": "--link '1Mbit/s queue 49Kbytes'",
-    "tc qdisc add dev eth0 root tbf rate 256kbit burst 1540 limit 10k": "--link '256Kbit/s queue 10Kbytes'",
-    "netem rate 10mbit": "--link 10Mbit/s",
-    "mm-delay 20 bash": "--link 20ms",
-    "mm-delay 40 mm-loss uplink 0.05 mm-link a.up a.down -- bash": "--up '40ms loss 5%' --down 40ms --up-trace a.up --down-trace a.down",
-    "toxic add -t latency -a latency=1000 redis": "--link 1000ms --outside",
-    "toxic add -t latency -a latency=100 -a jitter=20 redis": "--link '100ms jitter 20ms' --outside",
-    "toxiproxy-cli toxic add -t bandwidth -a rate=100 redis": "--link 800Kbit/s --outside",
-    "comcast --device=eth0 --latency=250 --target-bw=1000 --packet-loss=10%": "--link '1Mbit/s 250ms loss 10%'",
-    "--device=eth0 --latency=250 --target-bw=1000 --packet-loss=10%": "--link '1Mbit/s 250ms loss 10%'",
-    "pumba netem --duration 5m delay --time 100 --jitter 30 web": "--link '100ms jitter 30ms'",
-    "pumba netem --duration 5m loss --percent 20 web": "--link 'loss 20%'",
-    "pumba netem --duration 5m rate --rate 1mbit web": "--link 1Mbit/s",
-    "dnctl pipe 1 config bw 10Mbit/s delay 20": "--line 'pipe 1 config bw 10Mbit/s delay 20'",
-    "ipfw pipe 1 config bw 1Mbit/s plr 0.01": "--line 'pipe 1 config bw 1Mbit/s plr 0.01'",
-    "pipe 2 config delay 5": "--line 'pipe 2 config delay 5'",
-    "slow-3g": "--preset slow-3g",
-}
+FOREIGN = [line.split("  =>  ") for line in (DATA / "foreign.txt").read_text().splitlines()]  # lines, and what is said of each
 CORRECTED = {
     "10mbit": "10Mbit/s",
     "10M": "10Mbit/s",
@@ -65,15 +43,20 @@ CORRECTED = {
     "1Gbps": "1Gbit/s",
     "0.5s": "500ms",
     "10Mbps 20ms": "10Mbit/s 20ms",
-    "rate 10mbit delay 20ms loss 1% limit 100": "10Mbit/s 20ms loss 1% queue 100",
-    "delay 100ms 10ms": "100ms jitter 10ms",
-    "delay 100ms 10ms distribution normal": "100ms jitter 10ms",
-    "netem delay 50ms loss 0.3% 25%": "50ms loss 0.3%",
+    "rate 10mbit delay 20ms loss 1% limit 100": "10Mbit/s 20ms queue 100 loss 1%",
+    "delay 100ms 10ms": "90ms jitter 20ms",
+    "netem delay 50ms loss 0.3%": "50ms loss 0.3%",
     "bandwidth 5mbit latency 30ms": "5Mbit/s delay 30ms",
     "bw=1Mbit/s delay=5ms": "bw 1Mbit/s delay 5ms",
+    "bandwidth=5mbit latency=30": "5Mbit/s delay 30",
     "20ms limit 30 rate 1mbit": "20ms queue 30 1Mbit/s",
     "2% 20ms": "loss 2% 20ms",
     "30pkts 5Mbit/s": "queue 30 5Mbit/s",
+    "10Mbit/s rtt 40ms": "10Mbit/s 20ms",
+    "10Mbit/s 20ms buffer 64KB": "10Mbit/s 20ms queue 64KB",
+    "20ms±5ms": "15ms jitter 10ms",
+    "20ms +- 5ms 10M": "15ms jitter 10ms 10Mbit/s",
+    "20ms 1% loss": "20ms loss 1%",
 }
 
 
@@ -90,52 +73,51 @@ def refused(words: list[str]) -> str:
 
 
 class Lines(unittest.TestCase):
-    def test_a_whole_line_gets_a_whole_line_that_is_taken(self) -> None:
-        for line, wanted in LINES.items():
+    def test_a_whole_line_gets_a_whole_line_or_why_there_is_none(self) -> None:
+        """Each line to type is accepted as it is: the words after `hinge run` by the parser, and the links by their readers."""
+        assert len(FOREIGN) > 120
+        for line, wanted in FOREIGN:
             with self.subTest(line):
                 answer = answer_of(shlex.split(line))
-                assert answer is not None
-                self.assertIn(f" {wanted}", answer.write)
-                words = shlex.split(answer.write.replace("sudo ", "").replace(" --netns PID", ""))
-                if "--up-trace" not in words:
+                assert (answer and answer.text()) == wanted
+                words = shlex.split(re.sub(r"\$\(.*?\)", "PID", answer.write if answer else "").replace("sudo ", ""))
+                if words[:2] == ["hinge", "run"] and "--up-trace" not in words:
                     plan_of(run_options(words[2:]), 1500)
 
-    def test_what_a_link_does_not_do_is_named(self) -> None:
-        answer = answer_of("tc qdisc add dev eth0 root netem delay 10ms reorder 25% 50% corrupt 0.1%".split())
-        self.assertEqual(answer and answer.write, "hinge run --link 10ms -- COMMAND; a link has no reorder, corrupt")
-        for line in ("tc qdisc add dev eth0 root netem corrupt 5%", "pumba netem corrupt --percent 5 mydb"):
-            alone = answer_of(line.split())
-            self.assertTrue(alone and alone.write.endswith("; a link has no corrupt"), alone)
+    def test_no_line_gets_a_link_that_nobody_asked_for(self) -> None:
+        for line, told in FOREIGN:
+            if " 10Mbit/s 20ms" in told or "bw 10Mbit/s" in told:
+                assert "an example" in told or "10M" in line or "queue" in line or len(line.split()) == 1, (line, told)
 
     def test_words_are_answered_by_commands_that_are_there(self) -> None:
         for word, answer in WORDS.items():
             with self.subTest(word):
-                self.assertNotIn(word, COMMANDS)
+                assert word not in COMMANDS
                 write = answer.write.replace("sudo ", "").replace("LD_PRELOAD=$(", "").replace(")", " ")
                 first, *words = write.replace(",", "").replace(";", "").split()
-                self.assertIn(first, ("hinge", "dummynet", "./install"))
-                self.assertTrue(first != "hinge" or words[0] in (*COMMANDS, "--version"), answer.write)
-        self.assertIsNone(answer_of(["frobnicate"]))
+                assert first in ("hinge", "dummynet", "./install")
+                assert first != "hinge" or words[0] in (*COMMANDS, "--version"), answer.write
+        assert answer_of(["frobnicate"]) is None
 
     def test_pages_are_there(self) -> None:
         for page in {answer.page for answer in WORDS.values() if answer.page}:
-            self.assertTrue((folder_of_pages() / f"{page}.md").exists(), page)
+            assert (folder_of_pages() / f"{page}.md").exists(), page
 
 
 PROGRAMS = {  # of a folder in which answers are typed
-    **dict.fromkeys(("COMMAND", "chromium", "iperf3"), "exit 0"),
+    **dict.fromkeys(("COMMAND", "chromium", "iperf3", "curl"), "exit 0"),
     "sudo": 'exec "$@"',
     "hinge": f'PYTHONPATH={PYTHON} exec {sys.executable} -m hinge "$@"',
 }
 FILES = {
-    **dict.fromkeys(("up.trace", "down.trace", "up", "down", "12Mbps.up", "12Mbps.down"), "1\n2\n"),
+    **dict.fromkeys("up.trace down.trace up down 12Mbps.up 12Mbps.down a b u d".split(), "1\n2\n"),
     "FILE": "host a true\nhost b true\nlink a b 1ms\n",
     "NAME.net": "host HOST\nhost h1\nhost s1\nlink HOST h1 1ms\nlink h1 s1 1ms\n",
 }
 
 
 def typed(place: Path, text: str) -> Optional[str]:
-    """Types an answer as it stands; why it fails, if it does."""
+    """Types an answer unchanged; returns why it fails, if it does."""
     env = {**os.environ, "PATH": f"{place}/bin:{os.environ['PATH']}", "XDG_RUNTIME_DIR": str(place / "run")}
     how: dict[str, Any] = {"stdin": subprocess.DEVNULL, "stdout": subprocess.DEVNULL, "stderr": subprocess.PIPE, "text": True}
     done = subprocess.run(["sh", "-c", text], cwd=place, env=env, timeout=100, **how)
@@ -154,82 +136,81 @@ class Typed(WithFolder):
             (self.folder / name).chmod(0o755)
         shutil.copy(DATA / "mixed.pcap", self.folder / "CAPTURE")
         for text in ("hinge try --transcript HISTORY", "hinge up NAME.net"):
-            self.assertIsNone(typed(self.folder, text))
+            assert typed(self.folder, text) is None
         self.addCleanup(typed, self.folder, "hinge down NAME")
 
     def test_a_hundred_lines_of_other_manuals_get_what_works_as_it_stands(self) -> None:
-        lines, texts = (DATA / "foreign.txt").read_text().splitlines(), list[str]()
-        for answer in map(answer_of, map(shlex.split, lines)):
-            text = answer.write.partition(";")[0] if answer else "false"
-            if "--netns PID" in text:  # which joins a network of another process: test_joined has one
-                plan_of(run_options(shlex.split(text.replace(" --netns PID", " true"))[3:]), 1500)
-                text = "true"
-            texts.append(text)
+        answers = [answer_of(shlex.split(line)) for line, _ in FOREIGN]
+        # One of --container joins a network of another process: test_joined has one.
+        texts = [answer.write for answer in answers if answer and answer.write and "--container" not in answer.write]
         each = [text for text in dict.fromkeys(texts) if not text.startswith("hinge down")]
+        # A host that another line has stopped takes no command.
+        faults = {text: typed(self.folder, text) for text in each if "hinge exec" in text}
+        others = [text for text in each if text not in faults]
         with ThreadPoolExecutor(4) as pool:
-            faults = dict(zip(each, pool.map(partial(typed, self.folder), each)))
+            faults.update(zip(others, pool.map(partial(typed, self.folder), others)))
         faults["hinge down NAME"] = typed(self.folder, "hinge down NAME")
-        self.assertEqual(len(lines), 100)
-        self.assertLessEqual(sum(faults[text] is not None for text in texts), 1, [*filter(None, faults.values())])
+        assert [] == [*filter(None, faults.values())]
 
 
 class Links(unittest.TestCase):
     def test_a_text_is_corrected_whole(self) -> None:
         for text, wanted in CORRECTED.items():
             with self.subTest(text):
-                self.assertEqual(corrected(text), wanted)
+                assert corrected(text) == wanted
 
     def test_one_that_means_no_link_stays(self) -> None:
-        for text in ("nonsense", "100us", "10 20", "red 1/2/3"):
-            self.assertIsNone(corrected(text))
+        for text in ("nonsense", "100us", "10 20", "red 1/2/3", "delay 9ms 1ms distribution normal", "netem delay 5ms loss 1% 25%"):
+            assert corrected(text) is None
 
     def test_a_refusal_has_the_whole_text(self) -> None:
-        with self.assertRaises(Wrong) as refusal:
+        with pytest.raises(Wrong) as refusal:
             link_of("10mbit 20ms jitter 5ms", "--up", Place.RUN)
-        self.assertTrue(str(refusal.exception).endswith("; in full: '10Mbit/s 20ms jitter 5ms'"), refusal.exception)
+        assert str(refusal.value).endswith("; in full: '10Mbit/s 20ms jitter 5ms'"), refusal.value
 
 
 class Options(unittest.TestCase):
     def test_each_foreign_option_says_what_is_taken(self) -> None:
-        values = {
-            "--jitter": "5ms",
-            "--limit": "30",
-            "--queue": "30",
-            "--target-bw": "1000",
-            "--plr": "0.1",
-            "--rate": "1mbit",
-            "--bandwidth": "10Mbps",
-            "--bw": "56k",
-            "--speed": "1Gbit/s",
-            "--duplicate": "1",
-            "--both": "5ms",
-        }
-        for option in ELSEWHERE:
+        values = dict(
+            word.split("=")
+            for word in "jitter=5ms limit=30 queue=30 target-bw=1000 plr=0.1 rate=1mbit bandwidth=10Mbps bw=56k speed=1Gbit/s"
+            " duplicate=1 rtt=4".split()
+        )
+        for option in OF_LINK:
             with self.subTest(option):
-                said = refused([option, values.get(option, "5"), "true"])
-                words = shlex.split(said.partition("; write ")[2])
-                self.assertEqual(words[0], "--link", said)
+                said = refused([option, values.get(option[2:], "5"), "true"])
+                words = shlex.split(said.partition(": write ")[2].partition("; ")[0])
+                assert words[0] == "--link", said
                 plan_of(run_options([*words, "true"]), 1500)
-        for option, (_, has_value) in OTHERS.items():
+        for option, (_, has_value) in OPTIONS.items():
             with self.subTest(option):
-                self.assertIn(f"{option}: write ", refused([option, *["5ms"] * has_value, "true"]))
+                assert f"{option}: write " in refused([option, *["5ms"] * has_value, "true"])
+
+    def test_all_foreign_options_of_a_line_get_one_answer(self) -> None:
+        for words, wanted in (
+            ("--rate 10mbit --delay 100ms", "--rate, --delay: write --link '10Mbit/s 100ms'"),
+            ("--link 10Mbit/s --delay 100ms --loss x", "--delay: write --link '10Mbit/s 100ms'"),
+            ("--rtt 40ms --pcap f", "--rtt, --pcap: write --link 20ms --transcript f, which `hinge look` draws"),
+            ("--rtt 45ms", "--rtt: no link does: delay 22.5ms, as a link has whole milliseconds"),
+            ("--duration 10s", "--duration: write timeout 10s before COMMAND, or --real-limit 10s of simulated time"),
+            ("--trace f", "--trace: write --up-trace f --down-trace f"),
+        ):
+            assert f"error: {wanted}\n" in refused([*words.split(), "true"])
+
+    def test_a_rate_of_loss_is_written_as_a_link_takes_it(self) -> None:
+        for text, share in (("0.05", "5"), ("5%", "5"), ("5", "5"), (".5%", "0.5")):
+            self.assertTrue(remedy(text).endswith(f"--up 'loss {share}%'"), remedy(text))
 
     def test_both_ways(self) -> None:
-        self.assertEqual(
-            ("5ms", "7ms"),
-            (
-                run_options(["--link", "5ms", "--down", "7ms", "true"]).up,
-                run_options(["--down", "7ms", "--link", "5ms", "true"]).down,
-            ),
-        )
+        assert "5ms" == run_options(["--link", "5ms", "--down", "7ms", "true"]).up
+        assert "7ms" == run_options(["--down", "7ms", "--link", "5ms", "true"]).down
 
     def test_words_of_a_link_in_the_place_of_the_command(self) -> None:
-        self.assertEqual(
-            link_as_command(["10Mbit/s", "20ms", "--", "ping", "server"]),
-            "'10Mbit/s' is no command; write --link '10Mbit/s 20ms' -- ping server",
+        assert "'10Mbit/s' isn't a command; write --link '10Mbit/s 20ms' -- ping server" == link_as_command(
+            ["10Mbit/s", "20ms", "--", "ping", "server"]
         )
-        self.assertIsNone(link_as_command(["true", "--", "x"]))
-        self.assertIsNone(link_as_command(["no-such-program"]))
+        assert link_as_command(["true", "--", "x"]) is None
+        assert link_as_command(["no-such-program"]) is None
 
     def test_what_a_command_lacks_is_one_line(self) -> None:
         ways = "apt-get install iputils-ping; touch /none"
@@ -241,14 +222,14 @@ class Options(unittest.TestCase):
             ("/none", "", ["./nosuch"], None),
         ):
             with mock.patch.dict(os.environ, {"PATH": path}), mock.patch.object(hints_of_run, "HOSTS", hosts):
-                self.assertEqual(lacking(words), wanted)
+                assert lacking(words) == wanted
 
 
 class Hints(unittest.TestCase):
     def test_a_run_without_a_link_says_so(self) -> None:
-        self.assertEqual(1, len([*hints(run_options(["true"]))]))
-        for words in (["--link", "5ms"], ["--preset", "lte"], ["--line", "pipe 1 config"], ["--quiet"], ["--up", ""]):
-            self.assertEqual([], [*hints(run_options([*words, "true"]))], words)
+        assert 1 == len([*hints(run_options(["true"]))])
+        for words in (["--link", "5ms"], ["--preset", "lte"], ["--line", "pipe 1 config"], ["--quiet"]):
+            assert [] == [*hints(run_options([*words, "true"]))], words
 
     def test_a_host_that_is_not_behind_the_link(self) -> None:
         for command, wanted in (
@@ -263,8 +244,4 @@ class Hints(unittest.TestCase):
             ("wget example.com", "example.com"),
         ):
             with self.subTest(command):
-                self.assertEqual(far_host(command.split()), wanted)
-
-
-if __name__ == "__main__":
-    unittest.main()
+                assert far_host(command.split()) == wanted

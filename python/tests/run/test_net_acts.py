@@ -3,14 +3,15 @@
 from __future__ import annotations
 
 import os
-import unittest
+import subprocess
+import time
 from pathlib import Path
 
-from linked import found, hinge, needs, needs_rooms, until
+from linked import HINGE, found, hinge, needs, needs_rooms, stopped, until
 
 from in_a_folder import InAFolder
-from hinge.net import Net, NetError
-from hinge.net.cgroups import own_folder
+from hinge.net import CommandFailed, Net, NetError
+from hinge.run.cgroups import own_folder
 
 TWO = "link a c 5ms\n"
 
@@ -41,8 +42,8 @@ class OfHosts(InAFolder):
         command = f"while :; do echo on >> {self.folder}/told; sleep 0.05; done"
         count = f"wc -l < {self.folder}/told"
         done = self.net(
-            f"host a {command}\nmain c sleep 1.6; {count}; sleep 1; {count}; sleep 2; {count}\n{TWO}"
-            "at 500ms stop a\nat 3200ms cont a\nat 4400ms stop a\n"
+            f"host a {command}\nmain c sleep 1; {count}; sleep 0.5; {count}; sleep 3.2; {count}\n{TWO}"
+            "at 200ms stop a\nat 3200ms cont a\nat 4400ms stop a\n"
         )
         before, meanwhile, after = map(int, done.stdout.split())
         self.assertTrue(before == meanwhile < after, done.stdout)
@@ -63,6 +64,32 @@ class OfHosts(InAFolder):
         )
         moments = [one["moment"] for one in self.summary()["acts"]]
         self.assertGreaterEqual(moments[2], self.summary()["main"] + 1_190_000_000)
+
+    def test_a_stop_lasts_over_a_restart(self) -> None:
+        """What begins on a stopped host waits until the host goes on."""
+        count = f"wc -l < {self.folder}/told"
+        done = self.net(
+            f"host a echo begun >> {self.folder}/told; exec sleep 1000\nmain c sleep 1.2; {count}; sleep 3; {count}\n{TWO}"
+            "at 200ms kill a 500ms\nat 400ms stop a 2600ms\n"
+        )
+        self.assertEqual((done.stdout.split(), self.summary()["hosts"]["a"]["by"]), (["1", "2"], "SIGTERM"), done.stderr)
+
+    def test_a_stop_of_the_first_process_ends_nothing(self) -> None:
+        """It is stopped beyond the second at which it looks at the hosts."""
+        self.file.write_text(f"main a echo begun > {self.folder}/told; sleep 2; echo ended\nhost b\n{TWO.replace('c', 'b')}")
+        with subprocess.Popen([*HINGE, "net", self.file, "--quiet"], stdout=subprocess.PIPE, text=True) as net:
+            until((self.folder / "told").exists)
+            with stopped(int(Path(f"/proc/{net.pid}/task/{net.pid}/children").read_text().split()[0])):
+                time.sleep(1.2)
+            self.assertEqual((net.communicate()[0], net.returncode), ("ended\n", 0))
+
+    def test_the_main_command_begins_behind_all_others(self) -> None:
+        """So a kill at the main command's start reaches every host, and no host starts later."""
+        hosts = [f"h{number}" for number in range(40)]
+        lines = [*(f"host {host} exec sleep 1000" for host in hosts), "main m sleep 1", *(f"link {host} m 5ms" for host in hosts)]
+        done = self.net("\n".join([*lines, *(f"at main+1ms kill {host}" for host in hosts), ""]))
+        self.assertEqual(done.returncode, 0, done.stderr)
+        self.assertEqual({self.summary()["hosts"][host]["by"] for host in hosts}, {"kill"})
 
     def test_no_program_sees_a_stop(self) -> None:
         """Where there are cgroups: the shell would be told of a child that a signal has stopped."""
@@ -103,13 +130,17 @@ class OfHosts(InAFolder):
         net.restart("a")
         until(lambda: sleeps() == 1)
         until(lambda: net.output("a") == "begun\nbegun\n")
-        net.stop("a"), net.cont("a")
+        net.stop("a"), net.stop("b")
+        self.assertRaisesRegex(CommandFailed, "b is stopped: `cont b` lets it go on", net.run, "b", "true")
+        net.cont("a"), net.cont("b"), net.run("b", "true")
+        self.assertRaisesRegex(NetError, "heal: no cut of such a link goes on", net.heal, "a")
         self.assertRaisesRegex(NetError, "'z': no host of this net", net.kill, "z")
         self.assertRaisesRegex(NetError, "'b': it has no command that could begin again", net.restart, "b")
         net.cut("a", 1), net.heal("a")
         net.end()
         self.assertEqual(
-            found("^#,act,(.*)", net.history.read_text()), ["kill a", "restart a", "stop a", "cont a", "cut a 1s", "heal a"]
+            found("^#,act,(.*)", net.history.read_text()),
+            ["kill a", "restart a", "stop a", "stop b", "cont a", "cont b", "heal a", "cut a 1s", "heal a"],
         )
 
 
@@ -155,7 +186,3 @@ class OfMoments(InAFolder):
         self.assertEqual(told, shown[shown.index("# by seed 3") + 1 :][: len(told)])
         self.assertEqual(found("^#,act,(.*)", self.history()), [line.split(" ", 2)[2] for line in told])
         self.assertEqual(found("^#,drawn,(.*)", self.history())[: len(told)], told)
-
-
-if __name__ == "__main__":
-    unittest.main()

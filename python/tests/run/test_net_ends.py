@@ -19,23 +19,16 @@ PING = "ping -c 1 -W 5 -q"
 @needs_rooms
 @needs("curl", "slirp4netns")
 class OfOutside(InAFolder):
-    """What is at the system's own loopback stands for the rest of its network."""
+    """A server on the system's loopback stands for the rest of the network."""
 
     def answers(self, option: str, host: str) -> list[str]:
         """What each host gets of a server outside."""
         with web_server(self.folder, "127.0.0.1") as port:
             ask = f"curl -s -o /dev/null -m 3 -w '%{{http_code}} %{{time_total}}' http://{GATEWAY}:{port}/"
             done = self.net(
-                (
-                    f"main a {ask}; until [ -s {self.folder}/logs/b.log ]; do sleep 0.05; done\nhost b {ask}; exec"
-                    " sleep 100\nrouter r\nlink a r 30ms\nlink r b 30ms\n"
-                ),
-                option,
-                host,
-                "--quiet",
-                "--no-realtime",
-                "--logs",
-                str(self.folder / "logs"),
+                f"main a {ask}; until [ -s {self.folder}/logs/b.log ]; do sleep 0.05; done\nhost b {ask}; exec sleep 100\n"
+                "router r\nlink a r 30ms\nlink r b 30ms\n",
+                *f"{option} {host} --quiet --no-realtime --logs {self.folder}/logs".split(),
             )
         self.assertEqual(done.stderr, "")
         return [(self.folder / "logs" / f"{name}.log").read_text() for name in "ab"]
@@ -68,9 +61,9 @@ class OfTheEnd(InAFolder):
                 self.file.write_text(f"host a setsid sleep {mark} & sleep {mark}\nmain b exec sleep {mark}\nlink a b\n{wait}")
                 begun = subprocess.Popen([*HINGE, "net", str(self.file), "--quiet"], stderr=subprocess.DEVNULL)
                 try:
-                    until(lambda: self.left(f"^(setsid )?sleep {mark}") == (2 if wait else 3), 30)
+                    until(lambda: self.left(f"^(setsid )?sleep {mark}") == (2 if wait else 3))
                     begun.send_signal(number)
-                    self.assertEqual(begun.wait(20), status)
+                    self.assertEqual(begun.wait(60), status)
                     until(lambda: self.left(f"^(setsid )?sleep {mark}") == 0)
                 finally:
                     begun.kill()
@@ -80,7 +73,7 @@ class OfTheEnd(InAFolder):
         self.file.write_text(f"host a\nmain b exec sleep {mark}\nlink a b\n")
         begun = subprocess.Popen([*HINGE, "net", str(self.file), "--quiet"], stderr=subprocess.PIPE, text=True)
         try:
-            until(lambda: self.left(f"^sleep {mark}") == 1, 30)
+            until(lambda: self.left(f"^sleep {mark}") == 1)
             parents = [
                 int(pid) for pid in subprocess.run(["pgrep", "-P", str(begun.pid)], capture_output=True, text=True).stdout.split()
             ]
@@ -88,7 +81,7 @@ class OfTheEnd(InAFolder):
                 ["pgrep", "-P", ",".join(map(str, parents)), "hinge-link"], capture_output=True, text=True
             ).stdout.split()
             os.kill(int(links[0]), signal.SIGKILL)
-            _, said = begun.communicate(timeout=20)
+            _, said = begun.communicate(timeout=60)
         finally:
             begun.kill()
         self.assertEqual((begun.returncode, "void: the links broke off before the end" in said), (75, True), said)

@@ -1,4 +1,4 @@
-"""A net from Python: what begins, what is done to it while it runs, and its end."""
+"""A net from Python: its start, changes during the run, and its end."""
 
 from __future__ import annotations
 
@@ -7,7 +7,6 @@ import signal
 import socket
 import subprocess
 import sys
-import unittest
 
 from linked import needs, needs_rooms, until
 from with_folder import WithFolder
@@ -105,7 +104,7 @@ class OfNets(InAFolder):
         net.cut("a", "2s")
         cut, told = net.obeyed[1], net.change("a", "b", "9ms")
         self.assertEqual([one.line for one in told], [f"pipe {pipe} config delay 9 plr 1" for pipe in (1, 2)])
-        until(lambda: net.run("a", PING + " b", check=False).returncode == 0, 20)
+        until(lambda: net.run("a", PING + " b", check=False).returncode == 0)
         self.assertGreaterEqual(net.status()["moment"] / 1e9, cut.seconds)
         net.end()
         lines = [line.split(",")[-1] for line in net.history.read_text().splitlines() if line.startswith("c,0,configure,pipe 1")]
@@ -127,7 +126,7 @@ class OfNets(InAFolder):
             ("echo x; exec sleep 100", "a doesn't listen at port 7 after 0.2 s\n  x"),
         ):
             net = Net(self.folder / wanted[-1])
-            net.host("a", command, port=7, wait="200ms")
+            net.host("a", command, port=7, wait="200ms" if "0.2 s" in wanted else "30s")
             net.host("b")
             net.link("a", "b")
             with self.assertRaises(NetError) as refused:
@@ -143,7 +142,7 @@ class OfNets(InAFolder):
         self.assertRaisesRegex(NetError, r"described.net line 5: 'heal': no cut of such a link goes on then", net.start)
         net = Net(self.folder / "second", mtu=7)
         net.host("a"), net.host("b"), net.link("a", "b")
-        self.assertRaisesRegex(NetError, "argument --mtu: '7' is no number from 576 to 65535", net.start)
+        self.assertRaisesRegex(NetError, "argument --mtu: '7' isn't a number from 576 to 65535", net.start)
         net = Net(self.folder / "third")
         net.host("a"), net.host("b"), net.link("a", "b"), net.start()
         self.assertRaisesRegex(NetError, "the net runs already", net.host, "c")
@@ -191,9 +190,5 @@ class OfNets(InAFolder):
             self.assertEqual(caller.stdout.readline(), "begun\n")
             until(lambda: left() == 3)
             caller.send_signal(number)
-            caller.communicate(timeout=20)
-            until(lambda: left() == 0 and not (folder / "control").exists() and (folder / "net.json").exists(), 20)
-
-
-if __name__ == "__main__":
-    unittest.main()
+            caller.communicate(timeout=60)
+            until(lambda: left() == 0 and not (folder / "control").exists() and (folder / "net.json").exists())

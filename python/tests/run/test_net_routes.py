@@ -27,7 +27,7 @@ own.sendto(b"answer", asker)
 ASKER = """
 import socket
 own = socket.socket(socket.AF_INET, socket.SOCK_DGRAM)
-own.settimeout(20)
+own.settimeout(60)
 own.sendto(b"question", ("224.0.0.251", 5353))
 print(own.recvfrom(9)[0].decode())
 """
@@ -41,17 +41,32 @@ class OfRoutes(InAFolder):
         wanted = f"hinge net: {self.file}: c has no way to a: r hands nothing on; write router r, or give it a command\n"
         for words in ([], ["--dry-run"], ["--simulated"]):
             done = hinge("net", self.file, *words)
-            self.assertEqual((done.returncode, done.stderr), (2, wanted))
+            assert (done.returncode, done.stderr) == (2, wanted)
         for before, after in (("host r", "router r"), ("host r", "host r true"), ("link r c", "link r c\nlink a c")):
             self.file.write_text("host a\nhost r\nmain c true\nlink a r\nlink r c\n".replace(before, after))
-            self.assertEqual(hinge("net", self.file, "--quiet").returncode, 0)
+            assert hinge("net", self.file, "--quiet").returncode == 0
 
     def test_a_host_that_may_have_a_command_later_is_told(self) -> None:
         self.file.write_text("host a\nhost r\nmain c true\nlink a r\nlink r c\n")
         done = hinge("net", self.file, "--control", self.folder / "control")
-        self.assertEqual(
-            (done.returncode, done.stderr.splitlines()[0]), (0, "hinge net: c has no way to a: r hands nothing on; write router r")
+        assert done.returncode == 0
+        assert done.stderr.splitlines()[0] == "hinge net: c has no way to a: r hands nothing on; write router r"
+
+    def test_what_a_router_rightly_doesnt_forward(self) -> None:
+        """Nothing leads there, or it is too long, of which the sender learns, or the router rejects it. An interface that the
+        router's program adds forwards too."""
+        done = self.net(
+            "host b\nrouter r ip route add unreachable 10.78.0.0/24; ip tuntap add own mode tun; cat /proc/sys/net/ipv4/conf/own/forwarding; exec sleep 1000\n"
+            "main a ip route add 10.77.0.0/24 dev to-r; ping -q -c 3 -i 0.2 -W 1 10.77.0.1; ping -q -c 2 -i 0.2 -W 1 -M do -s 1400 b;"
+            " ip route add 10.78.0.0/24 dev to-r; ping -q -c 3 -i 0.2 -W 1 10.78.0.1\n"
+            "link a r 1ms\nlink r b 1ms\nmtu r b 1300\n",
+            "--logs",
+            str(self.folder / "logs"),
         )
+        assert self.summary()["unforwarded"] == {"r": {"IpInNoRoutes": 3, "IpFragFails": 1}}, done.stderr
+        assert "r: 4 packets weren't forwarded (IpInNoRoutes 3, IpFragFails 1)\n" in done.stderr
+        assert (self.folder / "logs" / "r.log").read_text() == "1\n"
+        assert hinge("look", self.folder / "out").stdout.splitlines()[-1] == "lawful between links"
 
     def test_jitter_hands_on_what_no_host_may(self) -> None:
         """A packet whose time to live is 1, and one to a group of the link."""
@@ -59,8 +74,8 @@ class OfRoutes(InAFolder):
         done = self.net(
             f"host a\nmain c {PING} -t 1 a && {sys.executable} {self.folder / 'asker.py'} && {PING} a\nlink a c 1ms jitter 3ms\n"
         )
-        self.assertEqual((done.returncode, self.packets()), (0, {"c > a": 3, "a > c": 2}), done.stderr)
-        self.assertEqual(hinge("look", self.folder / "out").stdout.splitlines()[-1], "lawful between links")
+        assert (done.returncode, self.packets()) == (0, {"c > a": 3, "a > c": 2}), done.stderr
+        assert hinge("look", self.folder / "out").stdout.splitlines()[-1] == "lawful between links"
 
     def test_a_packet_to_a_group_changes_no_later_one(self) -> None:
         """Its time to live, 1, is not that of the next packet to a host by the same interface."""
@@ -69,27 +84,24 @@ class OfRoutes(InAFolder):
             f"host a\nrouter r\nmain c {sys.executable} {self.folder / 'asker.py'} && {PING} a >/dev/null && {PING} a\nlink a r 1ms\n"
             "link r c 1ms\n"
         )
-        self.assertEqual((done.returncode, self.packets()["c > r"]), (0, 3), done.stdout)
+        assert (done.returncode, self.packets()["c > r"]) == (0, 3), done.stdout
 
     def test_routes_to_neighbours_alone(self) -> None:
         text = "router a\nrouter r\nmain c ip -4 route\nlink a r\nlink r c\n"
         at_link = "10.9.2.0/24 dev to-r proto kernel scope link src 10.9.2.2 "
-        self.assertEqual(
-            self.net(text).stdout.splitlines(),
-            [
-                "10.8.0.1 dev to-r scope link src 10.8.0.3 ",
-                "10.8.0.2 dev to-r scope link src 10.8.0.3 ",
-                at_link,
-                "224.0.0.0/4 dev to-r scope link src 10.8.0.3 metric 1 ",
-            ],
-        )
-        self.assertEqual(
-            self.net(text + "routes none\n").stdout.splitlines(),
-            ["10.8.0.2 dev to-r scope link src 10.8.0.3 metric 16777216 ", at_link],
-        )
+        assert self.net(text).stdout.splitlines() == [
+            "10.8.0.1 dev to-r scope link src 10.8.0.3 ",
+            "10.8.0.2 dev to-r scope link src 10.8.0.3 ",
+            at_link,
+            "224.0.0.0/4 dev to-r scope link src 10.8.0.3 metric 1 ",
+        ]
+        assert self.net(text + "routes none\n").stdout.splitlines() == [
+            "10.8.0.2 dev to-r scope link src 10.8.0.3 metric 16777216 ",
+            at_link,
+        ]
 
     def test_members_of_a_group(self) -> None:
-        """The kernel says nothing by itself, not even of routers, and the member's host alone tells of the group."""
+        """The kernel itself sends no message, not even for routers, and only the member's host reports the group."""
         self.folder.joinpath("member.py").write_text(MEMBER)
         self.folder.joinpath("asker.py").write_text(ASKER)
         log = self.folder / "logs" / "a.log"
@@ -101,14 +113,14 @@ class OfRoutes(InAFolder):
             "--logs",
             str(self.folder / "logs"),
         )
-        self.assertEqual((done.returncode, (self.folder / "logs" / "c.log").read_text()), (0, "answer\n"), done.stderr)
+        assert (done.returncode, (self.folder / "logs" / "c.log").read_text()) == (0, "answer\n"), done.stderr
         packets = found(r"^c,0,submit,(pipe,\d,[\d.]+,[\d.]+,\d+),", self.history())
         self.assertEqual(
             [packet for packet in packets if not packet.endswith(",224.0.0.22,2")],  # which IGMP repeats
             ["pipe,1,10.8.0.3,224.0.0.251,17", "pipe,2,10.8.0.1,10.8.0.3,17"],
         )
-        self.assertTrue(packets[0].startswith("pipe,2,10.9.1.2,224.0.0.22"), packets)
-        self.assertEqual(hinge("look", self.folder / "out").stdout.splitlines()[-1], "lawful between links")
+        assert packets[0].startswith("pipe,2,10.9.1.2,224.0.0.22"), packets
+        assert hinge("look", self.folder / "out").stdout.splitlines()[-1] == "lawful between links"
 
     @unittest.skipUnless(HAS_SIX and HAS_ORDER, "no IPv6, or no /etc/gai.conf")
     def test_names_have_both_addresses(self) -> None:
@@ -117,12 +129,10 @@ class OfRoutes(InAFolder):
             f"host a\nmain b {PING} a && {PING} -6 a && {PING} -6 a.b && {sys.executable} -c \"{ask % 'a'}\" && {sys.executable}"
             f" -c \"{ask % 'a.b'}\"\nlink a b 1ms\n"
         )
-        self.assertEqual(
-            (done.returncode, done.stdout.splitlines()[-2:]), (0, ["10.8.0.1 fd08::1", "10.9.1.1 fd09:1::1"]), done.stderr
-        )
-        self.assertEqual(self.packets(), {"b > a": 3, "a > b": 3})
+        assert (done.returncode, done.stdout.splitlines()[-2:]) == (0, ["10.8.0.1 fd08::1", "10.9.1.1 fd09:1::1"]), done.stderr
+        assert self.packets() == {"b > a": 3, "a > b": 3}
         done = hinge("run", "--", "sh", "-c", f"{PING} -6 server >/dev/null; {sys.executable} -c \"{ask % 'server'}\"")
-        self.assertEqual(done.stdout, "10.8.0.2 fd08::2\n", done.stderr)
+        assert done.stdout == "10.8.0.2 fd08::2\n", done.stderr
 
     def test_the_mtu_of_a_link(self) -> None:
         """A router says what is too long for its next link."""
@@ -130,20 +140,20 @@ class OfRoutes(InAFolder):
             "host a\nrouter r\nmain c ip -o link show to-r; ping -M do -s 8972 -c 1 -W 5 -q r && ping -M do -s 2000 -c 1 -W 5"
             " a\nlink a r 1ms\nlink r c 1ms\nlink r c 2ms\nmtu r c 9000\nmtu c r 2 3000\n"
         )
-        self.assertIn("mtu 9000 ", done.stdout)
-        self.assertIn("Frag needed and DF set (mtu = 1500)", done.stdout)
+        assert "mtu 9000 " in done.stdout
+        assert "Frag needed and DF set (mtu = 1500)" in done.stdout
         lengths = [int(length) for length in found(r"^c,0,submit,pipe,4,.*,1,0,0,(\d+),", self.history())]
-        self.assertEqual(lengths, [9000, 2028])
+        assert lengths == [9000, 2028]
 
     def test_an_mtu_of_a_link_that_is_wrong(self) -> None:
         for text, wanted in (
-            ("mtu a b 100\n", "line 4: '100' is no number from 576 to 65535\n"),
+            ("mtu a b 100\n", "line 4: '100' isn't a number from 576 to 65535\n"),
             ("mtu a b 2 9000\n", "line 4: 'a b': there is no link 2 between them\n"),
             ("mtu a b\n", "line 4: a word is missing: mtu A B [N] BYTES\n"),
             ("routes all\n", "line 4: 'routes all': the one such line is `routes none`\n"),
         ):
             self.file.write_text("host a\nhost b\nlink a b\n" + text)
-            self.assertEqual(hinge("net", self.file, "--dry-run").stderr, f"hinge net: {self.file} {wanted}")
+            assert hinge("net", self.file, "--dry-run").stderr == f"hinge net: {self.file} {wanted}"
 
 
 @needs_rooms
@@ -152,16 +162,9 @@ class OfOspf(InAFolder):
     def test_a_ring_of_routers_finds_another_way(self) -> None:
         """With nothing of the kit's routes deleted: by the one link, and when that is cut by the others."""
         done = hinge("net", EXAMPLE, "--transcripts", self.folder / "out", "--quiet", seconds=120)
-        self.assertEqual(
-            (done.returncode, done.stdout.splitlines()),
-            (0, ["r1 is reached by r1", "r1 is reached by r3", "converged"]),
-            done.stderr,
-        )
+        assert done.returncode == 0, done.stderr
+        assert done.stdout.splitlines() == ["r1 is reached by r1", "r1 is reached by r3", "converged"], done.stderr
         self.history()
         paths = hinge("look", self.folder / "out").stdout.splitlines()
-        self.assertEqual(paths[-1], "lawful between links", paths)
-        self.assertTrue(any(path.startswith("r4 - r3 - r2 - r1: ") for path in paths), paths)
-
-
-if __name__ == "__main__":
-    unittest.main()
+        assert paths[-1] == "lawful between links", paths
+        assert any(path.startswith("r4 - r3 - r2 - r1: ") for path in paths), paths

@@ -119,7 +119,7 @@ class OfSwitches(InAFolder):
         return {" > ".join(ways[int(pipe) - 1]): pipes.count(pipe) for pipe in pipes}
 
     def test_what_hosts_see(self) -> None:
-        """Each a net of a, b and the main host c at a switch, by a line of its own and what c does."""
+        """Each case is a net with a, b and the main host c at a switch, with its line and c's action."""
         slow = "switch s a b c 5ms"
         cases = [
             (
@@ -198,7 +198,7 @@ class OfSwitches(InAFolder):
 @needs("dnsmasq", "ip", "ping")
 class OfDhcp(InAFolder):
     def test_a_server_leases_an_address_to_a_client(self) -> None:
-        """Which then is reached by it, and is lawful though the file doesn't have it."""
+        """Afterwards the client answers at this address, and is valid though the file lacks it."""
         (self.folder / "client.py").write_text(DHCP_CLIENT)
         server = (
             "exec dnsmasq --no-daemon --port=0 --no-ping --user=root --conf-file=/dev/null --interface=to-s"

@@ -1,12 +1,12 @@
-"""`hinge status --openmetrics`: what a parser of the format makes of it, and that it has what the JSON has."""
+"""`hinge status --openmetrics`: a parser of the format reads the text and finds the same content as in the JSON."""
 
 from __future__ import annotations
 
 import json
 import re
-import sys
-import unittest
 from typing import NamedTuple
+
+import pytest
 
 from linked import HINGE, hinge, needs, needs_rooms
 
@@ -71,7 +71,7 @@ def parsed_by_prometheus(text: str) -> list[Sample]:
 @needs("ping")
 class OfStatus(InAFolder):
     def told(self, text: str, words: str = "") -> tuple[list[Sample], dict[str, object]]:
-        """What a net's main command gets of its own net, in both forms."""
+        """Returns the status of a net as its main command sees it, in both forms."""
         ask = f"{' '.join(HINGE)} status {self.folder}/control"
         done = self.net(
             f"{text.replace('ASK', f'{ask} --openmetrics > {self.folder}/text; {ask} > {self.folder}/json')}",
@@ -79,9 +79,9 @@ class OfStatus(InAFolder):
             "--control",
             str(self.folder / "control"),
         )
-        self.assertEqual(done.returncode, 0, done.stderr)
+        assert done.returncode == 0, done.stderr
         written = (self.folder / "text").read_text()
-        self.assertEqual(parsed(written), parsed_by_prometheus(written))
+        assert parsed(written) == parsed_by_prometheus(written)
         return parsed(written), json.loads((self.folder / "json").read_text())
 
     def test_the_counts_of_each_way(self) -> None:
@@ -90,14 +90,11 @@ class OfStatus(InAFolder):
             " up:list:1,2,3\n"
         )
         values = {(one.family, one.labels.get("from"), one.labels.get("quantile")): one.value for one in samples}
-        self.assertEqual(
-            [
-                values[f"hinge_{name}", one, None]
-                for name in ("came_packets", "sent_packets", "lost_packets", "came_bytes")
-                for one in ("a", "b")
-            ],
-            [2, 5, 2, 2, 0, 3, 168, 420],
-        )
+        assert [
+            values[f"hinge_{name}", one, None]
+            for name in ("came_packets", "sent_packets", "lost_packets", "came_bytes")
+            for one in ("a", "b")
+        ] == [2, 5, 2, 2, 0, 3, 168, 420]
         for way in status["ways"]:  # type: ignore[attr-defined]
             for name, key, scale in (
                 ("came_packets", "came", 1),
@@ -106,27 +103,23 @@ class OfStatus(InAFolder):
                 ("underway_packets", "underway", 1),
                 ("system_dropped_packets", "system_drops", 1),
             ):
-                self.assertEqual(values[f"hinge_{name}", way["from"], None], way[key] / scale)
+                assert values[f"hinge_{name}", way["from"], None] == way[key] / scale
             for quantile, key in (("0.5", "p50"), ("0.99", "p99"), ("0.999", "p99.9"), ("1", "max")):
-                self.assertAlmostEqual(values["hinge_late_seconds", way["from"], quantile] * 1e3, way[f"late_{key}_ms"], 6)
-        self.assertIn(Sample("hinge_ended_status", "hinge_ended_status", {"host": "a"}, 3), samples)
+                assert values["hinge_late_seconds", way["from"], quantile] * 1e3 == pytest.approx(way[f"late_{key}_ms"], abs=5e-7)
+        assert Sample("hinge_ended_status", "hinge_ended_status", {"host": "a"}, 3) in samples
 
     def test_the_two_ways_of_a_run(self) -> None:
         ask = f"{' '.join(HINGE)} status {self.folder}/control --openmetrics"
         done = hinge("run", "--quiet", "--control", self.folder / "control", "--", "sh", "-c", f"ping -c 1 -q server >&2; {ask}")
         samples = parsed(done.stdout)
-        self.assertEqual(samples, parsed_by_prometheus(done.stdout))
-        self.assertEqual(
-            [(one.labels, one.value) for one in samples if one.name == "hinge_sent_packets_total"],
-            [({"way": "up"}, 1), ({"way": "down"}, 1)],
-        )
+        assert samples == parsed_by_prometheus(done.stdout)
+        assert [(one.labels, one.value) for one in samples if one.name == "hinge_sent_packets_total"] == [
+            ({"way": "up"}, 1),
+            ({"way": "down"}, 1),
+        ]
 
     def test_the_parser_finds_what_is_wrong(self) -> None:
         good = '# TYPE hinge_x_packets counter\n# UNIT hinge_x_packets packets\nhinge_x_packets_total{way="up"} 1\n# EOF\n'
-        self.assertEqual(len(parsed(good)), 1)
+        assert len(parsed(good)) == 1
         for old, new in (("_total", ""), ("# EOF\n", ""), (" 1\n", " one\n"), (" packets\n", " bytes\n"), ("{way", "{wAy")):
-            self.assertRaises(ValueError, parsed, good.replace(old, new))
-
-
-if __name__ == "__main__":
-    sys.exit(unittest.main())
+            pytest.raises(ValueError, parsed, good.replace(old, new))

@@ -2,18 +2,22 @@
 
 from __future__ import annotations
 
-import argparse
+import re
 import shutil
 import tempfile
 import unittest
 from pathlib import Path
 from typing import Sequence
 
-from linked import SEEDS, Ended, Linked, audited_as_lawful, found, hinge, ip4, needs, needs_host, needs_rooms, run, until
+import pytest
+
+from linked import SEEDS, Ended, Linked, found, hinge, ip4, needs, needs_host, needs_rooms, run, until
 from test_net import InAFolder
 
 from hinge.captures.random_words import word
-from hinge.run.options import add_link, add_run, plan_of
+from hinge.command_line import Parser
+from hinge.run.options import add_link, add_run
+from hinge.run.plan_of_options import plan_of
 from hinge.run.page import Way
 from hinge.run.settings import LiveOptions
 from hinge.run.words import Wrong, link_of
@@ -26,7 +30,7 @@ PIPES = "".join(f"line pipe {FIRST + place} config delay {STEP * place}\n" for p
 
 def plan_words(*words: str) -> list[str]:
     """The lines of the plan that options make."""
-    parser = argparse.ArgumentParser()
+    parser = Parser()
     add_link(parser), add_run(parser)
     options = LiveOptions(**vars(parser.parse_args(words)), more_files=())
     return plan_of(options, 1500).text(options.seed or 0).splitlines()
@@ -43,41 +47,37 @@ class OfPasses(unittest.TestCase):
         link = Linked(SEEDS + plan)
         for number in range(COUNT):
             link.near.send(udp(number))
-        self.assertEqual([link.far.recv(1000) for _ in wanted], [udp(number) for number in wanted])
+        assert [link.far.recv(1000) for _ in wanted] == [udp(number) for number in wanted]
         ended = link.end()
-        audited_as_lawful(self, link.transcript)
         return ended, ended.counts.ways[0]
 
     def test_a_second_pass_is_drawn_for_each(self) -> None:
         drawn = [word(7, number, 1 + OF_JITTER) % 5 for number in range(1, COUNT + 1)]
         plan = f"line pipe 1 config delay 3\n{PIPES}jitter 0 {FIRST} 5 7\n"
         ended, way = self.sent(plan, sorted(range(COUNT), key=lambda number: drawn[number]))
-        self.assertEqual(
-            found(r"^c,0,submit,pipe,(6\d{4}),10.8.0.1,10.8.0.2,17,1,(\d+),100,2147483647,", ended.history),
-            [(str(FIRST + place), str(number)) for number, place in enumerate(drawn)],
-        )
-        self.assertEqual((way["came"], way["sent"], way["held"], way.underway), (COUNT, COUNT, 0, 0))
+        assert found(r"^c,0,submit,pipe,(6\d{4}),10.8.0.1,10.8.0.2,17,1,(\d+),100,2147483647,", ended.history) == [
+            (str(FIRST + place), str(number)) for number, place in enumerate(drawn)
+        ]
+        assert (way["came"], way["sent"], way["held"], way.underway) == (COUNT, COUNT, 0, 0)
 
     def test_faults_are_of_packets_by_their_numbers(self) -> None:
         """The first comes twice, which counts once, the second is lost, and the fourth and the fifth are late."""
         faults = f"list 0 2 7\nfault 0 1 1 1\nfault 0 1 7 1\nfault 0 2 4 {FIRST + 2}\nfault 0 2 5 {FIRST + 1}\n"
         plan = f"line pipe 1 config delay 3 plr 0.5\n{PIPES}jitter 0 {FIRST} 1 7\n{faults}"
         _, way = self.sent(plan, [0, 0, 2, 5, 6, *range(7, COUNT), 4, 3])
-        self.assertEqual((way["came"], way["lost"], way["sent"], way.underway), (COUNT + 2, 2, COUNT, 0))
+        assert (way["came"], way["lost"], way["sent"], way.underway) == (COUNT + 2, 2, COUNT, 0)
 
     def test_a_way_without_jitter_has_one_pass(self) -> None:
         link = Linked(f"{SEEDS}line pipe 2 config\nline pipe {FIRST} config\njitter 0 {FIRST} 1 7\n")
         link.far.send(udp(1))
-        self.assertEqual(link.near.recv(1000), udp(1))
-        self.assertEqual(found("^c,0,submit,pipe,(\\d+),", link.end().history), ["2"])
+        assert link.near.recv(1000) == udp(1)
+        assert found("^c,0,submit,pipe,(\\d+),", link.end().history) == ["2"]
 
     def test_a_copy_is_a_second_submit(self) -> None:
         wanted = [number for number in range(COUNT) for _ in range(1 + (word(9, number + 1, 1 + OF_COPIES) < CERTAIN // 4))]
-        self.assertTrue(COUNT < len(wanted) < 2 * COUNT)
+        assert COUNT < len(wanted) < 2 * COUNT
         _, way = self.sent(f"line pipe 1 config delay 3\ncopies 0 {CERTAIN // 4} 9\n", wanted)
-        self.assertEqual(
-            (way["came"], way["came_bytes"], way["sent"], way.underway), (len(wanted), 100 * len(wanted), len(wanted), 0)
-        )
+        assert (way["came"], way["came_bytes"], way["sent"], way.underway) == (len(wanted), 100 * len(wanted), len(wanted), 0)
 
     def test_copies_draw_losses_of_their_own(self) -> None:
         link = Linked(f"{SEEDS}line pipe 1 config plr 0.5\ncopies 0 {CERTAIN} 9\n")
@@ -85,7 +85,7 @@ class OfPasses(unittest.TestCase):
             link.near.send(udp(number))
         until(lambda: link.came() == 2 * COUNT)
         words = found(r"^c,0,submit,pipe,1,.*,(\d+),\d+$", link.end().history)
-        self.assertEqual(words, [str(word(1, number)) for number in range(1, 2 * COUNT + 1)])
+        assert words == [str(word(1, number)) for number in range(1, 2 * COUNT + 1)]
 
     def test_a_second_pipe_that_was_deleted(self) -> None:
         link = Linked(
@@ -94,14 +94,13 @@ class OfPasses(unittest.TestCase):
         link.near.send(udp(1))
         until(lambda: link.page.read().ways[0]["no_target"] == 1)
         ended = link.end()
-        audited_as_lawful(self, link.transcript)
-        self.assertEqual((ended.counts.ways[0].underway, ended.counts.ways[0]["held"]), (0, 0))
+        assert (ended.counts.ways[0].underway, ended.counts.ways[0]["held"]) == (0, 0)
 
     def test_lines_that_are_none(self) -> None:
         jitters = ("jitter 0 1", "jitter 2 60000 5 7", "jitter 0 0 5 7", "jitter 0 65530 7 7", "copies 0 1", "copies 5 1 1")
         for line in (*jitters, "fault 0 1 1", "fault 2 1 1 1", "fault 0 3 1 1", "fault 0 2 1 0", "fault 0 2 1 65536"):
             ended = Linked(f"{SEEDS}{line}\n").ended()
-            self.assertEqual((ended.status, ended.said), (3, f"hinge: {line}: no line of a plan\n"))
+            assert (ended.status, ended.said) == (3, f"hinge: {line}: no line of a plan\n")
 
 
 class OfWords(unittest.TestCase):
@@ -114,34 +113,32 @@ class OfWords(unittest.TestCase):
             ("duplicate 100%", "pipe 1 config", Extra(0, CERTAIN)),
         ):
             link = link_of(text, "x", Place.RUN)
-            self.assertEqual((link.line(1), link.extra), (line, extra))
+            assert (link.line(1), link.extra) == (line, extra)
 
     def test_a_plan_has_a_pipe_for_each_delay(self) -> None:
         told = plan_words("--up", "20ms jitter 2ms", "--down", "jitter 1ms duplicate 50%", "--seed", "7")
-        self.assertEqual(
-            [line for line in told if line.startswith("line")],
-            [
-                "line pipe 1 config delay 20ms",
-                "line pipe 2 config",
-                "line pipe 65533 config",
-                "line pipe 65534 config delay 1",
-                "line pipe 65535 config delay 2",
-                "line pipe 65531 config",
-                "line pipe 65532 config delay 1",
-            ],
-        )
-        self.assertEqual(
-            [line for line in told if line.startswith(("jitter", "copies"))],
-            ["jitter 0 65533 3 7", "jitter 1 65531 2 7", f"copies 1 {CERTAIN // 2} 7"],
-        )
-        with self.assertRaisesRegex(Wrong, "^pipe 65535 is needed for jitter or late packets, and is another's"):
+        assert [line for line in told if line.startswith("line")] == [
+            "line pipe 1 config delay 20ms",
+            "line pipe 2 config",
+            "line pipe 65533 config",
+            "line pipe 65534 config delay 1",
+            "line pipe 65535 config delay 2",
+            "line pipe 65531 config",
+            "line pipe 65532 config delay 1",
+        ]
+        assert [line for line in told if line.startswith(("jitter", "copies"))] == [
+            "jitter 0 65533 3 7",
+            "jitter 1 65531 2 7",
+            f"copies 1 {CERTAIN // 2} 7",
+        ]
+        with pytest.raises(Wrong, match="^pipe 65535 is needed for jitter or late packets, and is another's"):
             plan_words("--up", "jitter 2ms", "--line", "pipe 65535 config")
 
     def test_a_plan_of_faults_has_no_other_losses(self) -> None:
         path = Path(tempfile.mkdtemp()) / "faults"
         self.addCleanup(shutil.rmtree, path.parent)
         path.write_text("client > server packet 4 late 9ms\nclient > server packet 3 lost\nserver > client packet 1 twice\n")
-        told = plan_words("--up", "jitter 1ms loss 1%", "--loss", "gilbert:0.1,0.2", "--faults", str(path), "--seed", "7")
+        told = plan_words("--up", "jitter 1ms", "--faults", str(path), "--seed", "7")
         wanted = [
             "line pipe 65533 config delay 9",
             "list 0 3",
@@ -150,9 +147,16 @@ class OfWords(unittest.TestCase):
             "fault 1 1 1 1",
             "jitter 0 65534 2 7",
         ]
-        self.assertEqual([line for line in wanted if line not in told], [])
+        assert [line for line in wanted if line not in told] == []
+        path.write_text("at 1.5s cut server > client 2s\nat 4s hold client > server 500ms\n")
+        told = plan_words("--up", "20ms", "--faults", str(path))
+        wanted = ["at 1500000000 cut 2 1", "at 3500000000 open 2 1", "hold 1 4000000000 4500000000"]
+        assert [line for line in wanted if line not in told] == []
+        path.write_text("at 1s hold server 1s\n")
+        with pytest.raises(Wrong, match="no cut or hold of a link; write `at 1s cut client > server 2s` or `hold`$"):
+            plan_words("--faults", str(path))
         path.write_text("a > b packet 3 lost\n")
-        with self.assertRaisesRegex(Wrong, "'a > b packet 3 lost': no such link; write client > server or server > client$"):
+        with pytest.raises(Wrong, match="'a > b packet 3 lost': no such link; write client > server or server > client$"):
             plan_words("--faults", str(path))
 
 
@@ -168,41 +172,34 @@ class OfRuns(InAFolder):
             "--seed",
             "1",
         )
-        self.assertEqual((done.returncode, "100 received, +" in done.stdout), (0, True), done.stdout + done.stderr)
-        self.assertEqual(
-            found("^#,(?:pipe|copies),(.*)$", self.history()),
-            [
-                "1,a,a~r",
-                *(f"{pipe},a~r,r" for pipe in range(65531, 65536)),
-                "2,r,r~a",
-                *(f"{pipe},r~a,a" for pipe in range(65526, 65531)),
-                "3,r,b",
-                "3",
-                "4,b,b~r",
-                *(f"{pipe},b~r,r" for pipe in range(65522, 65526)),
-            ],
-        )
+        assert (done.returncode, "100 received, +" in done.stdout) == (0, True), done.stdout + done.stderr
+        assert found("^#,(?:pipe|copies),(.*)$", self.history()) == [
+            "1,a,a~r",
+            *(f"{pipe},a~r,r" for pipe in range(65531, 65536)),
+            "2,r,r~a",
+            *(f"{pipe},r~a,a" for pipe in range(65526, 65531)),
+            "3,r,b",
+            "3",
+            "4,b,b~r",
+            *(f"{pipe},b~r,r" for pipe in range(65522, 65526)),
+        ]
         paths = hinge("look", self.folder / "out")
         if paths.returncode == 7:
-            self.skipTest("no numpy")
-        self.assertEqual(paths.stdout.splitlines()[-1], "lawful between links", paths.stdout)
-        self.assertIn("a - a~r - r - b: ", paths.stdout)
+            pytest.skip("no numpy")
+        assert paths.stdout.splitlines()[-1] == "lawful between links", paths.stdout
+        assert "a - a~r - r - b: " in paths.stdout
 
     def test_they_are_of_a_whole_run(self) -> None:
         (self.folder / "t").write_text("5s up 20ms jitter 3ms\n")
         for words in (["--timeline", self.folder / "t"],):
-            self.assertRegex(
-                run("--up", "5ms", *words, "--", "true").stderr,
+            assert re.search(
                 "line 1: 5s: 'jitter': of a whole run; write it in --up, --down or a line `link`, from the beginning on$",
+                run("--up", "5ms", *words, "--", "true").stderr,
             )
         self.file.write_text("host a\nhost b\nlink a b 5ms\nat 1s a b jitter 5ms\n")
-        self.assertRegex(hinge("net", self.file, "--dry-run").stderr, "line 4: 'jitter': of a whole run; write it in --up")
+        assert re.search("line 4: 'jitter': of a whole run; write it in --up", hinge("net", self.file, "--dry-run").stderr)
 
     def test_second_passes_have_no_part_in_a_caution(self) -> None:
         done = run("--up", "500ms jitter 1ms", "--", "ping", "-c", "1", "-q", "server")
         limits = found("--late (.*)ms makes", done.stderr)  # one only where this machine was late
-        self.assertLessEqual(set(limits), {"50"}, done.stderr)
-
-
-if __name__ == "__main__":
-    unittest.main()
+        assert set(limits) <= {"50"}, done.stderr

@@ -9,18 +9,19 @@ import shutil
 import subprocess
 import tempfile
 import unittest
-from dataclasses import fields
+
 from pathlib import Path
 
-from hinge.command import Told
+from hinge.command import Fault
 from hinge.commands import net, run
 from hinge.program import dummynet
-from hinge.run.options import add_link, add_run, plan_of
+from hinge.command_line import Parser
+from hinge.run.options import add_link, add_run
+from hinge.run.plan_of_options import plan_of
 from hinge.run.page import BINS, COUNTS, ENDED_WELL, HEAD, WAY, Counts, Times
 from hinge.run.plan import Plan
 from hinge.run.settings import LiveOptions, NetOptions, RunOptions
-from hinge.run.summary import cautions, void
-from hinge.run.summary import lines as summary_lines
+from hinge.run.summary import cautions, line, void
 from hinge.run.transcripts import AUDITED, told
 from hinge.run.words import Wrong, duration, link_of
 from plan_files import OfFiles
@@ -37,13 +38,13 @@ class Words(unittest.TestCase):
     def test_changes_without_words_and_numbers_of_any_length(self) -> None:
         plan = Plan()
         plan.link("pipe 1 config")
-        for words in ("1s", "1s up", "1s down # nothing"):
+        for words in ("", "up", "down # nothing"):
             with self.subTest(words), self.assertRaisesRegex(Wrong, "no words of a link"):
-                plan.event(words.split())
-        plan.event(["1s", "pipe", "9" * 5000, "config"])
+                plan.read(words, 1)
+        plan.read(f"pipe {'9' * 5000} config", 1)
         for text in ("9" * 5000, "0,1\n" + "9" * 5000):
             (path := Path(tempfile.mkdtemp()) / "trace").write_text(text)
-            with self.assertRaises(Told):
+            with self.assertRaises(Fault):
                 plan.trace(0, str(path), None, 1)
             shutil.rmtree(path.parent)
 
@@ -83,12 +84,15 @@ class OfOptions(OfFiles):
         """Those without one print something and end."""
         for parser, kind, more in ((run.options(), RunOptions, {"more_files"}), (net.options(), NetOptions, {"command"})):
             named = {action.dest for action in parser._actions if action.default != argparse.SUPPRESS}
-            self.assertEqual(named | more, {field.name for field in fields(kind)})
+            self.assertEqual(named | more, {name for one in kind.__mro__ for name in vars(one).get("__annotations__", ())})
 
     def configured(self, *words: str) -> list[str]:
-        parser = argparse.ArgumentParser()
+        return self.planned(*words).configured
+
+    def planned(self, *words: str) -> Plan:
+        parser = Parser()
         add_link(parser), add_run(parser.add_argument_group("the run"))
-        return plan_of(LiveOptions(**vars(parser.parse_args(words)), more_files=()), 1500).configured
+        return plan_of(LiveOptions(**vars(parser.parse_args(words)), more_files=()), 1500)
 
     def test_the_order_of_lines(self) -> None:
         """Queues can be of the pipes of --up and --down, which go before lines that configure the same pipe; what isn't
@@ -102,12 +106,33 @@ class OfOptions(OfFiles):
         )
         self.assertEqual(self.configured("--line", queue), [queue, "pipe 1 config", "pipe 2 config"])
 
+    def test_a_loss_by_words_and_a_queue(self) -> None:
+        rule = ("--map", "udp => queue 7", "--line")
+        for words in (("--up", "loss 2%"), ("--preset", "bad")):
+            self.assertRaisesRegex(Wrong, "plr 0.0?[12]`, or `plr 0`", self.configured, *words, *rule, "queue 7 config pipe 1")
+            self.configured(*words, *rule, "queue 7 config pipe 1 plr 0")
+            self.configured(*words, *rule, "queue 7 config pipe 2 plr 0")
+
+    def test_a_queue_without_a_loss_later_by_a_timeline_and_by_hinge_change(self) -> None:
+        """Each line of it says one, where words of its way do, whichever comes first."""
+        queue, wrong = "queue 7 config pipe 1", "the link's loss .* write `plr 0.02`"
+        begin = ["--map", "up udp => queue 7", "--line", f"{queue} plr 0", "--timeline"]
+        for text in (f"2s up loss 2%\n1s {queue}\n", f"1s {queue}\n2s up loss 2%\n"):
+            self.assertRaisesRegex(Wrong, f"line 2: {wrong}", self.configured, *begin, self.file(text))
+        for first, second in ((queue, "up loss 2%"), ("up loss 2%", queue)):
+            plan = self.planned(
+                *begin, self.file(f"2s up loss 0%\n3s {queue} plr 0.1\n5s pipe 1 config plr 0.1\n5s down loss 2%\n")
+            )
+            for _ in range(2):
+                plan.read(first, 1), plan.read(f"{queue} plr 0.5", 2)
+                self.assertRaisesRegex(Wrong, wrong, plan.read, second, 3)
+
     def test_a_preset_is_for_what_nothing_else_says(self) -> None:
         up, down = "pipe 1 config bw 384Kbit/s delay 25ms queue 10", "pipe 2 config bw 1500Kbit/s delay 25ms queue 30"
         self.assertEqual(self.configured("--preset", "dsl"), [up, down])
         self.assertEqual(self.configured("--preset", "dsl", "--up", "5ms"), ["pipe 1 config delay 5ms", down])
         self.assertEqual(self.configured("--preset", "dsl", "--line", "pipe 2 config"), [up, "pipe 2 config"])
-        self.assertRaisesRegex(Wrong, "^--preset: 'dls': no preset; write dsl$", self.configured, "--preset", "dls")
+        self.assertRaisesRegex(Wrong, "^--preset: 'dls': not a preset; write dsl$", self.configured, "--preset", "dls")
 
     def test_the_presets_are_printed(self) -> None:
         out = io.StringIO()
@@ -141,7 +166,7 @@ class Cautions(unittest.TestCase):
         self.assertEqual(
             cautions(slow, [0, 0], plan),
             [
-                ("CAUTION, this machine was too busy: up: of 100 packets more than one was late by over 0.1 ms (p99" " 3.000 ms)"),
+                "CAUTION, this machine was too busy: up: the p99 of `late`, 3.000 ms, is above the limit of 0.1 ms",
                 "--late 0.1ms makes such a run void",
             ],
         )
@@ -151,7 +176,7 @@ class Cautions(unittest.TestCase):
     def test_a_stall_isnt_lost_among_many_packets(self) -> None:
         """One packet of a hundred thousand in 300 ms, of a run of ten seconds or of a hundred."""
         for seconds, wanted in (
-            (10, ["up: in more than 1 % of the time packets were unread by over 5 ms (max 300.000 ms)"]),
+            (10, ["up: `unread` was above the limit of 5 ms in more than 1 % of the time (max 300.000 ms)"]),
             (100, []),
         ):
             values = [100_000 if name == "came" else 300_000_000 if name == "unread_most" else 0 for name in COUNTS]
@@ -161,8 +186,11 @@ class Cautions(unittest.TestCase):
             counts = Counts((*head, *values, *late, *unread, *late_time, *unread_time, *[0] * WAY))
             self.assertEqual(void(counts, [0, 0], 5.0), wanted)
 
-    def test_a_way_without_traffic_has_no_figures(self) -> None:
-        self.assertEqual(summary_lines(self.counts(3), [0, 0])[-1], "down: nothing came")
+    def test_a_good_run_is_one_line_without_lateness(self) -> None:
+        wanted = "up: 100 came, 0 delivered, 0 lost, 0 met a full queue, 100 under way"
+        self.assertEqual(line(self.counts(3), [0, 0]), f"{wanted}; down: nothing came")
+        dropped = "the system dropped 2 before the link and 0 behind it"
+        self.assertEqual(line(self.counts(3), [0, 2]), f"{wanted}; down: nothing came, {dropped}")
 
 
 class OfTranscripts(OfFiles):

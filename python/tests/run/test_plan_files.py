@@ -14,7 +14,7 @@ BIN = 100_000_000  # ns
 
 class Traces(OfFiles):
     def rates(self, data: "str | bytes") -> Trace:
-        return read_trace(self.file(data))
+        return read_trace(self.file(data), iter)
 
     def test_seconds_with_and_without_a_header(self) -> None:
         found = Trace([Rate(0, 100), Rate(1_500_000_000, 200)], [])
@@ -45,7 +45,7 @@ class Traces(OfFiles):
             self.assertRaises(Wrong, self.rates, text)
         self.assertRaisesRegex(Wrong, "line 2: not of the form", self.rates, "0,5\nx,y\n")
         self.assertRaisesRegex(Wrong, "isn't UTF-8", self.rates, b"0,5\n\xff,5\n")
-        self.assertRaisesRegex(Wrong, "no moments", self.rates, "# nothing\n")
+        self.assertRaisesRegex(Wrong, "no rows of a trace", self.rates, "# nothing\n")
 
     def plan(self, data: str, bin_ns: "int | None" = None, lasting: int = 10**9, more: str = "") -> list[str]:
         """The lines of a pipe's trace, but for the seeds."""

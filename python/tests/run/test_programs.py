@@ -3,56 +3,21 @@ there."""
 
 from __future__ import annotations
 
-import itertools
 import json
 import os
 import pwd
-import re
+import shlex
 import shutil
 import subprocess
 import time
 import unittest
-from typing import NamedTuple
 
 from behind import Behind
-from linked import audited_as_lawful, needs, needs_rooms, run, run_in_time
+from linked import audited_as_lawful, needs, needs_rooms, run_in_time
 
 PAYLOAD = 1448 / 1500  # of a TCP packet's bytes, with time stamps
 TOLERANCE = 0.05
 SSHD = shutil.which("sshd", path=f"{os.environ['PATH']}:/usr/sbin")  # users lack that folder on their paths
-
-
-class Crossed(NamedTuple):
-    """A packet of a queue that crossed a link: its queue, its bytes, and the ns of its arrival and of its start on the
-    link."""
-
-    queue: int
-    length: int
-    came: int
-    start: int
-
-
-def crossed(history: str) -> list[Crossed]:
-    """The packets of queues, by start."""
-    submits = re.findall(r"^c,0,submit,queue,(\d+),.*,(\d+),\d+,\d+\nr,queued,(\d+),\d+,(\d+)$", history, re.M)
-    starts = dict(re.findall(r"^d,(\d+),\d+,(\d+),\d+$", history, re.M))
-    found = [
-        Crossed(int(queue), int(length), int(came), int(starts[packet]))
-        for queue, length, came, packet in submits
-        if packet in starts
-    ]
-    return sorted(found, key=lambda packet: packet.start)
-
-
-def in_rows(packets: list[Crossed]) -> list[list[Crossed]]:
-    """Those after whose start each of two queues had another to send, as many together as started in a row."""
-    following: dict[int, int] = {}
-    has_both = []
-    for packet in reversed(packets):
-        has_both.append(len(following) == 2 and max(following.values()) <= packet.start)
-        following[packet.queue] = packet.came
-    rows = itertools.groupby(zip(packets, reversed(has_both)), key=lambda pair: pair[1])
-    return [[packet for packet, _ in row] for both, row in rows if both]
 
 
 def megabits(text: str) -> float:
@@ -79,44 +44,6 @@ class OfTcp(Behind):
     def test_cubic_fills_the_link(self) -> None:
         self.assertAlmostEqual(self.rate("cubic") / (10 * PAYLOAD), 1, delta=TOLERANCE)
 
-    def test_two_flows_have_their_weights(self) -> None:
-        """Queues of weight 3 and 1 on 20 Mbit/s with 2 ms, which 4 packets fill: the windows hold more, so both queues
-        mostly have packets, and less than 300, so none is dropped. While both have some, the link sends without a
-        pause, and three times as much of the first, give or take a packet of each."""
-        both = " ".join(f"iperf3 -c server -p {port} -t 5 -O 1 -w 200K -J > {self.folder}/{port} &" for port in (5201, 5202))
-        done = run(
-            "--line",
-            "pipe 1 config bw 20Mbit/s delay 1",
-            "--line",
-            "queue 1 config pipe 1 weight 3 queue 300",
-            "--line",
-            "queue 2 config pipe 1 weight 1 queue 300",
-            "--map",
-            "tcp port 5201 => queue 1",
-            "--map",
-            "tcp port 5202 => queue 2",
-            "--down",
-            "1ms",
-            "--server",
-            "iperf3 -s -1 -p 5201 >/dev/null & iperf3 -s -1 -p 5202 >/dev/null; wait",
-            "--transcript",
-            f"{self.folder}/h",
-            "--",
-            "sh",
-            "-c",
-            f"sleep 0.3; {both} wait",
-        )
-        self.assertEqual(done.returncode, 0, done.stderr)
-        audited_as_lawful(self, f"{self.folder}/h")
-        with open(f"{self.folder}/h") as file:
-            rows = in_rows(crossed(file.read()))
-        self.assertGreater(sum(map(len, rows)), 1000)
-        for row in rows:
-            # 400 ns a byte
-            self.assertEqual([packet.start for packet in row[1:]], [packet.start + 400 * packet.length for packet in row[:-1]])
-            first, second = (sum(packet.length for packet in row if packet.queue == queue) for queue in (1, 2))
-            self.assertLessEqual(abs(first / 3 - second), 1500 / 3 + 1500, (first, second, row[0].start))
-
 
 @needs_rooms
 @needs("ssh", "ssh-keygen")
@@ -129,8 +56,7 @@ class OfSsh(Behind):
         return f"{self.folder}/{name}"
 
     def server(self) -> str:
-        """A server at port 2222 for this user alone, with keys of its own. As root it wants a folder below /run, and
-        gets one in the rooms."""
+        """A server on port 2222 for this user only, with separate keys. As root it wants a folder below /run, as in the rooms."""
         options = {
             "AuthorizedKeysFile": f"{self.key('user')}.pub",
             "StrictModes": "no",
@@ -156,13 +82,7 @@ class OfSsh(Behind):
         )
         begun = time.monotonic()
         done, told = self.summary(
-            "--up",
-            "2Mbit/s 30ms",
-            "--down",
-            "2Mbit/s 40ms",
-            "--transcript",
-            f"{self.folder}/h",
-            "--server",
+            *shlex.split(f"--up '2Mbit/s 30ms' --down '2Mbit/s 40ms' --transcript {self.folder}/h --server"),
             serve,
             "--",
             "sh",

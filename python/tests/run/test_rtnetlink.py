@@ -1,4 +1,4 @@
-"""What the kernel is asked by rtnetlink: routes in a few messages by one socket, in a network of their own."""
+"""Requests to the kernel through rtnetlink: routes in a few messages on one socket, in a separate network."""
 
 from __future__ import annotations
 
@@ -48,10 +48,4 @@ except OSError as error:
 class OfRequests(unittest.TestCase):
     def test_many_routes_take_one_socket(self) -> None:
         done = subprocess.run(["unshare", "-rn", sys.executable, "-c", SCRIPT], capture_output=True, text=True, timeout=60)
-        self.assertEqual(
-            done.stdout.splitlines(), ["1 True 1000", "Invalid argument", "No such device", "No such device"], done.stderr
-        )
-
-
-if __name__ == "__main__":
-    unittest.main()
+        assert done.stdout.splitlines() == ["1 True 1000", "Invalid argument", "No such device", "No such device"], done.stderr

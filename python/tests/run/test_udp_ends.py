@@ -64,11 +64,13 @@ class OfHostileEnds(InAFolder):
             time.sleep(1)  # a busy machine's path still has some of them
             with socket.socket(socket.AF_INET, socket.SOCK_DGRAM) as late:
                 late.bind(("127.0.0.1", port))
-                late.settimeout(5)
+                late.settimeout(60)
                 client.sendto(b"last", ("127.0.0.1", path.port))
                 self.assertEqual(late.recv(9), b"last")
                 status, said = path.end()
-        self.assertEqual((status, counts(said, "up")["came"], "system drops 0 before, 5 behind" in said), (0, 6, True), said)
+        self.assertEqual(
+            (status, counts(said, "up")["came"], "dropped 0 before the link and 5 behind it" in said), (0, 6, True), said
+        )
 
     def test_a_client_at_port_0_is_counted(self) -> None:
         try:
@@ -82,11 +84,11 @@ class OfHostileEnds(InAFolder):
             server.sendto(b"back", source)
             self.assertLess(0, min(rounds(client, server, path, 2)))
             status, said = path.end()
-        self.assertEqual((status, data, "system drops 0 before, 1 behind" in said), (0, b"none", True), said)
+        self.assertEqual((status, data, "dropped 0 before the link and 1 behind it" in said), (0, b"none", True), said)
 
     @needs("pgrep")
     def test_a_flood_does_not_put_off_the_end(self) -> None:
-        """Of what waits beside the signal the host takes no more than it takes at once."""
+        """Beside a signal the host reads no more waiting datagrams than in a single turn."""
         with sockets(2) as [server, client]:
             path = Path(0, port_of(server))
             self.assertLess(0, min(rounds(client, server, path, 1)))

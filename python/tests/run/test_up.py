@@ -9,6 +9,8 @@ import signal
 import subprocess
 import unittest
 
+import pytest
+
 from linked import HINGE, Done, needs, needs_host, needs_rooms, until
 from with_folder import WithFolder
 
@@ -44,24 +46,22 @@ class Named(WithFolder):
 class OfNets(Named):
     def test_a_net_by_its_name(self) -> None:
         done = self.up(NET, "--seed", 7)
-        self.assertEqual(
-            (done.returncode, done.stdout, done.stderr),
-            (0, "x runs, and keeps what it does in x.session: hinge down x ends it\n", ""),
-        )
-        self.assertEqual(self.hinge("exec", "x", "a", "--", "ping", "-c", 1, "-q", "b").returncode, 0)
-        self.assertEqual(self.hinge("change", "x", "a", "b", "9ms").stdout.count("config delay 9"), 2)
-        self.assertEqual([way["came"] for way in json.loads(self.hinge("status", "x").stdout)["ways"]], [1, 1])
+        assert done.returncode == 0
+        assert done.stdout == "x runs, and keeps what it does in x.session: hinge down x ends it\n"
+        assert done.stderr == ""
+        assert self.hinge("exec", "x", "a", "--", "ping", "-c", 1, "-q", "b").returncode == 0
+        assert self.hinge("change", "x", "a", "b", "9ms").stdout.count("config delay 9") == 2
+        assert [way["came"] for way in json.loads(self.hinge("status", "x").stdout)["ways"]] == [1, 1]
         again = self.hinge("up", "x.net")
-        self.assertEqual(
-            (again.returncode, again.stderr), (2, "hinge up: x runs already: hinge down x ends it, and --name gives another name\n")
-        )
+        assert again.returncode == 2
+        assert again.stderr == "hinge up: x runs already: hinge down x ends it, and --name gives another name\n"
         down = self.hinge("down", "x")
-        self.assertEqual((down.returncode, down.stderr, list(self.sockets.iterdir())), (0, "", []))
+        assert (down.returncode, down.stderr, list(self.sockets.iterdir())) == (0, "", [])
         summary = json.loads((self.folder / "x.session" / "net.json").read_text())
-        self.assertEqual((summary["seed"], summary["status"], summary["ways"][0]["sent"]), (7, 143, 1))
-        self.assertIn("end,", (self.folder / "x.session" / "net.history").read_text())
+        assert (summary["seed"], summary["status"], summary["ways"][0]["sent"]) == (7, 143, 1)
+        assert "end," in (self.folder / "x.session" / "net.history").read_text()
         gone = self.hinge("down", "x")
-        self.assertEqual((gone.returncode, gone.stderr), (2, "hinge down: x: no run has this name, from `hinge up` or --control\n"))
+        assert (gone.returncode, gone.stderr) == (2, "hinge down: x: no run has this name, from `hinge up` or --control\n")
 
     def test_it_outlives_its_command_and_ends_what_it_started(self) -> None:
         mark = f"{7000 + os.getpid() % 1000}.61"
@@ -70,7 +70,7 @@ class OfNets(Named):
             return len(subprocess.run(["pgrep", "-f", f"^sleep {mark}"], capture_output=True, text=True).stdout.split())
 
         for end in (lambda: self.hinge("down", "x"), lambda: os.kill(outer(), signal.SIGKILL)):
-            self.assertEqual(self.up(f"host a exec sleep {mark}\nhost b\nlink a b\n", "--transcripts", "out").returncode, 0)
+            assert self.up(f"host a exec sleep {mark}\nhost b\nlink a b\n", "--transcripts", "out").returncode == 0
             until(lambda: left() == 1)
 
             def outer() -> int:
@@ -81,31 +81,28 @@ class OfNets(Named):
                 )
 
             end()
-            until(lambda: left() == 0, 20)
-        self.assertEqual(self.up(NET).returncode, 0)  # in the place of the socket that was left
+            until(lambda: left() == 0)
+        assert self.up(NET).returncode == 0  # in the place of the socket that was left
 
     def test_ports_and_faults(self) -> None:
-        done = self.up("host a exit 3\nhost b\nlink a b\nwait a port 7 1s\n")
-        self.assertEqual(
-            (done.returncode, done.stdout.splitlines()[0]), (0, "a doesn't listen at port 7; its command ended with 3")
-        )
+        text, silent = "host a exit 3\nhost b\nlink a b\nwait a port 7 1s", "a doesn't listen at port 7; its command ended with 3"
+        done = self.up(text + "\n")
+        assert (done.returncode, done.stderr.splitlines()[-1]) == (75, f"hinge up: void: {silent}")
+        done = self.up(text + " optional\n")
+        assert (done.returncode, done.stdout.splitlines()[0]) == (0, silent)
         self.hinge("down", "x")
         done = self.up("hots a\n")
-        self.assertEqual(
-            (done.returncode, done.stderr.startswith("hinge up: x.net line 1: 'hots': no word of a net"), done.stdout),
-            (2, True, ""),
-            done.stderr,
-        )
+        assert done.returncode == 2, done.stderr
+        assert done.stderr.startswith("hinge up: x.net line 1: 'hots': not a word of a net"), done.stderr
+        assert done.stdout == "", done.stderr
         done = self.up(NET, "--late", "soon", "--logs", "logs")
-        self.assertEqual((done.returncode, done.stderr), (2, "hinge up: --late soon: no time, as 5s or 600ms\n"))
-        self.assertEqual(sorted(os.listdir(self.folder)), ["run", "x.net", "x.session"])
+        assert (done.returncode, done.stderr) == (2, "hinge up: --late soon: not a duration (example: 600ms)\n")
+        assert sorted(os.listdir(self.folder)) == ["run", "x.net", "x.session"]
         shutil.rmtree(self.folder / "x.session")
         for text, words in (("hots a\n", []), (NET, ["--end-wait", "soon"])):
-            self.assertEqual((self.up(text, *words).returncode, sorted(os.listdir(self.folder))), (2, ["run", "x.net"]))
+            assert (self.up(text, *words).returncode, sorted(os.listdir(self.folder))) == (2, ["run", "x.net"])
         done = self.up(NET, "--name", "../x")
-        self.assertEqual(
-            (done.returncode, done.stderr), (2, "hinge up: --name ../x: a name has letters, digits, dots and hyphens\n")
-        )
+        assert (done.returncode, done.stderr) == (2, "hinge up: --name ../x: a name has letters, digits, dots and hyphens\n")
 
     def test_a_signal_while_it_waits_ends_the_net(self) -> None:
         (self.folder / "x.net").write_text("host a sleep 100\nhost b\nlink a b\nwait a port 7 100s\n")
@@ -114,9 +111,9 @@ class OfNets(Named):
             with subprocess.Popen([*HINGE, "up", "x.net"], cwd=self.folder, env=env, stderr=subprocess.PIPE) as process:
                 until(lambda: (self.sockets / "x").exists())
                 process.send_signal(number)
-                self.assertEqual(process.communicate()[1], b"")
-            self.assertIn(process.returncode, (-number, 128 + number))
-            self.assertEqual(list(self.sockets.iterdir()), [])
+                assert process.communicate()[1] == b""
+            assert process.returncode in (-number, 128 + number)
+            assert list(self.sockets.iterdir()) == []
 
     def test_a_log_is_no_link_and_no_pipe(self) -> None:
         folder, kept = self.folder / "x.session", self.folder / "kept"
@@ -126,14 +123,14 @@ class OfNets(Named):
             log.symlink_to(kept)
             done = self.up("host a echo begun\nhost b\nlink a b\n")
             told = done.stderr if log.name == "net.log" else (folder / "net.log").read_text()
-            self.assertIn(f"{log.relative_to(self.folder)}: Too many levels of symbolic links", told)
+            assert f"{log.relative_to(self.folder)}: Too many levels of symbolic links" in told
             self.hinge("down", "x")
             log.unlink()
         (folder / "net.log").unlink()
         os.mkfifo(folder / "net.log")
         done = self.up(NET)
-        self.assertEqual((done.returncode, done.stderr), (6, "hinge up: x.session/net.log: No such device or address\n"))
-        self.assertEqual(kept.read_text(), "kept")
+        assert (done.returncode, done.stderr) == (6, "hinge up: x.session/net.log: No such device or address\n")
+        assert kept.read_text() == "kept"
 
     @unittest.skipUnless(os.geteuid() == 0, "only root can give a file away")
     def test_a_log_of_another_user(self) -> None:
@@ -142,19 +139,19 @@ class OfNets(Named):
         log.write_text("")
         os.chown(log, 65534, 65534)
         done = self.up(NET)
-        self.assertEqual((done.returncode, done.stderr), (6, "hinge up: x.session/net.log: it is no file of this user's\n"))
+        assert (done.returncode, done.stderr) == (6, "hinge up: x.session/net.log: it isn't a file of this user's\n")
 
     def test_what_a_fault_quotes_is_not_obeyed_by_a_terminal(self) -> None:
         done = self.up("host a\nhost b\nlink a b\n\x1b[31m\n")
-        self.assertEqual((done.returncode, "\x1b" in done.stderr, "\\x1b[31m" in done.stderr), (2, False, True), done.stderr)
+        assert (done.returncode, "\x1b" in done.stderr, "\\x1b[31m" in done.stderr) == (2, False, True), done.stderr
 
     def test_a_folder_of_another_user(self) -> None:
         if os.geteuid() != 0:
-            self.skipTest("only root can give a folder away")
+            pytest.skip("only root can give a folder away")
         self.sockets.mkdir()
         os.chown(self.sockets, 65534, 65534)
         done = self.up(NET)
-        self.assertEqual((done.returncode, done.stderr), (2, f"hinge up: {self.sockets}: it is another user's\n"))
+        assert (done.returncode, done.stderr) == (2, f"hinge up: {self.sockets}: it is another user's\n")
 
 
 @needs_host
@@ -163,10 +160,6 @@ class OfOthers(Named):
         begun = subprocess.Popen(
             [*HINGE, "udp", "0", "9", "--quiet", "--control", str(self.folder / "socket")], stdout=subprocess.DEVNULL
         )
-        until((self.folder / "socket").exists, 20)
-        self.assertEqual(self.hinge("down", self.folder / "socket").returncode, 0)
-        self.assertEqual(begun.wait(20), 0)
-
-
-if __name__ == "__main__":
-    unittest.main()
+        until((self.folder / "socket").exists)
+        assert self.hinge("down", self.folder / "socket").returncode == 0
+        assert begun.wait(60) == 0

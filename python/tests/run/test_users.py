@@ -16,10 +16,7 @@ from hinge.run.users import Subordinate, mapping, subordinate
 
 # Root as a user of its own, who can open tun, and whose subordinate ids are in a file.
 AS_A_USER = [
-    "unshare",
-    "-m",
-    "sh",
-    "-c",
+    *"unshare -m sh -c".split(),
     (
         'mount -t tmpfs none /dev/net && mknod -m 666 /dev/net/tun c 10 200 && mount --bind "$0" /etc/subuid && mount'
         ' --bind "$0" /etc/subgid && exec setpriv --reuid=65534 --regid=65534 --clear-groups "$@"'
@@ -98,7 +95,3 @@ class OfUsers(unittest.TestCase):
             )
             done = self.as_a_user("65534:200000:65536\n", *HINGE, "net", str(net), "--quiet")
             self.assertEqual(Path(folder, "told").read_text(), "True\n", done.stderr)
-
-
-if __name__ == "__main__":
-    unittest.main()

@@ -28,7 +28,7 @@ COMPILED = ["cc", "-std=gnu17", "-O1", "-pthread", "-o"]
 
 
 class Ran(NamedTuple):
-    """A run: its status and output, what it told on standard error, its summary and its transcript."""
+    """A run: status, output, standard error, summary and transcript."""
 
     status: int
     out: str
@@ -65,7 +65,8 @@ class Simulated(WithFolder):
 
     def started(self, *words: Word, **more: Any) -> "subprocess.CompletedProcess[str]":
         """`hinge run --simulated` in the test's folder."""
-        return self.hinge("run", "--simulated", "--real-limit", LIMIT, *words, **more)
+        limit = [] if "--real-limit" in words else ["--real-limit", LIMIT]
+        return self.hinge("run", "--simulated", *limit, *words, **more)
 
     def net(self, text: str, seed: int, *words: Word) -> "subprocess.CompletedProcess[str]":
         """`hinge net --simulated` of a net that ends well, with its history and its summary in `session`."""

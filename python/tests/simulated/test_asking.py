@@ -1,4 +1,4 @@
-"""A process that asks again and again lets time pass, by whatever it asks; a run that was ended says where it was."""
+"""A process that keeps asking lets time pass, whatever the question; a run that was ended reports its place."""
 
 from __future__ import annotations
 
@@ -76,6 +76,6 @@ class OfAsking(Simulated):
         self.assertLess(ran.summary["simulated"], 2)
 
     def test_a_run_that_was_ended_says_where_it_was(self) -> None:
-        done = self.started("--real-limit", "15s", "--", sys.executable, "-c", NEVER)
+        done = self.started("--real-limit", "40s", "--", sys.executable, "-c", NEVER)
         self.assertEqual(done.returncode, 124)
         self.assertRegex(done.stderr, r"simulated time was at \d+\.\d{6} s; (nothing has waited .*)?the last was \w+ by ")

@@ -1,8 +1,9 @@
-"""The command: what goes in and comes out is as in real time, and what can't be is told."""
+"""The command: input and output are as in real time, and impossible requests are reported."""
 
 from __future__ import annotations
 
 import os
+import resource
 import signal
 import struct
 import subprocess
@@ -13,7 +14,7 @@ from pathlib import Path
 from hinge.simulated.build import NEEDED
 from hinge.simulated.interrupts import children
 from hinge.simulated.one_processor import OneProcessor
-from machines import HINGE, SIMULATED, Simulated, environment, left
+from machines import COMPILED, HINGE, SIMULATED, Simulated, environment, left
 
 STATUSES = (
     (["true"], 0),
@@ -30,6 +31,23 @@ print(socket.create_connection(("server", 7000)).getpeername()[1])
 """
 GOES_ON = "echo begun; while :; do sleep 1; done"
 TAR = "#!/bin/bash\nfor i in {1..8}; do (for ((n = 0; n < 9999; n++)); do echo >$BASHPID-$n || exit; done) & done; wait\n"
+# Starts a command that may not call ptrace, as a container of an old kernel does.
+UNTRACED = """
+#include <errno.h>
+#include <linux/filter.h>
+#include <linux/seccomp.h>
+#include <stddef.h>
+#include <sys/prctl.h>
+#include <sys/syscall.h>
+#include <unistd.h>
+int main(int count, char **words) {
+    struct sock_filter lines[] = {BPF_STMT(BPF_LD | BPF_W | BPF_ABS, offsetof(struct seccomp_data, nr)), BPF_JUMP(BPF_JMP | BPF_JEQ | BPF_K, SYS_ptrace, 0, 1),
+                                  BPF_STMT(BPF_RET | BPF_K, SECCOMP_RET_ERRNO | EPERM), BPF_STMT(BPF_RET | BPF_K, SECCOMP_RET_ALLOW)};
+    struct sock_fprog filter = {4, lines};
+    prctl(PR_SET_NO_NEW_PRIVS, 1, 0, 0, 0), prctl(PR_SET_SECCOMP, 2, &filter);
+    return count > 1 ? execvp(words[1], words + 1) : 1;
+}
+"""
 PIPE, NONE = subprocess.PIPE, subprocess.DEVNULL
 
 
@@ -39,7 +57,7 @@ class OfStreams(Simulated):
             self.assertEqual(self.run_by(1, "--", *command).status, status, command)
 
     def test_an_hour_takes_a_moment(self) -> None:
-        """By the simulated clock an hour, and less than a second of what a few processes ask of the kernel."""
+        """An hour on the simulated clock needs less than a second, for a few processes' requests to the kernel."""
         ran = self.run_by(1, "--", "sleep", "3600")
         self.assertEqual(int(ran.summary["simulated"]), 3600, ran.err)
         self.assertIs(ran.summary["repeatable"], True)
@@ -209,7 +227,11 @@ class OfRefusals(Simulated):
 
     def test_the_network_outside(self) -> None:
         self.refused(
-            2, "--outside: simulated time has no way to the rest of the network, whose time is real", "--outside", "--", "true"
+            2,
+            "--outside, --to: simulated time has no way to the rest of the network, whose time is real",
+            "--outside",
+            "--",
+            "true",
         )
 
     def test_a_folder_of_its_own(self) -> None:
@@ -218,7 +240,7 @@ class OfRefusals(Simulated):
         )
 
     def test_too_much_memory(self) -> None:
-        self.assertIn("'1T' is no size from 64M to 64G", self.started("--memory", "1T", "--", "true").stderr)
+        self.assertIn("'1T' isn't a size from 64M to 64G", self.started("--memory", "1T", "--", "true").stderr)
 
     def test_a_shell_on_a_terminal(self) -> None:
         main, second = os.openpty()
@@ -233,6 +255,25 @@ class OfRefusals(Simulated):
         finally:
             os.close(main)
             os.close(second)
+
+    def test_a_machine_that_cannot_begin_tells_the_cause(self) -> None:
+        """The limits of this process, and a container that keeps a process from tracing another one."""
+        (self.folder / "untraced.c").write_text(UNTRACED)
+        subprocess.run([*COMPILED, str(self.folder / "untraced"), str(self.folder / "untraced.c")], check=True)
+        words = [*SIMULATED, "--quiet", "--", "true"]
+        for kind, most, cure in (
+            (resource.RLIMIT_AS, 1 << 30, "ulimit -v unlimited"),
+            (resource.RLIMIT_FSIZE, 1 << 20, "ulimit -f unlimited"),
+            (resource.RLIMIT_NOFILE, 20, "ulimit -Hn 1024"),
+            (None, 0, "docker run --cap-add SYS_PTRACE"),
+        ):
+            limits = [] if kind is None else [(kind, (most, most))]
+            begin = [str(self.folder / "untraced")] if kind is None else []
+            done = subprocess.run(
+                [*begin, *words], text=True, capture_output=True, preexec_fn=lambda: [resource.setrlimit(*one) for one in limits]
+            )
+            self.assertEqual((done.returncode, done.stderr.count("\n")), (6, 1), done.stderr)
+            self.assertIn(cure, done.stderr)
 
     def test_a_folder_without_a_kernel(self) -> None:
         self.refused(
@@ -249,7 +290,7 @@ class OfRefusals(Simulated):
         self.assertRegex(done.stderr, r"^hinge kernel: needs cc, make, .*, libc\.a.*: apt-get install gcc make .* libc6-dev.*\n$")
 
     def test_a_build_that_is_ended_leaves_no_folder(self) -> None:
-        """What its tar has started goes on writing into the folder of the build until it is killed, too."""
+        """The tar that the build started keeps writing into the build's folder until killed, too."""
         for name in NEEDED:
             (self.folder / name).write_text(TAR if name == "tar" else "#!/bin/sh\necho /libc.a\n")
             (self.folder / name).chmod(0o755)
@@ -268,4 +309,4 @@ class OfRefusals(Simulated):
     def test_options_of_simulated_time_alone(self) -> None:
         done = subprocess.run([*HINGE, "run", "--at", "2026-01-01", "--", "true"], capture_output=True, text=True)
         self.assertEqual(done.returncode, 2)
-        self.assertEqual(done.stderr, "hinge run: --at: it is of simulated time; add --simulated\n")
+        self.assertTrue(done.stderr.endswith("hinge run: error: --at does nothing without --simulated\n"), done.stderr)

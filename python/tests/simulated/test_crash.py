@@ -1,4 +1,4 @@
-"""A crash of a host in simulated time: its disk has what was synced before, and nothing else."""
+"""A host's crash in simulated time: the disk contains exactly the synced data."""
 
 from __future__ import annotations
 
@@ -76,8 +76,8 @@ class OfCrashes(Simulated):
         return self.hinge("net", "crash.net", *words)
 
     def test_what_was_synced_is_there(self) -> None:
-        """A rename without a sync of its folder is lost, and so is a commit of SQLite whose journal was removed without
-        one, which it asks for by `extra` alone."""
+        """The disk loses a rename without a sync of the folder, and an SQLite commit whose journal was removed without that sync,
+        which SQLite requests only with `extra`."""
         done = self.crashed(NET, "--simulated", "--twice", "--seed", "1", "--real-limit", LIMIT)
         self.assertEqual((done.returncode, sorted(done.stdout.splitlines())), (0, LEFT), done.stderr)
         self.assertIn("hinge net: two runs by seed 1 are the same: ", done.stderr)

@@ -96,7 +96,7 @@ class OfDatagrams(Exact):
         self.assertEqual(gaps, [after - before for before, after in zip(ends, ends[1:])])
 
     def test_faults_do_the_same_as_in_a_test(self) -> None:
-        """One file has the datagrams of a run and those of asyncio's simulated time come at the same moments, to the microsecond."""
+        """A run's datagrams and asyncio's in simulated time arrive at the same moments for the same file, to the microsecond."""
         link, path = "8Mbit/s 20ms queue 100", self.folder / "faults"
         path.write_text("".join(f"client > server packet {it}\n" for it in ("1 twice", "2 lost", "4 late 15ms")))
         ran = self.sent_at_once(1000, "--up", link, "--faults", str(path))
@@ -140,8 +140,8 @@ class OfTcp(Exact):
         )
 
     def test_a_link_that_met_a_full_queue_is_never_idle(self) -> None:
-        """From the first packet that met a full queue to a second before the last, the link serves packet after packet
-        without a nanosecond between them. So at any time it carries exactly what its bandwidth gives."""
+        """From the first packet that met a full queue to a second before the last, the link serves packet after packet without a
+        nanosecond between them. So at any time the link carries exactly its bandwidth."""
         for control in ("reno", "cubic"):
             with self.subTest(control):
                 packets = packets_of(self.carried(control).history)

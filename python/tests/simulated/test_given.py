@@ -4,7 +4,28 @@ from __future__ import annotations
 
 import json
 
-from machines import Simulated, environment
+import subprocess
+from pathlib import Path
+
+from hinge.simulated.own_random import taken
+from machines import COMPILED, Simulated, environment
+
+READS = """
+#include <stdio.h>
+int main(void) {
+    char text[99] = "";
+    FILE *data = fopen("data", "r"), *new = fopen("new", "w");
+    return !data || !fgets(text, sizeof text, data) || printf("%s", text) < 0 || fputs("x", new) < 0 || fclose(new);
+}
+"""
+# What the compiler makes of -march=native, and one that asks the processor before.
+DRAWS = 'int main(void) { unsigned char had; unsigned number; __asm__ volatile("rdrand %0; setc %1" : "=r"(number), "=qm"(had)); return !had; }'
+NUMBERED = 'int main(void) { unsigned limit; __asm__ volatile("lsl %1, %0" : "=r"(limit) : "r"(0x7b)); return limit == 0; }'
+ASKS = DRAWS.replace(
+    "{ ",
+    '{ unsigned a = 1, c = 0; __asm__ volatile("cpuid" : "+a"(a), "+c"(c) : : "ebx", "edx"); if (!(c >> 30 & 1)) return 0; ',
+    1,
+)
 
 
 class OfWhatWasGiven(Simulated):
@@ -32,6 +53,42 @@ class OfWhatWasGiven(Simulated):
         self.assertIn("--like one: the same words", told)
         given = [json.loads((self.folder / name).read_text())["given"] for name in ("one", "other")]
         self.assertEqual(given[0], given[1])
+
+    def compiled(self, name: str, text: str, *options: str) -> Path:
+        source = self.folder / "source.c"
+        source.write_text(text)
+        subprocess.run([*COMPILED, str(self.folder / name), *options, str(source)], check=True)
+        return self.folder / name
+
+    def test_another_root(self) -> None:
+        """The program and what it reads are below it, and nothing of it is written, nor anything of the present folder."""
+        own = self.folder / "root"
+        place = own / str(self.folder)[1:]
+        place.mkdir(parents=True)
+        (place / "data").write_text("frozen\n")
+        (self.folder / "data").write_text("changed\n")
+        self.compiled("reads", READS, "-static").rename(own / "reads")
+        done = self.started("--seed", "1", "--root", str(own), "--link", "20ms", "--json", "one", "--", "/reads")
+        self.assertEqual((done.returncode, done.stdout), (0, "frozen\n"), done.stderr)
+        self.assertEqual(sorted(path.name for path in own.rglob("*") if path.is_file()), ["data", "reads"])
+        self.assertFalse((self.folder / "new").exists())
+        record = json.loads((self.folder / "one").read_text())
+        self.assertEqual(list(record["files"]), ["/reads", f"{self.folder}/data"])
+        self.assertIn(f"{self.folder}/new", record["absent"])
+        for words in (["--root", "never"], ["--root", str(self.folder)]):
+            self.assertEqual(self.started(*words, "--", "true").returncode, 2)
+
+    def test_numbers_of_the_processors_own(self) -> None:
+        """A program that uses the instruction without asking gets a warning; a program that asks learns that it is missing."""
+        done = self.started("--seed", "1", "--", str(self.compiled("draws", DRAWS)))
+        self.assertIn(f"may differ: {self.folder}/draws takes random numbers from the processor", done.stderr)
+        self.assertEqual([taken(str(self.compiled("asks", ASKS))), taken("/bin/sh"), taken(__file__)], [""] * 3)
+        self.assertEqual(taken(str(self.compiled("object", ASKS, "-c"))), "")  # without a table of segments
+
+    def test_the_number_of_the_processor(self) -> None:
+        """Which no call of the system tells, so that the kernel doesn't see that it is asked for."""
+        done = self.started("--seed", "1", "--", str(self.compiled("numbered", NUMBERED)))
+        self.assertIn(f"may differ: {self.folder}/numbered takes the number of its processor (lsl)", done.stderr)
 
     def test_no_summary(self) -> None:
         done = self.started("--like", "never", "--", "true")

@@ -24,7 +24,7 @@ class OfSpins(Simulated):
         self.assertTrue(SECOND - MILLISECOND < spun < SECOND + MILLISECOND, spun)
 
     def test_one_that_polls(self) -> None:
-        """It waits for a timer of a second of its own, and finds it on time, by clock readings of 50 ns."""
+        """The program waits for a separate timer of a second, and finds the timer on time, with clock readings of 50 ns."""
         out, _ = self.spun("polls")
         took = probed(out)[1]
         self.assertTrue(SECOND <= took < SECOND + 1000, out)
@@ -41,7 +41,7 @@ class OfSpins(Simulated):
         self.assertTrue(5000 <= probed(out)[0] < 6000, out)
 
     def test_one_that_waits_for_a_flag(self) -> None:
-        """It asks nothing of the kernel, so it is interrupted from outside, which is told."""
+        """The program never asks the kernel, so it is interrupted from outside, and a message says so."""
         ran = self.run_by(1, "--", probe(), "flag")
         self.assertEqual((ran.status, ran.out), (0, "flag\n"), ran.err)
         self.assertGreater(ran.summary["interrupts"], 0)
@@ -84,7 +84,7 @@ class OfTheProcessor(Simulated):
         self.assertEqual(ran.out, "processor rdrand 0 rdseed 0 number 0\n")
 
     def test_vector_registers_are_a_threads_own(self) -> None:
-        """Behind calls, turns of other threads, signals with handlers and forks each of four threads has its own."""
+        """After calls, turns in other threads, signals with handlers and forks, each of four threads finds its registers again."""
         self.assertEqual(self.run_by(1, "--", probe(), "registers").out, "registers lost 0\n")
 
     def test_a_host_that_hides_nothing_is_told(self) -> None:
@@ -112,7 +112,7 @@ print(room.raw.rstrip(b'\\0').decode())
 
 
 class OfTheSystem(Simulated):
-    """What a process asks of the kernel's surroundings: random numbers, memory, files that it makes, the clock."""
+    """A process's requests to the kernel's surroundings: random numbers, memory, new files, the clock."""
 
     ASKS = """
         head -c 32 /dev/urandom | od -An -tx1

@@ -109,7 +109,7 @@ NET = Path(__file__).resolve().parents[3] / "examples" / "net" / "etcd.net"
 class OfEtcd(Simulated):
     def test_a_partition_is_the_same_twice(self) -> None:
         shutil.copytree(NET.parent, self.folder, dirs_exist_ok=True)
-        done = self.net(NET.read_text(), 1, "--twice", "--late", "100us")
+        done = self.net(NET.read_text(), 1, "--twice")
         self.assertEqual(done.stdout.splitlines()[-1], "consistent")
         self.assertIn("hinge net: two runs by seed 1 are the same: ", done.stderr)
         self.assert_lawful((self.folder / "session" / "net.history").read_text())
@@ -165,8 +165,8 @@ class OfTheLinks(Simulated):
 
 class OfClocks(Simulated):
     def test_one_that_is_ahead_and_gains(self) -> None:
-        """By it the program reads the time of day and stamps of packets, and waits for a moment in each way that a kernel
-        has; the other host's clock is as before."""
+        """With this clock the program reads the time of day and packets' stamps, and waits for a moment in each way that a kernel
+        offers; the other host's clock is unchanged."""
         (self.folder / "looks.py").write_text(LOOKS)
         done = self.net(CLOCKS, 1, "--logs", "logs")
         for name, first, length in (("m", "5.001 0.0", "1.998"), ("o", "0.0 0.0", "2.0")):

@@ -8,7 +8,8 @@ import sys
 import unittest
 from collections.abc import Iterable
 
-from hinge.simulated.pauses import MOST_GIVEN, Paused, drawn, given, longest_of, pauses_of, pauses_word
+from hinge.simulated.pauses import MOST_GIVEN, Paused, drawn, given, longest_of, pauses_of
+from hinge.simulated.time_options import pauses_word
 from machines import HERE, LINK, Simulated, needs
 from packets import packets_of
 
@@ -43,7 +44,7 @@ class OfWords(unittest.TestCase):
         """Some are among few calls, some seeds reach a million, and all can be given one by one."""
         for pauses in map(tuple, map(drawn, SEEDS)):
             self.assertEqual(given(",".join(one.word() for one in pauses)), pauses)
-            self.assertTrue(4 <= sum(one.call <= 100 for one in pauses) <= 20)
+            self.assertTrue(4 <= sum(one.call <= 100 for one in pauses) <= 45)  # many where they are between calls
             self.assertEqual(len(pauses), MOST_GIVEN)
         self.assertGreater(max(max(drawn(seed)).call for seed in SEEDS), 10**6)
 
@@ -97,7 +98,7 @@ class OfPauses(Simulated):
         return int(self.run_by(1, "--pauses", "0/1", "--", sys.executable, "-c", program).summary["pauses"]["calls"])
 
     def test_calls_whose_order_nobody_can_tell(self) -> None:
-        """Those of a start, and what concerns a process alone that shares its memory with none."""
+        """Calls at the start, and calls on a process that shares its memory with no other process."""
         none, some, threads = (self.calls_of(program) for program in ("pass", START, THREADS))
         self.assertLess(none, 100)
         self.assertTrue(20 <= some - none < 60, (none, some))
@@ -121,13 +122,13 @@ class OfPauses(Simulated):
 
     @needs("ping")
     def test_the_link_does_not_pause(self) -> None:
-        """So each packet is on its way for just as long as without, whenever its program sends it."""
+        """So each packet is on its way for the same time as without pauses, whenever its program sends the packet."""
         links = ["--up", "10Mbit/s 20ms", "--down", "10Mbit/s 20ms"]
         ran = self.run_by(1, "--pauses", "1/5", *links, "--", "ping", "-c", "20", "server")
         self.assertEqual(ran.status, 0, ran.err)
         packets = packets_of(ran.history)
         self.assertEqual({packet.due - packet.came for packet in packets if packet.size == 84}, {20_067_200})
-        self.assertRegex(ran.err, r"late p99 0\.000")
+        self.assertLess(ran.summary["up"]["late_max_ms"], 0.001)  # two looks at the clock, where a pause is some us at least
         pauses = ran.summary["pauses"]
         self.assertGreater(pauses["count"], 0)
         self.assertEqual(pauses["count"], len(pauses["first"]))

@@ -84,8 +84,8 @@ class OfServers(Repeated):
 
     @needs("chromium")
     def test_chromium(self) -> None:
-        """A browser loads a page, runs its script and ends, though one of its processes waits in the kernel for another
-        one, to which no tick gives a turn."""
+        """A browser loads a page, runs its script and ends, though one of its processes waits in the kernel for another process,
+        which no tick wakes."""
         self.script("index.html", PAGE)
         browses = ["chromium", "--headless", "--no-sandbox", "--disable-gpu", "--dump-dom", "http://server:8000/"]
         serves = f"exec {sys.executable} -m http.server 8000 -d {self.folder} >/dev/null 2>&1"

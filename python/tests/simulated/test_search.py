@@ -2,18 +2,27 @@
 
 from __future__ import annotations
 
+import json
 import shlex
 import signal
 import subprocess
 import sys
 import time
 import unittest
+from contextlib import nullcontext
 from pathlib import Path
 from tempfile import TemporaryDirectory
 from typing import Any
 
-from hinge.searches.case import KINDS, Case, Part, faults_of, lossless
+from hinge.command import Fault
+from hinge.net.description import read_description
+from hinge.net.net_plan import NetPlan
+from hinge.searches.case import KINDS, Case, Part, faults_of, joined, lossless
+from hinge.searches.losses import packets_lost
 from hinge.searches.shrinking import least
+from hinge.simulated.calls_kept import GOES_ON, PAUSES, Row, around
+from hinge.simulated.failures import file_beside
+from hinge.simulated.places import place
 from machines import HINGE, Simulated, environment, left
 
 # The check fails where c was killed: it begins a second time.
@@ -29,6 +38,9 @@ loss m b gilbert:0.05,0.5
 nemesis kill-one every 5s for 2s until 10s of a b c
 nemesis isolate-one every 4s for 1s until 10s of a b c
 """
+
+
+NET = "host a true\nhost b true\nhost c\nlink a b\nlink c a 1ms\ndisk a data\n"
 
 
 def below_of(process: int) -> "list[int]":
@@ -59,13 +71,37 @@ class OfCases(unittest.TestCase):
             done = subprocess.run([sys.executable, "-c", SIGNALLED, folder], capture_output=True, timeout=60)
         self.assertEqual(done.returncode, 128 + signal.SIGHUP, done.stderr)
 
+    def test_a_net_beside_another_file(self) -> None:
+        """One that a run left goes with the next run of the text, two runs at a time share it, and a file of the user's stays."""
+        with TemporaryDirectory() as folder:
+            with file_beside(Path(folder, "x"), NET) as net:
+                with file_beside(Path(folder, "y"), NET) as other:
+                    self.assertEqual((net.read_text(), other), (NET, net))
+                self.assertEqual(net.read_text(), NET)
+            for text, left_over in ((NET, []), (NET + NET, [net.name]), ("", [net.name])):
+                net.write_text(text)
+                with nullcontext() if text == NET else self.assertRaisesRegex(Fault, "needs the name"):
+                    with file_beside(Path(folder, "x"), NET):
+                        self.assertEqual(net.read_text(), NET)
+                self.assertEqual([path.name for path in Path(folder).iterdir()], left_over)
+
     def test_a_fault_is_left_out_with_its_end(self) -> None:
-        lines = ["at 1s kill a", "at 2s cut b 3s", "at 3s kill b", "at 4s restart a", "at 5s restart b", "at 6s a b 5ms"]
-        self.assertEqual(
-            [part.what for part in faults_of(lines)], [(lines[0], lines[3]), (lines[1],), (lines[2], lines[4]), (lines[5],)]
-        )
-        lines = ["at 1s kill a 2s", "at 5s kill a", "at 9s restart a"]
-        self.assertEqual([part.what for part in faults_of(lines)], [(lines[0],), (lines[1], lines[2])])
+        """Each with all that end it, and with those that these end as well."""
+        for lines, parts in (
+            (["1s kill a", "2s cut b 3s", "3s kill b", "4s restart a", "5s restart b", "6s a b 5ms"], "03 1 24 5"),
+            (["1s kill a 2s", "5s kill a", "9s restart a"], "0 12"),
+            (["1s crash a 1s", "3s kill a", "5s restart a", "6s restart a"], "0 12 3"),
+            (["1s cut a 500ms", "3s cut a", "5s heal a"], "0 12"),
+            (["1s cut a from b", "2s cut a from c", "3s heal c from a", "9s heal a from b"], "03 12"),
+            (["1s cut a from b", "2s cut c", "3s heal a"], "012"),
+            (["1s b a outage 5s lossy", "2s heal b", "3s b a outage 5s"], "01 2"),
+            (["1s stop a", "2s kill a 1s", "4s cont a"], "02 1"),
+        ):
+            with TemporaryDirectory() as folder:
+                net = Path(folder, "x.net")
+                net.write_text(NET + "".join(f"at {line}\n" for line in lines))
+                found = [part.what for part in faults_of(NetPlan(read_description(str(net)), 1500).events)]
+            self.assertEqual(found, [tuple(f"at {lines[int(place)]}" for place in part) for part in parts.split()])
 
     def test_losses(self) -> None:
         for line, other in (
@@ -77,6 +113,42 @@ class OfCases(unittest.TestCase):
             ("--server echo loss 1%", "--server echo loss 1%"),
         ):
             self.assertEqual(lossless(line), other)
+
+    def test_lost_packets(self) -> None:
+        """Each lost packet gets its number on its way; a second pass and packets after a queue get other numbers."""
+        rows = ["pipe,1", "queued", "pipe,2", "lost", "pipe,1", "lost", "pipe,65535", "lost", "pipe,1", "full", "pipe,1", "lost"]
+        text = "".join(f"c,0,submit,{row},10.8.0.1\n" if "pipe" in row else f"r,{row},1\n" for row in rows)
+        with TemporaryDirectory() as folder:
+            (path := Path(folder, "history")).write_text(text)
+            self.assertEqual(packets_lost([path], 2), [(1, 1), (0, 2), (0, 4)])
+            path.write_text(text + "c,0,submit,queue,1,10.8.0.1\n")
+            self.assertIsNone(packets_lost([path], 2))
+            lost = "c,0,submit,pipe,1,10.8.0.1\nr,lost,1\n"
+            lines = [f"c,0,configure,pipe 1 config bw 8Mbit/s plr {rate}\n" for rate in ("0.5", "1", "0.1")]
+            path.write_text(lost.join(["", *lines, ""]))
+            self.assertEqual(packets_lost([path], 2), [(0, 1), (0, 2), (0, 4)])  # the third is a cut's
+        self.assertEqual(
+            joined(["--loss up:list:2", "--loss up:list:4", "loss a b 2 up:list:1"]), ["--loss up:list:2,4", "loss a b 2 up:list:1"]
+        )
+
+    def test_calls_around_a_pause(self) -> None:
+        """Three earlier calls, three by other threads at the pause's beginning and end, and three later calls."""
+        rows = [
+            Row(1000 + n, 1000 + n, 7, 7 + (n == 5 or n == 20), {5: PAUSES, 20: GOES_ON}.get(n, 39), 39, n, "it") for n in range(30)
+        ]
+        told = [line.rpartition(": ")[2] for line in around(rows, 5, 1000)]
+        calls = [f"getpid = {n}" for n in range(30)]
+        expected = [*calls[2:5], "pauses at getpid", *calls[6:9], "8 calls of others", *calls[17:20], "goes on", *calls[21:24]]
+        self.assertEqual(told, expected)
+
+    def test_a_place(self) -> None:
+        frames = [
+            "#0  __futex (x=1) at ./nptl/futex.c:57",
+            "#1  0x0041 in lock () from /lib/libc.so.6",
+            "#2  0x0055 in move (a=1) at it.c:8",
+            "#3  0x00 in ?? ()",
+        ]
+        self.assertEqual([place(frames), place(frames[:2]), place([])], ["move (it.c:8)", "__futex (futex.c:57) < lock", ""])
 
     def test_the_least(self) -> None:
         """Of each kind the parts that the failure needs are left, and none else."""
@@ -95,12 +167,17 @@ class OfSearches(Simulated):
         words = ["three.net", "--seeds", "1-3", "--pauses", "1/20", "-P", "2", "--runs", "runs"]
         done = self.searched(*words)
         self.assertEqual(done.returncode, 1, done.stdout + done.stderr)
-        first, *lines = (self.folder / "three.net.least").read_text().splitlines()
-        self.assertEqual([line for line in lines if "loss" in line], [])
-        faults = [line.split(" ", 2)[2] for line in lines if line.startswith("at ")]
+        failure = json.loads((self.folder / "failure.hinge").read_text())
+        self.assertEqual([line for line in failure["net"] if "loss" in line], [])
+        faults = [line.split(" ", 2)[2] for line in failure["net"] if line.startswith("at ")]
         self.assertEqual(faults, ["kill c 2s"])
-        self.assertNotIn("--pauses", first)
-        self.assertEqual(self.hinge(*shlex.split(first)[2:]).returncode, 1)
+        self.assertNotIn("--pauses", failure["words"])
+        again = self.hinge("net", "--like", "failure.hinge")
+        self.assertEqual(again.returncode, 1, again.stderr)
+        self.assertIn("--like failure.hinge: it ends by status 1, as then", again.stderr)
+        self.assertRegex(
+            again.stderr, "the same words, environment, folder, input and kernel; the same .* files; the simulated time is the same"
+        )
         before = {path: path.stat().st_mtime_ns for path in Path(self.folder, "runs").iterdir()}
         self.assertEqual(len(before), 3)
         self.assertEqual(self.searched(*words).stdout, done.stdout)
@@ -111,15 +188,25 @@ class OfSearches(Simulated):
         words = "run --seeds 1-6 --pauses 1/2 --link '1ms loss 50%' --memory 256M -- ping -q -c 1 -W 1 server"
         done = self.searched(*shlex.split(words))
         self.assertEqual(done.returncode, 1, done.stdout + done.stderr)
-        command = next(line.partition(": seed ")[0] for line in done.stdout.splitlines() if line.startswith("hinge run "))
+        command = next(line for line in done.stdout.splitlines() if line.startswith("hinge run --link "))
         self.assertIn(" with 0 faults, 0 pauses, 1 loss, found in ", done.stdout)
+        self.assertRegex(command, "--link 1ms .*--loss (up|down):list:1 ")
         self.assertEqual(self.hinge(*shlex.split(command)[1:]).returncode, 1)
+        again = self.hinge("run", "--like", "failure.hinge")
+        self.assertEqual(again.returncode, 1)
+        self.assertRegex(again.stderr, "it ends by status 1, as then\n.*the same .* files; the simulated time is the same\n")
+        (self.folder / "failure.hinge").rename(self.folder / "other")
+        for words, told in (
+            (["run", "--like", "other", "--", "true"], "leave out yours"),
+            (["net", "--like", "other"], "hinge run --like"),
+        ):
+            self.assertIn(told, self.hinge(*words).stderr)
 
     def test_an_interrupt_ends_it_with_a_table_and_nothing_left(self) -> None:
         """One run is there already. The others compute without end."""
         temporary, runs = self.folder / "temporary", self.folder / "runs"
         temporary.mkdir(), runs.mkdir()
-        (runs / "run-1.json").write_text('{"status": 1, "output": "it fails\\n", "record": {}}')
+        (runs / "run-1.json").write_text('{"status": 1, "output": "it fails\\n", "record": {"ended": {"name": "status 1"}}}')
         words = [*HINGE, "search", "run", "--seeds", "1-6", "-P", "2", "--runs", runs, "--", "sh", "-c", "while :; do :; done"]
         streams = dict.fromkeys(("stdout", "stderr"), subprocess.PIPE)
         how: dict[str, Any] = {"stdin": subprocess.DEVNULL, **streams, "text": True, "start_new_session": True}
@@ -156,10 +243,10 @@ class OfSearches(Simulated):
         (self.folder / "two.net").write_text("main a true\nhost b\nlink a b 1ms\n")
         done = self.searched("two.net", "--seeds", "1,2")
         self.assertEqual((done.returncode, done.stdout), (0, "0 of 2 runs failed\n"), done.stderr)
-        self.assertFalse((self.folder / "two.net.least").exists())
+        self.assertFalse((self.folder / "failure.hinge").exists())
 
     def test_a_wrong_net(self) -> None:
         (self.folder / "wrong.net").write_text("main a true\nhots b\n")
         done = self.searched("wrong.net", "--seeds", "1")
         self.assertEqual(done.returncode, 2)
-        self.assertIn("line 2: 'hots': no word of a net", done.stderr)
+        self.assertIn("line 2: 'hots': not a word of a net", done.stderr)

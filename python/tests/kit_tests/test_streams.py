@@ -1,0 +1,63 @@
+"""Whatever fails in a command, its top reports the failure with a separate status, and in a line if writable."""
+
+from __future__ import annotations
+
+import subprocess
+import sys
+import unittest
+
+from kit import MIXED, folder, write
+
+from hinge.program import HINGE
+
+COMMANDS = (
+    ["help"],
+    [],
+    ["nonsense"],
+    ["check", "good"],
+    ["check", "bad"],
+    ["status", "nosuch"],
+    ["why"],
+    ["packets", MIXED, "-o", "streams.csv"],
+    ["run", "--quiet", "--server", "true", "--", "true"],
+)
+TOP = """
+import sys
+from hinge import command
+def main(): raise {}
+command.run(main)
+"""
+
+
+class OfStreams(unittest.TestCase):
+    def status(self, words: list[object], ends: str) -> tuple[int, str]:
+        script = f'exec 3>&2; {{ "$@"; }} {ends}; echo $?  >&3'
+        done = subprocess.run(["sh", "-c", script, "sh", *HINGE, *map(str, words)], capture_output=True, text=True, cwd=folder())
+        *told, status = done.stderr.splitlines()
+        return int(status), "\n".join(told)
+
+    def test_what_cannot_be_written_is_no_silent_fault(self) -> None:
+        write("good", "pipe 1 config\n"), write("bad", "pipe 1 confg\n")
+        for words in COMMANDS:
+            usual, _ = self.status(words, ">/dev/null 2>/dev/null")
+            for ends in (">/dev/full", "2>/dev/full", ">/dev/full 2>&1"):
+                with self.subTest(words=words, ends=ends):
+                    status, told = self.status(words, ends)
+                    self.assertIn(status, {usual, 6}, told)
+                    self.assertNotIn("Traceback", told)
+                    self.assertNotEqual(status, 120)
+            closed, _ = self.status(words, ">&- 2>&-")
+            self.assertEqual(closed, usual, words)
+
+    def test_nothing_gets_past_the_top(self) -> None:
+        for fault, status, told in (
+            ("MemoryError", 6, "hinge: the system: there is no memory for this\n"),
+            ("KeyError('x')", 70, "hinge: a defect of hinge (KeyError: 'x'); with HINGE_TRACEBACK=1 it shows where\n"),
+            ("RecursionError", 70, "hinge: a defect of hinge (RecursionError: ); with HINGE_TRACEBACK=1 it shows where\n"),
+            ("OSError(24, 'Too many open files')", 6, "hinge: the system: Too many open files\n"),
+            ("SystemExit(3)", 3, ""),
+            ("SystemExit", 0, ""),
+            ("KeyboardInterrupt", 130, ""),
+        ):
+            done = subprocess.run([sys.executable, "-c", TOP.format(fault)], capture_output=True, text=True)
+            self.assertEqual((done.returncode, done.stderr), (status, told), fault)

@@ -1,0 +1,31 @@
+"""Files of `hinge net` that are read, planned and refused."""
+
+from __future__ import annotations
+
+import pytest
+
+from with_folder import WithFolder
+from hinge.net.description import Description, read_description
+from hinge.net.net_plan import NetPlan
+from hinge.run.words import Wrong
+
+TWO = "host a\nhost b\n"
+
+
+class OfFiles(WithFolder):
+    def setUp(self) -> None:
+        super().setUp()
+        self.path = self.folder / "x.net"
+
+    def net(self, text: str) -> Description:
+        self.path.write_text(text)
+        return read_description(str(self.path))
+
+    def plan(self, text: str) -> list[str]:
+        """The lines of its plan that aren't seeds."""
+        return [line for line in NetPlan(self.net(text), 1500).plan.text(1).splitlines() if not line.startswith("seed")]
+
+    def wrong(self, text: str) -> str:
+        with pytest.raises(Wrong) as found:
+            NetPlan(self.net(text), 1500)
+        return str(found.value).replace(str(self.path), "x.net")

@@ -1,0 +1,146 @@
+"""The server of the control socket and its messages, in this process, without a run."""
+
+from __future__ import annotations
+
+import contextlib
+import errno
+import os
+import socket
+import threading
+import unittest
+from unittest import mock
+
+from linked import until
+from with_folder import WithFolder
+
+from hinge.border import serving
+from hinge.border.asking import ask
+from hinge.border.messages import Order, Reply, Strange, line_of, read_message
+from hinge.border.serving import MOST_CLIENTS, SHORT, Answer as Outcome, Server
+from hinge.run.words import Wrong
+from test_border import ODD
+
+
+class OfMessages(unittest.TestCase):
+    def test_each_comes_back(self) -> None:
+        for message in (Order(3, change="up 1ms"), Order(status=True), Order(end=True), Reply(3, refused="")):
+            self.assertEqual(read_message(type(message), line_of(message)), message)
+        told = read_message(Reply, b'{"told": [{"moment": 1, "line": "pipe 1 config"}]}').told
+        self.assertEqual([(one.moment, one.line, one.refused) for one in told or []], [(1, "pipe 1 config", "")])
+
+    def test_all_others_are_refused(self) -> None:
+        for text in (*ODD[:9], b'{"number": 1.5}', b'{"number": ' + b"9" * 5000 + b"}", b'{"told": [{"moment": 1}]}'):
+            with self.subTest(text[:40]), self.assertRaises(Strange):
+                read_message(Reply if b"told" in text else Order, text)
+
+
+class OfServers(WithFolder):
+    """A server in this process, without a run."""
+
+    def setUp(self) -> None:
+        super().setUp()
+        self.path = str(self.folder / "socket")
+        self.server = Server(self.path)
+        self.server.serve(lambda order, client: Outcome(Reply(status={})))
+        self.addCleanup(self.server.end)
+
+    def is_answered(self) -> bool:
+        try:
+            return ask(self.path, 5, status=True).status == {}
+        except Wrong:
+            return False
+
+    def test_no_refusal_of_the_system_ends_it(self) -> None:
+        for call in ("accept", "recv", "send"):
+            usual = getattr(socket.socket, call)
+            for number in (
+                *SHORT,
+                errno.ECONNABORTED,
+                errno.EINTR,
+                errno.EPERM,
+                errno.EPROTO,
+                errno.EPIPE,
+                errno.EIO,
+                errno.ECONNRESET,
+            ):
+                left = [OSError(number, ""), MemoryError()]
+
+                def refused(line: socket.socket, *rest: object) -> object:
+                    if left:
+                        raise left.pop()
+                    return usual(line, *rest)
+
+                with self.subTest(call=call, number=number), mock.patch.object(socket.socket, call, refused):
+                    until(lambda: self.is_answered())
+                    self.assertEqual(left, [])
+
+    def test_of_runs_that_find_one_dead_socket_one_has_it(self) -> None:
+        """Also where another one takes the name once it was seen to be dead."""
+        usual, late, finds = serving.reached, list[Server](), iter((True,))
+
+        def reached(path: str) -> int:
+            result = usual(path)
+            if next(finds, False):
+                late.append(Server(self.dead))
+            return result
+
+        self.leave_dead()
+        with mock.patch.object(serving, "reached", reached), self.assertRaises(FileExistsError):
+            Server(self.dead)
+        self.assertEqual(usual(self.dead), 0)
+        late.pop().end()
+        self.leave_dead()
+        begin, made = threading.Barrier(8), list[Server]()
+
+        def make() -> None:
+            begin.wait()
+            with contextlib.suppress(FileExistsError):
+                made.append(Server(self.dead))
+
+        threads = [threading.Thread(target=make) for _ in range(8)]
+        for do in (threading.Thread.start, threading.Thread.join):
+            for thread in threads:
+                do(thread)
+        self.assertEqual((len(made), usual(self.dead), os.listdir(self.folder)), (1, 0, ["dead", "socket"]))
+        os.unlink(self.dead)
+        other = Server(self.dead)
+        made[0].end()  # whose name another one has now
+        self.assertEqual(usual(self.dead), 0)
+        other.end()
+        self.assertEqual(os.listdir(self.folder), ["socket"])
+
+    def leave_dead(self) -> None:
+        """The socket of a run that was killed."""
+        self.dead = str(self.folder / "dead")
+        with socket.socket(socket.AF_UNIX) as line:
+            line.bind(self.dead)
+
+    def test_only_a_dead_socket_of_a_run_goes(self) -> None:
+        path = str(self.folder / "log")
+        with socket.socket(socket.AF_UNIX, socket.SOCK_DGRAM) as line:
+            line.bind(path)
+            with self.assertRaises(FileExistsError):
+                Server(path)
+        with socket.socket(socket.AF_UNIX) as line:  # of a run that is stopped, whom so many wait for
+            line.bind(f"{path}2")
+            line.listen(0)
+            while serving.reached(f"{path}2") == 0:
+                pass
+            with self.assertRaises(FileExistsError):
+                Server(f"{path}2")
+
+    def test_idle_clients_make_room(self) -> None:
+        with contextlib.ExitStack() as idle:
+            for _ in range(2 * MOST_CLIENTS):
+                line = idle.enter_context(socket.socket(socket.AF_UNIX))
+                line.connect(self.path)
+            self.assertTrue(self.is_answered())
+
+    def test_it_has_two_threads_however_many_clients_there_are(self) -> None:
+        count = threading.active_count()
+        with contextlib.ExitStack() as idle, mock.patch("threading.Thread.start", side_effect=RuntimeError("no room")):
+            for _ in range(20):
+                idle.enter_context(socket.socket(socket.AF_UNIX)).connect(self.path)
+            self.assertEqual((self.is_answered(), threading.active_count()), (True, count))
+            with self.assertRaisesRegex(Wrong, "no room"):
+                self.server.serve(lambda order, client: Outcome(Reply()))

@@ -1,0 +1,154 @@
+"""How a program ended is told for itself, and a run that can't go on ends at the moment at which that was decided."""
+
+from __future__ import annotations
+
+import json
+import shutil
+import subprocess
+import sys
+from typing import Any
+
+from hinge.simulated.verdict import DEADLOCKED, LIMITED, of_wait
+from machines import COMPILED, Simulated, needs
+
+LOCKS = """
+#include <pthread.h>
+#include <unistd.h>
+static pthread_mutex_t a = PTHREAD_MUTEX_INITIALIZER, b = PTHREAD_MUTEX_INITIALIZER;
+static void *work(void *first) {
+    pthread_mutex_lock(first ? &a : &b), getppid(), usleep(1000), pthread_mutex_lock(first ? &b : &a);
+    pthread_mutex_unlock(&a), pthread_mutex_unlock(&b);
+    return 0;
+}
+int main(void) {
+    pthread_t one, two;
+    pthread_create(&one, 0, work, 0), pthread_create(&two, 0, work, &one), pthread_join(one, 0), pthread_join(two, 0);
+}
+"""
+ADDS = """
+#include <pthread.h>
+static volatile int sum;
+static void *work(void *unused) { for (int i = 0; i < 500; i++) { int was = sum; for (volatile int k = 0; k < 5; k++); sum = was + 1; } return unused; }
+int main(void) {
+    pthread_t two;
+    pthread_create(&two, 0, work, 0), work(0), pthread_join(two, 0);
+    return sum != 1000;
+}
+"""
+# Each waits for the other's first word.
+PEER = "import socket; s = socket.create_server(('', 80)); c, _ = s.accept(); c.recv(1)"
+ASKER = "import socket; s = socket.create_connection(('server', 80)); s.recv(1)"
+
+
+class OfVerdicts(Simulated):
+    def ended(self, *words: str) -> "tuple[int, dict[str, Any]]":
+        """The status of a run, and what its summary says of the program's end."""
+        done = self.started("--seed", "1", "--json", "summary", *words)
+        return done.returncode, json.loads((self.folder / "summary").read_text())["ended"]
+
+    def compiled(self, text: str) -> str:
+        (self.folder / "it.c").write_text(text)
+        subprocess.run([*COMPILED, str(self.folder / "it"), str(self.folder / "it.c")], check=True)
+        return "./it"
+
+    def test_a_status_of_wait(self) -> None:
+        self.assertEqual(
+            [of_wait(status).name() for status in (0, 3 << 8, 11, 11 | 128)], ["status 0", "status 3", "SIGSEGV", "SIGSEGV"]
+        )
+
+    def test_statuses_and_signals_are_the_programs(self) -> None:
+        for status in (0, 2, 3, 6, 75, 77, 124):
+            self.assertEqual(
+                self.ended("--", "sh", "-c", f"exit {status}"),
+                (status, {"by": "itself", "status": status, "name": f"status {status}"}),
+            )
+        status, ended = self.ended("--", "sh", "-c", "kill -SEGV $$")
+        self.assertEqual((status, ended["by"], ended["signal"]), (139, "signal", "SIGSEGV"))
+
+    def test_a_deadlock_of_threads(self) -> None:
+        """It is at the same moment in each run, and each thread is told."""
+        words = ("--", self.compiled(LOCKS))
+        status, ended = self.ended(*words)
+        self.assertEqual((status, ended["by"], len(ended["waiting"])), (DEADLOCKED, "deadlock", 3))
+        self.assertEqual({one["call"] for one in ended["waiting"]}, {"futex"})
+        self.assertTrue(0.001 <= ended["at"] < 0.002, ended["at"])
+        self.assertEqual(self.ended(*words), (status, ended))
+
+    def test_a_deadlock_over_a_link(self) -> None:
+        status, ended = self.ended(
+            "--link", "20ms", "--server", f'exec {sys.executable} -c "{PEER}"', "--", sys.executable, "-c", ASKER
+        )
+        self.assertEqual((status, ended["by"]), (DEADLOCKED, "deadlock"))
+        self.assertEqual([one["call"] for one in ended["waiting"]], ["recvfrom", "recvfrom"])
+
+    def test_what_waits_for_a_moment_is_no_deadlock(self) -> None:
+        for words in (
+            ["sleep", "1000000"],
+            ["timeout", "100000", "sleep", "infinity"],
+            [sys.executable, "-c", "import signal; signal.alarm(50000); signal.pause()"],
+        ):
+            status, ended = self.ended("--", *words)
+            self.assertIn(ended["name"], {"status 0", "status 124", "SIGALRM"}, words)
+
+    def test_a_limit_of_simulated_time(self) -> None:
+        for words in (["sleep", "5"], ["sh", "-c", "while :; do sleep 1; done"]):
+            status, ended = self.ended("--limit", "3s", "--", *words)
+            self.assertEqual((status, ended["by"], round(ended["at"], 5)), (LIMITED, "limit", 3))
+
+    @needs("timeout")
+    def test_a_search_sees_hangs_and_any_status(self) -> None:
+        for words, name in (
+            (["timeout", "10", "sleep", "100"], "status 124"),
+            (["sh", "-c", "exit 2"], "status 2"),
+            ([self.compiled(LOCKS)], "deadlock: it in futex"),
+        ):
+            done = self.hinge("search", "run", "--seeds", "1,2", "--", *words)
+            self.assertEqual(done.returncode, 1, done.stderr)
+            self.assertIn(f"seed 2: {name}", done.stdout)
+            self.assertIn(f"seed 1 fails by {name} with 0 faults", done.stdout)
+
+    def test_pauses_between_calls(self) -> None:
+        """A sum without a lock and without a call is wrong by a pause in the loop alone, and by the same one again."""
+        words = ("--", self.compiled(ADDS))
+        self.assertEqual(self.ended(*words)[0], 0)
+        calls = range(1, 40)
+        found = next(call for call in calls if self.ended("--pauses", f"{call}+1ms@400", *words)[0])
+        first, second = (self.started("--seed", "1", "--pauses", f"{found}+1ms@400", *words) for _ in range(2))
+        self.assertEqual((first.returncode, first.stderr.split(" s in ")[0]), (1, second.stderr.split(" s in ")[0]))
+        done = self.hinge("search", "run", "--seeds", "1", "--pauses", f"{found}+1ms@400", *words)
+        cause = done.stdout[done.stdout.index(f"pause {found}+1000000ns@400") :].splitlines()
+        threads = [line.split(" (it): ")[0].split(": ")[1] for line in cause if ": goes on" in line or ": pauses at " in line]
+        self.assertEqual((len(threads), len(set(threads))), (2, 1), done.stdout)
+        if shutil.which("gdb"):
+            self.assertIn(f"pause {found}+1000000ns@400, in work", cause[0])
+
+    @needs("gdb")
+    def test_the_places_of_a_deadlock(self) -> None:
+        places = [one["place"] for one in self.ended("--", self.compiled(LOCKS))[1]["waiting"]]
+        self.assertEqual([place.split(" ")[0] for place in places], ["main", "work", "work"])
+
+    def test_a_core(self) -> None:
+        """It is where a program's folder is, as the user's limit asks for."""
+        done = self.started("--", "sh", "-c", "ulimit -c unlimited; sh -c 'kill -SEGV $$'; true")
+        self.assertEqual(done.returncode, 0, done.stderr)
+        self.assertEqual([path.read_bytes()[:4] for path in self.folder.glob("core*")], [b"\x7fELF"])
+
+    def test_another_file_is_named(self) -> None:
+        (self.folder / "data").write_text("a")
+        self.ended("--", "cat", "data")
+        (self.folder / "summary").rename(self.folder / "one")
+        self.assertIn("files; the simulated time", self.started("--seed", "1", "--like", "one", "--", "cat", "data").stderr)
+        (self.folder / "data").write_text("b")
+        self.assertIn(f"; other {self.folder}/data; ", self.started("--seed", "1", "--like", "one", "--", "cat", "data").stderr)
+        (self.folder / "data").unlink()
+        self.assertIn(f"; gone: {self.folder}/data", self.started("--seed", "1", "--like", "one", "--", "cat", "data").stderr)
+
+    def test_a_file_that_was_looked_for_is_named(self) -> None:
+        words = ("--", "sh", "-c", "cat data; cat more; ls other; true")
+        (self.folder / "other").mkdir()
+        self.ended(*words)
+        (self.folder / "summary").rename(self.folder / "one")
+        for name, told in (("other/new", f"; other {self.folder}/other; "), ("data", f"; new: {self.folder}/data; ")):
+            (self.folder / name).touch()
+            self.assertIn(told, self.started("--seed", "1", "--like", "one", *words).stderr)
+            (self.folder / name).unlink()

@@ -1,0 +1,118 @@
+"""All sources of time and chance in Python: each follows the simulated clock or the seed, or TESTING names the limit."""
+
+from __future__ import annotations
+
+import ast
+import datetime
+import importlib.util
+import os
+import random
+import re
+import secrets
+import subprocess
+import sys
+import time
+import unittest
+import uuid
+from types import ModuleType
+
+from hingetulip.aio.border import LIBRARY
+from simulated_hosts import TOP
+
+CHILD = """
+import ast, asyncio, calendar, datetime, email.utils, os, random, secrets, ssl, sys, tempfile, time, uuid
+from os import urandom
+from random import random as early_random
+from time import monotonic as early_monotonic, time as early_time
+from hingetulip import aio
+
+SYSTEM, UTC = random.SystemRandom(), datetime.timezone.utc
+
+async def main():
+    await asyncio.sleep(10.25)
+    if "numpy" in sys.argv[3]:
+        import numpy
+    return {text: repr(eval(text)) for text in ast.literal_eval(sys.argv[2])}
+
+if "numpy" in sys.argv[3]:
+    import numpy
+print(aio.run(main(), seed=int(sys.argv[1]), start=86_400))
+"""
+WALL = """time.time() | time.time_ns() / 1e9 | early_time() | time.clock_gettime(time.CLOCK_REALTIME)
+    | time.clock_gettime_ns(time.CLOCK_REALTIME) / 1e9 | datetime.datetime.now(UTC).timestamp() | datetime.datetime.now().timestamp()
+    | datetime.datetime.utcnow().replace(tzinfo=UTC).timestamp() | datetime.datetime.today().timestamp()
+    | calendar.timegm(time.gmtime()) + 0.25 | time.mktime(time.localtime()) + 0.25
+    | time.mktime(time.strptime(time.ctime())) + 0.25 | time.mktime(time.strptime(time.asctime())) + 0.25
+    | time.mktime(time.strptime(time.strftime('%c'))) + 0.25 | (datetime.date.today().toordinal() - 719_163) * 86_400 + 10.25
+    | email.utils.mktime_tz(email.utils.parsedate_tz(email.utils.formatdate())) + 0.25"""
+GROWING = """time.monotonic() | time.monotonic_ns() / 1e9 | time.perf_counter() | time.perf_counter_ns() / 1e9 | early_monotonic()
+    | time.process_time() | time.process_time_ns() / 1e9 | time.thread_time() | time.thread_time_ns() / 1e9
+    | time.clock_gettime(time.CLOCK_MONOTONIC) | time.clock_gettime(time.CLOCK_BOOTTIME) | asyncio.get_running_loop().time()
+    | time.clock_gettime(time.CLOCK_PROCESS_CPUTIME_ID)"""
+SEED = """random.getstate()[1][:9] | early_random() | random.Random().random() | random.SystemRandom().random() | SYSTEM.random()
+    | secrets.choice(range(9**9)) | secrets.randbelow(9**9) | secrets.randbits(64) | secrets.token_bytes(8) | secrets.token_hex(8)
+    | secrets.token_urlsafe(8) | secrets.SystemRandom().random() | uuid.uuid1().node | uuid.uuid4() | os.urandom(8) | urandom(8)
+    | os.getrandom(8) | tempfile.mktemp() | ssl.RAND_bytes(8) | email.utils.make_msgid().rpartition('.')[2].partition('@')[0]"""
+OF_NUMPY = "numpy.random.random() | numpy.random.default_rng().random() | numpy.random.RandomState().random_sample()"
+PURE = """time.mktime time.strptime time.struct_time time.sleep time.tzset time.get_clock_info time.clock_getres time.clock_settime
+    time.clock_settime_ns time.pthread_getcpuclockid random.Random secrets.compare_digest uuid.uuid3 uuid.uuid5 uuid.UUID
+    uuid.SafeUUID uuid.Enum uuid.main uuid.bytes_ uuid.int_ os.utime os.times_result"""
+LIMITS = {"os.times": "os.times", "uuid.getnode": "uuid.getnode", "hash": "`hash` of texts"}  # and how TESTING names each
+
+
+def listed(text: str) -> list[str]:
+    return [" ".join(it.split()) for it in text.split("|")]
+
+
+def answers(texts: list[str], seed: int, hash_seed: str) -> dict[str, str]:
+    """Returns the expressions' values in a run in a separate process."""
+    environment = {**os.environ, "PYTHONPATH": os.pathsep.join(sys.path), "PYTHONHASHSEED": hash_seed}
+    words = [sys.executable, "-c", CHILD, str(seed), repr(texts), " ".join(texts)]
+    done = subprocess.run(words, env=environment, capture_output=True, text=True, check=False)
+    assert not done.returncode, done.stderr
+    found: dict[str, str] = ast.literal_eval(done.stdout)
+    return found
+
+
+def sources(module: ModuleType, pattern: str = "[a-z]") -> set[str]:
+    """Returns the public functions and classes of a module, without the methods of the module's own generator."""
+    names = [name for name in dir(module) if not name.startswith("_") and re.search(pattern, name)]
+    found = {name: getattr(module, name) for name in names if callable(getattr(module, name))}
+    own = getattr(module, "_inst", module)
+    return {f"{module.__name__}.{name}" for name, it in found.items() if getattr(it, "__self__", None) is not own or own is module}
+
+
+class Sources(unittest.TestCase):
+    def test_clocks(self) -> None:
+        found = answers(listed(WALL) + listed(GROWING), 1, "1")
+        self.assertEqual({text: 86_410.25 for text in listed(WALL)}, {text: float(found[text]) for text in listed(WALL)})
+        self.assertEqual({text: 10.25 for text in listed(GROWING)}, {text: float(found[text]) for text in listed(GROWING)})
+
+    @unittest.skipIf(LIBRARY is None, "no hinge-clock.so")
+    def test_numbers_and_names(self) -> None:
+        texts = listed(SEED) + listed(OF_NUMPY) * (importlib.util.find_spec("numpy") is not None)
+        first, again, other = answers(texts, 3, "1"), answers(texts, 3, "77"), answers(texts, 4, "1")
+        self.assertEqual(first, again)
+        self.assertEqual([], [text for text in texts if first[text] == other[text]])
+
+    def test_no_source_is_missing(self) -> None:
+        known = {*PURE.split(), *LIMITS, *re.findall(r"\b(?:time|random|secrets|uuid|os)\.\w+", f"{WALL} {GROWING} {SEED}")}
+        all_of = sources(time) | sources(secrets) | sources(uuid, "^(?!os$|sys$)") | sources(os, "rand|time|clock")
+        self.assertEqual(set(), all_of - known)
+        unbound = {name for name in sources(random) if name.rpartition(".")[2] in random.__all__}
+        self.assertEqual({"random.Random", "random.SystemRandom"}, unbound)
+        now = {
+            f"{kind}.{name}"
+            for kind in ("date", "datetime")
+            for name in ("today", "now", "utcnow")
+            if hasattr(getattr(datetime, kind), name)
+        }
+        self.assertEqual(set(), {name for name in now if f"datetime.{name}(" not in WALL})
+
+    def test_the_page_names_the_limits(self) -> None:
+        page = " ".join((TOP / "docs" / "TESTING.md").read_text(encoding="utf-8").split())
+        self.assertEqual([], [name for name in LIMITS.values() if name not in page])
+
+
+if __name__ == "__main__":
+    unittest.main()
