@@ -115,13 +115,7 @@ def pytest_run(folder: Path, text: str) -> float:
     file.write_text(text)
     words = [
         sys.executable,
-        "-m",
-        "pytest",
-        "-q",
-        "-p",
-        "hinge.pytest_plugin",
-        "-p",
-        "no:cacheprovider",
+        *"-m pytest -q -p hinge.pytest_plugin -p no:cacheprovider".split(),
         f"--basetemp={folder}/t",
         str(file),
     ]

@@ -1,6 +1,7 @@
 #!/bin/sh
 # Opens a service with one caller and makes four calls, by `call` and by `try_call`, with each growth of memory and the one
 # after it refused in turn: each run has to pass, since the refused call is made again and has left no trace.
+unset CDPATH POSIXLY_CORRECT; export LC_ALL=C
 set -e
 cd "$(dirname "$0")/.."
 (cd crates/test_service && rt test -- memory_refuses)

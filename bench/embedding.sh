@@ -1,6 +1,7 @@
 #!/bin/sh
 # bench/embedding.sh PREFIX [ROUNDS]: times of calls from C and from Python, of the library that ./install --lib has put below PREFIX, and
 # of plain Rust behind the same header (bench/twin, built by cargo). The rows from C are five that alternate.
+unset CDPATH POSIXLY_CORRECT; export LC_ALL=C
 set -e
 prefix=$(cd "$1" && pwd)
 cd "$(dirname "$0")"

@@ -1,7 +1,8 @@
 #!/bin/sh
 # One call in flight through a session of `dummynet live`, from C and from Python: with the host and the session on one processor,
-# and where the system puts them; then all calls pipelined, and from a file to a file. Each three times. The argument is the
-# count of packets. DUMMYNET names the program. On a machine that does other work: chrt -f 10 bench/live.sh
+# and where the system puts them; then all calls pipelined. Each three times. The argument is the count of packets.
+# DUMMYNET names the program. On a machine that does other work: chrt -f 10 bench/live.sh
+unset CDPATH POSIXLY_CORRECT; export LC_ALL=C
 set -e
 cd "$(dirname "$0")/.."
 export DUMMYNET="${DUMMYNET:-$PWD/dummynet}"
@@ -16,5 +17,4 @@ for round in 1 2 3; do
         $where python3 bench/live_calls.py one "$packets"
     done
     python3 bench/live_calls.py pipelined "$packets"
-    python3 bench/live_calls.py file "$packets"
 done

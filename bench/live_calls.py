@@ -3,14 +3,12 @@
 
 usage: bench/live_calls.py one PACKETS          one call in flight: each is answered before the next is written
        bench/live_calls.py pipelined PACKETS    all lines are written while another thread reads the answers
-       bench/live_calls.py file PACKETS         the lines stand in a file, and the transcript goes to one: its time and size
 
 DUMMYNET names the program.
 """
 import os
 import subprocess
 import sys
-import tempfile
 import threading
 import time
 
@@ -28,8 +26,8 @@ def lines(packets):
         yield ROUND[1] % (i * 100000)
 
 
-def session(**how):
-    return subprocess.Popen([program(), "live"], **{"stdin": subprocess.PIPE, "stdout": subprocess.PIPE, **how})
+def session(bufsize=-1):
+    return subprocess.Popen([program(), "live"], bufsize, stdin=subprocess.PIPE, stdout=subprocess.PIPE)
 
 
 def one(packets):
@@ -62,18 +60,4 @@ def pipelined(packets):
     print(f"pipelined: {calls} calls, {calls / spent:.0f} calls/s, {size / packets:.0f} bytes of transcript a packet")
 
 
-def file(packets):
-    with tempfile.TemporaryFile() as asked, tempfile.TemporaryFile() as told:
-        asked.writelines(lines(packets))
-        asked.seek(0)
-        begun = time.perf_counter()
-        live = session(stdin=asked, stdout=told)
-        _, status, used = os.wait4(live.pid, 0)
-        spent = time.perf_counter() - begun
-        print(
-            f"from a file to a file: {2 * packets + 1} calls, {(2 * packets + 1) / spent:.0f} calls/s, status {status}, "
-            f"{used.ru_maxrss} KiB at most, {told.seek(0, os.SEEK_END) / packets:.0f} bytes of transcript a packet"
-        )
-
-
-{"one": one, "pipelined": pipelined, "file": file}[sys.argv[1]](int(sys.argv[2]))
+{"one": one, "pipelined": pipelined}[sys.argv[1]](int(sys.argv[2]))

@@ -1,6 +1,7 @@
 #!/bin/sh
 # What ping and iperf3 see through 2 x 20 ms and 10 Mbit/s with a queue of 100 packets, and the audit of each session. DUMMYNET names
 # the program.
+unset CDPATH POSIXLY_CORRECT; export LC_ALL=C
 set -e
 cd "$(dirname "$0")/.."
 export DUMMYNET="${DUMMYNET:-$PWD/dummynet}"

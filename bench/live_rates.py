@@ -22,29 +22,18 @@ CPU = "for host in $(grep -lx hinge-link /proc/[0-9]*/comm); do echo cpu $(cut -
 FIRST = "chrt -f 5"
 
 
-def run(folder: str, transcript: bool, *words: str) -> tuple[str, dict[str, dict[str, float]]]:
+def run(folder: str, transcript: bool, links: list[str], server: str, line: str) -> tuple[str, dict[str, dict[str, float]]]:
     kept = ["--transcript", f"{folder}/history"] if transcript else []
-    done = subprocess.run(
-        [TOP / "hinge", "run", "--quiet", "--realtime", "--json", f"{folder}/json", *kept, *words], capture_output=True, text=True
-    )
+    options = ["--quiet", "--realtime", "--json", f"{folder}/json", *kept, *links, "--server", server]
+    done = subprocess.run([TOP / "hinge", "run", *options, "--", "sh", "-c", line], capture_output=True, text=True)
     with open(f"{folder}/json") as file:
         return done.stdout, json.load(file)
 
 
 def packets(folder: str, rate: int, seconds: float, transcript: bool) -> str:
-    blast = f"{folder}/blast"
-    text, told = run(
-        folder,
-        transcript,
-        "--up",
-        "5ms",
-        "--server",
-        f"{FIRST} {blast} sink 9999",
-        "--",
-        "sh",
-        "-c",
-        f"{FIRST} {blast} 10.8.0.2 9999 {rate} {seconds} 100; {CPU}",
-    )
+    blast = f"{FIRST} {folder}/blast"
+    links, server = ["--up", "5ms"], f"{blast} sink 9999"
+    text, told = run(folder, transcript, links, server, f"{blast} 10.8.0.2 9999 {rate} {seconds} 100; {CPU}")
     up, cpu = told["up"], spent(text)
     came = max(1, up["came"])
     return (
@@ -59,20 +48,8 @@ def spent(text: str) -> float:
 
 
 def tcp(folder: str, link: str, seconds: float, transcript: bool) -> str:
-    text, _ = run(
-        folder,
-        transcript,
-        "--up",
-        link,
-        "--down",
-        link,
-        "--server",
-        f"{FIRST} iperf3 -s -1 >/dev/null",
-        "--",
-        "sh",
-        "-c",
-        f"{FIRST} iperf3 -c server -t {seconds} -J; {CPU}",
-    )
+    links, server = ["--up", link, "--down", link], f"{FIRST} iperf3 -s -1 >/dev/null"
+    text, _ = run(folder, transcript, links, server, f"{FIRST} iperf3 -c server -t {seconds} -J; {CPU}")
     received = json.loads(text[: text.rindex("}") + 1])["end"]["sum_received"]
     cost = received["bytes"] * 8e-9 / spent(text)
     return f"{received['bits_per_second'] / 1e9:.2f} Gbit/s, {cost:.2f} Gbit in a second of the processor"

@@ -6,6 +6,8 @@ usage: bench/live_udp.py RATE SECONDS [SIZE] [LINK]     (datagrams a second; byt
 It tells how many arrived, how many the host lost, their delay, the memory of the host a second after the start
 and at the end, and the audit of the transcript. DUMMYNET names the program.
 """
+import json
+import math
 import os
 import re
 import socket
@@ -32,7 +34,7 @@ def child(pid):
 
 
 class Sink(threading.Thread):
-    """Counts what arrives, and its delays by the microsecond, until nothing comes for two seconds behind the last."""
+    """Notes the delays in us of what arrives, until nothing comes for two seconds behind the last."""
 
     def __init__(self):
         super().__init__()
@@ -40,7 +42,7 @@ class Sink(threading.Thread):
         self.socket.setsockopt(socket.SOL_SOCKET, socket.SO_RCVBUF, 8 << 20)
         self.socket.bind(("127.0.0.1", 0))
         self.socket.settimeout(2)
-        self.arrived, self.delays, self.sent_all = 0, {}, False
+        self.delays, self.sent_all = [], False
 
     def run(self):
         while True:
@@ -50,16 +52,10 @@ class Sink(threading.Thread):
                 if self.sent_all:
                     return
                 continue
-            us = (time.monotonic_ns() - STAMP.unpack_from(data)[1]) // 1000
-            self.arrived += 1
-            self.delays[us] = self.delays.get(us, 0) + 1
+            self.delays.append((time.monotonic_ns() - STAMP.unpack_from(data)[1]) // 1000)
 
     def within(self, share):
-        left = share * self.arrived
-        for us in sorted(self.delays):
-            left -= self.delays[us]
-            if left <= 0:
-                return us / 1000
+        return sorted(self.delays)[math.ceil(share * len(self.delays)) - 1] / 1000
 
 
 def blast(port, rate, seconds, size):
@@ -79,14 +75,10 @@ def main(rate, seconds, size=200, link="pipe 1 config delay 5"):
     os.environ.setdefault("DUMMYNET", os.path.join(TOP, "dummynet"))
     sink = Sink()
     with tempfile.TemporaryDirectory() as folder:
-        transcript = os.path.join(folder, "session.history")
-        host = [sys.executable, os.path.join(TOP, "hinge"), "udp"]
-        proxy = subprocess.Popen(
-            [*host, "0", str(sink.socket.getsockname()[1]), link, "--transcript", transcript],
-            text=True,
-            stdout=subprocess.PIPE,
-            stderr=subprocess.PIPE,
-        )
+        transcript, summary = (os.path.join(folder, name) for name in ("session.history", "session.json"))
+        ends, files = ["0", str(sink.socket.getsockname()[1])], ["--transcript", transcript, "--json", summary]
+        words = [sys.executable, os.path.join(TOP, "hinge"), "udp", *ends, link, *files]
+        proxy = subprocess.Popen(words, text=True, stdout=subprocess.PIPE, stderr=subprocess.PIPE)
         port = int(proxy.stdout.readline().rpartition(":")[2])
         sink.start()
         first = threading.Timer(1, lambda: before.append(memory(child(proxy.pid))))
@@ -98,17 +90,20 @@ def main(rate, seconds, size=200, link="pipe 1 config delay 5"):
         after = memory(child(proxy.pid))
         proxy.terminate()
         told = proxy.communicate()[1]
+        with open(summary) as file:
+            record = json.load(file)
         size = os.path.getsize(transcript)
         begun = time.monotonic()
         audit = subprocess.run([os.environ["DUMMYNET"], "audit", transcript], capture_output=True, text=True)
         spent = time.monotonic() - begun
-    up = re.search(r"up: (\d+) came, (\d+) delivered, (\d+) lost, (\d+) met.*\n.*up: (.*)", told)
-    came, sent_on, lost, full = map(int, up.groups()[:4])
+    up, arrived = record["up"], len(sink.delays)
     print(
-        f"{sent} sent in {seconds:g} s, {came} came to the host, {lost} lost and {full} refused by the link, {sent_on} sent on, "
-        f"{sink.arrived} arrived: {sent - lost - full - sink.arrived} lost by the host"
+        f"{sent} sent in {seconds:g} s, {up['came']} came to the host, {up['lost']} lost and {up['full']} refused by the link, "
+        f"{up['sent']} sent on, {arrived} arrived: {sent - up['lost'] - up['full'] - arrived} lost by the host"
     )
-    print(f"delay: median {sink.within(0.5):.3f} ms, p99 {sink.within(0.99):.3f} ms; the host {up[5]}")
+    print(
+        f"delay: median {sink.within(0.5):.3f} ms, p99 {sink.within(0.99):.3f} ms; the host: late p99 {up['late_p99_ms']:.3f} ms, told {told.strip()}"
+    )
     print(f"memory: the host {before[0]} KiB after a second, {after} at the end")
     print(
         f"transcript: {size} bytes, {size / sent:.0f} a datagram; audit in {spent:.1f} s: {(audit.stdout or audit.stderr).strip()}"

@@ -1,10 +1,10 @@
 """Runs the program beside plain Rust, by turns, and prints what each took.
 
-    python3 bench/replay.py PROGRAM TWIN [ROUNDS [ROWS]]
+    python3 bench/replay.py PROGRAM TWIN LIMIT [ROUNDS [ROWS]]
 
-PROGRAM is dummynet, and TWIN the plain Rust of bench/twin, which answers the same reports, byte for byte (that is checked). A figure
-is the median, over the rounds, of user and system time by the twin's in the same round; memory is the most that stood in it. All run on
-one processor, and the twin's replay is the first in each round. The script bench/replay.sh builds the twin and calls this.
+PROGRAM is dummynet, TWIN the plain Rust of bench/twin, and LIMIT bench/limit.c, which shows how fast a replay can be. All three answer
+the same reports, byte for byte (that is checked). A figure is the median, over the rounds, of user and system time by the twin's in the same round; memory is the most that stood in it. All run on
+one processor, and the twin's replay is the first in each round. The script bench/replay.sh builds the two and calls this.
 """
 
 from __future__ import annotations
@@ -42,9 +42,12 @@ class Form:
         self.seconds.append(used.ru_utime + used.ru_stime)
         self.memory = max(self.memory, used.ru_maxrss)
 
-    def row(self, load: str, first: Form) -> str:
-        ratio = statistics.median(own / other for own, other in zip(self.seconds, first.seconds, strict=True))
-        return f"| {load} | {self.name} | {statistics.median(self.seconds):.3f} s | {ratio:.2f} | {self.memory / MIB:.0f} MiB |"
+    def over(self, other: Form) -> str:
+        return f"{statistics.median(own / its for own, its in zip(self.seconds, other.seconds, strict=True)):.2f}"
+
+    def row(self, load: str, twin: Form, limit: Form) -> str:
+        median = f"{statistics.median(self.seconds):.3f} s"
+        return f"| {load} | {self.name} | {median} | {self.over(twin)} | {self.over(limit)} | {self.memory / MIB:.0f} MiB |"
 
 
 def report(words: list[str]) -> str:
@@ -58,37 +61,38 @@ def report(words: list[str]) -> str:
     return found.hexdigest()
 
 
-def forms(program: str, twin: str, config: Path, packets: Path, folder: Path) -> list[Form]:
+def forms(program: str, twin: str, limit: str, config: Path, packets: Path, folder: Path) -> list[Form]:
     files = ["replay", str(config), str(packets)]
     history = ["--history", str(folder / "history")]
     return [
         Form("plain Rust", [twin, *files]),
         Form("dummynet", [program, *files]),
+        Form("the limit", [limit, *files[1:]]),
         Form("plain Rust, with a history", [twin, *files, *history]),
         Form("dummynet, with a history", [program, *files, *history]),
         Form("dummynet, the audit of that history", [program, "audit", str(folder / "history")]),
     ]
 
 
-def table(load: str, program: str, twin: str, rounds: int, rows: int) -> None:
+def table(load: str, program: str, twin: str, limit: str, rounds: int, rows: int) -> None:
     with TemporaryDirectory() as name:
         folder = Path(name)
         config, packets = write(load, rows, folder)
-        tried = forms(program, twin, config, packets, folder)
-        if report(tried[0].words) != report(tried[1].words):
+        tried = forms(program, twin, limit, config, packets, folder)
+        if len({report(form.words) for form in tried[:3]}) > 1:
             sys.exit(f"{load}: the reports differ")
         for _ in range(rounds):
             for form in tried:
                 form.run()
         for form in tried:
-            print(form.row(load, tried[0]), flush=True)
+            print(form.row(load, tried[0], tried[2]), flush=True)
 
 
-def main(program: str, twin: str, rounds: str = "9", rows: str = "1000000") -> None:
+def main(program: str, twin: str, limit: str, rounds: str = "9", rows: str = "1000000") -> None:
     os.sched_setaffinity(0, {PROCESSOR})
-    print("| Load | What | User and system time | By plain Rust's replay | Memory |\n|---|---|---|---|---|")
+    print("| Load | What | User and system time | By plain Rust's replay | By the limit | Memory |\n|---|---|---|---|---|---|")
     for load in CONFIGS:
-        table(load, program, twin, int(rounds), int(rows))
+        table(load, program, twin, limit, int(rounds), int(rows))
 
 
 if __name__ == "__main__":

@@ -1,11 +1,16 @@
 #!/bin/sh
-# The program beside plain Rust on five loads of 1,000,000 rows, as a table: bench/replay.sh [ROUNDS [ROWS]]. It takes about five minutes.
+# The program beside plain Rust and the limit on five loads of 1,000,000 rows, as tables of times and, where there is valgrind, of counts, below what the
+# machine is and how busy: bench/replay.sh [ROUNDS [ROWS]]. It takes about five minutes, and the counts an hour.
+unset CDPATH POSIXLY_CORRECT; export LC_ALL=C
 set -e
 cd "$(dirname "$0")/.."
 work=$(mktemp -d)
 trap 'rm -rf "$work"' EXIT
 CARGO_TARGET_DIR="$work" cargo build --quiet --release --offline --manifest-path bench/twin/Cargo.toml
+cc -O3 -march=x86-64-v3 -w bench/limit.c -o "$work/limit"
 ./dummynet --version >&2
 program=built/$(tools/release/program_sources)/dummynet
 [ -x "$program" ] || program=release/dummynet
-python3 bench/replay.py "$program" "$work/release/twin" "$@"
+date -u +%F && sed -n "s/^model name.*: //p" /proc/cpuinfo | uniq -c && cat /proc/loadavg
+python3 bench/replay.py "$program" "$work/release/twin" "$work/limit" "$@"
+! command -v valgrind >/dev/null || python3 bench/replay_counts.py "$program" "$work/release/twin" "$work/limit" "${2:-1000000}"

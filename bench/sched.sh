@@ -1,6 +1,7 @@
 #!/bin/sh
 # Times the scheduler beside its twin, and refuses each of its growths in turn. The argument is the count of rounds, of
 # which the least counts.
+unset CDPATH POSIXLY_CORRECT; export LC_ALL=C
 set -e
 cd "$(dirname "$0")/.."
 kit=$(dirname "$(rt doc | tail -1)")

@@ -9,58 +9,25 @@ one of the last 100.
 usage: bench/shaper_counts.py     (after bench/shaper.sh, which proves and builds the program; it needs valgrind)
 """
 import os
-import subprocess
-import tempfile
+from concurrent.futures import ThreadPoolExecutor
+
+from replay_counts import counts
 
 PROGRAM = os.path.join(os.path.dirname(__file__), "..", "crates", "bench_calls", "out", "bench_calls")
 LOADS = ["one flow of a pipe", "100 queues on a pipe", "1,000 links", "16,384 links", "40,000 flows over 10 queues"]
-CACHES = ["--I1=32768,8,64", "--D1=32768,8,64", "--LL=1048576,16,64"]
 ROUNDS = (150, 650)
 
 
-def start(load, rounds, path):
-    """A run of one load under the simulator."""
-    return subprocess.Popen(
-        [
-            "valgrind",
-            "--tool=cachegrind",
-            "--cache-sim=yes",
-            *CACHES,
-            f"--cachegrind-out-file={path}",
-            PROGRAM,
-            "shaper",
-            str(rounds),
-            str(load),
-        ],
-        stdout=subprocess.DEVNULL,
-        stderr=subprocess.DEVNULL,
-    )
-
-
-def counts(path):
-    """The events that a run counted."""
-    with open(path, encoding="utf-8") as lines:
-        of = {line.split(":")[0]: line.split()[1:] for line in lines if line.startswith(("events:", "summary:"))}
-    return dict(zip(of["events"], map(int, of["summary"])))
-
-
-def per_packet(folder, load):
+def per_packet(load):
     """Instructions, misses of the first level and misses of the last, a packet."""
-    paths = [os.path.join(folder, str(rounds)) for rounds in ROUNDS]
-    runs = [start(load, rounds, path) for rounds, path in zip(ROUNDS, paths)]
-    if any(run.wait() != 0 for run in runs):
-        raise SystemExit("a run failed")
-    fewer, more = map(counts, paths)
-    packets = 1000 * (ROUNDS[1] - ROUNDS[0])
-    each = {event: (more[event] - fewer[event]) / packets for event in more}
-    first = each["I1mr"] + each["D1mr"] + each["D1mw"]
-    last = each["ILmr"] + each["DLmr"] + each["DLmw"]
-    return each["Ir"], first, last
+    with ThreadPoolExecutor() as pool:
+        fewer, more = pool.map(counts, ([PROGRAM, "shaper", str(rounds), str(load)] for rounds in ROUNDS))
+    each = {name: (more[name] - fewer[name]) / (1000 * (ROUNDS[1] - ROUNDS[0])) for name in more}
+    return each["I refs"], each["I1 misses"] + each["D1 misses"], each["LLi misses"] + each["LLd misses"]
 
 
 def main():
-    with tempfile.TemporaryDirectory() as folder:
-        found = [per_packet(folder, load) for load in range(len(LOADS))]
+    found = [per_packet(load) for load in range(len(LOADS))]
     cycles = [instructions + 10 * first + 100 * last for instructions, first, last in found]
     for load, (instructions, first, last), estimate in zip(LOADS, found, cycles):
         print(

@@ -1,6 +1,7 @@
 #!/bin/sh
 # How many growths of memory 100 further rounds of the shaper's benchmark take, after as many rounds as the argument says.
 # It takes the program that bench/shaper.sh has built.
+unset CDPATH POSIXLY_CORRECT; export LC_ALL=C
 set -e
 cd "$(dirname "$0")/.."
 kit=$(dirname "$(rt doc | tail -1)")

@@ -44,34 +44,26 @@ def session(folder: str) -> Run:
     return Run(["live"], f"{folder}/calls")
 
 
+def case(name: str, generator: str, run: Callable[[str], Run] = session) -> Case:
+    return Case(name, generator.split(), run)
+
+
 CASES = [
-    Case("160,000 flows whose keys collide where the hash has no secret", ["inputs.py", "chosen", "160000", "{}"], replay()),
-    Case("the same flows with other addresses", ["inputs.py", "spread", "160000", "{}"], replay()),
-    Case(
-        "a queue of 80,000 flows on one link, two packets each, and its delete",
-        ["sessions.py", "queue-delete", "80000", "{}/calls"],
-        session,
-    ),
-    Case("100,000 flows, and 100,000 deletes that reach none", ["sessions.py", "idle-deletes", "100000", "{}/calls"], session),
-    Case(
-        "100,000 rounds of a queue, a new flow of it, and its delete", ["sessions.py", "reset-queue", "100000", "{}/calls"], session
-    ),
-    Case(
-        "64,000 flows on one link, and as many turns of a delete and an arrival there",
-        ["sessions.py", "delete-turns", "64000", "{}/calls"],
-        session,
-    ),
-    Case("65,535 pipes with a queue each, 1,310,700 packets", ["sessions.py", "many-links", "65535", "{}/calls"], session),
-    Case("the shortest rows, 64 MiB", ["inputs.py", "rows", str(PACKETS), "{}"], replay()),
-    Case("the same with a history", ["inputs.py", "rows", str(PACKETS), "{}"], replay("--history", "{}/history")),
-    Case("the shortest rows of a flow each, 64 MiB", ["inputs.py", "flows", str(PACKETS), "{}"], replay()),
-    Case("900,000 rows that end in CR LF", ["inputs.py", "returns", "900000", "{}"], replay()),
-    Case("900,000 rows in quotes", ["inputs.py", "quoted", "900000", "{}"], replay()),
-    Case("900,000 plain rows, to compare", ["inputs.py", "plain", "900000", "{}"], replay()),
-    Case(
-        "an audit of the shortest entries, 256 MiB",
-        ["inputs.py", "entries", str(HISTORY), "{}"],
-        lambda f: Run(["audit", f"{f}/history"]),
+    case("160,000 flows whose keys collide where the hash has no secret", "inputs.py chosen 160000 {}", replay()),
+    case("the same flows with other addresses", "inputs.py spread 160000 {}", replay()),
+    case("a queue of 80,000 flows on one link, two packets each, and its delete", "sessions.py queue-delete 80000 {}/calls"),
+    case("100,000 flows, and 100,000 deletes that reach none", "sessions.py idle-deletes 100000 {}/calls"),
+    case("100,000 rounds of a queue, a new flow of it, and its delete", "sessions.py reset-queue 100000 {}/calls"),
+    case("64,000 flows on one link, and as many turns of a delete and an arrival there", "sessions.py delete-turns 64000 {}/calls"),
+    case("65,535 pipes with a queue each, 1,310,700 packets", "sessions.py many-links 65535 {}/calls"),
+    case("the shortest rows, 64 MiB", f"inputs.py rows {PACKETS} {{}}", replay()),
+    case("the same with a history", f"inputs.py rows {PACKETS} {{}}", replay("--history", "{}/history")),
+    case("the shortest rows of a flow each, 64 MiB", f"inputs.py flows {PACKETS} {{}}", replay()),
+    case("900,000 rows that end in CR LF", "inputs.py returns 900000 {}", replay()),
+    case("900,000 rows in quotes", "inputs.py quoted 900000 {}", replay()),
+    case("900,000 plain rows, to compare", "inputs.py plain 900000 {}", replay()),
+    case(
+        "an audit of the shortest entries, 256 MiB", f"inputs.py entries {HISTORY} {{}}", lambda f: Run(["audit", f"{f}/history"])
     ),
 ]
 

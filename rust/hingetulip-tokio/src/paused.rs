@@ -1,4 +1,5 @@
 //! A net under tokio's paused clock.
+use crate::clock::{refresh, Following};
 use hingetulip::simulated::Net;
 use std::future::Future;
 use std::mem;
@@ -65,6 +66,7 @@ impl Future for Driver {
                 let next_tick = tick + Duration::from_millis(1);
                 let to = next.map_or(next_tick, |next| next.min(next_tick));
                 let _ = Box::pin(advance(to - now)).as_mut().poll(context); // it moves the clock when it is polled first
+                refresh();
             } else {
                 return Poll::Pending;
             }
@@ -74,7 +76,7 @@ impl Future for Driver {
 
 /// Runs a future to its end in a runtime of one thread on tokio's paused clock, with the net's links, and returns what it returns.
 ///
-/// `spawn`, `spawn_local` and `tokio::time` are tokio's. As with tokio's clock alone, a program in which nothing can happen any more waits
+/// `spawn`, `spawn_local` and `tokio::time` are tokio's, and so is `std::time::Instant` meanwhile on this thread. As with tokio's clock alone, a program in which nothing can happen any more waits
 /// for ever.
 ///
 /// # Panics
@@ -89,10 +91,15 @@ pub fn run<T>(net: &Net, main: impl Future<Output = T>) -> T {
         drop(idle);
         waker.into_iter().for_each(Waker::wake);
     };
-    let runtime = Builder::new_current_thread().enable_time().start_paused(true).on_thread_park(on_park).build().expect("a runtime");
+    let mut builder = Builder::new_current_thread();
+    let runtime = builder.enable_time().start_paused(true).on_thread_park(on_park).on_thread_unpark(refresh).build().expect("a runtime");
     let value = LocalSet::new().block_on(&runtime, async {
         let begin = (Instant::now(), net.now());
-        net.follow(move || begin.1 + begin.0.elapsed());
+        let _following = Following::new(begin.0);
+        net.follow(move || {
+            refresh();
+            begin.1 + begin.0.elapsed()
+        });
         tokio::spawn(Driver { net: net.clone(), begin, idle, timer: Box::pin(sleep_until(begin.0)) });
         let value = main.await;
         let end = net.now();

@@ -77,3 +77,26 @@ fn timers_are_tokios() {
     let before = run(&net, async { net.now() }); // a net goes on where it was
     assert_eq!(before, net.now());
 }
+
+#[test]
+fn the_clock_of_std_is_tokios() {
+    let net = Net::new(1).unwrap();
+    let (one, other) = (net.host("10.0.0.1"), net.host("10.0.0.2"));
+    net.path(&one, &other, "8Mbit/s").unwrap();
+    let (socket, there) = (one.bind(7).unwrap(), other.bind(7).unwrap());
+    let real = std::time::Instant::now();
+    run(&net, async {
+        let same = || assert_eq!(Instant::now().into_std(), std::time::Instant::now());
+        let begin = std::time::Instant::now();
+        socket.send_to(&[0; 72], "10.0.0.2:7").await.unwrap();
+        there.recv(&mut [0; 1500]).await.unwrap();
+        same();
+        assert_eq!(begin.elapsed(), Duration::from_micros(100));
+        spawn_local(async move { sleep(Duration::from_secs(100)).await; same() }).await.unwrap();
+        assert_eq!(begin.elapsed(), Duration::from_millis(100_001)); // tokio's timers are due at whole ms
+        tokio::time::advance(Duration::from_secs(1)).await;
+        let _ = net.now(); // which looks at the clock
+        same();
+    });
+    assert!(real.elapsed() < Duration::from_secs(50)); // the system's again
+}

@@ -22,12 +22,49 @@ pub enum FaultKind {
     NeedsPipe,
 }
 
+/// A word of a simulated link that isn't one: the word as it was typed, up to its first 30 bytes, and what to write.
+#[derive(Clone, Copy, PartialEq, Eq, Hash)]
+pub struct Refused {
+    bytes: [u8; 30],
+    length: u8,
+    advice: &'static str,
+}
+
+impl Refused {
+    pub(crate) fn new(word: &str, advice: &'static str) -> Self {
+        let length = (0..=word.len().min(30)).rev().find(|it| word.is_char_boundary(*it)).unwrap_or(0);
+        let mut bytes = [0; 30];
+        bytes[..length].copy_from_slice(&word.as_bytes()[..length]);
+        Self { bytes, length: length as u8, advice }
+    }
+
+    /// The word.
+    #[must_use]
+    pub fn word(&self) -> &str {
+        core::str::from_utf8(&self.bytes[..self.length.into()]).unwrap_or_default()
+    }
+}
+
+impl fmt::Display for Refused {
+    fn fmt(&self, to: &mut fmt::Formatter<'_>) -> fmt::Result {
+        write!(to, "'{}': {}", self.word(), self.advice)
+    }
+}
+
+impl fmt::Debug for Refused {
+    fn fmt(&self, to: &mut fmt::Formatter<'_>) -> fmt::Result {
+        write!(to, "{self}")
+    }
+}
+
 /// Why a call wasn't obeyed. It changed nothing, except that an [`Audit`](crate::Audit) has ended.
 #[derive(Debug, Clone, Copy, PartialEq, Eq, Hash)]
 #[non_exhaustive]
 pub enum Error {
     /// A line is no command: what is wrong, and the word at which that shows, from 1.
     Line(FaultKind, u64),
+    /// A word of a simulated link isn't one.
+    Word(Refused),
     /// The queue's pipe isn't configured, or there is no such pipe to delete.
     NoSuchPipe,
     /// A configured queue names the pipe that is to be deleted.
@@ -102,6 +139,7 @@ impl fmt::Display for FaultKind {
 impl fmt::Display for Error {
     fn fmt(&self, to: &mut fmt::Formatter<'_>) -> fmt::Result {
         match self {
+            Self::Word(word) => word.fmt(to),
             Self::Line(kind, word) => write_reason(to, raw::LINE, *word, *kind as u32),
             Self::Record(number) => write!(to, "history record {number}: bad"),
             Self::Row(row, field) => write!(to, "packet row {row}, field {field}: bad"),

@@ -21,7 +21,7 @@ pub use audit::{Audit, Verdict, HISTORY_LIMIT};
 pub use caller::Caller;
 pub use delivery::{Deliveries, Delivery};
 pub use entry::{Call, Entry, Reply};
-pub use error::{Error, FaultKind};
+pub use error::{Error, FaultKind, Refused};
 pub use fate::{Fate, Outcome};
 pub use flow::Flow;
 pub use history::History;

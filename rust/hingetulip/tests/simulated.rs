@@ -1,6 +1,6 @@
 //! Programs in simulated time.
 use hingetulip::simulated::{moment, now, sleep, sleep_until, spawn, timeout, Elapsed, Net, UdpSocket};
-use hingetulip::{Error, FaultKind};
+use hingetulip::Error;
 use std::error::Error as Fault;
 use std::io::ErrorKind;
 use std::time::Duration;
@@ -124,14 +124,14 @@ fn sockets_refuse_what_a_system_refuses() {
     let unreachable = socket.try_send_to(b"", "10.0.0.2:7".parse().unwrap()).unwrap_err();
     assert_eq!(unreachable.raw_os_error(), Some(101));
     let refused = net.link(&one, &other, "8Mbit/s 20s").unwrap_err();
-    assert_eq!(refused, Error::Line(FaultKind::UnknownWord, 6));
+    assert!(matches!(refused, Error::Word(word) if word.word() == "20s"));
     net.link(&one, &other, "queue 1").unwrap();
     assert_eq!(socket.try_send_to(&[0; 65508], "10.0.0.2:7".parse().unwrap()).unwrap_err().raw_os_error(), Some(90));
     assert_eq!(socket.try_recv_from(&mut []).unwrap_err().kind(), ErrorKind::WouldBlock);
     net.run(other.within(async {
         assert_eq!(UdpSocket::bind("10.0.0.1:8").await.unwrap_err().kind(), ErrorKind::AddrNotAvailable);
         assert_eq!(UdpSocket::bind("10.0.0.2:8").await.unwrap().local_addr().unwrap(), "10.0.0.2:8".parse().unwrap());
-        assert_eq!(UdpSocket::bind("[::1]:8").await.unwrap_err().kind(), ErrorKind::Unsupported);
+        assert_eq!(UdpSocket::bind("[::1]:8").await.unwrap_err().kind(), ErrorKind::AddrNotAvailable);
     }));
 }
 

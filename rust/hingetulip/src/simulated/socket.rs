@@ -2,9 +2,9 @@
 use super::net::Host;
 use super::run::net;
 use super::time::poll_by;
-use super::traffic::{Datagram, Inbox};
+use super::state::{Datagram, Inbox};
 use std::io::{self, ErrorKind};
-use std::net::{Ipv4Addr, SocketAddr, SocketAddrV4, ToSocketAddrs};
+use std::net::{SocketAddr, ToSocketAddrs};
 use std::task::{Context, Poll};
 
 /// A datagram socket of a host, with the calls and errors of tokio's. It never waits to send. A datagram to a closed port comes back over
@@ -15,13 +15,9 @@ pub struct UdpSocket {
     port: u16,
 }
 
-/// The first of some addresses that is one of IPv4.
-fn first(addresses: impl ToSocketAddrs) -> io::Result<SocketAddrV4> {
-    let found = addresses.to_socket_addrs()?.find_map(|it| match it {
-        SocketAddr::V4(address) => Some(address),
-        SocketAddr::V6(_) => None,
-    });
-    found.ok_or_else(|| io::Error::new(ErrorKind::Unsupported, "simulated hosts have addresses of IPv4"))
+/// The first of some addresses.
+fn first(addresses: impl ToSocketAddrs) -> io::Result<SocketAddr> {
+    addresses.to_socket_addrs()?.next().ok_or_else(|| ErrorKind::InvalidInput.into())
 }
 
 impl UdpSocket {
@@ -37,14 +33,14 @@ impl UdpSocket {
         Ok(Self { host, port })
     }
 
-    /// A socket at a port, or at a free one (0): of the present task's host at 0.0.0.0, else of the host with the address. It isn't
+    /// A socket at a port, or at a free one (0): of the present task's host at 0.0.0.0 or `::`, else of the host with the address. It isn't
     /// available to tasks of other hosts.
     pub async fn bind(address: impl ToSocketAddrs) -> io::Result<Self> {
         let (address, here) = (first(address)?, Host::here());
         let net = here.as_ref().map(|host| host.net.clone()).or_else(net).ok_or(ErrorKind::NotConnected)?;
-        let named = net.inner().host_at(*address.ip()).map(|number| Host { net: net.clone(), number });
+        let named = net.inner().host_at(address.ip()).map(|number| Host { net: net.clone(), number });
         match (named, here) {
-            (None, Some(here)) if *address.ip() == Ipv4Addr::UNSPECIFIED => Self::at(here, address.port()),
+            (None, Some(here)) if address.ip().is_unspecified() && address.is_ipv4() == here.ip().is_ipv4() => Self::at(here, address.port()),
             (Some(named), here) if here.as_ref().map_or(true, |here| here.number == named.number) => Self::at(named, address.port()),
             _ => Err(ErrorKind::AddrNotAvailable.into()),
         }
@@ -64,25 +60,24 @@ impl UdpSocket {
 
     /// Its own address.
     pub fn local_addr(&self) -> io::Result<SocketAddr> {
-        Ok(SocketAddrV4::new(self.host.address(), self.port).into())
+        Ok(SocketAddr::new(self.host.ip(), self.port))
     }
 
     /// The address to which it is connected.
     pub fn peer_addr(&self) -> io::Result<SocketAddr> {
-        self.with(|inbox| inbox.remote).map(Into::into).ok_or_else(|| ErrorKind::NotConnected.into())
+        self.with(|inbox| inbox.remote).ok_or_else(|| ErrorKind::NotConnected.into())
     }
 
     /// Sends a datagram of at most 65,507 bytes, and returns how many it has.
     pub fn try_send_to(&self, data: &[u8], target: SocketAddr) -> io::Result<usize> {
-        let (target, source) = (first(target)?, SocketAddrV4::new(self.host.address(), self.port));
-        let it = Datagram { source, target, data: data.to_vec(), is_refusal: false };
+        let it = Datagram { source: self.local_addr()?, target, data: data.to_vec(), is_refusal: false };
         self.host.net.inner().send(self.host.number, it)?;
         Ok(data.len())
     }
 
     /// The same, to an address in any form.
     pub async fn send_to(&self, data: &[u8], target: impl ToSocketAddrs) -> io::Result<usize> {
-        self.try_send_to(data, first(target)?.into())
+        self.try_send_to(data, first(target)?)
     }
 
     /// The same, to the address to which it is connected.
@@ -95,7 +90,7 @@ impl UdpSocket {
         let (data, source) = self.with(|inbox| inbox.came.pop_front()).unwrap_or_else(|| Err(ErrorKind::WouldBlock.into()))?;
         let count = data.len().min(buffer.len());
         buffer[..count].copy_from_slice(&data[..count]);
-        Ok((count, source.into()))
+        Ok((count, source))
     }
 
     /// The same. Where none has come, the task is woken by the next one.
