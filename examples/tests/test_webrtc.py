@@ -1,7 +1,7 @@
-"""WebRTC by aiortc, unchanged: ICE, DTLS and SCTP over 8 Mbit/s, 20 ms and 5 % loss. Run it with LD_PRELOAD=$(hinge kernel --clock).
+"""WebRTC by aiortc, unchanged: ICE, DTLS and SCTP over 8 Mbit/s, 20 ms and 5 % loss.
 
-aiortc asks OpenSSL when DTLS has to repeat what was lost, and OpenSSL asks the clock in C code. Host addresses are asked of the system
-too, so the test says which there are.
+aiortc asks OpenSSL when DTLS has to repeat what was lost, and OpenSSL has simulated time. Host addresses are asked of the system, so the
+test says which there are.
 """
 
 import asyncio

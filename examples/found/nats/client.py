@@ -1,0 +1,83 @@
+"""Publishes numbers to a stream of three replicas for 40 s, and reads the stream once all nodes are back: each number that was
+acknowledged has to be there."""
+
+from __future__ import annotations
+
+import base64
+import json
+import socket
+import sys
+import time
+from pathlib import Path
+from typing import Any, Optional
+
+sys.path.insert(0, str(Path(__file__).parent.parent))
+from operations import at_once, operation, patiently, until
+
+STREAM = {"name": "S", "subjects": ["s.>"], "num_replicas": 3, "storage": "file"}
+
+
+class Connection:
+    """Requests to a node of NATS, by its text protocol."""
+
+    def __init__(self, host: str) -> None:
+        self.socket = socket.create_connection((host, 4222), 2)
+        self.file = self.socket.makefile("rb")
+        self.count = 0
+        self.socket.sendall(b'CONNECT {"verbose":false,"headers":true,"no_responders":true}\r\nSUB answer.* 1\r\n')
+
+    def ask(self, subject: str, data: bytes = b"", seconds: float = 2) -> dict[str, Any]:
+        self.count += 1
+        self.socket.settimeout(seconds)
+        self.socket.sendall(f"PUB {subject} answer.{self.count} {len(data)}\r\n".encode() + data + b"\r\n")
+        while line := self.file.readline().split():
+            if line[0] == b"PING":
+                self.socket.sendall(b"PONG\r\n")
+            elif line[0] in (b"MSG", b"HMSG"):
+                body = self.file.read(int(line[-1]) + 2)
+                if line[1] == b"answer.%d" % self.count:
+                    answer: dict[str, Any] = json.loads(body) if line[0] == b"MSG" else {"error": body}
+                    if "error" in answer:
+                        raise OSError(answer["error"])
+                    return answer
+        raise OSError("the node closed the connection")
+
+
+def publish(client: int) -> None:
+    connection: Optional[Connection] = None
+    number = client
+    while until(50):
+        try:
+            connection = connection or Connection(f"n{client + 1}")
+            used = connection
+            if not operation(client, "S", "add", lambda: used.ask("s.x", b"%d" % number), value=number):
+                connection = None
+        except OSError:
+            connection = None
+        number += 3
+        time.sleep(0.1)
+
+
+def number_at(connection: Connection, place: int) -> set[int]:
+    """The number at a place of the stream, none where the stream has no message there."""
+    try:
+        row = connection.ask("$JS.API.STREAM.MSG.GET.S", json.dumps({"seq": place}).encode(), 5)
+        return {int(base64.b64decode(row["message"]["data"]))}
+    except OSError as error:
+        if isinstance(error.args[0], dict) and error.args[0]["code"] == 404:
+            return set()
+        raise
+
+
+def everything() -> list[int]:
+    """All numbers of the stream, each once."""
+    connection = Connection("n1")
+    state = connection.ask("$JS.API.STREAM.INFO.S", seconds=5)["state"]
+    places = range(state["first_seq"], state["last_seq"] + 1)
+    return sorted(set[int]().union(*(number_at(connection, place) for place in places)))
+
+
+patiently(lambda: Connection("n1").ask("$JS.API.STREAM.CREATE.S", json.dumps(STREAM).encode(), 5))
+at_once(publish, 3)
+time.sleep(20)
+operation(9, "S", "read", lambda: patiently(everything))
