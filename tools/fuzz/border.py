@@ -39,12 +39,12 @@ sys.path[:0] = [str(TOP / "tools" / "gate"), str(TOP / "python"), str(TOP / "pyt
 
 import random_frames  # noqa: E402
 import seeds  # noqa: E402
-from tally import Tally  # noqa: E402
+from tally import Tally, judge  # noqa: E402
 from tshark_frames import frames_by_kit, frames_by_tshark  # noqa: E402
 
-import hinge.run.plan  # noqa: E402
+import hinge.checks.lines  # noqa: E402
 from hinge import command  # noqa: E402
-from hinge.border.messages import Reply, line_of, read_message  # noqa: E402
+from hinge.border.messages import Order, Reply, Strange, line_of, read_message  # noqa: E402
 from hinge.border.serving import Client, answered  # noqa: E402
 from hinge.captures.addresses import read_addresses  # noqa: E402
 from hinge.net.description import read_description  # noqa: E402
@@ -92,11 +92,11 @@ ROWS = "moment,target,number,src,dst,proto,sport,dport,len,word\n" + "".join(
 
 
 class TooLong(Exception):
-    """An input took more than its time."""
+    """Raised for an input that takes too much time."""
 
 
 def called(name: str, *words: str) -> None:
-    """A command of the kit in this process. What it tells goes to standard output and standard error."""
+    """Runs a `hinge` command in this process; its output goes to standard output and standard error."""
     module = __import__(f"hinge.commands.{name}", fromlist=["main"])
     sys.argv, command.NAME[0] = ["hinge", *words], f"hinge {name}"
     try:
@@ -115,7 +115,7 @@ def captures(data: bytes, rng: random.Random) -> None:
 
 
 def frames(data: bytes, rng: random.Random) -> None:
-    """By two readers that share nothing."""
+    """Reads frames with two independent readers."""
     if shutil.which("tshark") is None:
         return
     made = random_frames.Frames(rng.getrandbits(60))
@@ -147,7 +147,7 @@ def histories(data: bytes, rng: random.Random) -> None:
 
 
 def summaries(data: bytes, rng: random.Random) -> None:
-    """One in twenty beside a history."""
+    """Reads summaries, sometimes beside a history."""
     Path("net.json").write_bytes(data)
     if rng.random() < 0.05:
         Path("net.history").write_bytes((HERE / "corpus" / "histories" / "ping").read_bytes())
@@ -157,12 +157,10 @@ def summaries(data: bytes, rng: random.Random) -> None:
 
 
 def run_of(folder: str) -> Control:
-    """A run whose host takes every line."""
+    """Returns a run whose host accepts every line."""
     plan = Plan()
     plan.link("pipe 1 config delay 5"), plan.link("pipe 2 config delay 5")
-    made = Control(
-        f"{folder}/socket", plan, Page(), lambda moment, words: plan.event([moment, *words.split()]), lambda: {"came": 0}
-    )
+    made = Control(f"{folder}/socket", plan, Page(), plan.read, lambda: {"came": 0})
     made.lines.ask = lambda text, until=None, is_wanted=None: Answer(5, "", "pipe 1 config\npipe 1 config")  # type: ignore
     return made
 
@@ -170,28 +168,31 @@ def run_of(folder: str) -> Control:
 def control(data: bytes, rng: random.Random) -> None:
     run, (here, there) = run_of("."), socket.socketpair()
     for text in data.split(b"\n"):
-        told = answered(text, Client(here), run.obeyed_order).reply
+        try:
+            told = answered(read_message(Order, text), Client(here, 0.0), run.obeyed_order).reply
+        except Strange as strange:
+            told = Reply(refused=str(strange))
         assert isinstance(told, Reply)
         assert not (told.refused or "").startswith("it can't be obeyed"), told.refused
         read_message(Reply, line_of(told))
-    run.end(), run.server.listening.close(), here.close(), there.close()
+    run.end(), os.close(run.server.spare), here.close(), there.close()
     run.lines.own.close(), run.lines.hosts.close(), run.page.memory.close(), os.close(run.page.descriptor)
 
 
 def planned(plan: Plan, words: Callable[[], object]) -> None:
-    """What a plan makes of words: a text for the host, or a line that refuses them."""
+    """Runs a plan's reading of words: the result is a text for the host, or a refusal."""
     try:
         words()
         assert plan.text(1).endswith("\n")
-    except command.Told as told:
+    except command.Fault as told:
         command.say(str(told))
         assert "\n" not in str(told), f"several lines: {told}"
 
 
 @contextlib.contextmanager
 def seldom_judged(rng: random.Random) -> Iterator[None]:
-    """The program, a process, judges the lines of one input in a hundred."""
-    judges = (NetPlan, "judge", lambda made: None), (hinge.run.plan, "refuse_wrong", lambda lines: None)
+    """Makes the program judge the lines of one input in a hundred, since it is a separate process."""
+    judges = (NetPlan, "judge", lambda made: None), (hinge.checks.lines, "refuse_wrong", lambda lines: None)
     with contextlib.ExitStack() as stack:
         for owner, name, instead in judges if rng.random() > 0.01 else ():
             stack.enter_context(mock.patch.object(owner, name, instead))
@@ -219,7 +220,7 @@ def nets(data: bytes, rng: random.Random) -> None:
         with seldom_judged(rng):
             made = NetPlan(read_description("x.net"), 1500, 1)
         planned(made.plan, lambda: None)
-    except command.Told as refusal:
+    except command.Fault as refusal:
         text = str(refusal)
         planned(Plan(), lambda: command.say(text))
         assert "\n" not in text, f"several lines: {text}"
@@ -239,7 +240,7 @@ TARGETS: dict[str, Callable[[bytes, random.Random], None]] = {
 
 
 def changed(data: bytes, rng: random.Random, others: list[bytes]) -> bytes:
-    """An input with a few changes; of a compressed one before or after it is compressed."""
+    """Returns an input with some changes, applied before or after compression if it is compressed."""
     packed = data[:2] == b"\x1f\x8b" and rng.random() < 0.7
     with contextlib.suppress(OSError, EOFError, zlib.error):
         data = gzip.decompress(data) if packed else data
@@ -273,12 +274,12 @@ def ended_by_the_clock(*_: object) -> NoReturn:
 
 
 def memory() -> int:
-    """The most bytes that this process has had."""
+    """Returns the maximum number of bytes that this process has used."""
     return resource.getrusage(resource.RUSAGE_SELF).ru_maxrss * 1024
 
 
 def fault_of(name: str, data: bytes, rng: random.Random, kept: set[str]) -> str:
-    """What is wrong with how an input ends, if anything."""
+    """Returns the fault in an input's end, or an empty text."""
     told, had = io.StringIO(), memory()
     resource.setrlimit(resource.RLIMIT_FSIZE, (OUTPUT + OUTPUT_TIMES * len(data), resource.RLIM_INFINITY))
     signal.setitimer(signal.ITIMER_PROF, LONGEST)
@@ -300,7 +301,7 @@ def fault_of(name: str, data: bytes, rng: random.Random, kept: set[str]) -> str:
 
 
 def prepared(folder: str) -> None:
-    """What the commands read beside their input; they take numpy."""
+    """Prepares the commands' other inputs, which need numpy."""
     __import__("numpy")
     os.chdir(folder)
     Path("c").write_text(CONFIG), Path("p").write_text(ROWS)
@@ -327,13 +328,13 @@ def tried(name: str, asked: int, seed: int, found: Path) -> list[str]:
     return faults
 
 
-def main() -> int:
+def main(tally: Tally, *words: str) -> None:
     parser = argparse.ArgumentParser(description=__doc__, formatter_class=argparse.RawDescriptionHelpFormatter)
     parser.add_argument("--seed")
     parser.add_argument("count", type=int)
     parser.add_argument("names", nargs="*", choices=[*TARGETS, []], metavar="NAME")
-    asked = parser.parse_args()
-    tally, found, seed = Tally(), TOP / "built" / "fuzz", seeds.chosen(asked.seed, *seeds.KIT)
+    asked = parser.parse_args(words)
+    found, seed = TOP / "built" / "fuzz", seeds.chosen(asked.seed, *seeds.KIT)
     found.mkdir(parents=True, exist_ok=True)
     for number in (signal.SIGALRM, signal.SIGPROF):
         signal.signal(number, ended_by_the_clock)
@@ -342,8 +343,7 @@ def main() -> int:
         for name in asked.names or TARGETS:
             tally.note(name, *tried(name, asked.count, seed, found))
         os.chdir(TOP)
-    return tally.end()
 
 
 if __name__ == "__main__":
-    sys.exit(main())
+    judge(main)

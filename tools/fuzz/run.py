@@ -3,7 +3,7 @@
 
     python3 tools/fuzz/run.py [--keep] [--seed N] COUNT [NAME ..]
 
-A NAME is one of capture_rows, frames, packets and plan; all by default, each with so many inputs. The seed follows from the sources of the hosts, or is N, or
+A NAME is one of capture_rows, columns, frames, packets and plan; all by default, each with so many inputs. The seed follows from the sources of the hosts, or is N, or
 a new one by `--seed fresh`. Each begins with its kept inputs in corpus/NAME, with the
 sanitizers for addresses and undefined behaviour. An input that crashes, hangs for ten seconds or takes 2 GB is printed, and left in
 built/fuzz. With --keep the kept inputs are those that reach the most with the least bytes. It takes clang and libFuzzer.
@@ -19,24 +19,26 @@ import sys
 from pathlib import Path
 
 HERE = Path(__file__).resolve().parent
-TOP = HERE.parents[1]
-sys.path.insert(0, str(TOP / "tools" / "gate"))
+sys.path.insert(0, str(HERE.parent / "gate"))
 
 import seeds  # noqa: E402
-from tally import Tally  # noqa: E402
+from tally import TOP, Tally, judge  # noqa: E402
 
 FLAGS = ["-g", "-O1", "-w", "-D_GNU_SOURCE", "-fno-sanitize-recover=undefined", "-fsanitize=fuzzer,address,undefined"]
 LIMITS = ["-timeout=10", "-rss_limit_mb=2048", "-max_len=1024", "-verbosity=0", "-close_fd_mask=2", "-print_final_stats=1"]
-TARGETS = ("capture_rows", "frames", "packets", "plan")
-HOST = {"capture_rows": "packets"}  # of the others it is link
-OF_EXIT = dict.fromkeys(("capture_rows", "plan"), ["-Dexit=leave_the_host"])  # a refusal goes back to the target
+TARGETS = ("capture_rows", "columns", "frames", "packets", "plan")
+HOST = dict.fromkeys(("capture_rows", "columns"), "packets")  # of the others it is link
+OF_EXIT = {
+    **dict.fromkeys(("capture_rows", "plan"), ["-Dexit=leave_the_host"]),  # a refusal goes back to the target
+    "columns": ["-Dexit=leave_the_host", "-DREAD_TOGETHER=97"],  # so that lines are read in parts, and little is kept of an input
+}
 MORE = {"plan": [f"-dict={HERE}/plan.words"]}
-MOST = {"plan": 200_000}  # inputs, since what a plan asks for is kept to the end of the program
+MOST = {"columns": 100_000, "plan": 200_000}  # inputs, since what an input asks for is kept to the end of the program
 WITHOUT_LEAKS = {**os.environ, "ASAN_OPTIONS": "detect_leaks=0"}  # of a line whose reader was left by its refusal
 
 
 def library() -> Path:
-    """The static library of these sources if it was built here, else the released one."""
+    """Returns the static library built here from these sources, otherwise the released one."""
     words = [TOP / "tools" / "release" / "program_sources", "hingetulip_c"]
     tag = subprocess.run(words, stdout=subprocess.PIPE, text=True, check=True).stdout.strip()
     built = TOP / "built" / tag / "libhingetulip.a"
@@ -56,7 +58,7 @@ def built(name: str, folder: Path) -> Path:
 
 
 def faults(name: str, count: int, seed: int, folder: Path) -> str:
-    """What the fuzzer says of an input that it found, if anything."""
+    """Returns the fuzzer's report on an input that fails, or an empty text."""
     found, kept = folder / f"{name}-found", HERE / "corpus" / name
     shutil.rmtree(found, ignore_errors=True)  # of another run
     for path in (found, kept):
@@ -88,21 +90,20 @@ def keep(name: str, folder: Path) -> None:
         path.rename(kept / path.name[:12])
 
 
-def main() -> int:
+def main(tally: Tally, *words: str) -> None:
     parser = argparse.ArgumentParser(description=__doc__, formatter_class=argparse.RawDescriptionHelpFormatter)
     parser.add_argument("--keep", action="store_true")
     parser.add_argument("--seed")
     parser.add_argument("count", type=int)
     parser.add_argument("names", nargs="*", choices=[*TARGETS, []], metavar="NAME")
-    asked = parser.parse_args()
-    folder, tally, seed = TOP / "built" / "fuzz", Tally(), seeds.chosen(asked.seed, *seeds.HOSTS)
+    asked = parser.parse_args(words)
+    folder, seed = TOP / "built" / "fuzz", seeds.chosen(asked.seed, *seeds.HOSTS)
     folder.mkdir(parents=True, exist_ok=True)
     for name in asked.names or TARGETS:
         tally.note(name, faults(name, asked.count, seed, folder))
         if asked.keep:
             keep(name, folder)
-    return tally.end()
 
 
 if __name__ == "__main__":
-    sys.exit(main())
+    judge(main)

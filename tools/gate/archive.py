@@ -6,17 +6,15 @@
 from __future__ import annotations
 
 import os
-import subprocess
-import sys
+import re
 import tarfile
 from pathlib import Path
 from tempfile import TemporaryDirectory
-from typing import Any
 
-from tally import Tally
+from tally import TOP, Ran, Tally, judge, ran
 
-TOP = Path(__file__).resolve().parents[2]
 SCRIPT = TOP / "tools" / "release" / "source_archive.py"
+LEFTOVER = re.compile(r".*(?:\.orig|\.rej|\.pyc|\.sw[op]|~)")  # what a merge, an interpreter or an editor leaves
 SETTINGS = {"tar.umask": "0077", "core.autocrlf": "true", "tar.tar.gz.command": "cat"}
 OF_A_USER = {
     "TZ": "Pacific/Auckland",
@@ -26,14 +24,11 @@ OF_A_USER = {
 }
 
 
-def run(*words: object, **variables: str) -> "subprocess.CompletedProcess[str]":
-    env = {**os.environ, **variables}
-    how: Any = {"stdout": subprocess.PIPE, "stderr": subprocess.STDOUT, "text": True}
-    return subprocess.run(list(map(str, words)), cwd=TOP, env=env, **how)
+def run(*words: object, **variables: str) -> Ran:
+    return ran(*words, cwd=TOP, env={**os.environ, **variables})
 
 
-def main() -> int:
-    tally = Tally()
+def main(tally: Tally) -> None:
     with TemporaryDirectory() as folder:
         first, again = Path(folder) / "first", Path(folder) / "again"
         settings: dict[Path, dict[str, str]] = {first: {}, again: OF_A_USER}
@@ -49,11 +44,11 @@ def main() -> int:
             names = sorted(it.name.partition("/")[2] for it in tar if not it.isdir())
         listed = run("git", "-c", "core.quotePath=false", "ls-tree", "-r", "--name-only", "HEAD").stdout.splitlines()
         tally.equal("its files", sorted(listed), names)
+        tally.equal("leftovers among them", [], [name for name in listed if LEFTOVER.fullmatch(name)])
         refused = run(SCRIPT, "9.9.9", first)
         advice = "9.9.9: no such version or revision: CHANGELOG.md lists the versions\n"
         tally.equal("a version that isn't", (1, advice), (refused.returncode, refused.stdout))
-    return tally.end()
 
 
 if __name__ == "__main__":
-    sys.exit(main())
+    judge(main)

@@ -5,7 +5,7 @@ alone, by a user without rights.
 
 The root is made by debootstrap from Debian's archive, as root, in 400 MB. An archive of it is kept for the next time, beside
 what `rt ci` keeps. The repository is a copy whose release/ has this program and the C library of the present sources. What
-`./check --quick` leaves out there is printed, and it may take two minutes of a processor.
+`./check --quick` leaves out there is printed, and it may take four minutes of a processor.
 """
 
 from __future__ import annotations
@@ -15,16 +15,13 @@ import re
 import resource
 import shutil
 import subprocess
-import sys
 from pathlib import Path
 from tempfile import TemporaryDirectory
 
 from installs import copied
-from tally import Tally
+from tally import Tally, judge, ran
 
-sys.path.insert(0, str(Path(__file__).resolve().parents[1]))
-
-from edits.kept import folder  # noqa: E402
+from edits.kept import folder
 
 SUITE, PACKAGES = "bookworm", "git,python3,iputils-ping"
 INSIDE = (
@@ -32,7 +29,7 @@ INSIDE = (
     'exec chroot "$0" sh -c "$1"'
 )
 HOSTS = "127.0.0.1 localhost\n"  # as each installer and each container has it, and a root that was only unpacked hasn't
-MOST, LONGEST = 120, 1500  # s of a processor, and by a clock
+MOST, LONGEST = 240, 1500  # s of a processor, of which it needs 84 alone, and by a clock
 NOBODY = "/usr/bin/setpriv --reuid=65534 --regid=65534 --clear-groups"
 BY_NOBODY = f"cd /srv && HOME=/srv/home PATH=/usr/bin:/bin exec {NOBODY} sh -c '{{}}'"
 COMMIT = 'git init -q && git add -A && git -c user.name=a -c user.email=a@example.com commit -q -m "A clone"'
@@ -46,12 +43,11 @@ def processor_seconds() -> float:
 def run(root: Path, script: str) -> str:
     words = ["unshare", "-m", "sh", "-c", INSIDE, str(root), script]
     env = {"PATH": "/usr/sbin:/usr/bin:/sbin:/bin", "HOME": "/root", "LC_ALL": "C.UTF-8"}
-    how = {"stdin": subprocess.DEVNULL, "stdout": subprocess.PIPE, "stderr": subprocess.STDOUT, "text": True}
-    return subprocess.run(words, env=env, timeout=LONGEST, **how).stdout
+    return ran(*words, env=env, timeout=LONGEST).stdout
 
 
 def made(root: Path) -> str:
-    """Makes the root, as it was kept or anew, and tells why it can't."""
+    """Makes the root, from a kept archive or anew; returns the reason if that fails."""
     kept = (folder() if shutil.which("rt") else Path.home() / ".cache" / "hingetulip") / f"{SUITE}-{PACKAGES}.tar"
     if not kept.is_file():
         words = ["debootstrap", "--variant=minbase", f"--include={PACKAGES}", SUITE, root]
@@ -96,22 +92,20 @@ def quick(tally: Tally, root: Path) -> None:
     print(f"./check --quick in a bare root: {seconds:.0f} s of a processor; {last}")
 
 
-def main(program: str) -> int:
-    tally = Tally()
+def main(tally: Tally, program: str) -> None:
     if os.geteuid() != 0 or shutil.which("debootstrap") is None:
         print("a bare root: skipped, since debootstrap isn't there, or this user isn't root")
-        return tally.end()
+        return
     with TemporaryDirectory() as folder:
         Path(folder).chmod(0o755)
         root = Path(folder) / "root"
         if why := made(root):
             print(f"a bare root: skipped, since debootstrap can't make it: {why}")
-            return tally.end()
+            return
         made_ready(root, str(Path(program).resolve()))
         ping(tally, root)
         quick(tally, root)
-    return tally.end()
 
 
 if __name__ == "__main__":
-    sys.exit(main(sys.argv[1]))
+    judge(main)

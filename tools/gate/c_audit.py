@@ -12,18 +12,18 @@ from __future__ import annotations
 
 import os
 import subprocess
-import sys
 from pathlib import Path
 from random import Random
 from tempfile import TemporaryDirectory
 
 from c_library import REFUSING, program
-from c_texts import EXAMPLES, replay
+from c_texts import replay
 from files import ReplayFault
 from history_reader import audit_line
 from random_histories import random_history
 from scenarios import STYLES
-from tally import Tally
+from scenes import made_scenes
+from tally import Tally, judge
 
 STEPS = (1, 2, 7, 64, 1000, 65_536)
 LIMIT = 268_435_456
@@ -68,8 +68,8 @@ def audited(tally: Tally, name: str, audit: Path, rng: Random, text: bytes, want
         tally.equal(f"{name}, too long", TOO_LONG, from_c(audit, text, step, len(text) - 1))
 
 
-def main(dummynet: str, seed: str, count: str) -> int:
-    tally, rng = Tally(), Random(int(seed))
+def main(tally: Tally, dummynet: str, seed: str, count: str) -> None:
+    rng = Random(int(seed))
     ends: dict[str, int] = {}
     os.environ["ASAN_OPTIONS"] = "detect_leaks=1"
     print(f"seed {seed}", flush=True)
@@ -87,14 +87,13 @@ def main(dummynet: str, seed: str, count: str) -> int:
             tally.equal(f"history {number}, growths refused", wanted, from_c(audit, text, 512, LIMIT, "growths"))
             kind = wanted[0].split(" ")[0]
             ends[kind] = ends.get(kind, 0) + 1
-        for config in sorted(EXAMPLES.glob("*.config")):
+        for config in sorted(made_scenes(folder).glob("*.config")):
             history = Path(folder) / config.stem  # a replay replaces no file that isn't a history, as the random ones may be
             text = replay(dummynet, config, history)
             audited(tally, config.stem, audit, rng, text, by_program(dummynet, history))
     tally.note("each kind of end", "" if {*ends} == {"lawful", "differs", "history"} else str(ends))
     print(", ".join(f"{many} of {kind}" for kind, many in ends.items()))
-    return tally.end()
 
 
 if __name__ == "__main__":
-    sys.exit(main(*sys.argv[1:]))
+    judge(main)

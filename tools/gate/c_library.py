@@ -11,16 +11,12 @@ from __future__ import annotations
 
 import os
 import subprocess
-import sys
 from pathlib import Path
 from tempfile import TemporaryDirectory
 
-from tally import Tally
+from tally import TOOLS, Tally, judge
 
-TOOLS = Path(__file__).resolve().parent.parent
-sys.path[:0] = [str(TOOLS / "release"), str(TOOLS / "oracle")]
-
-from link_library import STATIC  # noqa: E402
+from link_library import STATIC
 
 HEADER = TOOLS.parent / "crates" / "hingetulip_c" / "include"
 SOURCES = Path(__file__).resolve().parent / "c_library"
@@ -29,7 +25,7 @@ REFUSING = (TOOLS / "gate" / "refused_growths.c", "-Wl,--wrap=rattle_alloc,--wra
 
 
 def library() -> Path:
-    """The static library of the present sources."""
+    """Returns the static library of the present sources."""
     done = subprocess.run([TOOLS / "release" / "library"], stdout=subprocess.PIPE, text=True, check=True)
     return Path(done.stdout.strip()) / STATIC
 
@@ -41,23 +37,21 @@ def program(place: Path, name: str, *more: str | Path) -> Path:
 
 
 def ends_well(tally: Tally, place: Path, name: str, *more: str | Path) -> None:
-    """A program that prints what is wrong, and whose last line tells what it did."""
+    """Runs a program that prints its faults, and whose last line counts its work."""
     done = subprocess.run([program(place, name, *more)], stdout=subprocess.PIPE, stderr=subprocess.STDOUT)
     said = done.stdout.decode(errors="replace").strip()
     tally.note(name, "" if done.returncode == 0 else f"status {done.returncode}\n{said}")
     print(f"{name}: {said.splitlines()[-1] if said else 'no output'}")
 
 
-def main() -> int:
-    tally = Tally()
+def main(tally: Tally) -> None:
     os.environ["ASAN_OPTIONS"] = "detect_leaks=1"
     with TemporaryDirectory() as folder:
         for name in ("arguments", "line_texts", "reasons", "service_arguments"):
             ends_well(tally, Path(folder), name)
         for name in ("growths", "reserved", "service_growths"):
             ends_well(tally, Path(folder), name, *REFUSING)
-    return tally.end()
 
 
 if __name__ == "__main__":
-    sys.exit(main())
+    judge(main)

@@ -10,14 +10,13 @@ from __future__ import annotations
 
 import os
 import subprocess
-import sys
 from pathlib import Path
 from tempfile import TemporaryDirectory
 
-from c_library import TOOLS, program
-from tally import Tally
+from c_library import program
+from scenes import made_scenes
+from tally import Tally, judge
 
-EXAMPLES = TOOLS.parent / "examples"
 HEADER = "moment,target,number,src,dst,proto,sport,dport,len,word\n"
 PLAIN = "5,pipe,1,10.0.0.1,10.0.0.2,17,3,4,1000,9\n"
 LAST = "4611686018427387904,queue,65535,255.255.255.255,0.0.0.0,255,65535,0,65535,4294967295\n"
@@ -45,19 +44,17 @@ def read(rows: Path, text: bytes, room: int) -> str:
     return done.stdout.decode(errors="replace") + (f"status {done.returncode}" if done.returncode else "")
 
 
-def main() -> int:
-    tally = Tally()
+def main(tally: Tally) -> None:
     os.environ["ASAN_OPTIONS"] = "detect_leaks=0"
     with TemporaryDirectory() as folder:
         rows = program(Path(folder), "rows")
         for name, (room, text, wanted) in CASES.items():
             tally.equal(name, wanted, read(rows, (HEADER + text).encode(), room))
-        for file in sorted(EXAMPLES.glob("*.csv")):
+        for file in sorted(made_scenes(folder).glob("*.csv")):
             text = file.read_bytes()
             for room in (1, 7, 100_000):
                 tally.equal(f"{file.name}, {room} places", text.partition(b"\n")[2].decode(), read(rows, text, room))
-    return tally.end()
 
 
 if __name__ == "__main__":
-    sys.exit(main())
+    judge(main)

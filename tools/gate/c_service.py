@@ -2,12 +2,12 @@
 
     python3 tools/gate/c_service.py PROGRAM SEED COUNT
 
-It takes the library of the present sources, as tools/release/library finds it. Each run has 1 to 15 threads. Each is made twice, with the
-sanitizers for addresses and undefined behaviour, and with the one for threads. The latter sees the program and the header alone: the
-shared library isn't made for it, and orders its threads by atomics that it doesn't see. The history has to be lawful, and each
-caller's entries have to be as many, and of the kinds, as its thread was told. A program of two threads, under the sanitizer for threads
-and with the suppressions that are installed, reports nothing but a race of its own. At last ten times as many calls are made in the same
-memory, since entries are taken out meanwhile.
+It takes the library of the present sources, as tools/release/library finds it. Each run has 1 to 15 threads. Each is made twice,
+with the sanitizers for addresses and undefined behaviour, and with the one for threads. The latter sees only the program and the
+header: the shared library isn't made for it, and orders its threads with atomics that it doesn't see. The history has to be valid,
+and each caller's entries must match its thread's results in number and kind. A program with two threads, under the sanitizer for
+threads and with the installed suppressions, reports only a race in the program itself. At last ten times as many calls are made in
+the same memory, since entries are taken out meanwhile.
 """
 
 from __future__ import annotations
@@ -15,8 +15,8 @@ from __future__ import annotations
 import os
 import shutil
 import subprocess
-import sys
 from collections import Counter
+from dataclasses import astuple
 from pathlib import Path
 from random import Random
 from tempfile import TemporaryDirectory
@@ -30,13 +30,14 @@ from link_library import SHARED
 from model import Advance, Call, Configure, Show, Submit
 from scenarios import STYLES, random_calls
 from spelling import spell
-from tally import Tally
+from tally import Tally, judge, ran
 
 MOST_CALLERS = 15
 CALLS = 120  # of a caller
 FEW, MANY = 100_000, 1_000_000  # calls
 MOST_GROWN = 3 * 1024  # KiB
-COMMON = ["-std=c99", "-g", "-O1", "-Wall", "-Wextra", "-Werror", "-fno-sanitize-recover=all", "-pthread"]
+STRICT = ["-std=c99", "-Wall", "-Wextra", "-Werror"]
+COMMON, PLAIN = [*STRICT, "-g", "-O1", "-fno-sanitize-recover=all", "-pthread"], [*STRICT, "-O2"]
 KINDS = {
     "queued": "queued",
     "lost": "lost",
@@ -50,9 +51,8 @@ SUPPRESSIONS = HEADER.parent / "hingetulip.tsan"
 TOLD = ("calls", "queued", "lost", "full", "without target", "delivered", "refused", "shown")
 
 
-def threads(place: Path, name: str, sanitizer: str, *linked: str | Path) -> Path:
-    made = place / name
-    subprocess.run(["gcc", *COMMON, sanitizer, f"-I{HEADER}", "-o", made, SOURCES / "service.c", *linked], check=True)
+def built(made: Path, source: str, words: list[str], *linked: str | Path, compiler: str = "gcc") -> Path:
+    subprocess.run([compiler, *words, f"-I{HEADER}", "-o", made, SOURCES / source, *linked], check=True)
     return made
 
 
@@ -67,24 +67,12 @@ def faulty_line(rng: Random) -> str:
 
 
 def line_of(rng: Random, call: Call) -> str:
-    """A call as c_library/service.c reads it."""
+    """Returns a call in the format of c_library/service.c."""
     if isinstance(call, Configure):
         return f"f {spell(rng, call.command)}"
     if isinstance(call, Submit):
-        packet, key = call.packet, call.packet.tuple
-        numbers = (
-            call.moment,
-            int(call.target.kind == "queue"),
-            call.target.number,
-            key.src,
-            key.dst,
-            key.proto,
-            key.sport,
-            key.dport,
-            packet.len,
-            packet.word,
-        )
-        return " ".join(map(str, ("p", *numbers)))
+        packet, is_queue = call.packet, int(call.target.kind == "queue")
+        return " ".join(map(str, ("p", call.moment, is_queue, call.target.number, *astuple(packet.tuple), packet.len, packet.word)))
     return "s" if isinstance(call, Show) else f"{'a' if isinstance(call, Advance) else 'c'} {call.moment}"
 
 
@@ -97,7 +85,7 @@ def lines(rng: Random) -> Iterator[str]:
 
 
 def told_by(history: str) -> dict[int, Counter[str]]:
-    """How many calls of each caller the history has, and how many replies of each kind."""
+    """Returns the number of calls of each caller in a history, and the numbers of replies by kind."""
     counts: dict[int, Counter[str]] = {}
     caller = 0
     for line in history.splitlines():
@@ -115,7 +103,7 @@ def told_by(history: str) -> dict[int, Counter[str]]:
 
 
 def wanted(history: str, threads: int) -> str:
-    """What the program has to print."""
+    """Returns the expected output of the program."""
     counts = told_by(history)
     return "".join(
         f"caller {number}: {', '.join(f'{counts.get(number, Counter())[word]} {word}' for word in TOLD)}\n"
@@ -124,57 +112,44 @@ def wanted(history: str, threads: int) -> str:
 
 
 def tried(tally: Tally, name: str, made: Path, place: Path, audit: str, calls: list[Path]) -> int:
-    """One run, and how many entries its history has."""
+    """Makes a run; returns the number of entries in its history."""
     history = place / "history"
-    done = subprocess.run([made, history, *calls], stdout=subprocess.PIPE, stderr=subprocess.STDOUT, text=True, errors="replace")
+    done = ran(made, history, *calls, errors="replace")
     text = history.read_text()
     tally.equal(f"{name}: what the callers were told", (0, wanted(text, len(calls))), (done.returncode, done.stdout))
     entries = sum(one["calls"] for one in told_by(text).values())
-    judged = subprocess.run([audit, "audit", history], stdout=subprocess.PIPE, stderr=subprocess.STDOUT, text=True)
+    judged = ran(audit, "audit", history)
     tally.equal(f"{name}: the audit", f"lawful {entries}", judged.stdout.strip())
     return entries
 
 
 def flat(tally: Tally, made: Path, history: Path, audit: str) -> None:
-    """A program that makes calls and takes their entries out, and prints the most memory that it had: it grows with the calls by nothing."""
+    """Checks that a program's maximum memory doesn't grow with its calls, as it takes their entries out."""
     peaks = []
     for calls in (FEW, MANY):
-        done = subprocess.run([made, history, str(calls)], stdout=subprocess.PIPE, stderr=subprocess.STDOUT, text=True)
+        done = ran(made, history, calls)
         tally.note(f"{calls} calls", "" if done.returncode == 0 and done.stdout.strip().isdigit() else done.stdout)
         peaks.append(int(done.stdout) if done.stdout.strip().isdigit() else 0)
-    judged = subprocess.run([audit, "audit", history], stdout=subprocess.PIPE, stderr=subprocess.STDOUT, text=True)
+    judged = ran(audit, "audit", history)
     tally.equal(f"the audit of {MANY} calls", f"lawful {MANY + 1}", judged.stdout.strip())
     tally.note("memory", "" if peaks[1] - peaks[0] <= MOST_GROWN else f"grew from {peaks[0]} to {peaks[1]} KiB")
     print(f"memory: {peaks[0]} KiB for {FEW} calls, {peaks[1]} KiB for {MANY}")
 
 
 def races(tally: Tally, place: Path, compiler: str, linked: list[str | Path]) -> None:
-    """Two threads: reports of the library alone, none of them by the file of suppressions, and one of the program's own race."""
+    """Runs two threads. All reports are in the library, the suppressions cover them, and the program's own race is still reported."""
     for word, wanted in (("", (True, 0)), ("-DRACE", (True, 1))):
-        made = place / "service_races"
-        subprocess.run(
-            [
-                compiler,
-                *COMMON,
-                *word.split(),
-                "-fsanitize=thread",
-                f"-I{HEADER}",
-                "-o",
-                made,
-                SOURCES / "service_races.c",
-                *linked,
-            ],
-            check=True,
-        )
+        words = [*COMMON, *word.split(), "-fsanitize=thread"]
+        made = built(place / "service_races", "service_races.c", words, *linked, compiler=compiler)
         found = []
         for options in ("", f"suppressions={SUPPRESSIONS}"):
-            done = subprocess.run([made], env={**os.environ, "TSAN_OPTIONS": options}, capture_output=True, text=True)
-            found.append(done.stderr.count("WARNING: ThreadSanitizer: data race"))
+            done = ran(made, env={**os.environ, "TSAN_OPTIONS": options})
+            found.append(done.stdout.count("WARNING: ThreadSanitizer: data race"))
         tally.equal(f"{compiler}, {linked[0]}, {word or 'no race'}: reports", wanted, (found[0] > wanted[1], found[1]))
 
 
-def main(audit: str, seed: str, count: str) -> int:
-    tally, rng, entries = Tally(), Random(int(seed)), 0
+def main(tally: Tally, audit: str, seed: str, count: str) -> None:
+    rng, entries = Random(int(seed)), 0
     static = library()
     shared = static.parent / SHARED
     os.environ.update(ASAN_OPTIONS="detect_leaks=1", TSAN_OPTIONS="ignore_noninstrumented_modules=1")
@@ -182,8 +157,8 @@ def main(audit: str, seed: str, count: str) -> int:
     with TemporaryDirectory() as folder:
         place = Path(folder)
         programs = {
-            "addresses": threads(place, "addresses", "-fsanitize=address,undefined", static),
-            "threads": threads(place, "threads", "-fsanitize=thread", shared, f"-Wl,-rpath,{shared.parent}"),
+            "addresses": built(place / "addresses", "service.c", [*COMMON, "-fsanitize=address,undefined"], static),
+            "threads": built(place / "threads", "service.c", [*COMMON, "-fsanitize=thread"], shared, f"-Wl,-rpath,{shared.parent}"),
         }
         for number in range(int(count)):
             calls = [place / f"calls{thread}" for thread in range(rng.randint(1, MOST_CALLERS))]
@@ -191,30 +166,13 @@ def main(audit: str, seed: str, count: str) -> int:
                 one.write_text("".join(lines(rng)))
             for name, made in programs.items():
                 entries += tried(tally, f"run {number}, {name}", made, place, audit, calls)
-        made = place / "service_memory"
-        subprocess.run(
-            [
-                "gcc",
-                "-std=c99",
-                "-O2",
-                "-Wall",
-                "-Wextra",
-                "-Werror",
-                f"-I{HEADER}",
-                "-o",
-                made,
-                SOURCES / "service_memory.c",
-                static,
-            ],
-            check=True,
-        )
+        made = built(place / "service_memory", "service_memory.c", PLAIN, static)
         flat(tally, made, place / "history", audit)
         for compiler in filter(shutil.which, ("gcc", "clang")):
             races(tally, place, compiler, [static])
             races(tally, place, compiler, [shared, f"-Wl,-rpath,{shared.parent}"])
     print(f"{entries} entries of histories")
-    return tally.end()
 
 
 if __name__ == "__main__":
-    sys.exit(main(*sys.argv[1:]))
+    judge(main)

@@ -11,43 +11,42 @@ from __future__ import annotations
 
 import os
 import subprocess
-import sys
 from pathlib import Path
 from random import Random
 from tempfile import TemporaryDirectory
 
-from c_library import TOOLS, program
+from c_library import program
 from history import call_text
 from scenarios import STYLES, random_calls
-from tally import Tally
+from scenes import made_scenes
+from tally import Tally, judge
 
-EXAMPLES = TOOLS.parent / "examples"
 CALLS = 150
 KINDS = ("configure", "submit", "advance", "collect")
 
 
 def session(dummynet: str, rng: Random, number: int) -> bytes:
-    """The transcript of a live session."""
+    """Returns the transcript of a live session."""
     calls = random_calls(rng, STYLES[number % len(STYLES)], CALLS, 16, rng.random() < 0.6)
     lines = "".join(f"{call_text(caller, call)}\n" for caller, call in calls)
     return subprocess.run([dummynet, "live"], input=lines.encode(), stdout=subprocess.PIPE, check=True).stdout
 
 
 def replay(dummynet: str, config: Path, history: Path) -> bytes:
-    """The history of a replay."""
+    """Returns the history of a replay."""
     words = [dummynet, "replay", config, config.with_suffix(".csv"), "--history", history]
     subprocess.run(words, stdout=subprocess.DEVNULL, check=True)
     return history.read_bytes()
 
 
 def unmasked(line: bytes) -> bytes:
-    """A line of a history without what the state of a flow doesn't tell in C: the five fields of its mask."""
+    """Returns a history's line without the mask of a flow, which C's records omit."""
     fields = line.split(b",")
     return b",".join(fields[:5] + fields[10:]) if fields[0] == b"f" else line
 
 
 def written_anew(tally: Tally, name: str, texts: Path, history: bytes) -> None:
-    """The entries of a history, and of one that lacks its end."""
+    """Writes the entries of a history anew, and those of a history without its end."""
     _, *lines, end = (line for line in history.splitlines(keepends=True) if not line.startswith(b"#"))
     whole = b"".join(unmasked(line) for line in lines)
     for text, wanted in ((history, whole), (history[: -len(end)], b"bad %d\n" % (len(lines) + 2))):
@@ -55,14 +54,14 @@ def written_anew(tally: Tally, name: str, texts: Path, history: bytes) -> None:
         tally.note(name, done.stderr.decode(errors="replace").strip(), "" if done.stdout == wanted else "other bytes")
 
 
-def main(dummynet: str, seed: str, count: str) -> int:
-    tally, rng, written = Tally(), Random(int(seed)), dict.fromkeys(KINDS, 0)
+def main(tally: Tally, dummynet: str, seed: str, count: str) -> None:
+    rng, written = Random(int(seed)), dict.fromkeys(KINDS, 0)
     os.environ["ASAN_OPTIONS"] = "detect_leaks=1"
     print(f"seed {seed}", flush=True)
     with TemporaryDirectory() as folder:
         texts = program(Path(folder), "texts")
         file = Path(folder) / "history"
-        histories = {config.stem: replay(dummynet, config, file) for config in sorted(EXAMPLES.glob("*.config"))}
+        histories = {config.stem: replay(dummynet, config, file) for config in sorted(made_scenes(folder).glob("*.config"))}
         histories.update((f"session {number}", session(dummynet, rng, number)) for number in range(int(count)))
         for name, history in histories.items():
             written_anew(tally, name, texts, history)
@@ -70,8 +69,7 @@ def main(dummynet: str, seed: str, count: str) -> int:
                 written[kind] += history.count(f",{kind},".encode())
     tally.note("each kind of call", "" if all(written.values()) else str(written))
     print(", ".join(f"{many} of {kind}" for kind, many in written.items()))
-    return tally.end()
 
 
 if __name__ == "__main__":
-    sys.exit(main(*sys.argv[1:]))
+    judge(main)

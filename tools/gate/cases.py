@@ -2,8 +2,8 @@
 
     python3 tools/gate/cases.py PROGRAM SEED COUNT
 
-tools/reference/program_cases.py has the cases. PROGRAM may have several words, as 'python3 tools/oracle/program.py'. Each case
-runs in a folder of its own that has its files.
+tools/oracle/program_cases.py has the cases. PROGRAM may have several words, as 'python3 tools/oracle/program.py'. Each case runs in
+a separate folder with its files.
 """
 
 from __future__ import annotations
@@ -11,17 +11,14 @@ from __future__ import annotations
 import os
 import shlex
 import subprocess
-import sys
 from collections.abc import Iterable
 from concurrent.futures import ThreadPoolExecutor
 from pathlib import Path
 from tempfile import TemporaryDirectory
 
-from tally import Tally
+from tally import Tally, judge
 
-sys.path.insert(0, str(Path(__file__).resolve().parents[1] / "reference"))
-
-from program_cases import Case, cases  # noqa: E402
+from program_cases import Case, cases
 
 SECONDS = 120
 
@@ -39,7 +36,7 @@ def first_difference(want: bytes, got: bytes) -> str:
 
 
 def faults_of(program: list[str], case: Case, more: Iterable[str] = ()) -> list[str]:
-    """What is wrong with this case's run, with some words more."""
+    """Returns the faults in a case's run, with additional words."""
     with TemporaryDirectory() as place:
         for name, data in case.files.items():
             Path(place, name).write_bytes(data)
@@ -56,28 +53,25 @@ def faults_of(program: list[str], case: Case, more: Iterable[str] = ()) -> list[
     ]
     if done.returncode != case.wanted.status:
         faults.append(f"status: want {case.wanted.status}, got {done.returncode} (standard error {shortened(done.stderr)})")
-    is_text_wanted = case.wanted.stdout or case.wanted.stderr  # that of help and usage is a library's
-    for stream in ("stdout", "stderr") if is_text_wanted else ():
+    for stream in ("stdout", "stderr"):
         want, got = getattr(case.wanted, stream), getattr(done, stream)
         faults += [] if want == got else [f"{stream}: {first_difference(want, got)}"]
     return faults
 
 
 def run(tally: Tally, program: list[str], tried: Iterable[tuple[Case, list[str]]]) -> None:
-    """Runs cases, each with words more, and notes what is wrong."""
+    """Runs cases with additional words, and notes their faults."""
     with ThreadPoolExecutor(max_workers=2) as pool:
         done = pool.map(lambda one: (one, faults_of(program, *one)), tried)
         for (case, more), faults in done:
             tally.note(" ".join([case.name, *more]), *faults)
 
 
-def main(program_text: str, seed: str, count: str) -> int:
-    tally = Tally()
+def main(tally: Tally, program_text: str, seed: str, count: str) -> None:
     print(f"seed {seed}", flush=True)
     program = [os.path.abspath(word) if os.path.isfile(word) else word for word in shlex.split(program_text)]
     run(tally, program, ((case, []) for case in cases(seed, int(count))))
-    return tally.end()
 
 
 if __name__ == "__main__":
-    sys.exit(main(*sys.argv[1:]))
+    judge(main)

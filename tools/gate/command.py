@@ -1,7 +1,7 @@
-"""Runs a command of the gate so that it ends, with all that it left behind.
+"""Runs a command of the gate so that it ends, with all processes that it left.
 
-Its output goes into a file. What a failed test left running would hold a pipe, and the gate would wait for that. It
-leads a process group of its own, which is ended after it. What takes another group is left to whoever began it.
+Its output goes into a file. What a failed test left running would hold a pipe, and the gate would wait for that. The command leads
+a separate process group, which ends afterwards. What takes another group is left to whoever began it.
 """
 
 from __future__ import annotations
@@ -20,7 +20,7 @@ running: set[int] = set()
 
 
 class Ended(NamedTuple):
-    """How a command ended: its status, its output, and its processor seconds, with those of what it waited for."""
+    """A command's end: status, output, and processor seconds, including its children's."""
 
     status: int
     text: str
@@ -39,7 +39,7 @@ def end_all() -> None:
 
 
 def run(words: Sequence[str], limit: float, cwd: Path, env: Optional[Mapping[str, str]] = None) -> Ended:
-    """Runs a command for at most `limit` seconds. If it takes longer, it is ended, and its last line says so."""
+    """Runs a command for at most `limit` seconds; returns its end. A longer command is killed, and its last line says so."""
     with TemporaryFile("w+", errors="replace") as said:
         output: dict[str, Any] = {"stdin": subprocess.DEVNULL, "stdout": said, "stderr": subprocess.STDOUT}
         begun = subprocess.Popen(words, cwd=cwd, env=env, process_group=0, **output)

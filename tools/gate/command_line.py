@@ -11,13 +11,12 @@ from __future__ import annotations
 import os
 import shutil
 import subprocess
-import sys
 from dataclasses import dataclass, field
 from pathlib import Path
 from tempfile import TemporaryDirectory
 from typing import Optional
 
-from tally import Tally
+from tally import Tally, judge
 
 HEADER = "moment,target,number,src,dst,proto,sport,dport,len,word\n"
 ROW = "0,pipe,1,10.0.0.1,10.0.0.2,17,1000,2000,1000,0\n"
@@ -48,7 +47,7 @@ BAD_LINE = "#,bad,4,1,word 1: unknown word\n"
 
 @dataclass(frozen=True)
 class Case:
-    """A command line, what lies where it runs, and what it has to do. No text of a stream is wanted where it is None."""
+    """A command line, its files, and the expected behaviour. A stream with None isn't compared."""
 
     name: str
     words: list[str]
@@ -143,7 +142,8 @@ FAULTS = [
           files={"c": CONFIG, "p": f"{PACKETS}{',' * 9}\n,{ROW}"}),
     fault("commas in quotes", replay(), 4, "packet row 2, field 1: bad",
           files={"c": CONFIG, "p": f'{PACKETS}"{"," * 10}",pipe{ROW.partition("pipe")[2]}'}),
-    fault("no configuration", ["replay", "none", "p"], 6, "cannot read config"),
+    *[fault(f"no configuration, {how}", ["replay", "none", packets], 6, "cannot read config") for how, packets in (("but packets", "p"), ("no packets", "no"))],
+    fault("a bad configuration, told before packets without an end", ["replay", "c", "/dev/zero"], 3, "config line 1, word 1: unknown word", files={"c": "bad\n"}),
     fault("no packets, told before a bad configuration", ["replay", "c", "none"], 6, "cannot read packets", files={"c": "bad\n"}),
     fault("a folder as configuration", ["replay", ".", "p"], 6, "cannot read config"),
     fault("a folder as packets", ["replay", "c", "."], 6, "cannot read packets"),
@@ -169,7 +169,7 @@ LIMITED = "error: --most-packets BYTES can't be used with --callers N\n"
 USAGES = [
     *[Case(f"usage: {' '.join(words)}", words, 2, "", None)
       for words in (["nothing"], ["--nothing"], ["replay"], ["replay", "c"], replay("more"), replay("--callers", "0"), replay("--callers", "17"),
-                    replay("--callers", "two"), replay("--callers"), replay("--history"), replay("--callers", "17", "--history", "new"),
+                    *(replay("--callers", count) for count in ("two", "1.5", "18446744073709551616")), replay("--callers"), replay("--history"), replay("--callers", "17", "--history", "new"),
                     replay("--callers", "2", "--callers", "2"), ["audit"], ["audit", "h", "h"], ["audit", "h", "--history", "new"],
                     ["live", "h"], ["live", "--callers", "2"], ["--callers", "2"], ["-x"],
                     replay("--most-packets"), replay("--most-packets", "0"), replay("--most-packets", str(2**40 + 1)), replay("--most-packets", "x"),
@@ -222,7 +222,7 @@ def judged(tally: Tally, program: str, case: Case) -> None:
 
 
 def texts(tally: Tally, program: str) -> None:
-    """Help and version, and the words of the usage fault that is the program's own."""
+    """Checks help and version, and the program's own usage fault."""
     with TemporaryDirectory() as folder:
         for words, wanted in (
             (["--version"], ["dummynet 2.", "rattle-kit"]),
@@ -252,7 +252,7 @@ def texts(tally: Tally, program: str) -> None:
 
 
 def devices(tally: Tally, program: str) -> None:
-    """Standard output and standard error that take nothing, or are closed."""
+    """Checks full and closed standard streams."""
     joined = f"{CONFIG}--\n{PACKETS}"
     with TemporaryDirectory() as folder, open("/dev/full", "wb") as full:
         laid(Path(folder), FILES)
@@ -292,8 +292,8 @@ def devices(tally: Tally, program: str) -> None:
 
 
 def short_writes(tally: Tally, program: str) -> None:
-    """A file that may grow to 512 bytes takes the front of what is written, and then nothing: the run ends with status 6, and a history
-    isn't whole."""
+    """Checks files limited to 512 bytes, which receive the beginning of the output: the status is 6, and the history isn't
+    complete."""
     limited = ["sh", "-c", "trap '' XFSZ; ulimit -f 1; exec \"$@\"", "sh", program]
     rows = HEADER + ROW * 40
     packed = [f"{form}\n" for form in (CONFIG.rstrip(), *[SUBMIT.rstrip()] * 40)]
@@ -327,7 +327,7 @@ def short_writes(tally: Tally, program: str) -> None:
 
 
 def links(tally: Tally, program: str) -> None:
-    """No name of an input lets a history replace it, and an older history is replaced under all of its names."""
+    """Checks that a history never replaces an input under any name, and replaces an older history under all of its names."""
     for kind, link in (("a symbolic link", os.symlink), ("a hard link", os.link)):
         with TemporaryDirectory() as folder:
             laid(Path(folder), {**FILES, "old": OLDER})
@@ -352,7 +352,7 @@ def links(tally: Tally, program: str) -> None:
 
 
 def full_disks(tally: Tally, program: str) -> None:
-    """An older history stays whole if the one that is to replace it finds no room. The limit of a file's length stands for the disk's end."""
+    """Checks that an older history survives if its replacement finds no room. A limit on file length simulates the full disk."""
     limited = ["sh", "-c", "trap '' XFSZ; ulimit -f 1; exec \"$@\"", "sh", program]
     with TemporaryDirectory() as folder:
         laid(Path(folder), {"c": CONFIG, "p": HEADER + ROW * 40, "old": HISTORY})
@@ -390,8 +390,7 @@ def rights(tally: Tally, program: str) -> None:
         tally.equal("a history without rights is left as it was", OLDER, (Path(folder) / "old").read_text())
 
 
-def main(program: str) -> int:
-    tally = Tally()
+def main(tally: Tally, program: str) -> None:
     for case in [*FORMS, *TARGETS, *FAULTS, *USAGES]:
         judged(tally, program, case)
     texts(tally, program)
@@ -400,8 +399,7 @@ def main(program: str) -> int:
     full_disks(tally, program)
     short_writes(tally, program)
     rights(tally, program)
-    return tally.end()
 
 
 if __name__ == "__main__":
-    sys.exit(main(sys.argv[1]))
+    judge(main)

@@ -6,13 +6,9 @@
 from __future__ import annotations
 
 import re
-import subprocess
-import sys
-from pathlib import Path
 
-from tally import Tally
+from tally import TOP, Tally, judge, ran
 
-TOP = Path(__file__).resolve().parents[2]
 PAGE = TOP / "CONTRIBUTING.md"
 QUOTED = re.compile(r"`([^`]+)`")
 ROW = re.compile(r"\| (?P<part>[^|]+?) \| (?P<cell>.+?) \|$")
@@ -22,7 +18,7 @@ PLACEHOLDER = re.compile(r"[A-Z]{4,}")  # as FUNCTION in a path
 
 
 def rows(text: str) -> list[tuple[str, str]]:
-    """The part and the cell of each row of the tables of files."""
+    """Returns the part and the cell of each row in the tables of files."""
     found, is_files = [], False
     for line in text.splitlines():
         is_files = line == "| Part | Files |" or is_files and line.startswith("|")
@@ -38,19 +34,18 @@ def paragraphs(text: str) -> list[str]:
 
 
 def is_there(name: str, tracked: list[str]) -> bool:
-    """Whether a path, or the end of one, is tracked, as a file or a folder."""
+    """Returns whether a path, or the end of one, is tracked, as a file or folder."""
     return any(f"/{path}".endswith(f"/{name}") or f"/{name}/" in f"/{path}" for path in tracked)
 
 
 def is_known(name: str) -> bool:
     """Whether a name is in a source file."""
-    words = ["git", "grep", "-q", "-w", "-F", "-e", name, "--", "crates", "hosts", "python", "rust", "tools", "bench"]
-    return subprocess.run(words, cwd=TOP).returncode == 0
+    folders = ("crates", "hosts", "python", "rust", "tools", "bench")
+    return ran("git", "grep", "-q", "-w", "-F", "-e", name, "--", *folders, cwd=TOP).returncode == 0
 
 
-def main() -> int:
-    tally = Tally()
-    tracked = subprocess.run(["git", "ls-files"], cwd=TOP, capture_output=True, text=True, check=True).stdout.split()
+def main(tally: Tally) -> None:
+    tracked = ran("git", "ls-files", cwd=TOP, check=True).stdout.split()
     text = PAGE.read_text(encoding="utf-8")
     for name in QUOTED.findall("\n".join(paragraphs(text))):
         if SOURCE.fullmatch(name):
@@ -62,8 +57,7 @@ def main() -> int:
             elif re.fullmatch(r"\w+", name):
                 fault = "" if is_there(name, tracked) or is_known(name) else "no such name"
                 tally.note(f"{part}: {name}", fault)
-    return tally.end()
 
 
 if __name__ == "__main__":
-    sys.exit(main())
+    judge(main)

@@ -12,20 +12,20 @@ from __future__ import annotations
 import os
 import re
 import shutil
-import subprocess
 import sys
 import tarfile
 from pathlib import Path
 from tempfile import TemporaryDirectory
 
-from tally import Tally
+from tally import TOP, Ran, Tally, judge, ran
 
-TOP = Path(__file__).resolve().parent.parent.parent
+from hingetulip_words.link import Place, WordError, read_words
+
 RUST, DEBIAN = TOP / "rust", Path("/usr/share/cargo/registry")
 SOURCE = f'[source.crates-io]\nreplace-with = "debian"\n[source.debian]\ndirectory = "{DEBIAN}"\n'
 VERSION = (TOP / "VERSION").read_text().strip()
 MANIFEST = '[package]\nname = "user"\nversion = "0.1.0"\nedition = "2021"\n\n[dependencies]\nhingetulip = {{ path = "{}" }}\n'
-LINK = "800Kbit/s 20ms queue 2 loss 20%"
+LINK = "800Kbit/s 20ms queue 2 loss 20% jitter 9ms duplicate 5%"
 MAIN = f"""\
 use hingetulip::simulated::{{sleep, Net}};
 use std::time::Duration;
@@ -36,6 +36,7 @@ fn main() -> Result<(), Box<dyn std::error::Error>> {{
     net.path(&near, &far, "{LINK}")?;
     let (socket, there) = (near.bind(0)?, far.bind(7)?);
     net.run(async {{
+        net.cut("10.0.0.1 > 10.0.0.2", Duration::from_millis(50)).unwrap();
         far.spawn(async move {{
             let mut data = [0; 1500];
             loop {{
@@ -55,20 +56,22 @@ fn main() -> Result<(), Box<dyn std::error::Error>> {{
 """
 IN_PYTHON = f"""\
 import asyncio
+import socket
 from hingetulip import aio
 
-class Echo(asyncio.DatagramProtocol):
-    def connection_made(self, transport):
-        self.transport = transport
-
-    def datagram_received(self, data, source):
-        self.transport.sendto(data, source)
+async def echo():
+    loop, there = asyncio.get_running_loop(), socket.socket(socket.AF_INET, socket.SOCK_DGRAM)
+    there.bind(("10.0.0.2", 7))
+    while True:
+        data, source = await loop.sock_recvfrom(there, 1500)
+        there.sendto(data, source)
 
 async def main():
     net = aio.network()
     near, far = net.host("10.0.0.1"), net.host("10.0.0.2")
     net.path(near, far, "{LINK}")
-    await far.endpoint(Echo, 7)
+    net.cut("10.0.0.1 > 10.0.0.2", 0.05)
+    far.create_task(echo())
     transport, _ = await near.endpoint(asyncio.DatagramProtocol, remote=("10.0.0.2", 7))
     for number in range(200):
         transport.sendto(bytes(7 * number))
@@ -77,11 +80,10 @@ async def main():
 
 aio.run(main(), seed=7, history="python.history")
 """
-Done = subprocess.CompletedProcess
 
 
 class Cargo:
-    """Cargo with a folder of its own for what it builds."""
+    """Cargo with its own folder for builds."""
 
     def __init__(self, place: Path) -> None:
         self.env = {
@@ -91,20 +93,12 @@ class Cargo:
             "RUSTDOCFLAGS": "-D warnings",
         }
 
-    def run(self, folder: Path, *words: str, **more: str) -> Done[str]:
-        return subprocess.run(
-            ["cargo", *words, "--offline"],
-            cwd=folder,
-            env={**self.env, **more},
-            stdin=subprocess.DEVNULL,
-            stdout=subprocess.PIPE,
-            stderr=subprocess.STDOUT,
-            text=True,
-        )
+    def run(self, folder: Path, *words: str, **more: str) -> Ran:
+        return ran("cargo", *words, "--offline", cwd=folder, env={**self.env, **more})
 
 
 def copied(place: Path) -> Path:
-    """A copy of the crates, so that cargo writes nothing into the clone."""
+    """Returns a copy of the crates, so that cargo writes nothing into the clone."""
     return Path(shutil.copytree(RUST, place / "rust", ignore=shutil.ignore_patterns("target", "Cargo.lock")))
 
 
@@ -133,32 +127,46 @@ def over_debians(tally: Tally, cargo: Cargo, rust: Path, library: str) -> None:
 
 
 def lines(text: str) -> str:
-    """A text without the spaces at the beginnings of its lines."""
+    """Returns a text without indentation."""
     return re.sub(r"^ +", "", text, flags=re.M)
 
 
 def shown(tally: Tally) -> None:
-    """The sample of docs/TESTING.md is one of the tests."""
+    """Checks that the sample of docs/TESTING.md is one of the tests."""
     tests = lines((RUST / "hingetulip" / "tests" / "simulated.rs").read_text())
     samples = re.findall(r"^```rust\n(.*?)^```$", (TOP / "docs" / "TESTING.md").read_text(), re.M | re.S)
     for sample in samples or [""]:
         tally.note("docs/TESTING.md", "" if sample and lines(sample) in tests else "has no sample that tests/simulated.rs has")
 
 
-def as_in_python(tally: Tally, user: Path, done: Done[str]) -> None:
-    words, env = [sys.executable, "-c", IN_PYTHON], {**os.environ, "PYTHONPATH": str(TOP / "python")}
-    told = subprocess.run(words, cwd=user, env=env, stdout=subprocess.PIPE, text=True)
+def answer(words: str) -> str:
+    """Python's answer to the words of a link: a line with jitter and duplicates, or the word that it refuses."""
+    try:
+        link = read_words(words, Place.RUN)
+    except WordError as wrong:
+        return f"'{wrong.word}'"
+    return f"{link.line(1)}; {link.extra.jitter} {link.extra.duplicate}"
+
+
+def words_of_python(tally: Tally) -> None:
+    """The table by which the crate's reader of words is tested has Python's answers."""
+    for row in (RUST / "hingetulip" / "tests" / "words.txt").read_text().splitlines():
+        words, _, known = row.partition(" => ")
+        tally.equal(f"the words {words!r}", answer(words), known)
+
+
+def as_in_python(tally: Tally, user: Path, done: Ran) -> None:
+    told = ran(sys.executable, "-c", IN_PYTHON, cwd=user, env={**os.environ, "PYTHONPATH": str(TOP / "python")}, stderr=None)
     tally.equal("the report of a program over the packed crate", (0, told.stdout), (done.returncode, done.stdout))
     if done.returncode == 0 and told.returncode == 0:
         same = (user / "rust.history").read_bytes() == (user / "python.history").read_bytes()
         tally.note("its history", "" if same else "isn't Python's")
-        audit = subprocess.run([TOP / "dummynet", "audit", user / "rust.history"], stdout=subprocess.PIPE, text=True)
+        audit = ran(TOP / "dummynet", "audit", user / "rust.history")
         tally.note("its audit", "" if audit.returncode == 0 and audit.stdout.startswith("lawful ") else audit.stdout)
 
 
 def as_packed(tally: Tally, cargo: Cargo, place: Path) -> None:
-    script = TOP / "tools" / "release" / "crate"
-    done = subprocess.run([script, place], stdin=subprocess.DEVNULL, stdout=subprocess.PIPE, stderr=subprocess.STDOUT, text=True)
+    done = ran(TOP / "tools" / "release" / "crate", place)
     packed = place / f"hingetulip-{VERSION}.crate"
     tally.note("tools/release/crate", "" if done.returncode == 0 and packed.is_file() else done.stdout)
     if not packed.is_file():
@@ -172,9 +180,8 @@ def as_packed(tally: Tally, cargo: Cargo, place: Path) -> None:
     as_in_python(tally, user, cargo.run(user, "run", "--quiet"))
 
 
-def main() -> int:
-    tally = Tally()
-    library = subprocess.run([TOP / "tools" / "release" / "library"], capture_output=True, text=True, check=True).stdout.strip()
+def main(tally: Tally) -> None:
+    library = ran(TOP / "tools" / "release" / "library", is_apart=True, check=True).stdout.strip()
     with TemporaryDirectory() as folder:
         place = Path(folder)
         cargo, rust = Cargo(place), copied(place)
@@ -186,9 +193,9 @@ def main() -> int:
         over_debians(tally, cargo, rust, library)
         as_packed(tally, cargo, place)
     shown(tally)
-    return tally.end()
+    words_of_python(tally)
 
 
 if __name__ == "__main__":
     os.environ.pop("HINGETULIP_LIB", None)
-    sys.exit(main())
+    judge(main)

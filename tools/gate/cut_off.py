@@ -1,5 +1,5 @@
-"""What writes a report, a history or a transcript, killed in each of its writes: what is there then is a front of the whole, and an audit
-takes it without its last entry, with an end.
+"""Programs that write a report, a history or a transcript, killed in each write: the file is then a front of the whole, and an
+audit accepts it without the last entry, with an end.
 
     python3 tools/gate/cut_off.py PROGRAM
 
@@ -16,10 +16,9 @@ from pathlib import Path
 from tempfile import TemporaryDirectory
 from typing import NamedTuple
 
-from tally import Tally
+from tally import TOP, Tally, judge
 from testing import environment
 
-TOP = Path(__file__).resolve().parent.parent.parent
 SOURCE = TOP / "tools" / "gate" / "killed_writes.c"
 ROWS, CALLS, DATAGRAMS = 30_000, 100, 3_000
 CONFIG = "pipe 1 config bw 800Mbit/s queue 100\n"
@@ -49,7 +48,7 @@ open("h", "w").write(link.end().history)
 
 
 class Case(NamedTuple):
-    """A command that writes, its standard input, and the files that it makes: `out` is its standard output, and `h` a history."""
+    """A command that writes, its standard input, and its output files: `out` is standard output, and `h` a history."""
 
     name: str
     words: list[str]
@@ -71,7 +70,7 @@ def cases(program: str) -> list[Case]:
 
 
 def mended(history: bytes) -> bytes:
-    """A front of a history without its last entry, which may lack items of its reply, and with an end."""
+    """Returns the front of a history without its last entry, which may be incomplete, and with an end."""
     head, *entries = history.split(b"\nc,")
     return b"\nc,".join([head, *entries[:-1]]) + b"\nend,%d\n" % max(0, len(entries) - 1)
 
@@ -89,7 +88,7 @@ class Kills:
         return (self.place / name).read_bytes() if (self.place / name).exists() else b""
 
     def made(self, case: Case, kill_at: int) -> int:
-        """Runs it, killed in a write or, for 0, in none; its status."""
+        """Runs a case, killed in a write, or (0) in none; returns its status."""
         for name in case.files:
             (self.place / name).unlink(missing_ok=True)
         env = {**self.env, "PYTHONPATH": f"{TOP / 'python'}:{TOP / 'python/tests/run'}", "DUMMYNET": self.program}
@@ -106,7 +105,7 @@ class Kills:
         return "" if done.returncode == 0 else f"its front isn't lawful: {done.stdout}{done.stderr}"
 
     def faults(self, case: Case, whole: dict[str, bytes]) -> list[str]:
-        """What is wrong with the files that a kill left."""
+        """Returns the faults in the files after a kill."""
         found = [
             f"{name} is no front of the whole"
             for name in case.files
@@ -130,14 +129,12 @@ class Kills:
         tally.note(f"{case.name} was killed in more than three writes", "" if kill_at > 4 else f"in {kill_at - 1}")
 
 
-def main() -> int:
-    tally = Tally()
+def main(tally: Tally, program: str) -> None:
     with TemporaryDirectory() as folder:
-        kills = Kills(str(Path(sys.argv[1]).resolve()), Path(folder))
+        kills = Kills(str(Path(program).resolve()), Path(folder))
         for case in cases(kills.program):
             kills.try_each(case, tally)
-    return tally.end()
 
 
 if __name__ == "__main__":
-    sys.exit(main())
+    judge(main)

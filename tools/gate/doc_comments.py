@@ -8,13 +8,11 @@ Each public item of a crate that users call has one. It reads the sources alone.
 from __future__ import annotations
 
 import re
-import sys
 from pathlib import Path
 from typing import Iterator, NamedTuple
 
-from tally import Tally
+from tally import TOP, Tally, judge
 
-TOP = Path(__file__).resolve().parent.parent.parent
 LONGEST = 130
 COMMENT = re.compile(r"\s*(///|//!)(?: (.*))?$")
 ITEM = re.compile(r'\s*pub (?:extern "C" )?(?:fn|struct|enum|trait|const|static|type)\b')
@@ -25,7 +23,7 @@ OWN = ("bench_", "check_", "test_")
 
 
 class Comment(NamedTuple):
-    """A doc comment: its first line, from 1, the line after it, and the texts of its lines."""
+    """A doc comment: its first line from 1, the line after it, and its lines' texts."""
 
     first: int
     after: int
@@ -47,7 +45,7 @@ def comments(lines: list[str]) -> Iterator[Comment]:
 
 
 def fault_of(comment: Comment, lines: list[str]) -> str:
-    """What is wrong with a comment, or nothing."""
+    """Returns the fault of a comment, or an empty text."""
     summary, rest = comment.texts[0], comment.texts[1:]
     if rest and rest[0]:
         return "the summary is longer than one line"
@@ -59,7 +57,7 @@ def fault_of(comment: Comment, lines: list[str]) -> str:
 
 
 def without_comment(lines: list[str], found: list[Comment]) -> Iterator[int]:
-    """The numbers of the lines of public items that have no doc comment."""
+    """Yields the line numbers of public items without a doc comment."""
     ends = {comment.after for comment in found}
     for number, line in enumerate(lines, 1):
         before = number
@@ -70,7 +68,7 @@ def without_comment(lines: list[str], found: list[Comment]) -> Iterator[int]:
 
 
 def faults_of(source: Path) -> Iterator[str]:
-    """What is wrong in a source file, with its lines."""
+    """Yields the faults in a source file, with lines."""
     name = source.relative_to(TOP)
     lines = source.read_text().splitlines()
     found = list(comments(lines))
@@ -83,12 +81,12 @@ def faults_of(source: Path) -> Iterator[str]:
             yield f"{name}:{number}: a public item without a doc comment"
 
 
-def main() -> int:
-    tally = Tally()
+def main(tally: Tally) -> None:
     for crate in sorted(TOP.glob("crates/*/src")):
-        tally.note(crate.parent.name, *(fault for source in sorted(crate.glob("**/*.rt")) for fault in faults_of(source)))
-    return tally.end()
+        sources = sorted(crate.glob("**/*.rt"))
+        faults = [fault for source in sources for fault in faults_of(source)]
+        tally.note(crate.parent.name, *faults if sources else ["it has no source"])
 
 
 if __name__ == "__main__":
-    sys.exit(main())
+    judge(main)

@@ -9,11 +9,10 @@ from __future__ import annotations
 
 import ast
 import re
-import sys
 from pathlib import Path
 from typing import Iterator
 
-from tally import Tally
+from tally import Tally, judge
 
 TOP = Path(__file__).resolve().parents[2] / "python"
 IMPORTED = ("hingetulip/", "hinge/testing/", "hinge/net/running.py", "hinge/net/described.py")
@@ -26,7 +25,7 @@ NO_VALUE = re.compile(r"None|NoReturn|Iterator\[None\]|(?:typing\.)?Self")
 
 
 def own(node: ast.AST) -> Iterator[ast.AST]:
-    """All that a function does itself, without what it defines."""
+    """Yields a function's own nodes, without those of nested definitions."""
     for child in ast.iter_child_nodes(node):
         if not isinstance(child, (*Function, ast.ClassDef, ast.Lambda)):
             yield child
@@ -63,12 +62,10 @@ def faults(path: Path) -> Iterator[str]:
                 yield f"{place} doesn't say what it returns"
 
 
-def main() -> int:
-    tally = Tally()
+def main(tally: Tally) -> None:
     for path in sorted(path for folder in ("hinge", "hingetulip") for path in (TOP / folder).rglob("*.py")):
         tally.note(str(path.relative_to(TOP)), *faults(path))
-    return tally.end()
 
 
 if __name__ == "__main__":
-    sys.exit(main())
+    judge(main)

@@ -14,8 +14,6 @@ have changed. With --built they are taken as `rt ci` has just left them, in a cl
 from __future__ import annotations
 
 import resource
-import subprocess
-import sys
 import time
 from collections import Counter
 from concurrent.futures import ThreadPoolExecutor
@@ -24,25 +22,24 @@ from tempfile import TemporaryDirectory
 from typing import NamedTuple
 
 from machine import lanes
-from tally import Tally
+from tally import Tally, judge
 
-sys.path.insert(0, str(Path(__file__).resolve().parent.parent))
-from edits.edit import BOTH, OURS, Edit, edits_of  # noqa: E402
-from edits.kept import Kept  # noqa: E402
-from edits.prover import CRATES, PARTS, below, listed, rlib, sum_of  # noqa: E402
-from edits.trial import NotProved, Trial  # noqa: E402
-from edits.verdict import FAILS, Verdict  # noqa: E402
+from edits.edit import BOTH, OURS, Edit, edits_of
+from edits.kept import Kept
+from edits.prover import CRATES, PARTS, below, build_below, listed, rlib, sum_of
+from edits.trial import NotProved, Trial
+from edits.verdict import FAILS, Verdict
 
 
 class Asked(NamedTuple):
-    """A crate and the edits of it that are to be tried."""
+    """A crate and its edits to try."""
 
     crate: str
     edits: list[Edit]
 
 
 class Outcome(NamedTuple):
-    """What became of a crate's edits, or why they weren't tried."""
+    """The results of a crate's edits, or the reason why they weren't tried."""
 
     asked: Asked
     verdicts: dict[str, Verdict]
@@ -50,7 +47,7 @@ class Outcome(NamedTuple):
 
 
 def asked_for(words: list[str]) -> list[Asked]:
-    """All crates with edits of ours, or those that are named, the largest first."""
+    """Returns all crates with edits, or the named ones, the largest first."""
     found = []
     for crate in listed():
         edits = edits_of(CRATES / crate, BOTH if words else OURS)
@@ -62,15 +59,8 @@ def asked_for(words: list[str]) -> list[Asked]:
 
 
 def size_of(crate: str) -> int:
-    """The bytes of a crate's sources and proofs."""
+    """Returns the bytes of a crate's sources and proofs."""
     return sum(path.stat().st_size for part in PARTS for path in (CRATES / crate / part).rglob("*.*t"))
-
-
-def build_below(crate: str) -> None:
-    """Has `rt` build the libraries below a crate, where they have changed."""
-    if below(crate):
-        words = ["rt", "check", "--only", ""]
-        subprocess.run(words, cwd=CRATES / crate, stdout=subprocess.DEVNULL, stderr=subprocess.STDOUT)
 
 
 def tried(asked: Asked, is_anew: bool) -> Outcome:
@@ -107,21 +97,21 @@ def tell(outcome: Outcome, tally: Tally, kinds: "Counter[str]") -> None:
             tally.note(line, "failed")
 
 
-def main(words: list[str]) -> int:
+def main(tally: Tally, *words: str) -> None:
     names = [word for word in words if not word.startswith("--")]
-    asked, tally, kinds = asked_for(names), Tally(), Counter[str]()
-    # `rt ci` leaves no stamp, and puts the libraries that other commands built back into the place of its own.
-    if "--built" not in words or any(CRATES.glob("*/out/rlib/stamp")):
-        for one in asked:
-            build_below(one.crate)
+    asked, kinds = asked_for(names), Counter[str]()
+    found = {one.crate for one in asked} | {f"{one.crate}/{edit.name}" for one in asked for edit in one.edits}
+    for name in names:
+        if name not in found:
+            tally.note(name, "no crate with edits and no edit has this name")
+    build_below((one.crate for one in asked), "--built" in words)
     with ThreadPoolExecutor(lanes()) as pool:
         for outcome in pool.map(lambda one: tried(one, "--anew" in words), asked):
             tell(outcome, tally, kinds)
     used = resource.getrusage(resource.RUSAGE_CHILDREN)
     told = " ".join(f"{kind}={count}" for kind, count in sorted(kinds.items()))
     print(f"{used.ru_utime + used.ru_stime:.0f} s of a processor; {told}")
-    return tally.end()
 
 
 if __name__ == "__main__":
-    sys.exit(main(sys.argv[1:]))
+    judge(main)

@@ -2,9 +2,8 @@
 
     python3 tools/gate/embedding.py
 
-`./install --lib` puts the library of the present sources, as tools/release/library finds it, below a new prefix. From there the
-programs of these pages are compiled by what pkg-config says, the page's Python session and its simulation are run, and so are the
-module's own tests.
+`./install --lib` puts the library of the present sources, as tools/release/library finds it, below a new prefix. There pkg-config's
+options compile the programs in these pages, and the page's Python session, its simulation and the module's tests run.
 """
 
 from __future__ import annotations
@@ -18,9 +17,8 @@ from pathlib import Path
 from tempfile import TemporaryDirectory
 
 import pytests
-from tally import Tally
+from tally import TOP, Ran, Tally, judge, ran
 
-TOP = Path(__file__).resolve().parent.parent.parent
 PAGE = (TOP / "docs" / "EMBEDDING.md").read_text()
 MANUAL = TOP / "docs" / "hingetulip.3"
 README = TOP / "crates" / "hingetulip_c" / "README.md"
@@ -43,7 +41,6 @@ INSTALLED = [
     "share/man/man3/hingetulip.3",
 ]
 AROUND = "#include <hingetulip.h>\n#include <stdio.h>\n#include <string.h>\nint main(void)\n{\n%s\nreturn 0;\n}\n"
-Done = subprocess.CompletedProcess  # of a program that was run
 
 
 class Prefix:
@@ -60,30 +57,22 @@ class Prefix:
             "PYTHONDONTWRITEBYTECODE": "1",
         }
 
-    def run(self, *words: object) -> Done[str]:
-        return subprocess.run(
-            list(map(str, words)),
-            cwd=self.place,
-            env=self.env,
-            stdin=subprocess.DEVNULL,
-            stdout=subprocess.PIPE,
-            stderr=subprocess.STDOUT,
-            text=True,
-        )
+    def run(self, *words: object) -> Ran:
+        return ran(*words, cwd=self.place, env=self.env)
 
-    def built(self, source: Path, *flags: str) -> Done[str]:
+    def built(self, source: Path, *flags: str) -> Ran:
         """A program of a C file, built as the page says, and run."""
         compiled = self.run("sh", "-c", f'cc {" ".join(flags)} "$0" $(pkg-config --cflags --libs hingetulip) -o program', source)
         return self.run("./program") if compiled.returncode == 0 else compiled
 
 
 def blocks(language: str, page: str = PAGE) -> list[str]:
-    """The blocks of a language on the page."""
+    """Returns the page's blocks in a language."""
     return re.findall(rf"^```{language}\n(.*?)^```$", page, re.M | re.S)
 
 
 def printed_after(command: str) -> str:
-    """What the page prints under a command."""
+    """Returns the text under a command on the page."""
     found = re.search(rf"^\$ [^\n]*{re.escape(command)}[^\n]*\n((?:[^`$][^\n]*\n)*)", PAGE, re.M)
     return found[1] if found else f"the page has no command {command}"
 
@@ -128,7 +117,7 @@ def from_python(tally: Tally, prefix: Prefix) -> None:
 
 
 def manual(tally: Tally, prefix: Prefix) -> None:
-    """The manual page names all that the header declares, and mandoc has nothing to say of it."""
+    """Checks that the manual page names every declaration of the header, and that mandoc has no complaints."""
     header = "".join((prefix.folder / "include" / name).read_text() for name in ("hingetulip.h", "hingetulip_service.h"))
     text = MANUAL.read_text()
     for name in sorted(set(re.findall(r"\b(?:dn_\w+(?=\()|DN_[A-Z0-9_]+(?= = ))", header))):
@@ -160,15 +149,13 @@ def tried(tally: Tally, folder: Path, place: Path) -> None:
     manual(tally, prefix)
 
 
-def main() -> int:
-    tally = Tally()
+def main(tally: Tally) -> None:
     with TemporaryDirectory() as folder, TemporaryDirectory() as place:
         done = subprocess.run([TOP / "install", "--lib", folder], stdout=subprocess.PIPE, stderr=subprocess.STDOUT, text=True)
         tally.note("./install --lib", "" if done.returncode == 0 else done.stdout)
         if done.returncode == 0:
             tried(tally, Path(folder), Path(place))
-    return tally.end()
 
 
 if __name__ == "__main__":
-    sys.exit(main())
+    judge(main)

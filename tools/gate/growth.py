@@ -1,9 +1,16 @@
-"""What grows: lines by area, files, words, repetitions and habits, each beside its budget in tools/gate/budgets.
+"""What grows: lines by area, files, words, repetitions and habits, against an earlier commit.
 
-    python3 tools/gate/growth.py [--at REVISION]
+    python3 tools/gate/growth.py [BASE | --at REVISION]
 
-A figure above its budget fails, so that what adds also takes away. With --at only the figures of a commit are printed,
-for a column of the table in docs/inside/GATE.md.
+Lines may move, and so may words: if an area has more than at BASE, the others together must have as many fewer. Any other figure may not rise
+above BASE's, unless it stays within FINE. A change that has to add says so in its commit message, in a line for each figure:
+
+    Grows: kit 120: `hinge net --record`
+    Grows: crates 1: dn_clock
+
+BASE is by default the commit that tools/gate/landed names, which is the last one that landed: whoever begins a new round of changes writes its
+name there, in a commit of its own. So rises of a round can't hide behind its last commit, and a file that is left as it is only holds longer.
+Uncommitted changes count too. With --at only the figures of a commit are printed, for a column of the table in docs/inside/GATE.md.
 """
 
 from __future__ import annotations
@@ -17,15 +24,19 @@ from pathlib import Path
 from tempfile import TemporaryDirectory
 from typing import NamedTuple
 
-from tally import Tally
+from tally import TOP, Tally, judge
 
-TOP = Path(__file__).resolve().parents[2]
-sys.path.append(str(TOP / "tools"))
+import prose
 
-import prose  # noqa: E402
-
-BUDGETS = Path(__file__).resolve().with_name("budgets")
-LINE = re.compile(r"(?P<name>[^#:]+): (?P<most>[\d.]+)")
+LANDED = Path(__file__).with_name("landed")
+LINES = ", lines"  # how the names of the figures end that may move between areas
+FINE = {
+    "repeated in C": 1,
+    "participles in the kit, %": 1,
+    "participles in tools, %": 10,
+    "habits in pages": 2,
+}  # no reason to refuse a change
+GROWS = re.compile(r"(?P<name>.+?) (?P<most>\d+(?:\.\d+)?): \S.*")
 TESTS = "test_|check_|bench_|many_"  # how the names of crates begin that are no part of the product
 IN_A_ROW = 8  # lines that are the same in two places
 PASSED_OVER = re.compile(r"\s*(?:use|from|import|//|#) ")
@@ -47,7 +58,7 @@ AREAS = {  # by the first pattern that fits
 
 
 class Text(NamedTuple):
-    """A file that is text: its path, and its lines."""
+    """A text file: its path and lines."""
 
     name: str
     lines: list[str]
@@ -71,7 +82,7 @@ def is_python(file: Text) -> bool:
 
 
 def repeated(files: list[Text]) -> int:
-    """How many runs of lines come again, in the same or another file, without what is empty or imports."""
+    """Returns how many runs of lines repeat, in the same or another file, without blank lines and imports."""
     places: dict[int, int] = {}
     count = 0
     for file in files:
@@ -91,15 +102,20 @@ def words(files: list[Text]) -> int:
 
 
 def share_of_participles(folder: Path) -> float:
-    """The percentage of Python names that are participles."""
+    """Returns the percentage of Python names that are participles."""
     count, times = prose.participles(folder)
     return round(100 * sum(times.values()) / max(1, count), 1)
 
 
 def habits(top: Path, names: list[str]) -> float:
-    """By how much the rates of our habits are above those of manual pages."""
+    """Returns the excess of habits' rates over those of manual pages."""
     pages = prose.sentences_of(top, names).values()
     return round(prose.excess(prose.rates([sentence for page in pages for sentence in page])), 1)
+
+
+def habits_in_docstrings(files: list[Text]) -> float:
+    sentences = [sentence for file in files for sentence in prose.of_python("\n".join(file.lines))]
+    return round(prose.excess(prose.rates(sentences)), 1)
 
 
 def figures(top: Path, names: list[str]) -> dict[str, float]:
@@ -128,12 +144,8 @@ def figures(top: Path, names: list[str]) -> dict[str, float]:
         "participles in the kit, %": share_of_participles(top / "python" / "hinge"),
         "participles in tools, %": share_of_participles(top / "tools"),
         "habits in pages": habits(top, [name for name in names if name.endswith(".md")]),
+        "habits in docstrings": habits_in_docstrings([*by_area["kit"], *by_area["module"]]),
     }
-
-
-def budgets() -> dict[str, float]:
-    rows = map(LINE.fullmatch, BUDGETS.read_text().splitlines())
-    return {row["name"]: float(row["most"]) for row in rows if row}
 
 
 def printed(figure: float) -> str:
@@ -141,7 +153,7 @@ def printed(figure: float) -> str:
 
 
 def at(revision: str) -> dict[str, float]:
-    """The figures of a commit."""
+    """Returns the figures of a commit."""
     with TemporaryDirectory() as folder:
         archive = subprocess.run(["git", "archive", revision], cwd=TOP, stdout=subprocess.PIPE, check=True).stdout
         subprocess.run(["tar", "-x", "-C", folder], input=archive, check=True)
@@ -149,27 +161,62 @@ def at(revision: str) -> dict[str, float]:
         return figures(Path(folder), [str(path.relative_to(folder)) for path in paths])
 
 
-def main(arguments: list[str]) -> int:
-    if arguments[:1] == ["--at"]:
+def git(*words: str) -> str:
+    done = subprocess.run(["git", *words], cwd=TOP, capture_output=True, text=True)
+    return done.stdout.strip() if done.returncode == 0 else ""
+
+
+def base() -> str:
+    """Returns the commit to compare with; an empty text if the history lacks it, as in a clone without history."""
+    landed = LANDED.read_text().strip()
+    is_before = subprocess.run(["git", "merge-base", "--is-ancestor", landed, "HEAD"], cwd=TOP, capture_output=True).returncode == 0
+    return landed if is_before else ""
+
+
+def allowed(begin: str) -> dict[str, float]:
+    """Returns the permitted rise of each figure from the commits since then. An area's name may omit its unit."""
+    rises: dict[str, float] = {}
+    for line in git("log", "--format=%(trailers:key=Grows,valueonly)", f"{begin}..HEAD").splitlines():
+        if row := GROWS.fullmatch(line.strip()):
+            name = row["name"] + LINES * (row["name"] in AREAS)
+            rises[name] = rises.get(name, 0) + float(row["most"])
+    return rises
+
+
+def compare(tally: Tally, before: dict[str, float], now: dict[str, float], may: dict[str, float]) -> None:
+    pools = [[f"{area}{LINES}" for area in AREAS], [name for name in now if name.endswith(", words")], [f"all text{LINES}"]]
+    alone = [[name] for name in now if not any(name in pool for pool in pools)]
+    for names in [*pools, *alone]:
+        spare = sum(before[name] - now[name] + may.get(name, 0) for name in names)
+        spare += sum(may.get(name, 0) for name in pools[0]) if names == pools[2] else 0
+        rises = ", ".join(f"{name} {printed(before[name])} > {printed(now[name])}" for name in names if now[name] > before[name])
+        is_over = spare < 0 and (len(names) > 1 or now[names[0]] > FINE.get(names[0], 0))
+        advice = f"take away as much as you add, or write `Grows: {names[0]} N: REASON` in a commit"
+        tally.note(rises if is_over else names[0], f"{printed(-spare)} too many: {advice}" if is_over else "")
+    unknown = sorted(set(may) - set(now))
+    tally.note("the names behind Grows", f"no figure has the name {', '.join(unknown)}" if unknown else "")
+
+
+def main(tally: Tally, *arguments: str) -> None:
+    if arguments[:1] == ("--at",):
         print("\n".join(f"{name:28} {printed(figure):>9}" for name, figure in at(arguments[1]).items()))
-        return 0
-    tally, most = Tally(), budgets()
-    listed = subprocess.run(["git", "ls-files"], cwd=TOP, stdout=subprocess.PIPE, text=True, check=True).stdout
-    now = figures(TOP, listed.splitlines())
-    print(f"{'what':28} {'now':>9} {'budget':>9}")
-    for name, figure in now.items():
-        print(f"{name:28} {printed(figure):>9} {printed(most.get(name, 0)):>9}")
-    tally.equal("names of tools/gate/budgets", sorted(now), sorted(most))
+        sys.exit()
+    begin = arguments[0] if arguments else base()
+    now = figures(TOP, git("ls-files").splitlines())
     columns = re.search(r"^\| Figure \|(.*) \|$", (TOP / "docs" / "inside" / "GATE.md").read_text(encoding="utf-8"), re.M)
-    version = (TOP / "VERSION").read_text().strip()
     last = columns[1].rpartition("|")[2].strip() if columns else "no table"
-    tally.equal("the last column of docs/inside/GATE.md", version, last)
-    for name, figure in now.items():
-        budget = most.get(name, 0)
-        over = f"{printed(figure)} is over the budget of {printed(budget)}: take away, or raise it and say why"
-        tally.note(name, over if figure > budget else "")
-    return tally.end()
+    tally.equal("the last column of docs/inside/GATE.md", (TOP / "VERSION").read_text().strip(), last)
+    if not begin and not git("cat-file", "-t", LANDED.read_text().strip()):
+        print("nothing is compared: this clone hasn't the commit that landed; git fetch --unshallow brings it to a shallow one")
+        return
+    tally.note("a commit to compare with", "" if begin else f"there is none here: {LANDED.name} names no commit before this one")
+    if begin:
+        before = at(begin)
+        print(f"{'what':28} {git('rev-parse', '--short', begin):>9} {'now':>9}")
+        for name, figure in now.items():
+            print(f"{name:28} {printed(before[name]):>9} {printed(figure):>9}")
+        compare(tally, before, now, allowed(begin))
 
 
 if __name__ == "__main__":
-    sys.exit(main(sys.argv[1:]))
+    judge(main)

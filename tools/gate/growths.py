@@ -11,24 +11,17 @@ from __future__ import annotations
 
 import os
 import re
-import subprocess
-import sys
-from pathlib import Path
 
-from tally import Tally
+from tally import TOP, Tally, judge, ran
 
-TOP = Path(__file__).resolve().parent.parent.parent
 ENDED = re.compile(
     r"^(\S+): each of \d+ growths refused in turn, .* made again in (\d+) runs; (fails|passes) without memory$", re.M
 )
 
 
-def main(crate: str, tests: str, in_a_row: str = "1") -> int:
-    tally = Tally()
-    words = [TOP / "tools" / "gate" / "refused_growths.sh", crate, tests]
-    done = subprocess.run(
-        words, stdout=subprocess.PIPE, stderr=subprocess.STDOUT, text=True, env={**os.environ, "REFUSE_IN_A_ROW": in_a_row}
-    )
+def main(tally: Tally, crate: str, tests: str, in_a_row: str = "1") -> None:
+    script = TOP / "tools" / "gate" / "refused_growths.sh"
+    done = ran(script, crate, tests, env={**os.environ, "REFUSE_IN_A_ROW": in_a_row})
     print(done.stdout, end="")
     broken = re.findall(r"^(\S+) fails where growth ", done.stdout, re.M)
     ended = ENDED.findall(done.stdout)
@@ -41,8 +34,7 @@ def main(crate: str, tests: str, in_a_row: str = "1") -> int:
         tally.note(
             f"{crate}, {tests}, a call made again", "" if any(int(again) for _, again, _ in ended) else "no test makes one again"
         )
-    return tally.end()
 
 
 if __name__ == "__main__":
-    sys.exit(main(*sys.argv[1:]))
+    judge(main)

@@ -1,4 +1,4 @@
-"""Whether what is released in C stops when its memory is damaged: what readelf says of the hosts as they are built from these sources.
+"""The check that released C programs stop when their memory is damaged: readelf's output on the hosts as built from these sources.
 
     python3 tools/gate/hardening.py
 
@@ -10,22 +10,20 @@ from __future__ import annotations
 
 import re
 import subprocess
-import sys
 from pathlib import Path
 from tempfile import TemporaryDirectory
 
-from tally import Tally
+from tally import TOP, Tally, judge, ran
 
-TOP = Path(__file__).resolve().parent.parent.parent
 GUARD, CHECKED = "__stack_chk_fail", re.compile(r"__\w+_chk\b")
 
 
 def said(*words: str | Path) -> str:
-    return subprocess.run(words, stdout=subprocess.PIPE, text=True, check=True).stdout
+    return ran(*words, is_apart=True, check=True).stdout
 
 
 def lacking(file: Path, guarded: bool) -> list[str]:
-    """What a file lacks of the words of tools/release/hardened."""
+    """Returns the words of tools/release/hardened that a file lacks."""
     dynamic, headers, names = said("readelf", "-dW", file), said("readelf", "-lW", file), said("readelf", "--dyn-syms", "-W", file)
     found = {
         "bound before main": "NOW" in dynamic or "BIND_NOW" in dynamic,
@@ -40,8 +38,7 @@ def lacking(file: Path, guarded: bool) -> list[str]:
     return [name for name, is_there in found.items() if not is_there]
 
 
-def main() -> int:
-    tally = Tally()
+def main(tally: Tally) -> None:
     with TemporaryDirectory() as place:
         folder = Path(place)
         subprocess.run([TOP / "tools" / "release" / "hosts", folder], stdout=subprocess.DEVNULL, check=True)
@@ -55,8 +52,7 @@ def main() -> int:
             tally.equal(f"{file.name} lacks", [], lacking(file, guarded))
         library = said("readelf", "-lW", TOP / "release" / "libhingetulip.so.1")
         tally.note("data of a thread", "the library has some" if re.search(r"^ +TLS ", library, re.M) else "")
-    return tally.end()
 
 
 if __name__ == "__main__":
-    sys.exit(main())
+    judge(main)

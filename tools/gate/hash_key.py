@@ -1,5 +1,5 @@
-"""The key of the flow table's hash: whatever the system gives for it, the report and the history are the same, and where the
-system gives none, the program says so and writes nothing. The key reaches the hash in each form of the program: packets whose keys collide
+"""The key for the flow table's hash: whatever key the system gives, the report and the history are the same, and without a key from
+the system the program says so and writes nothing. The key reaches the hash in each form of the program: packets whose keys collide
 where it is 0 cost much with that key and little with another.
 
     python3 tools/gate/hash_key.py PROGRAM
@@ -13,14 +13,13 @@ from __future__ import annotations
 import os
 import shutil
 import subprocess
-import sys
 from pathlib import Path
 from tempfile import TemporaryDirectory
 
 from hostile import counted, inputs
-from tally import Tally
+from scenes import made_scenes
+from tally import Tally, judge
 
-EXAMPLES = Path(__file__).resolve().parent.parent.parent / "examples"
 # Each byte is KEY, or there are none where KEY isn't set.
 GIVEN = r"""
 #include <errno.h>
@@ -47,14 +46,10 @@ def run(program: str, words: list[str], place: str, key: dict[str, str]) -> tupl
 
 
 def forms_of_flows(program: str, place: str) -> dict[str, tuple[list[str], str]]:
-    """Each form of the program to which the key is handed, over the flows that were chosen: its words and its input."""
+    """Returns each form of the program that uses the key, over the chosen flows: its words and its input."""
     config, packets = f"{place}/config", f"{place}/packets"
-    replay, history, calls, joined = (
-        ["replay", config, packets],
-        f"{place}/chosen.history",
-        f"{place}/chosen.calls",
-        f"{place}/chosen.joined",
-    )
+    replay = ["replay", config, packets]
+    history, calls, joined = (f"{place}/chosen.{end}" for end in ("history", "calls", "joined"))
     Path(joined).write_text(f"{Path(config).read_text()}--\n{Path(packets).read_text()}")
     subprocess.run([program, *replay, "--history", history], check=True, stdout=subprocess.DEVNULL)
     told = Path(history).read_text().splitlines(keepends=True)
@@ -84,11 +79,11 @@ def count_known_key(tally: Tally, program: str, place: str) -> None:
         )
 
 
-def main(program: str) -> int:
-    tally = Tally()
-    config, packets = (str(EXAMPLES / f"weights.{end}") for end in ("config", "csv"))
-    report = (EXAMPLES / "weights.report").read_bytes()
+def main(tally: Tally, program: str) -> None:
     with TemporaryDirectory() as place:
+        scenes = made_scenes(place)
+        config, packets = (str(scenes / f"weights.{end}") for end in ("config", "csv"))
+        report = (scenes / "weights.report").read_bytes()
         history = f"{place}/history"
         words = ["replay", config, packets, "--history", history]
         subprocess.run(
@@ -106,8 +101,7 @@ def main(program: str) -> int:
         tally.equal("a history without random numbers", False, Path(history).exists())
         tally.equal("help without random numbers", 0, run(program, ["--help"], place, {})[0])
         count_known_key(tally, program, place)
-    return tally.end()
 
 
 if __name__ == "__main__":
-    sys.exit(main(sys.argv[1]))
+    judge(main)

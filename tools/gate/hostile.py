@@ -18,13 +18,10 @@ from functools import cache
 from pathlib import Path
 from tempfile import TemporaryDirectory
 
-from tally import Tally
+from tally import TOP, Tally, judge
 
-TOP = Path(__file__).resolve().parents[2]
-sys.path[:0] = [str(TOP / "tools" / "hostile")]
-
-import inputs  # noqa: E402
-import sessions  # noqa: E402
+import inputs
+import sessions
 
 COUNTED = ["valgrind", "--tool=cachegrind", "--cache-sim=no", "--cachegrind-out-file=/dev/null"]
 FEWER, MOST = 2_000, 2.3
@@ -67,7 +64,7 @@ def counted(words: list[str], stdin: str = os.devnull, status: int = 0, **more: 
 
 @cache
 def session(kind: str) -> Cost:
-    """A live session of chosen calls."""
+    """Returns the cost of a live session with chosen calls."""
 
     @cache
     def cost(program: str, count: int) -> int:
@@ -80,7 +77,7 @@ def session(kind: str) -> Cost:
 
 @cache
 def replay(kind: str, times: int = 1, status: int = 0) -> Cost:
-    """A replay of a packet file."""
+    """Returns the cost of a replay."""
 
     @cache
     def cost(program: str, count: int) -> int:
@@ -93,7 +90,7 @@ def replay(kind: str, times: int = 1, status: int = 0) -> Cost:
 
 @cache
 def lines(end: bytes) -> Cost:
-    """A live session of short calls, whose lines have this end."""
+    """Returns the cost of a live session with short calls whose lines have this end."""
 
     @cache
     def cost(program: str, count: int) -> int:
@@ -106,7 +103,7 @@ def lines(end: bytes) -> Cost:
 
 @cache
 def entries(end: bytes, quote: bytes = b"") -> Cost:
-    """An audit of the shortest entries, whose lines have this end, and whose fields stand between these quotes."""
+    """Returns the cost of an audit of the shortest entries, with these line ends and quotes."""
 
     @cache
     def cost(program: str, count: int) -> int:
@@ -188,7 +185,7 @@ def fill(path: Path, front: bytes, repeated: bytes) -> None:
 
 
 def check_audits(program: str, tally: Tally) -> None:
-    """The memory of an audit, by the program and by the library, is bounded by the length of the history."""
+    """Checks that the length of a history bounds an audit's memory, in the program and in the library."""
     ways = {"the program": [program, "audit"], "the library": [sys.executable, "-c", AUDIT_BY_LIBRARY, str(TOP / "python")]}
     with TemporaryDirectory() as folder:
         history = Path(folder) / "bad.history"
@@ -201,7 +198,7 @@ def check_audits(program: str, tally: Tally) -> None:
 
 
 def compare_memory(program: str, tally: Tally) -> None:
-    """A row of commas takes no more memory than one of letters."""
+    """Checks that a row of commas takes no more memory than a row of letters."""
     letters, commas, behind = (memory(program, *row) for row in ((b"", b"x"), (b"", b","), (b"\r\n", b",")))
     print(f"{WIDE} KiB of letters take {letters} KiB of memory, of commas {commas}, and behind an empty line {behind}")
     tally.note(
@@ -209,8 +206,7 @@ def compare_memory(program: str, tally: Tally) -> None:
     )
 
 
-def main(program: str) -> int:
-    tally = Tally()
+def main(tally: Tally, program: str) -> None:
     for name, cost in CASES.items():
         fewer, more = (cost(program, count) for count in (FEWER, 2 * FEWER))
         print(f"{FEWER} {name} take {fewer} instructions, and {2 * FEWER} take {more}: {more / fewer:.2f} times as many")
@@ -221,8 +217,7 @@ def main(program: str) -> int:
         tally.note(f"{name}, over plain ones", "" if ratio <= most else f"more than {most} times the instructions")
     compare_memory(program, tally)
     check_audits(program, tally)
-    return tally.end()
 
 
 if __name__ == "__main__":
-    sys.exit(main(sys.argv[1]))
+    judge(main)

@@ -1,4 +1,4 @@
-"""`hinge run`, `hinge net`, `hinge udp` and the example of a host: traffic of programs that run, and the audit of what came of it.
+"""`hinge run`, `hinge net`, `hinge udp` and the example host: traffic between real programs, and an audit of the result.
 
     python3 tools/gate/hosts.py PROGRAM
 
@@ -20,9 +20,8 @@ from socket import AF_INET, SOCK_DGRAM, socket
 from tempfile import TemporaryDirectory
 
 import pytests
-from tally import Tally
+from tally import TOP, Tally, judge, ran
 
-TOP = Path(__file__).resolve().parent.parent.parent
 LIVE = TOP / "examples" / "live"
 HINGE = TOP / "hinge"
 VOID, REFUSED = 75, 6  # statuses of `hinge net`: it was late, and the system doesn't allow it
@@ -38,22 +37,22 @@ NETS = {
 
 
 def environment(program: str, folder: Path) -> dict[str, str]:
-    """What names the program and the host of the present sources."""
+    """Returns the environment that names the program and the present sources' host."""
     env = {**os.environ, "DUMMYNET": program}
     return {**env, "HINGE_LINK": str(folder / "hinge-link")} if shutil.which("cc") else env
 
 
 def tests(tally: Tally, program: str, folder: Path) -> None:
-    """The tests of `hinge run`, `hinge net` and `hinge udp`, by the host of the present sources."""
+    """Runs the tests of `hinge run`, `hinge net` and `hinge udp` with the present sources' host."""
     env = environment(program, folder)
     if shutil.which("cc"):
-        done = subprocess.run([TOP / "tools" / "release" / "hosts", folder], capture_output=True, text=True)
+        done = ran(TOP / "tools" / "release" / "hosts", folder, is_apart=True)
         tally.equal("tools/release/hosts", (0, f"{folder.resolve()}/hinge-link\n", ""), (done.returncode, done.stdout, done.stderr))
     pytests.count(tally, ["tests/run"], env, *(f"--ignore={plan}" for plan in pytests.PLANS))
 
 
 def nets(tally: Tally, program: str, folder: Path) -> None:
-    """examples/net: each with what its programs find, the audit of the links and that of what is between them."""
+    """Runs examples/net: each with its programs' results, its links' audit, and its hosts' audit."""
     for name, (needed, last_line) in NETS.items():
         if shutil.which(needed) is None:
             print(f"the net {name}: skipped, since there is no {needed} on the path")
@@ -64,9 +63,9 @@ def nets(tally: Tally, program: str, folder: Path) -> None:
 def net(tally: Tally, program: str, folder: Path, name: str, last_line: str) -> None:
     env, session = environment(program, folder), folder / name
     words = [HINGE, "net", TOP / "examples" / "net" / f"{name}.net", "--transcripts", session]
-    net = subprocess.run(words, env=env, capture_output=True, text=True, timeout=300)
+    net = ran(*words, env=env, is_apart=True, timeout=300)
     if net.returncode != REFUSED and net.stdout.splitlines()[-1:] != [last_line]:  # of a machine that may be too busy for it
-        net = subprocess.run([*words, "--late", "5ms"], env=env, capture_output=True, text=True, timeout=300)
+        net = ran(*words, "--late", "5ms", env=env, is_apart=True, timeout=300)
     if net.returncode == VOID:
         print(f"the net {name}: skipped, as this machine is too busy: {net.stderr.splitlines()[-1]}")
         return
@@ -74,15 +73,19 @@ def net(tally: Tally, program: str, folder: Path, name: str, last_line: str) -> 
         print(f"the net {name}: skipped: {net.stderr.strip()}")
         return
     tally.equal(f"the net {name}", (0, last_line), (net.returncode, (net.stdout.splitlines() or [net.stderr])[-1]))
-    audit = subprocess.run([program, "audit", session / "net.history"], capture_output=True, text=True)
+    audit = ran(program, "audit", session / "net.history")
     tally.equal("the audit of its links", (0, "lawful"), (audit.returncode, audit.stdout.partition(" ")[0]))
-    if subprocess.run(["/usr/bin/python3", "-c", "import numpy"], capture_output=True).returncode == 0:
-        paths = subprocess.run([HINGE, "look", session], env=env, capture_output=True, text=True)
-        tally.equal(
-            "the audit of what is between them",
-            (0, "lawful between links"),
-            (paths.returncode, (paths.stdout.splitlines() or [paths.stderr])[-1]),
-        )
+    if ran("/usr/bin/python3", "-c", "import numpy").returncode == 0:
+        paths = ran(HINGE, "look", session, env=env, is_apart=True)
+        if paths.returncode:  # of a machine that may have been too busy for the words of the file
+            print(f"the net {name}: made once more, since hinge look said: {paths.stdout.splitlines()[:2]}")
+            net = ran(*words, "--late", "5ms", env=env, is_apart=True, timeout=300)
+            if net.returncode == VOID:
+                print(f"the net {name}: skipped, as this machine is too busy: {net.stderr.splitlines()[-1]}")
+                return
+            paths = ran(HINGE, "look", session, env=env, is_apart=True)
+        last = (paths.stdout.splitlines() or [paths.stderr])[-1]
+        tally.equal("the audit of what is between them", (0, "lawful between links"), (paths.returncode, last))
 
 
 def free_port() -> int:
@@ -125,16 +128,14 @@ def example(tally: Tally, program: str, folder: Path) -> None:
 
 
 def page(tally: Tally, program: str, folder: Path) -> None:
-    """What the pages show of a session in Python and of one without a clock is what they print."""
+    """Checks the pages' output of a session in Python, and of a session without a clock."""
     text = (TOP / "docs" / "EMBEDDING.md").read_text()
     [(source, printed)] = re.findall(r"```\n(from session .*?)```\n\n```\n(.*?)```", text, re.S)
-    done = subprocess.run(
-        [sys.executable, "-c", source], cwd=LIVE, env={**os.environ, "DUMMYNET": program}, capture_output=True, text=True
-    )
+    done = ran(sys.executable, "-c", source, cwd=LIVE, env={**os.environ, "DUMMYNET": program}, is_apart=True)
     tally.equal("the session in Python", (printed, ""), (done.stdout, done.stderr))
     text = (TOP / "docs" / "FILES.md").read_text()
     [(source, printed)] = re.findall(r"\$ ./dummynet live <<END\n(.*?)END\n(.*?)```", text, re.S)
-    done = subprocess.run([program, "live"], input=source, capture_output=True, text=True)
+    done = ran(program, "live", input=source, is_apart=True)
     tally.equal("the session without a clock", (0, printed, ""), (done.returncode, done.stdout, done.stderr))
 
 
@@ -153,20 +154,21 @@ def cut(tally: Tally, program: str, folder: Path) -> None:
     """The page's command keeps the whole entries of a transcript that was cut."""
     [command] = re.findall(r"^\$ (awk .*?) session\.history > front", (TOP / "docs" / "LIVE.md").read_text(), re.M | re.S)
     (folder / "session.history").write_text(CUT)
-    done = subprocess.run(["sh", "-c", f"{command} session.history > front.history"], cwd=folder, capture_output=True, text=True)
+    done = ran("sh", "-c", f"{command} session.history > front.history", cwd=folder, is_apart=True)
     tally.equal("the page's command for a cut transcript", (0, ""), (done.returncode, done.stderr))
-    done = subprocess.run([program, "audit", folder / "front.history"], capture_output=True, text=True)
+    done = ran(program, "audit", folder / "front.history")
     tally.equal("the audit of its whole entries", (0, "lawful 2\n"), (done.returncode, done.stdout))
 
 
 def in_c(tally: Tally, program: str, folder: Path) -> None:
-    """bench/live.c, a session by session.h: of 1,000 packets at 0, 0.1 .. 99.9 ms, each of which takes 5.08 ms, the last 51 aren't there."""
+    """Runs bench/live.c, a session with session.h: of 1,000 packets at 0, 0.1 .. 99.9 ms that take 5.08 ms each, 51 don't arrive in
+    time."""
     if shutil.which("cc") is None:
         print("a session in C: skipped, since there is no cc on the path")
         return
-    done = subprocess.run([*STRICT, "-o", folder / "live", TOP / "bench" / "live.c"], capture_output=True, text=True)
+    done = ran(*STRICT, "-o", folder / "live", TOP / "bench" / "live.c", is_apart=True)
     tally.equal("live.c compiled", (0, ""), (done.returncode, done.stderr))
-    done = subprocess.run([folder / "live", "1000"], env={**os.environ, "DUMMYNET": program}, capture_output=True, text=True)
+    done = ran(folder / "live", "1000", env={**os.environ, "DUMMYNET": program})
     tally.equal("live.c", (0, "949 delivered"), (done.returncode, done.stdout.strip().rpartition(", ")[2]))
 
 
@@ -199,21 +201,14 @@ LINES = [  # a configuration line as a file has it, and what a host by session.h
 
 
 def lines_in_c(tally: Tally, program: str, folder: Path) -> None:
-    """Lines of every kind, each told apart and none waited for in vain."""
+    """Checks that lines of every kind are told apart, without waiting."""
     if shutil.which("cc") is None:
         print("configuration lines of a session in C: skipped, since there is no cc on the path")
         return
-    done = subprocess.run(
-        [*STRICT, "-o", folder / "lines", TOP / "tools" / "gate" / "session_lines.c"], capture_output=True, text=True
-    )
+    done = ran(*STRICT, "-o", folder / "lines", TOP / "tools" / "gate" / "session_lines.c", is_apart=True)
     tally.equal("session_lines.c compiled", (0, ""), (done.returncode, done.stderr))
-    session = subprocess.run(
-        [folder / "lines"],
-        env={**os.environ, "DUMMYNET": program},
-        input=b"\n".join(line for line, _ in LINES),
-        stdout=subprocess.PIPE,
-        timeout=120,
-    )
+    lines = b"\n".join(line for line, _ in LINES)
+    session = ran(folder / "lines", env={**os.environ, "DUMMYNET": program}, input=lines, timeout=120, stderr=None, text=False)
     told = session.stdout.decode().splitlines()
     for (line, wanted), got in zip(LINES, told):
         tally.equal(f"{line!r} by session.h", f"{wanted}; #,next", got)
@@ -240,28 +235,20 @@ def lines_in_python(tally: Tally, program: str, folder: Path) -> None:
         for line, wanted in [*LINES, (b"pipe 1 config\npipe 2 config", "more than one line")]
         if b"\xff" not in line
     ]
-    done = subprocess.run(
-        [sys.executable, "-c", IN_PYTHON],
-        cwd=LIVE,
-        env={**os.environ, "DUMMYNET": program},
-        input=repr([line for line, _ in lines]),
-        capture_output=True,
-        text=True,
-        timeout=120,
-    )
+    env, text = {**os.environ, "DUMMYNET": program}, repr([line for line, _ in lines])
+    done = ran(sys.executable, "-c", IN_PYTHON, cwd=LIVE, env=env, input=text, is_apart=True, timeout=120)
     tally.equal("the session in Python at its end", (0, "", len(lines)), (done.returncode, done.stderr, done.stdout.count("\n")))
     for (line, wanted), got in zip(lines, done.stdout.splitlines()):
         tally.equal(f"{line!r} by session.py", f"{wanted.replace('-', ' ')}; next", got)
 
 
-def main(program: str) -> int:
+def main(tally: Tally, program: str) -> None:
+    program = str(Path(program).resolve())
     signal.signal(signal.SIGINT, signal.default_int_handler)  # which a shell ignores for what it starts in the background
-    tally = Tally()
     with TemporaryDirectory() as folder:
         for part in (page, cut, example, in_c, lines_in_c, lines_in_python, tests, nets):
             part(tally, program, Path(folder))
-    return tally.end()
 
 
 if __name__ == "__main__":
-    sys.exit(main(str(Path(sys.argv[1]).resolve())))
+    judge(main)

@@ -15,17 +15,15 @@ import os
 import re
 import shlex
 import shutil
-import subprocess
 import sys
 from hashlib import sha256
 from pathlib import Path
 from tempfile import TemporaryDirectory
 from typing import Iterator, Optional
 
-from tally import Tally
+from tally import TOP, Ran, Tally, judge, ran
 from version import found, spelled
 
-TOP = Path(__file__).resolve().parent.parent.parent
 VERSION = (TOP / "VERSION").read_text().strip()
 LEAST = {"docs/CAPTURE.md": 20, "docs/FILES.md": 1, "README.md": 1, "examples/README.md": 1}  # commands of a page
 RUN = ("hinge", "dummynet", "echo", "printf")
@@ -48,27 +46,18 @@ target_link_libraries(shared Hingetulip::Hingetulip)
 add_executable(static first.c)
 target_link_libraries(static Hingetulip::static)
 """
-Done = subprocess.CompletedProcess
 
 
-def run(*words: object, cwd: Path = TOP, **more: str) -> Done[str]:
+def run(*words: object, cwd: Path = TOP, **more: str) -> Ran:
     env = {**os.environ, **more}
     for name in ("DUMMYNET", "PYTHONPATH", "HINGETULIP_LIBRARY"):
         if name not in more:
             env.pop(name, None)
-    return subprocess.run(
-        list(map(str, words)),
-        cwd=cwd,
-        env=env,
-        stdin=subprocess.DEVNULL,
-        stdout=subprocess.PIPE,
-        stderr=subprocess.STDOUT,
-        text=True,
-    )
+    return ran(*words, cwd=cwd, env=env)
 
 
 def done(tally: Tally, name: str, *words: object, cwd: Path = TOP, wanted: int = 0, **more: str) -> str:
-    """What a command prints, which has to end with the wanted status."""
+    """Returns a command's output; its status must be the expected one."""
     it = run(*words, cwd=cwd, **more)
     tally.note(name, "" if it.returncode == wanted else f"status {it.returncode}: {it.stdout[-2000:]}")
     return it.stdout
@@ -79,7 +68,7 @@ def status() -> str:
 
 
 def copied(place: Path, program: str) -> Path:
-    """A copy of the repository, with a release of this program and of the library that tools/release/library finds."""
+    """Returns a copy of the repository, released with this program and the library from tools/release/library."""
     copy = place / "repository"
     names = run("git", "ls-files", "-co", "--exclude-standard").stdout.splitlines()
     for name in names:
@@ -116,7 +105,7 @@ def python() -> Optional[str]:
 
 
 def joined(block: str) -> Iterator[str]:
-    """The commands of a block: its lines after `$ `, or all of them where none has that, with the lines that go on."""
+    """Yields the commands of a block: its lines after `$ `, or all lines if none begins so, with continuation lines."""
     lines = re.sub(r"\\\n *", "", block).splitlines()
     prompts = [line[2:] for line in lines if line.startswith("$ ")]
     yield from prompts or lines
@@ -127,8 +116,8 @@ def is_tried(line: str) -> bool:
 
 
 def commands(page: str) -> list[str]:
-    """The commands of a page that are tried, as they are called where hinge and dummynet are installed: those of a block up to the first
-    that isn't tried, since what comes behind it may need it."""
+    """Returns the commands of a page that are tried, in their installed form: for each block those before the first one that isn't
+    tried, since later ones may depend on it."""
     found: list[str] = []
     for block in re.findall(r"^```\w*\n(.*?)^```$", (TOP / page).read_text(), re.M | re.S):
         lines = [re.sub(r"(^|[ (|])\./(hinge|dummynet)\b", r"\1\2", line.partition("    #")[0]) for line in joined(block)]
@@ -155,7 +144,7 @@ def pages(tally: Tally, place: Path, folder: Path) -> None:
 
 
 def behind_a_link(tally: Tally, place: Path, folder: Path) -> None:
-    """The command of README that runs a ping behind a link, where the system lets a user make one."""
+    """Runs README's ping behind a link, if users may create links here."""
     [line] = re.findall(r"^\$ (hinge run (?!--simulated).* ping .*)$", (TOP / "README.md").read_text(), re.M)
     it = run("sh", "-c", line, cwd=folder, PATH=f"{place}/bin:{os.environ['PATH']}")
     if shutil.which("ping") is None or it.returncode == 6:
@@ -165,7 +154,7 @@ def behind_a_link(tally: Tally, place: Path, folder: Path) -> None:
 
 
 def simulated(tally: Tally, hinge: Path, place: Path) -> None:
-    """A run in simulated time with what was installed and nothing else: this user has built no kernel."""
+    """Runs a command in simulated time with only the installation: this user has built no kernel."""
     names = {"XDG_CACHE_HOME": str(place / "no cache"), "HINGE_KERNEL": ""}
     told = done(tally, "an hour", hinge, "run", "--simulated", "--", "sleep", "3600", cwd=place, **names)
     tally.note("an hour's line", "" if "simulated 3600.0" in told else told)
@@ -176,7 +165,7 @@ def leftover(folder: Path) -> list[str]:
 
 
 def wheel(tally: Tally, copy: Path, place: Path) -> None:
-    """The same bytes twice, and none of a release of other sources."""
+    """Checks that the wheel is reproducible, and that a release of other sources is refused."""
     sums = []
     for name in ("one", "other"):
         (place / name).mkdir()
@@ -196,6 +185,14 @@ def wheel(tally: Tally, copy: Path, place: Path) -> None:
         file.write_text(kept)
 
 
+def try_hinge(tally: Tally, hinge: Path, place: Path) -> None:
+    """Checks an installed hinge's version, and that it prints a page."""
+    page = (TOP / "docs" / "LIVE.md").read_text()
+    for words, wanted in ((["--version"], f"hinge {VERSION}\n"), (["docs", "LIVE"], page)):
+        told = done(tally, f"{hinge} {words[0]}", hinge, *words, cwd=place)
+        tally.equal(f"what {hinge} {words[0]} prints", wanted, told)
+
+
 def by_pip(tally: Tally, copy: Path, place: Path) -> None:
     """An installation in a virtual environment, the pages from there, and an uninstall; then one that leads to the clone."""
     venv, interpreter = place / "venv", python()
@@ -208,9 +205,7 @@ def by_pip(tally: Tally, copy: Path, place: Path) -> None:
     where = "import hingetulip, hinge; print(hingetulip.LIBRARY, hinge.__file__)"
     library, modules = done(tally, "import", own, "-c", where, cwd=place).split()
     tally.equal("where the modules are", 2, f"{library} {modules}".count(f"{venv}/"))
-    tally.equal("hinge --version", f"hinge {VERSION}\n", done(tally, "hinge", venv / "bin" / "hinge", "--version", cwd=place))
-    told = done(tally, "hinge docs", venv / "bin" / "hinge", "docs", "LIVE", cwd=place)
-    tally.equal("a page by pip", (TOP / "docs" / "LIVE.md").read_text(), told)
+    try_hinge(tally, venv / "bin" / "hinge", place)
     for module, name, where_it_is in (
         ("program", "dummynet", "bin/dummynet"),
         ("program", "clock", f"{Path(modules).parent}/hinge-clock.so"),
@@ -235,7 +230,7 @@ def by_pip(tally: Tally, copy: Path, place: Path) -> None:
 
 
 def by_each_python(tally: Tally, copy: Path, place: Path) -> None:
-    """The same of each Python that the package promises, as far as this machine has it."""
+    """Checks the wheel with each supported Python on this machine."""
     for minor in range(9, 14):
         own = [f"python3.{minor}", *map(str, Path.home().glob(f".pyenv/versions/3.{minor}.*/bin/python3"))]
         interpreter = next((it for it in own if shutil.which(it) and run(it, "-c", "import ensurepip").returncode == 0), None)
@@ -244,32 +239,16 @@ def by_each_python(tally: Tally, copy: Path, place: Path) -> None:
             print(f"Python 3.{minor}: skipped, since it isn't there, or has no pip")
             continue
         done(tally, f"an environment of {interpreter}", interpreter, "-m", "venv", venv)
-        done(
-            tally,
-            f"pip install by {interpreter}",
-            venv / "bin" / "pip",
-            "-q",
-            "--disable-pip-version-check",
-            "install",
-            "--no-index",
-            copy / "python",
-        )
-        told = done(
-            tally,
-            f"import by {interpreter}",
-            venv / "bin" / "python",
-            "-c",
-            "import hingetulip.aio as it; print(it.__file__)",
-            cwd=place,
-        )
+        pip = [venv / "bin" / "pip", "-q", "--disable-pip-version-check", "install", "--no-index"]
+        done(tally, f"pip install by {interpreter}", *pip, copy / "python")
+        script = "import hingetulip.aio as it; print(it.__file__)"
+        told = done(tally, f"import by {interpreter}", venv / "bin" / "python", "-c", script, cwd=place)
         tally.note(f"the module by {interpreter}", "" if told.startswith(f"{venv}/") else told)
-        tally.equal(
-            f"hinge by {interpreter}", f"hinge {VERSION}\n", done(tally, "hinge", venv / "bin" / "hinge", "--version", cwd=place)
-        )
+        try_hinge(tally, venv / "bin" / "hinge", place)
 
 
 def glibc(tally: Tally, copy: Path, place: Path) -> None:
-    """What is released needs no later glibc than the wheel's tag and the packages say: 2.34."""
+    """Checks that the released files need no later glibc than the wheel's tag and the packages declare: 2.34."""
     for name in ("dummynet", "libhingetulip.so.1", "hinge-link", "hinge-packets", "hinge-clock.so"):
         file = copy / "release" / name
         if file.is_file():
@@ -304,54 +283,38 @@ def with_pkg_config(tally: Tally, prefix: Path, lib: str, place: Path) -> None:
     done(tally, "cc", "cc", TOP / "examples" / "embed" / "first.c", *shlex.split(flags), "-o", program)
     told = done(tally, "first", program, LD_LIBRARY_PATH=f"{prefix}/{lib}")
     tally.equal(f"first.c by pkg-config from {lib}", 7, told.count("\n"))
-    tally.equal(
-        "the version by pkg-config",
-        f"{VERSION}\n",
-        done(tally, "pkg-config", "pkg-config", "--modversion", "hingetulip", PKG_CONFIG_PATH=path),
-    )
+    told = done(tally, "pkg-config", "pkg-config", "--modversion", "hingetulip", PKG_CONFIG_PATH=path)
+    tally.equal("the version by pkg-config", f"{VERSION}\n", told)
 
 
 def in_prefix(tally: Tally, copy: Path, place: Path) -> None:
-    """./install --all, as it is and as a package of Debian has it, and --uninstall."""
+    """Checks ./install --all, as it is and in the form for Debian's package, and --uninstall."""
     prefix, root = place / "a prefix", place / "root"
     done(tally, "./install --all", copy / "install", "--all", prefix)
-    tally.equal("hinge in a prefix", f"hinge {VERSION}\n", done(tally, "hinge", prefix / "bin" / "hinge", "--version", cwd=place))
-    told = done(tally, "hinge docs", prefix / "bin" / "hinge", "docs", "LIVE", cwd=place)
-    tally.equal("a page in a prefix", (TOP / "docs" / "LIVE.md").read_text(), told)
-    module = done(
-        tally,
-        "the module",
-        sys.executable,
-        "-B",
-        "-c",
-        "import hingetulip; print(hingetulip.LIBRARY)",
-        cwd=place,
-        PYTHONPATH=f"{prefix}/lib/python",
-    )
-    tally.equal("its library", f"{prefix}/lib/libhingetulip.so.1\n", module)
-    tally.equal(
-        "the program",
-        f"dummynet {VERSION}",
-        " ".join(done(tally, "dummynet", prefix / "bin" / "dummynet", "--version").split()[:2]),
-    )
+    try_hinge(tally, prefix / "bin" / "hinge", place)
+    python, script = [sys.executable, "-B", "-c"], "import hingetulip; print(hingetulip.LIBRARY)"
+    told = done(tally, "the module", *python, script, cwd=place, PYTHONPATH=f"{prefix}/lib/python")
+    tally.equal("its library", f"{prefix}/lib/libhingetulip.so.1\n", told)
+    told = done(tally, "dummynet", prefix / "bin" / "dummynet", "--version")
+    tally.equal("the program", f"dummynet {VERSION}", " ".join(told.split()[:2]))
     simulated(tally, prefix / "bin" / "hinge", place)
     with_cmake(tally, prefix, place)
     where_installed(tally, prefix)
     trees = [contents(prefix)]
+    for part in ("--all", "", "--lib"):
+        older = [prefix / "lib" / "python" / name / "older.py" for name in ("hinge", "hingetulip")]
+        with open(prefix / "share" / "hingetulip" / "installed", "a") as noted:
+            for path in older:
+                path.write_text(""), print(path.relative_to(prefix), file=noted)
+        done(tally, f"./install {part} over an older version", copy / "install", *[part] * bool(part), prefix)
+        stay = {"--all": [], "": older[1:], "--lib": older[:1]}[part]
+        tally.equal(f"what ./install {part} leaves of it", stay, [path for path in older if path.exists()])
     done(tally, "./install --all once more", copy / "install", "--all", prefix)
-    tally.equal("./install twice", trees[0], contents(prefix))
+    tally.equal("./install more than once", trees[0], contents(prefix))
     done(tally, "./install without a folder", copy / "install", wanted=2)
     uninstalled(tally, copy, prefix)
-    done(
-        tally,
-        "./install below DESTDIR",
-        copy / "install",
-        "--all",
-        "/usr",
-        DESTDIR=str(root),
-        LIBDIR=MULTIARCH,
-        PYTHONDIR="lib/python3/dist-packages",
-    )
+    places = {"DESTDIR": str(root), "LIBDIR": MULTIARCH, "PYTHONDIR": "lib/python3/dist-packages"}
+    done(tally, "./install below DESTDIR", copy / "install", "--all", "/usr", **places)
     with_pkg_config(tally, root / "usr", MULTIARCH, place)
     tally.equal("a list of what is installed below DESTDIR", False, (root / "usr" / "share" / "hingetulip" / "installed").exists())
 
@@ -361,7 +324,7 @@ def contents(prefix: Path) -> dict[str, bytes]:
 
 
 def where_installed(tally: Tally, prefix: Path) -> None:
-    """All that tells a version tells that of the file VERSION."""
+    """Checks that every version is that of the file VERSION."""
     for name, pattern in VERSIONS.items():
         tally.equal(f"the version in {name}", VERSION, found(prefix / name, pattern))
     number = ctypes.CDLL(str(prefix / "lib" / "libhingetulip.so.1")).dn_version()
@@ -369,7 +332,7 @@ def where_installed(tally: Tally, prefix: Path) -> None:
 
 
 def uninstalled(tally: Tally, copy: Path, prefix: Path) -> None:
-    """./install --uninstall takes away what was put there and its byte code, and leaves a file of the user's own."""
+    """Checks that ./install --uninstall removes what it installed and its byte code, and leaves a user's file."""
     (prefix / "lib" / "own").write_text("")
     kept = prefix / "lib" / "python" / "hingetulip" / "__pycache__"
     kept.mkdir(exist_ok=True)
@@ -402,7 +365,7 @@ def as_packages(tally: Tally, copy: Path, place: Path) -> None:
 
 
 def symbols(tally: Tally, copy: Path, place: Path) -> None:
-    """The library's package names each symbol with the version that the library gives it."""
+    """Checks that the library's package lists each symbol with its version in the library."""
     done(tally, "dpkg-deb -e", "dpkg-deb", "-e", place / "debs" / f"libhingetulip1_{VERSION}-1_amd64.deb", place / "control")
     told = (place / "control" / "symbols").read_text().splitlines()[1:]
     names = run("nm", "-D", "--defined-only", "--with-symbol-versions", copy / "release" / "libhingetulip.so.1").stdout
@@ -410,8 +373,7 @@ def symbols(tally: Tally, copy: Path, place: Path) -> None:
     tally.equal("symbols of the library's package", sorted(wanted), told)
 
 
-def main(program: str) -> int:
-    tally = Tally()
+def main(tally: Tally, program: str) -> None:
     before = status()
     with TemporaryDirectory() as folder:
         place = Path(folder)
@@ -420,8 +382,7 @@ def main(program: str) -> int:
         for part in (glibc, wheel, by_pip, by_each_python, in_prefix, as_packages):
             part(tally, copy, place)
     tally.equal("git status of the clone", before, status())
-    return tally.end()
 
 
 if __name__ == "__main__":
-    sys.exit(main(sys.argv[1]))
+    judge(main)

@@ -9,12 +9,11 @@ The memory is the most that stood in it, beside inputs that hold the most for th
 from __future__ import annotations
 
 import os
-import sys
 from pathlib import Path
 from tempfile import TemporaryDirectory
 
 from hostile import inputs, peak
-from tally import Tally
+from tally import Tally, judge
 
 MIB = 1 << 20
 # By name: the kind of an input, how many MiB it has, the command, and the most MiB of memory that it may take.
@@ -24,16 +23,15 @@ CASES = {
 }
 
 
-def main(program: str) -> int:
-    tally = Tally()
+def main(tally: Tally, program: str) -> None:
+    program = os.path.abspath(program)
     for name, (kind, size, words, most) in CASES.items():
         with TemporaryDirectory() as folder:
             inputs.write(kind, size * MIB, Path(folder))
             taken = peak([program, words[0], *(f"{folder}/{word}" for word in words[1:])]) // 1024
         print(f"{name} of {size} MiB takes {taken} MiB")
         tally.note(name, "" if taken <= most else f"more than {most} MiB")
-    return tally.end()
 
 
 if __name__ == "__main__":
-    sys.exit(main(os.path.abspath(sys.argv[1])))
+    judge(main)

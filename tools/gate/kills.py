@@ -1,10 +1,11 @@
-"""Kills the kit's commands that write, at random moments: a file is as it was or as it shall be, and nothing else is left.
+"""Kills the kit's commands at random moments. A file that they write is as it was or as it shall be, and nothing else is left.
 
     python3 tools/gate/kills.py [--seed N] [KILLS]
 
-KILLS are tried in all (40), one in two by SIGKILL, at moments of a command's time that the seed draws. The seed follows from the sources of the
-kit, or is N, or a new one by `--seed fresh`. What a killed process leaves among the temporary files, its next run takes away, once the programs
-that the process had started have ended too. Each command has to write the same bytes twice, since there is no telling else whether a file is whole.
+KILLS of the commands that write are tried in all (40), one in two by SIGKILL, at moments of a command's time that the seed draws, and a quarter
+as many of live links, all by SIGKILL. The seed follows from the sources of the kit, or is N, or a new one by `--seed fresh`. The next run removes
+the temporary files, sockets and cgroups of a killed process, once the programs that the process had started have ended too, which they do by
+themselves. Each command has to write the same bytes twice, since there is no telling else whether a file is whole.
 """
 
 from __future__ import annotations
@@ -23,36 +24,39 @@ from contextlib import suppress
 from pathlib import Path
 
 import seeds
-from tally import Tally
+from tally import TOP, Tally, judge
 
-TOP = Path(__file__).resolve().parents[2]
 CAPTURE = TOP / "python" / "tests" / "kit_data" / "mixed.pcap"
 HINGE = [sys.executable, str(TOP / "hinge")]
 OLD = b"old\n"
-LONG_AGO = 3600  # s
 PR_SET_CHILD_SUBREAPER = 36
-INPUTS = [
-    ["packets", str(CAPTURE), "-o", "p.csv", "--index", "i.csv"],
-    ["sweep", "plan", "study", "p.csv", "c", "--set", "bw=1Mbit/s,2Mbit/s"],
-    ["sweep", "run", "study", "-P", "1"],
-]
+INPUT = ["packets", str(CAPTURE), "-o", "p.csv", "--index", "i.csv"]
 COMMANDS = {  # with what each writes
     "packets": (["packets", str(CAPTURE), "-o", "out.csv", "--index", "out.index"], ["out.csv", "out.index"]),
     "capture": (["look", "p.csv", "r", "--capture", str(CAPTURE), "--index", "i.csv", "-o", "out.pcap"], ["out.pcap"]),
     "look": (["look", "p.csv", "r", "-o", "out.html"], ["out.html"]),
     "picture": (["look", "p.csv", "r", "-o", "out.svg"], ["out.svg"]),
-    "gather": (["sweep", "gather", "study", "-o", "out.csv"], ["out.csv"]),
-    "sweep": (["sweep", "run", "study", "1", "2"], ["study/run-1.csv", "study/run-2.csv"]),
-    "plan": (
-        ["sweep", "plan", "study", "p.csv", "c", "--set", "bw=1Mbit/s,2Mbit/s"],
-        ["study/study.json", "study/link.config", "study/packets.csv"],
-    ),
     "ipfw": (["ipfw", "s.sh", "-o", "out.config"], ["out.config"]),
 }
+HOST = f"host-{os.getpid()}"  # by whose name its cgroups are known
+NETS = {
+    "n.net": f"host {HOST} sleep 0.3\nhost b\nlink {HOST} b 1ms\n",
+    "w.net": f"host {HOST} sleep 99\nhost b\nlink {HOST} b\nwait b port 7 99s\n",
+}
+CONTROL, AFTER = ["--quiet", "--control", "socket"], ["net", "n.net", "--quiet", "--control", "socket"]
+LIVE = {
+    "a run": ["run", *CONTROL, "--link", "1ms", "--", "sleep", "0.3"],
+    "a run with ways out": ["run", *CONTROL, "--link", "1ms", "--to", "8000", "--", "sleep", "0.3"],
+    "a net": AFTER,
+    "a net that waits in the background": ["up", "w.net", "--name", "killed"],
+    "a path": ["udp", "0", "9", *CONTROL],
+    "simulated time": ["run", "--simulated", "--quiet", "--seed", "1", "--link", "1ms", "--", "sleep", "1"],
+}
+LONGEST_LEFT = 20.0  # s for which a process may outlive the one that was killed
 
 
 class Place:
-    """A folder with the inputs of all commands, and one for temporary files."""
+    """A folder with all commands' inputs, and one for temporary files."""
 
     def __init__(self, folder: Path, program: str) -> None:
         self.folder, self.temporary = folder / "work", folder / "temporary"
@@ -60,13 +64,16 @@ class Place:
         self.environment = {
             **os.environ,
             "TMPDIR": str(self.temporary),
+            "XDG_RUNTIME_DIR": str(folder / "runtime"),
             "DUMMYNET": program,
             "MPLCONFIGDIR": str(folder / "matplotlib"),
         }
-        (self.folder / "c").write_text("pipe 1 config bw {bw}\n"), (self.folder / "d").write_text("pipe 1 config bw 1Mbit/s\n")
+        (self.folder / "d").write_text("pipe 1 config bw 1Mbit/s\n")
         (self.folder / "s.sh").write_text("ipfw pipe 1 config bw 1Mbit/s\n")
-        for words in INPUTS:
-            self.run(words)
+        (folder / "runtime").mkdir()
+        for name, text in NETS.items():
+            (self.folder / name).write_text(text)
+        self.run(INPUT)
         with open(self.folder / "r", "wb") as report:
             subprocess.run([program, "replay", "d", "p.csv"], cwd=self.folder, stdout=report, check=True)
 
@@ -76,7 +83,7 @@ class Place:
         )
 
     def run(self, words: list[str]) -> float:
-        """The seconds that a command takes."""
+        """Runs a command; returns its seconds."""
         begun = time.monotonic()
         told = (process := self.start(words)).communicate()[1]
         assert process.returncode == 0, f"{' '.join(words)}: {told.decode()}"
@@ -89,15 +96,28 @@ class Place:
         return [(self.folder / name).read_bytes() for name in names]
 
     def left(self) -> list[str]:
-        """What is among the temporary files, made old, so that no live process can be meant."""
-        names = sorted(os.listdir(self.temporary))
-        for name in names:
-            os.utime(self.temporary / name, (time.time() - LONG_AGO,) * 2)
-        return names
+        """Returns the temporary files."""
+        return sorted(os.listdir(self.temporary))
+
+    def processes(self) -> list[str]:
+        """Returns the programs that run with this place's folder for temporary files."""
+        found = []
+        for process in filter(str.isdecimal, os.listdir("/proc")):
+            with suppress(OSError):
+                if f"TMPDIR={self.temporary}".encode() in Path("/proc", process, "environ").read_bytes().split(b"\0"):
+                    found.append(Path("/proc", process, "comm").read_text().strip())
+        return found
+
+    def left_live(self) -> list[str]:
+        """Returns temporary files, sockets, cgroups and mounts."""
+        names = [*self.temporary.iterdir(), *self.folder.glob("socket"), *self.temporary.parent.glob("runtime/hinge/*")]
+        cgroups = [place for place in Path("/sys/fs/cgroup").glob(f"**/hinge-*-{HOST}")]
+        mounts = [line for line in Path("/proc/self/mountinfo").read_text().splitlines() if str(self.folder.parent) in line]
+        return [*map(str, names), *map(str, cgroups), *mounts]
 
 
 def killed(place: Place, words: list[str], after: float, number: int) -> bool:
-    """Whether the signal came before a command's end."""
+    """Returns whether the signal came before the command's end."""
     process = place.start(words)
     time.sleep(after)
     process.send_signal(number)
@@ -129,13 +149,41 @@ def faults_of(place: Place, words: list[str], outputs: list[str], new: list[byte
     return found
 
 
-def main() -> int:
+def live_faults(place: Place, words: list[str], after: float) -> list[str]:
+    """Kills a live command, and looks for what stays: processes at once, and all else after the next command."""
+    process = place.start(words)
+    time.sleep(after)
+    process.kill()
+    until = time.monotonic() + LONGEST_LEFT
+    while (programs := place.processes()) and time.monotonic() < until:
+        with suppress(ChildProcessError):
+            os.waitpid(-1, os.WNOHANG)
+        time.sleep(0.02)
+    process.communicate()
+    if programs:
+        return [f"processes stay: {' '.join(programs)}"]
+    place.run(AFTER)
+    return [f"stays: {one}" for one in place.left_live()]
+
+
+def kill_live(place: Place, count: int, rng: random.Random, tally: Tally) -> None:
+    if place.start(AFTER).wait() != 0:
+        print("this user may make no namespaces here, so no live link was killed")
+        return
+    took = place.run(AFTER)
+    for at in range(count):
+        name, words = list(LIVE.items())[at % len(LIVE)]
+        after = rng.uniform(0.0, 1.5) * took
+        tally.note(f"{name}, SIGKILL after {after:.3f} s", *live_faults(place, words, after))
+
+
+def main(tally: Tally, *words: str) -> None:
     parser = argparse.ArgumentParser(description=__doc__, formatter_class=argparse.RawDescriptionHelpFormatter)
     parser.add_argument("--seed")
     parser.add_argument("kills", nargs="?", type=int, default=40)
-    asked = parser.parse_args()
+    asked = parser.parse_args(words)
     seed = seeds.chosen(asked.seed, *seeds.KIT)
-    tally, rng = Tally(), random.Random(seed)
+    rng = random.Random(seed)
     ctypes.CDLL(None).prctl(PR_SET_CHILD_SUBREAPER, 1, 0, 0, 0)  # so that orphans are this process's, which can wait for them
     folder = Path(tempfile.mkdtemp())
     try:
@@ -152,10 +200,10 @@ def main() -> int:
                 after = took * rng.uniform(0.2, 1.0)
                 found = faults_of(place, words, outputs, new, after, number)
                 tally.note(f"{name}, {number.name} after {after:.3f} s, seed {seed}", *found)
+        kill_live(place, asked.kills // 4, rng, tally)
     finally:
         shutil.rmtree(folder)
-    return tally.end()
 
 
 if __name__ == "__main__":
-    sys.exit(main())
+    judge(main)

@@ -2,8 +2,7 @@
 
     python3 tools/gate/limit_checks.py PROGRAM
 
-Files of up to 256 MiB are made in the folder for temporary files, and removed. PROGRAM may have several words. A line is
-printed for each difference, and the last line is 'N passed, M failed'.
+Files of up to 256 MiB are made in the folder for temporary files, and removed. PROGRAM may have several words.
 """
 
 from __future__ import annotations
@@ -11,14 +10,13 @@ from __future__ import annotations
 import os
 import shlex
 import subprocess
-import sys
 from pathlib import Path
 from tempfile import TemporaryDirectory
 from typing import Iterator, NamedTuple
 
-sys.path.insert(0, str(Path(__file__).parent.parent / "oracle"))
+from tally import Tally, judge
 
-from files import LIMITS, PACKET_HEADER, REPORT_HEADER  # noqa: E402
+from files import LIMITS, PACKET_HEADER, REPORT_HEADER
 
 HEADER = PACKET_HEADER.encode() + b"\n"
 CONFIG = ["replay", "file", "empty"]
@@ -30,7 +28,7 @@ BAD_RECORD: Outcome = (b"", b"packet row 1, field 0: bad\n", 4)
 
 
 class Filled(NamedTuple):
-    """An input as long as its limit: a beginning, and one byte again and again."""
+    """An input as long as its limit: a beginning, and a repeated byte."""
 
     name: str
     source: str
@@ -42,6 +40,7 @@ class Filled(NamedTuple):
 
 FILLED = (
     Filled("configuration of empty lines", "config", CONFIG, b"", b"\n", EMPTY_REPORT),
+    Filled("configuration of one comment", "config", CONFIG, b"#", b"x", EMPTY_REPORT),
     Filled("packet file of empty lines", "packets", PACKETS, HEADER, b"\n", EMPTY_REPORT),
     Filled("joined input of empty lines", "input", [], b"--\n" + HEADER, b"\n", EMPTY_REPORT),
     Filled("joined input of one comment", "input", [], b"#", b"x", EMPTY_REPORT),
@@ -68,7 +67,7 @@ def outcome(program: list[str], words: list[str], stdin: str, folder: str) -> Ou
 
 
 def checks(program: list[str], folder: str) -> Iterator[tuple[str, Outcome, Outcome]]:
-    """For each input its name, the outcome that it has to have, and the one that it has."""
+    """Yields each input's name, its expected outcome, and its actual one."""
     path = os.path.join(folder, "file")
     Path(folder, "empty").touch()
     for f in FILLED:
@@ -81,17 +80,12 @@ def checks(program: list[str], folder: str) -> Iterator[tuple[str, Outcome, Outc
         yield f"endless {source}", too_long(source), outcome(program, words, stdin, folder)
 
 
-def main(program_text: str) -> int:
+def main(tally: Tally, program_text: str) -> None:
     program = [os.path.abspath(w) if os.path.isfile(w) else w for w in shlex.split(program_text)]
-    passed = failed = 0
     with TemporaryDirectory() as folder:
         for name, want, got in checks(program, folder):
-            passed, failed = passed + (want == got), failed + (want != got)
-            if want != got:
-                print(f"{name}: want {want}, got {tuple(x[:200] if isinstance(x, bytes) else x for x in got)}")
-    print(f"{passed} passed, {failed} failed")
-    return 1 if failed else 0
+            tally.note(name, "" if want == got else f"want {want}, got {[got[0][:200], got[1][:200], got[2]]}")
 
 
 if __name__ == "__main__":
-    sys.exit(main(*sys.argv[1:]))
+    judge(main)

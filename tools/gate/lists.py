@@ -10,11 +10,9 @@ from __future__ import annotations
 
 import subprocess
 import sys
-from pathlib import Path
 
-from tally import Tally
+from tally import TOP, Tally, judge
 
-TOP = Path(__file__).resolve().parent.parent.parent
 PROGRAM = TOP / "crates" / "check_lists" / "out" / "check_lists"
 LISTS = {
     "histories": ("shaper_cases.py", "10", ("100", "45"), " 0 differ"),
@@ -23,8 +21,8 @@ LISTS = {
 
 
 def faults(writer: str, seed: str, counts: tuple[str, ...], same: str) -> str:
-    """What the program says of the list of a seed, unless all is the same."""
-    made = subprocess.run([sys.executable, TOP / "tools/reference" / writer, seed, *counts], capture_output=True)
+    """Returns the program's output for a seed's list, unless all replies agree."""
+    made = subprocess.run([sys.executable, TOP / "tools/oracle" / writer, seed, *counts], capture_output=True)
     if made.returncode:
         return made.stderr.decode()
     told = subprocess.run([PROGRAM], input=made.stdout, capture_output=True)
@@ -32,13 +30,11 @@ def faults(writer: str, seed: str, counts: tuple[str, ...], same: str) -> str:
     return "" if told.returncode == 0 and text.count("\n") == 1 and text.endswith(f"{same}\n") else text or told.stderr.decode()
 
 
-def main(seed: str) -> int:
-    tally = Tally()
+def main(tally: Tally, seed: str) -> None:
     for name, (writer, kept, counts, same) in LISTS.items():
         for one in (kept, seed):
             tally.note(f"{name}, seed {one}", faults(writer, one, counts, same))
-    return tally.end()
 
 
 if __name__ == "__main__":
-    sys.exit(main(sys.argv[1]))
+    judge(main)

@@ -1,4 +1,4 @@
-"""The manual pages of the commands: whether mandoc has nothing to say of them, and whether they name what the commands take and report.
+"""The commands' manual pages: mandoc accepts them, and they name the commands' options and messages.
 
     python3 tools/gate/manual.py PROGRAM
 
@@ -9,23 +9,19 @@ command's help has an example that calls it.
 from __future__ import annotations
 
 import re
-import subprocess
 import sys
-from pathlib import Path
 
-from tally import Tally
-
-TOP = Path(__file__).resolve().parent.parent.parent
+from tally import TOP, Tally, judge, ran
 
 
 def printed(*words: object) -> str:
-    return subprocess.run(list(map(str, words)), capture_output=True, text=True, check=True).stdout
+    return ran(*words, is_apart=True, check=True).stdout
 
 
 def page(tally: Tally, name: str) -> str:
-    """The words of a page as it is shown, after mandoc has judged it."""
+    """Returns the words of a page as shown, after mandoc's checks."""
     file = TOP / "docs" / name
-    lint = subprocess.run(["mandoc", "-Tlint", "-Wstyle", file], capture_output=True, text=True)
+    lint = ran("mandoc", "-Tlint", "-Wstyle", file, is_apart=True)
     tally.equal(f"mandoc -Tlint {name}", [], lint.stdout.splitlines())
     return re.sub(r"\s+", " ", re.sub(".\b", "", printed("mandoc", "-Tutf8", file)))
 
@@ -72,12 +68,10 @@ def of_hinge(tally: Tally) -> None:
             )
 
 
-def main(program: str) -> int:
-    tally = Tally()
+def main(tally: Tally, program: str) -> None:
     of_dummynet(tally, program)
     of_hinge(tally)
-    return tally.end()
 
 
 if __name__ == "__main__":
-    sys.exit(main(sys.argv[1]))
+    judge(main)

@@ -1,5 +1,4 @@
-"""The program with each of its growths of memory refused in turn, alone and with the next one: status 5, or the outcome that it
-has with ample memory.
+"""The program with each memory growth refused in turn, by itself and with the next: status 5, or the outcome with ample memory.
 
     python3 tools/gate/memory.py PROGRAM
 
@@ -11,12 +10,11 @@ from __future__ import annotations
 
 import os
 import subprocess
-import sys
 from pathlib import Path
 from tempfile import TemporaryDirectory
 
 from command_line import CONFIG, FILES, HISTORY, OLDER, PACKETS, SESSION, laid
-from tally import Tally
+from tally import Tally, judge
 
 SOURCE = Path(__file__).resolve().with_name("refused_growths.c")
 REFUSED = b"refused\n"
@@ -51,7 +49,7 @@ def outcome(program: str, words: list[str], place: str, refusing: str, growth: i
 
 
 def fault_of(words: list[str], ample: Outcome, got: Outcome) -> str:
-    """What is wrong with an outcome where a growth was refused."""
+    """Returns the fault in an outcome with a refused growth."""
     status, stdout, stderr, old = got
     if got == ample:
         return ""
@@ -64,7 +62,7 @@ def fault_of(words: list[str], ample: Outcome, got: Outcome) -> str:
 
 
 def faults_of_form(program: str, words: list[str], place: str, refusing: str, in_a_row: int) -> tuple[list[str], int, int]:
-    """What is wrong with the runs of one form, how many growths it asks for, and how many runs ended with status 5."""
+    """Returns the faults in one form's runs, its number of growths, and the number of runs with status 5."""
     _, ample = outcome(program, words, place, refusing, 1_000_000_000, 1)
     growth, was_refused, faults, wants = 0, True, [], 0
     while was_refused:
@@ -76,8 +74,7 @@ def faults_of_form(program: str, words: list[str], place: str, refusing: str, in
     return faults, growth - 1, wants
 
 
-def main(program: str) -> int:
-    tally = Tally()
+def main(tally: Tally, program: str) -> None:
     with TemporaryDirectory() as place:
         refusing = f"{place}/refusing.so"
         subprocess.run(["cc", "-O2", "-shared", "-fPIC", "-DPRELOADED", "-o", refusing, SOURCE], check=True)
@@ -89,8 +86,7 @@ def main(program: str) -> int:
                     f"{name}: each of {growths} growths refused in turn, {in_a_row} in a row; {wants} runs ended with status 5",
                     flush=True,
                 )
-    return tally.end()
 
 
 if __name__ == "__main__":
-    sys.exit(main(sys.argv[1]))
+    judge(main)

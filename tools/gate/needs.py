@@ -2,8 +2,8 @@
 
     python3 tools/gate/needs.py [--missing]
 
-A package is there if its command is on the path, or Debian's own list has it as installed. The last line is the command
-that installs the others. With --missing their names alone are printed.
+A package is installed if its command is on the path, or if Debian's list contains it. The last line is the command that installs
+the others. With --missing their names alone are printed.
 """
 
 from __future__ import annotations
@@ -22,7 +22,7 @@ PATH = f"{os.environ.get('PATH', '')}:/usr/sbin:/sbin"
 
 
 class Package(NamedTuple):
-    """A package, the command by which it is known, if it has one, and what wants it."""
+    """A package, its command if any, and its users."""
 
     name: str
     command: str

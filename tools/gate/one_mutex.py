@@ -11,14 +11,11 @@ from __future__ import annotations
 import os
 import re
 import shlex
-import subprocess
-import sys
 from pathlib import Path
 from tempfile import TemporaryDirectory
 
-from tally import Tally
+from tally import TOP, Tally, judge, ran
 
-TOP = Path(__file__).resolve().parent.parent.parent
 PAGE = TOP / "crates" / "dn_service" / "README.md"
 HEAD = """//! Two calls under one mutex.
 #![tactic(auto)]
@@ -31,18 +28,17 @@ OPEN = re.compile(r"must prove: record \{later : (.*)\}$", re.M)
 
 
 def checked(text: str, place: Path) -> str:
-    """What a check of a crate of this text says."""
+    """Returns the output of a check of a crate with this text."""
     crate = place / "crates" / "one_mutex"
     (crate / "src").mkdir(parents=True)
     (crate / "src" / "lib.rt").write_text(HEAD + text)
     (place / "crates.txt").write_text("one_mutex:\n")
     (place / "HANDLES").write_text((TOP / "HANDLES").read_text())
-    words = [*shlex.split(os.environ.get("RT", "rt")), "check"]
-    return subprocess.run(words, cwd=crate, stdout=subprocess.PIPE, stderr=subprocess.STDOUT, text=True, errors="replace").stdout
+    return ran(*shlex.split(os.environ.get("RT", "rt")), "check", cwd=crate, errors="replace").stdout
 
 
-def main() -> int:
-    tally, page = Tally(), PAGE.read_text()
+def main(tally: Tally) -> None:
+    page = PAGE.read_text()
     section = page.partition("## Why not one mutex\n")[2].partition("\n## ")[0]
     block = re.search(r"^```rust\n(.*?)^```$", section, re.M | re.S)
     goal = re.search(r"stays open: `(.*)`\.", section)
@@ -53,8 +49,7 @@ def main() -> int:
     tally.equal("the goal that stays open", [goal[1] if goal else "a goal on the page"], OPEN.findall(told))
     if tally.failed:
         print(told)
-    return tally.end()
 
 
 if __name__ == "__main__":
-    sys.exit(main())
+    judge(main)

@@ -18,9 +18,8 @@ from tempfile import TemporaryDirectory
 
 from installs import joined
 from matplotlib.image import imread
-from tally import Tally
+from tally import TOP, Tally, judge
 
-TOP = Path(__file__).resolve().parents[2]
 PICTURES = TOP / "docs" / "pictures"
 PAGES = ("docs/CAPTURE.md", "docs/EMBEDDING.md")
 DRAWN = re.compile(r"^```\w*\n((?:(?!```).*\n)+)```\n\n!\[[^\]]*\]\(pictures/(\S+)\)$", re.M)
@@ -30,7 +29,7 @@ BY_THE_SAME, BY_OTHERS = 0.002, 0.03  # of the pixels may differ
 
 
 def draw(block: str, place: Path) -> Path:
-    """Runs the commands of a block, of which the last one draws."""
+    """Runs a block's commands, the last of which draws; returns the picture."""
     commands = [line.replace("PREFIX/lib/python", "python") for line in joined(block)]
     env = {**os.environ, "PATH": f"{TOP}:{Path(sys.executable).parent}:{os.environ['PATH']}"}
     for name in ("examples", "python"):
@@ -42,7 +41,7 @@ def draw(block: str, place: Path) -> Path:
 
 
 def difference(drawn: Path, kept: Path) -> str:
-    """What is wrong with a picture, if anything."""
+    """Returns the difference of a picture, or an empty text."""
     one, other = drawn.read_bytes(), kept.read_bytes() if kept.exists() else b""
     is_same = VERSION.findall(one) == VERSION.findall(other)
     part = 0.0 if one == other else 1.0
@@ -53,8 +52,8 @@ def difference(drawn: Path, kept: Path) -> str:
     return f"{part:.1%} is another: look at it, and write it by tools/gate/pictures.py --write" if part > most else ""
 
 
-def main(words: list[str]) -> int:
-    tally, count = Tally(), 0
+def main(tally: Tally, *words: str) -> None:
+    count = 0
     for block, name in [match for page in PAGES for match in DRAWN.findall((TOP / page).read_text())]:
         count += 1
         if "iperf3" in block and shutil.which("iperf3") is None:
@@ -62,12 +61,11 @@ def main(words: list[str]) -> int:
             continue
         with TemporaryDirectory() as folder:
             drawn = draw(block, Path(folder))
-            if words == ["--write"]:
+            if words == ("--write",):
                 shutil.copyfile(drawn, PICTURES / name)
             tally.note(name, difference(drawn, PICTURES / name))
     tally.note("pictures", "" if count >= LEAST and count == len(list(PICTURES.iterdir())) else f"only {count} have commands")
-    return tally.end()
 
 
 if __name__ == "__main__":
-    sys.exit(main(sys.argv[1:]))
+    judge(main)

@@ -20,31 +20,13 @@ from typing import NamedTuple, Optional
 CRATES = Path(__file__).resolve().parent.parent.parent / "crates"
 FILE = re.compile(r"Rattle-\w+-proofs\.(.+?)\.([A-Z][A-Za-z]*)(?:\.Mir)?(?:\.decls)?\.oantt")
 PARTS = {
-    "Answers",
-    "Code",
-    "Given",
-    "Goals",
-    "Invariants",
-    "Key",
-    "Kinds",
-    "Layout",
-    "Lts",
-    "Met",
-    "Named",
-    "Proof",
-    "Reads",
-    "Statement",
-    "Symbol",
-    "TheLaws",
-    "TheLink",
-    "Tie",
-    "View",
+    *"Answers Code Given Goals Invariants Key Kinds Layout Lts Met Named Proof Reads Statement Symbol TheLaws TheLink Tie View".split()
 }
 SEARCH = {"Answers", "Proof"}
 
 
 class Times(NamedTuple):
-    """The seconds of a function's proof, and those of them that went into search."""
+    """The seconds of a function's proof, and the share of search."""
 
     function: str
     seconds: float
@@ -55,13 +37,13 @@ class Times(NamedTuple):
 
 
 def part_of(name: str) -> "Optional[tuple[str, str]]":
-    """The function and the part of its proof that a file of this name has."""
+    """Returns the function and the part of its proof for a file's name."""
     found = FILE.fullmatch(name)
     return (found[1].replace(".", "::"), found[2]) if found and found[2] in PARTS else None
 
 
 def times(files: Iterable["tuple[float, str]"]) -> list[Times]:
-    """The times of each function, from the moments and names of all files."""
+    """Returns the times of each function from the moments and names of all files."""
     taken: dict[str, list[float]] = {}
     for (before, _), (done, name) in pairwise(sorted(files)):
         if part := part_of(name):

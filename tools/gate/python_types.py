@@ -6,31 +6,26 @@
 from __future__ import annotations
 
 import re
-import subprocess
-import sys
 from pathlib import Path
 from tempfile import TemporaryDirectory
 
-from tally import Tally
+from tally import Tally, judge, ran
 
 PYTHON = Path(__file__).resolve().parents[2] / "python"
 PACKAGES = ("hinge", "hingetulip", "hingetulip_words")
 ERROR = re.compile(r"(?P<file>[^:]+):\d+: error: ")
 
 
-def main() -> int:
-    tally = Tally()
+def main(tally: Tally) -> None:
     with TemporaryDirectory() as cache:
-        words = ["mypy", "--config-file", "pyproject.toml", "--cache-dir", cache, *PACKAGES]
-        done = subprocess.run(words, cwd=PYTHON, capture_output=True, text=True)
-    told = done.stdout.splitlines() + done.stderr.splitlines()
+        done = ran("mypy", "--config-file", "pyproject.toml", "--cache-dir", cache, *PACKAGES, cwd=PYTHON)
+    told = done.stdout.splitlines()
     files = sorted(path for package in PACKAGES for path in (PYTHON / package).rglob("*.py"))
     for path in files:
         name = str(path.relative_to(PYTHON))
         tally.note(name, *(line for line in told if (found := ERROR.match(line)) and found["file"] == name))
     tally.note("mypy", *(told if done.returncode not in (0, 1) else []))
-    return tally.end()
 
 
 if __name__ == "__main__":
-    sys.exit(main())
+    judge(main)

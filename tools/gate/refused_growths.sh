@@ -6,6 +6,7 @@
 # So a growth that is refused is asked for once more in its place at most. A run that asks for more growths than that was told of want of
 # memory, and made a call again. With two in a row one that asks for as many was told too, since the second try is refused with the first.
 # In the end each growth is refused: a test that passes then never sees want of memory. It takes what `rt test` or `rt ci` has built.
+unset CDPATH POSIXLY_CORRECT; export LC_ALL=C
 set -e
 here=$(cd "$(dirname "$0")" && pwd)
 crate=$1

@@ -2,10 +2,10 @@
 
     python3 tools/gate/release.py PROGRAM
 
-The release is judged where it was made by the kit that is here; by another kit its bytes may be others. A release of other
-sources fails, since ./dummynet wouldn't run it: `tools/release/release` makes it anew. `rt ci` builds no library. So the library is built
-here once for its sources, where this clone keeps what was proved of the crates below it: without that it takes a quarter of an
-hour, and the library's bytes aren't compared.
+The release is checked with the kit that made it; another kit may produce other bytes. A release of other sources fails, since
+./dummynet wouldn't run it: `tools/release/release` makes it anew. `rt ci` builds no library. So the library is built here once for
+its sources, where this clone keeps what was proved of the crates below it: without that it takes a quarter of an hour, and the
+library's bytes aren't compared.
 """
 
 from __future__ import annotations
@@ -13,18 +13,14 @@ from __future__ import annotations
 import re
 import shutil
 import subprocess
-import sys
 from hashlib import sha256
 from pathlib import Path
 from tempfile import TemporaryDirectory
 
-from tally import Tally
+from tally import TOP, Tally, judge, ran
 
-TOP = Path(__file__).resolve().parent.parent.parent
-sys.path += [str(TOP / "tools" / "release"), str(TOP / "python")]
-
-from hinge.simulated.kernel import kept  # noqa: E402
-from link_library import SHARED, STATIC  # noqa: E402
+from hinge.simulated.kernel import kept
+from link_library import SHARED, STATIC
 
 RELEASE = TOP / "release"
 LIBRARY = "hingetulip_c"
@@ -34,11 +30,11 @@ SUM = re.compile("[0-9a-f]{64}")
 
 
 def said(*words: str | Path) -> str:
-    return subprocess.run(words, stdout=subprocess.PIPE, text=True, check=True).stdout
+    return ran(*words, is_apart=True, check=True).stdout
 
 
 def are_kept(crates: list[str]) -> bool:
-    """Whether rt keeps a built library of each of these crates."""
+    """Returns whether rt keeps a built library of each crate."""
     return all((TOP / "crates" / crate / "out" / "rlib" / "stamp").is_file() for crate in crates)
 
 
@@ -62,7 +58,8 @@ def stripped(built: Path) -> bytes:
 
 
 def compare_library(tally: Tally, sum: str, anew: str) -> None:
-    """The shared library is linked by the system's compiler, so its bytes are compared where that is the one of the release."""
+    """Compares the libraries. The system's compiler links the shared one, so its bytes are compared only with the release's
+    compiler."""
     folder = built_library(sum)
     if folder is None:
         print("the C library wasn't built here, so its bytes aren't compared; ./build --lib builds it")
@@ -76,7 +73,7 @@ def compare_library(tally: Tally, sum: str, anew: str) -> None:
 
 
 def kernel(tally: Tally) -> list[str]:
-    """The files of the kernel of simulated time that the list of checksums has. tools/gate/simulated.py compares the kernel's bytes."""
+    """Returns the kernel's files in the list of checksums. tools/gate/simulated.py compares the kernel's bytes."""
     whole = [it for it in kept(RELEASE / "kernels") if it.is_whole]
     there = sorted((RELEASE / "kernels").glob("*"))
     tally.equal("kernels of the present patch and first process", there, [it.folder for it in whole])
@@ -87,11 +84,10 @@ def kernel(tally: Tally) -> list[str]:
     return [str(path.relative_to(RELEASE)) for it in whole for path in (it.linux, it.init)]
 
 
-def main(program: str) -> int:
-    tally = Tally()
+def main(tally: Tally, program: str) -> None:
     if not (RELEASE / "dummynet").is_file():
         tally.note("release", "there is none; tools/release/release makes it from what ./check or ./build has built")
-        return tally.end()
+        return
     sources = said(TOP / "tools" / "release" / "program_sources")
     names = ["dummynet", *(name for name in (STATIC, SHARED, *HOSTS) if (RELEASE / name).is_file()), *kernel(tally)]
     anew = "tools/release/release makes it anew from what ./check or ./build has built"
@@ -108,19 +104,18 @@ def main(program: str) -> int:
     )
     if shutil.which("rt") is None:
         print("there is no rt on the path, so the release's bytes aren't compared")
-        return tally.end()
+        return
     kit = said("rt", "version").split()[0]
     if f"built by {kit}." not in (RELEASE / "README.md").read_text().replace("\n", " "):
         print(f"the release was built by another kit than {kit}, so its bytes aren't compared")
-        return tally.end()
+        return
     version = subprocess.run([program, "--version"], capture_output=True, text=True).stdout
     tally.note("version", "" if kit in version else f"{version.strip()} doesn't name {kit}: crates/dummynet/src/form.rt")
     same = stripped(RELEASE / "dummynet") == stripped(Path(program))
     tally.note("bytes", "" if same else f"the release isn't what was built here; {anew}")
     if is_same:
         compare_library(tally, library.strip(), f"{anew}, with ./build --lib before it")
-    return tally.end()
 
 
 if __name__ == "__main__":
-    sys.exit(main(*sys.argv[1:]))
+    judge(main)

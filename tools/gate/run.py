@@ -1,4 +1,4 @@
-"""The gate: `rt ci`, and then what is tried over what it has built.
+"""The gate: `rt ci`, and then the checks on its builds.
 
     python3 tools/gate/run.py [--built | --quick | --needs] [--fresh]
 
@@ -14,10 +14,12 @@ which is kept in built/minutes. DUMMYNET names the program for the parts that ar
 from __future__ import annotations
 
 import os
+import resource
 import shutil
 import signal
 import subprocess
 import sys
+import time
 from concurrent.futures import ThreadPoolExecutor
 from pathlib import Path
 from typing import Any, Optional
@@ -26,12 +28,12 @@ import command
 import needs
 import seeds
 from machine import lanes
-from minutes import Minutes
-from parts import TALLY, TOP, Sum, Tried, edits_part, faults_in, left_out, parts, sum_in, tried
+from parts import TALLY, TOP, Sum, Tried, edits_part, faults_in, left_out, parts, sum_in, tried, tried_again
 
 MADE = TOP / "crates" / "dummynet" / "out" / "dummynet"
 NOT_THE_GATE = 2
 MISTYPED = 2
+MOST_AGAIN = 2  # things that pass at the second try: more of them are no chance
 HELP = """usage: ./check [--quick | --built | --needs | --help] [--fresh]
 
 ./check          the gate: proves all crates, tries the edits, runs the tests and the programs; 40 to 60 minutes
@@ -57,7 +59,7 @@ def environment() -> dict[str, str]:
 
 
 def proved() -> Tried:
-    """`rt ci`, whose lines are passed on; what it built becomes the program of ./dummynet."""
+    """Runs `rt ci` and passes its lines on; its program becomes that of ./dummynet."""
     before, text = sources(), ""
     how: dict[str, Any] = {"stdin": subprocess.DEVNULL, "stdout": subprocess.PIPE, "text": True, "errors": "replace"}
     with subprocess.Popen(["rt", "ci"], cwd=TOP, env=environment(), **how) as ci:
@@ -67,7 +69,7 @@ def proved() -> Tried:
     told = sum_in(text, ci.returncode)
     if told.failed == 0 and sources() == before:
         keep_program(before)
-    return Tried("rt ci", told, 0, faults_in(text) if told.failed else "")
+    return Tried("rt ci", told, processor_seconds(), faults_in(text) if told.failed else "")
 
 
 def keep_program(sum: str) -> None:
@@ -80,7 +82,7 @@ def keep_program(sum: str) -> None:
 
 
 def quick_program() -> Path:
-    """The program for a quick answer: the one that DUMMYNET names, else the one that ./dummynet runs."""
+    """Returns the program for a quick answer: DUMMYNET's, otherwise that of ./dummynet."""
     sum = sources()
     released, built = TOP / "release" / "dummynet", TOP / "built" / sum / "dummynet"
     is_released = (TOP / "release" / "sources").read_text().strip() == sum and not built.exists()
@@ -93,24 +95,40 @@ def tried_over(program: Path, is_quick: bool, fresh: Optional[int]) -> tuple[lis
     with ThreadPoolExecutor(len(os.sched_getaffinity(0))) as pool:
         wanted = [part for part in parts(fresh, str(program)) if not (is_quick and part.is_long)]
         try:
-            return list(pool.map(lambda part: tried(part, str(program)), wanted)), left_out(wanted)
+            first = list(pool.map(lambda part: tried(part, str(program)), wanted))
         except KeyboardInterrupt:
             pool.shutdown(wait=False, cancel_futures=True)
             command.end_all()
             raise
+    return [tried_again(part, one, str(program)) for part, one in zip(wanted, first)], left_out(wanted)
 
 
-def tell_minutes(minutes: Minutes, parts: list[Tried]) -> None:
-    """Prints where the minutes went, and keeps it in a file, so that growth is seen."""
-    table = minutes.ended((part.name, part.seconds) for part in parts)
-    MINUTES.parent.mkdir(exist_ok=True)
-    MINUTES.write_text(table)
-    print(f"== where the minutes went, also in {MINUTES.relative_to(TOP)}\n{table}", end="", flush=True)
+def processor_seconds() -> float:
+    used = resource.getrusage(resource.RUSAGE_CHILDREN)
+    return used.ru_utime + used.ru_stime
+
+
+def tell_minutes(begun: float, parts: list[Tried]) -> None:
+    """Prints the minutes of each part and the greatest memory of a process, and saves this table, so that growth is seen."""
+    rows = sorted([(part.seconds, part.name) for part in parts], reverse=True)
+    lines = [f"{name:44}{seconds / 60:8.1f}" for seconds, name in [*rows, (processor_seconds(), "the whole, by processors")]]
+    lines.append(
+        f"{f'the whole, by the clock, on {len(os.sched_getaffinity(0))} of them':44}{(time.monotonic() - begun) / 60:8.1f}"
+    )
+    lines.append(f"greatest process: {resource.getrusage(resource.RUSAGE_CHILDREN).ru_maxrss * 1024 / 10**9:.1f} GB")
+    table = "".join(f"{line}\n" for line in lines)
+    try:
+        MINUTES.parent.mkdir(exist_ok=True)
+        MINUTES.write_text(table)
+        where = f", also in {MINUTES.relative_to(TOP)}"
+    except OSError:  # a clone that can't be written
+        where = ""
+    print(f"== where the minutes went{where}\n{table}", end="", flush=True)
 
 
 def tried_and_told(words: list[str], is_quick: bool, fresh: Optional[int]) -> tuple[list[Tried], str]:
-    """Tries all that these words ask for. What was left out comes beside the parts."""
-    minutes, done, note = Minutes(), list[Tried](), ""
+    """Runs everything that these words select; returns the results, and a note on omissions."""
+    begun, done, note = time.monotonic(), list[Tried](), ""
     ci = [] if words or is_quick else [proved()]
     program = quick_program() if is_quick else MADE
     if program.exists():
@@ -119,7 +137,7 @@ def tried_and_told(words: list[str], is_quick: bool, fresh: Optional[int]) -> tu
         done += others
     else:
         ci.append(Tried("the program", Sum(0, 1), 0, "none of these sources is built, so no part is tried: ./build makes one"))
-    tell_minutes(minutes, done)
+    tell_minutes(begun, [*ci, *done])
     return [*ci, *done], note
 
 
@@ -138,6 +156,12 @@ def main(words: list[str]) -> int:
     done, note = tried_and_told(words, lacks_prover or words == ["--quick"], fresh)
     if lacks_prover:
         note += "; this isn't the gate: no proof, edit or test was tried, since there is no rt on the path"
+    again = [f"{one.name}: {line}" for one in done for line in one.again]
+    if len(again) > MOST_AGAIN:
+        done.append(
+            Tried("second tries", Sum(0, 1), 0, f"{len(again)} things passed at the second try alone, of which {MOST_AGAIN} may")
+        )
+    print("".join(f"{line}\n" for line in again), end="")
     for one in done:
         if one.sum.failed:
             print(f"== failed in {one.name}\n{one.faults}")

@@ -1,5 +1,5 @@
 """The samples of the READMEs, each of which is code of a test or of the program that rt has proved and run, the counts of definitions
-that docs/TRUST.md and README.md have, links that lead nowhere, and marks that a merge left in a page.
+that README, docs/TRUST.md and the page of dn_laws have, links that lead nowhere, and marks that a merge left in a page.
 
     python3 tools/gate/samples.py
 
@@ -11,14 +11,15 @@ regard to comments and spaces, and may have `use` lines before it: of names that
 from __future__ import annotations
 
 import re
-import subprocess
 import sys
 from pathlib import Path
 from typing import NamedTuple
 
-from tally import Tally
+from tally import TOP, Tally, judge, ran
 
-TOP = Path(__file__).resolve().parent.parent.parent
+import refuted_laws
+import wrong_definitions
+
 REGION = re.compile(r"^ *// In the README (of .*?):\n(.*?)^ *// Up to here\.$", re.M | re.S)
 PLACE = re.compile(r"of (\w+), (\d+)")
 SAMPLE = re.compile(r"^```rust\n(.*?)^```$", re.M | re.S)
@@ -53,7 +54,7 @@ def bare(text: str) -> str:
 
 
 def names(text: str) -> set[tuple[str, str]]:
-    """The names that `use` lines give, each with its crate."""
+    """Returns the names in `use` lines with their crates."""
     return {(crate, name) for crate, many, one in USE.findall(text) for name in re.findall(r"\w+", many or one)}
 
 
@@ -70,28 +71,49 @@ def in_sources() -> dict[tuple[str, int], Code]:
 
 def counted(tally: Tally) -> None:
     """The lines to believe, as tools/laws/lines_to_believe.py counts them."""
-    script = [sys.executable, TOP / "tools" / "laws" / "lines_to_believe.py", TOP]
-    rows = subprocess.run(script, capture_output=True, text=True, check=True).stdout.splitlines()
+    rows = ran(sys.executable, TOP / "tools" / "laws" / "lines_to_believe.py", TOP, check=True).stdout.splitlines()
     page = (TOP / "docs" / "TRUST.md").read_text().partition("| Promise |")[2].partition("\n\n")[0]
     for row in page.splitlines()[2:]:
         tally.note(f"docs/TRUST.md: {row.split('|')[1].strip()}", "" if row in rows else "isn't what lines_to_believe.py counts")
     lines, emulation, service = [cell.strip() for cell in rows[2].split("|")][3:6]
     laws = next(row for row in rows if row.startswith("| the same by")).split("|")[4].strip()
-    readme = " ".join((TOP / "README.md").read_text().split())
-    told = [f"believe {lines} lines of definitions: {emulation} of the emulation", f"and {service} of the service"]
-    told += [f"{laws} lines of [laws", f"replace the {emulation}."]
-    tally.note("README.md", *(f"doesn't say: {words}" for words in told if words not in readme))
+    in_c = [
+        next(row for row in rows if row.startswith(f"| `{name}`")).split("|")[3].strip()
+        for name in ("dn_submit", "dn_caller_submit")
+    ]
+    calls = next(row for row in rows if row.startswith("| `Service::open`")).split("|")[3].strip()
+    either = [row.split("|")[3].strip() for row in rows if row.startswith("| what `")]
+    refuted, tried = len(refuted_laws.read_refutations()), len(wrong_definitions.ROWS)
+    told = {
+        "README.md": [f"believe {lines} lines of definitions"],
+        "docs/TRUST.md": [
+            f"believe {lines} lines of definitions: {emulation} of the emulation",
+            f"and {service} of the service",
+            f"plus {int(calls) - int(lines)} on a caller's calls",
+            f"{laws} lines of [laws",
+            f"replace the {emulation}.",
+            f"({in_c[0]} lines to believe, or {in_c[1]} by a caller",
+        ],
+        "crates/dn_laws/README.md": [
+            f"the laws ({either[0]} lines) or what defines `reply` ({either[1]})",
+            f"lists {tried} wrong definitions",
+            f"For {refuted if refuted < tried else 'each'} the prover refutes the law",
+        ],
+    }
+    for name, wanted in told.items():
+        text = " ".join((TOP / name).read_text().split())
+        tally.note(f"{name}: the counts", *(f"doesn't say: {words}" for words in wanted if words not in text))
 
 
 def anchors(page: Path) -> set[str]:
-    """The places of a page to which a link can lead, by its headings."""
+    """Returns the link targets of a page: its headings."""
     headings = re.findall(r"^#+ (.*)$", page.read_text(encoding="utf-8"), re.M)
     plain = (re.sub(r"\[([^]]*)\]\([^)]*\)", r"\1", heading).replace("`", "").strip().lower() for heading in headings)
     return {re.sub(r"[^\w\- ]", "", heading).replace(" ", "-") for heading in plain}
 
 
 def linked(tally: Tally) -> None:
-    """Each link of a page leads to a file, and to a heading where it names one."""
+    """Checks that each link in a page leads to a file, and to a heading if the link names one."""
     for page in sorted(path for pattern in PAGES for path in TOP.glob(pattern)):
         text = re.sub(r"```.*?```", "", page.read_text(encoding="utf-8"), flags=re.S)
         for name, place in LINK.findall(text):
@@ -103,13 +125,12 @@ def linked(tally: Tally) -> None:
 
 
 def merged(tally: Tally) -> None:
-    """No page has the marks of a merge that wasn't ended."""
+    """Checks that no page contains the marks of an unfinished merge."""
     for page in sorted(path for pattern in PAGES for path in TOP.glob(pattern)):
         tally.note(str(page.relative_to(TOP)), "has the marks of a merge" if MARK.search(page.read_text()) else "")
 
 
-def main() -> int:
-    tally = Tally()
+def main(tally: Tally) -> None:
     counted(tally)
     linked(tally)
     merged(tally)
@@ -129,8 +150,7 @@ def main() -> int:
             )
     for crate, number in sorted(sources):
         tally.note(f"{crate}/README.md, sample {number}", "isn't there, and the sources have it")
-    return tally.end()
 
 
 if __name__ == "__main__":
-    sys.exit(main())
+    judge(main)

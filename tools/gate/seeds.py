@@ -18,6 +18,7 @@ TOP = Path(__file__).resolve().parents[2]
 PROGRAMS = ("dummynet", "hingetulip_c")
 KIT = tuple(f"python/{package}/**/*.py" for package in ("hinge", "hingetulip", "hingetulip_words"))
 HOSTS, LAWS = ("hosts/*/*.[ch]",), ("crates/*/specs/*", "tools/laws/*.py")
+GATE = ("tools/gate/*",)
 FRESH = "fresh"
 BITS = 32
 
@@ -35,7 +36,7 @@ def of_files(*patterns: str) -> int:
 
 
 def of_programs() -> int:
-    """By the checksums of the lines of code."""
+    """Returns the seed from the checksums of the lines of code."""
     script = TOP / "tools" / "release" / "program_sources"
     return number_of(b"".join(subprocess.run([script, name], stdout=subprocess.PIPE, check=True).stdout for name in PROGRAMS))
 
@@ -45,7 +46,7 @@ def fresh() -> int:
 
 
 def chosen(word: Optional[str], *patterns: str) -> int:
-    """The seed that an option names, a fresh one, or that of the files."""
+    """Returns the seed: an option's, a fresh one, or that of the files."""
     return of_files(*patterns) if word is None else fresh() if word == FRESH else int(word)
 
 

@@ -3,8 +3,8 @@
     python3 tools/gate/senders.py PROGRAM
 
 The program of crates/many_senders makes 10^5 calls and then 10^6. After each run PROGRAM audits the file, and the entries of each
-caller are counted. The ten times longer run may have a few MiB more in memory at most. The functions that docs/EMBEDDING.md shows first
-are the program's.
+caller are counted. The ten times longer run may need a quarter of its history as extra memory: retained entries would need
+about all of it. The functions that docs/EMBEDDING.md shows first are the program's.
 """
 
 from __future__ import annotations
@@ -18,27 +18,26 @@ from collections import Counter
 from pathlib import Path
 from tempfile import TemporaryDirectory
 
-from tally import Tally
+from tally import TOP, Tally, judge
 
-TOP = Path(__file__).resolve().parent.parent.parent
 CRATE = TOP / "crates" / "many_senders"
 SENDERS = CRATE / "out" / "many_senders"
 THREADS = 16
 FEWER, MANY = 100_000, 1_000_000
-# MiB that the longer run may have more in memory: the entries that wait to be written depend on the schedule.
-MORE = 6
+# The part of its history that the longer run may have more in memory: how many entries wait to be written depends on the schedule.
+MORE = 0.25
 # What an audit reads at most if it isn't told otherwise, in bytes.
 HISTORY_LIMIT = 2**28
 
 
 def entries_of(history: Path) -> Counter[int]:
-    """How many entries each caller has."""
+    """Returns the number of entries of each caller."""
     with open(history, "rb") as lines:
         return Counter(int(line.split(b",", 2)[1]) for line in lines if line.startswith(b"c,"))
 
 
 def verdict(program: str, history: Path) -> tuple[int, str]:
-    """The status and the line of an audit."""
+    """Returns the status and the line of an audit."""
     size = history.stat().st_size
     most = ["--most-history", str(size)] if size > HISTORY_LIMIT else []
     done = subprocess.run([program, "audit", *most, history], capture_output=True, text=True)
@@ -46,7 +45,7 @@ def verdict(program: str, history: Path) -> tuple[int, str]:
 
 
 def peak(words: list[str], folder: str) -> float:
-    """The most MiB that the command had in memory. The system counts them from its start, and they are read until it ends."""
+    """Returns the command's maximum memory in MiB, read from the system until it ends."""
     with subprocess.Popen(words, cwd=folder, stdout=subprocess.DEVNULL) as child:
         most, status = 0, Path(f"/proc/{child.pid}/status")
         while child.poll() is None:
@@ -80,17 +79,16 @@ def missing() -> list[str]:
     return [shown.splitlines()[0] for shown in block.strip().split("\n\n") if f"\n\n{shown}\n" not in sources]
 
 
-def main(program: str) -> int:
-    tally = Tally()
+def main(tally: Tally, program: str) -> None:
     tally.equal("the first example in docs/EMBEDDING.md", [], missing())
     if not SENDERS.exists():
         tally.note("the program", f"{SENDERS} isn't built")
-        return tally.end()
+        return
     with TemporaryDirectory() as folder:
         fewer, many = [run(tally, os.path.abspath(program), calls, folder) for calls in (FEWER, MANY)]
-    tally.note("flat memory", "" if many <= fewer + MORE else f"{fewer:.1f} MiB for {FEWER} calls, and {many:.1f} MiB for {MANY}")
-    return tally.end()
+        more = MORE * (Path(folder) / "history").stat().st_size / 2**20
+    tally.note("flat memory", "" if many <= fewer + more else f"{fewer:.1f} MiB for {FEWER} calls, and {many:.1f} MiB for {MANY}")
 
 
 if __name__ == "__main__":
-    sys.exit(main(*sys.argv[1:]))
+    judge(main)

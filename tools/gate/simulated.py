@@ -12,24 +12,19 @@ from __future__ import annotations
 import os
 import shutil
 import subprocess
-import sys
-from pathlib import Path
 from tempfile import TemporaryDirectory
 
 import pytests
-from tally import Tally
+from tally import TOP, Tally, judge
 
-TOP = Path(__file__).resolve().parent.parent.parent
-sys.path[:0] = [str(TOP / "tools"), str(TOP / "python")]
-
-from edits.kept import folder  # noqa: E402
-from hinge.command import MISSING  # noqa: E402
-from hinge.simulated.build import sha256_of  # noqa: E402
-from hinge.simulated.kernel import Kernel, cache, kept  # noqa: E402
+from edits.kept import folder
+from hinge.command import MISSING
+from hinge.simulated.build import sha256_of
+from hinge.simulated.kernel import Kernel, cache, kept
 
 
 def keep_beside() -> None:
-    """Has a user without kernels of their own keep them beside what `rt ci` keeps."""
+    """Makes a user without own kernels keep them beside the results of `rt ci`."""
     place = folder() / "kernels" if shutil.which("rt") else cache()
     if place != cache() and not cache().exists():
         place.mkdir(parents=True, exist_ok=True)
@@ -38,7 +33,7 @@ def keep_beside() -> None:
 
 
 def compare(tally: Tally, built: Kernel, released: Kernel) -> None:
-    """The kernel and its first process are the same bytes by the same source and compilers."""
+    """Compares the kernel and its first process, byte by byte, for equal sources and compilers."""
     sources = [(kernel.folder / "source").read_text() for kernel in (built, released)]
     if sources[0] != sources[1]:
         print(f"the released kernel was built of another source, so its bytes aren't compared:\n{sources[0]}\n{sources[1]}")
@@ -60,16 +55,14 @@ def build(tally: Tally) -> None:
         compare(tally, *(kernel for kernel in kernels if kernel))
 
 
-def main(program: str) -> int:
+def main(tally: Tally, program: str) -> None:
     keep_beside()
-    tally = Tally()
     build(tally)
     with TemporaryDirectory() as place:
         subprocess.run([TOP / "tools" / "release" / "hosts", place], check=True, stdout=subprocess.DEVNULL)
         env = {**os.environ, "DUMMYNET": program, "HINGE_LINK": f"{place}/hinge-link"}
         pytests.count(tally, ["tests/simulated"], env, is_alone=True)
-    return tally.end()
 
 
 if __name__ == "__main__":
-    sys.exit(main(sys.argv[1]))
+    judge(main)

@@ -1,9 +1,22 @@
-"""Counts what passed and what failed, and prints it as the last line of a part of the gate."""
+"""A part's form: its count of passed and failed checks, printed as its last line, and the folders from which parts import."""
 
 from __future__ import annotations
 
+import subprocess
+import sys
+from collections.abc import Callable
+from pathlib import Path
+from typing import Any
+
+TOP = Path(__file__).resolve().parents[2]
+TOOLS = TOP / "tools"
+sys.path[:0] = [str(TOP / "python"), str(TOOLS), *(str(TOOLS / name) for name in ("oracle", "hostile", "laws", "release"))]
 FAULT = "failed: "  # how the lines begin that name what failed once more, before the last line
+AGAIN = "at the second try: "  # and those that name what failed first, and passed alone
 LAST_LINES = 8  # of what is wrong, in such a line
+
+
+Ran = subprocess.CompletedProcess[str]
 
 
 class Tally:
@@ -12,7 +25,7 @@ class Tally:
         self.faults: list[str] = []
 
     def note(self, name: str, *faults: str) -> None:
-        """One thing that was tried, and what is wrong with it, if anything."""
+        """Notes a check, with its faults, if any."""
         found = [fault for fault in faults if fault]
         self.passed, self.failed = self.passed + (not found), self.failed + bool(found)
         for fault in found:
@@ -23,6 +36,22 @@ class Tally:
         self.note(name, "" if wanted == got else f"want {wanted!r}, got {got!r}")
 
     def end(self) -> int:
-        """Prints what failed once more, shortly, and the last line, and answers the status."""
+        """Prints the failures again in short, and the last line; returns the status. A part without checks fails."""
+        if not self.passed and not self.failed:
+            self.note("nothing was tried", "so nothing is shown")
         print("\n".join([*self.faults, f"{self.passed} passed, {self.failed} failed"]))
         return 1 if self.failed else 0
+
+
+def ran(*words: object, is_apart: bool = False, **how: Any) -> Ran:
+    """Runs a command without input, unless `how` has one, to its end. Its output includes errors, unless they are kept separate."""
+    stdin = {} if "input" in how or "stdin" in how else {"stdin": subprocess.DEVNULL}
+    streams = {"stdout": subprocess.PIPE, "stderr": subprocess.PIPE if is_apart else subprocess.STDOUT, **stdin}
+    return subprocess.run(list(map(str, words)), **{**streams, "text": True, **how})
+
+
+def judge(main: Callable[..., None]) -> None:
+    """Runs a part with the words of its command line, and ends with the status of its tally."""
+    tally = Tally()
+    main(tally, *sys.argv[1:])
+    sys.exit(tally.end())

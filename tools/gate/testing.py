@@ -12,14 +12,13 @@ import os
 import re
 import shutil
 import subprocess
-import sys
 from pathlib import Path
 from tempfile import TemporaryDirectory
-from typing import Optional, Union
+from typing import Union
 
-from tally import Tally
+from pytests import has, interpreter
+from tally import TOP, Tally, judge, ran
 
-TOP = Path(__file__).resolve().parent.parent.parent
 EXAMPLES = TOP / "examples" / "tests"
 PAGE = TOP / "docs" / "TESTING.md"
 MOST_LINES = 59  # of an example
@@ -32,16 +31,8 @@ REAL_TIME = ("test_own_protocol", "test_store")  # whose histories have the mome
 IN_ROOMS = "test_store"  # which needs namespaces
 
 
-def python() -> Optional[str]:
-    """A Python that has pytest."""
-    for word in ("/usr/bin/python3", sys.executable):
-        if shutil.which(word) and subprocess.run([word, "-c", "import pytest"], capture_output=True).returncode == 0:
-            return word
-    return None
-
-
 def environment(place: Path) -> dict[str, str]:
-    """What names the library of the present sources, and what is built from C where there is a compiler."""
+    """Returns the environment that names the present sources' library, and what is built from C, if there is a compiler."""
     library = subprocess.run([TOP / "tools" / "release" / "library"], stdout=subprocess.PIPE, text=True, check=True).stdout.strip()
     named = {
         "HINGETULIP_LIBRARY": f"{TOP / library}/libhingetulip.so.1",
@@ -56,28 +47,22 @@ def environment(place: Path) -> dict[str, str]:
 
 
 class Pytest:
-    """Runs of pytest, each over the same files, in a folder of its own."""
+    """Runs of pytest over the same files in a temporary folder."""
 
     def __init__(self, interpreter: str, place: Path) -> None:
         self.interpreter, self.place, self.env = interpreter, place, environment(place)
-
-    def has(self, module: str) -> bool:
-        return subprocess.run([self.interpreter, "-c", f"import {module}"], capture_output=True).returncode == 0
 
     def run(self, folder: str, *files: Union[Path, str]) -> str:
         """What pytest prints."""
         options = ["-v", "-rs", "-p", "hinge.pytest_plugin", "-p", "no:cacheprovider", f"--basetemp={self.place / folder}"]
         words = [self.interpreter, "-m", "pytest", *options, *files]
         env = {**self.env, "LD_PRELOAD": self.env["HINGE_CLOCK"]} if "HINGE_CLOCK" in self.env else self.env
-        return subprocess.run(
-            list(map(str, words)), cwd=self.place, env=env, stdout=subprocess.PIPE, stderr=subprocess.STDOUT, text=True
-        ).stdout
+        return ran(*words, cwd=self.place, env=env).stdout
 
     def no_rooms(self) -> str:
-        """Why this machine or this user can't have namespaces, or nothing."""
-        words = [self.interpreter, TOP / "python" / "hinge" / "__main__.py", "run", "--quiet", "--", "true"]
-        done = subprocess.run(list(map(str, words)), env=self.env, capture_output=True, text=True)
-        return done.stderr.strip() if done.returncode else ""
+        """Returns the reason why this machine or user can't create namespaces, or an empty text."""
+        done = ran(self.interpreter, TOP / "python/hinge/__main__.py", "run", "--quiet", "--", "true", env=self.env)
+        return done.stdout.strip() if done.returncode else ""
 
     def histories(self, folder: str) -> dict[str, bytes]:
         found = (self.place / folder).rglob("*.history")
@@ -113,7 +98,8 @@ def examples(tally: Tally, pytest: Pytest) -> None:
 
 
 def of_page(tally: Tally, pytest: Pytest) -> None:
-    """The page's first test fails as the page prints it, and with the losses that are left of it; hypothesis finds what the page says."""
+    """Checks that the page's first test fails as printed, and with its remaining losses, and that hypothesis finds the page's
+    example."""
     text = PAGE.read_text()
     body, faults = re.findall(r"^```python\n(.*?)^```$", text, re.M | re.S)[:2]
     printed = re.search(r"^-+ emulated link -+\n(.*?)^```$", text, re.M | re.S)
@@ -126,24 +112,23 @@ def of_page(tally: Tally, pytest: Pytest) -> None:
     tally.equal("the report of the page's first test", wanted, section[1] if section else told)
     least = re.search(r"^(.* packet \d+ lost\nfails by .*\n)", text, re.M)
     tally.note("the least faults of that test", "" if least and least[1] in told else told)
-    if pytest.has("hypothesis"):
+    if has(pytest.interpreter, "hypothesis"):
         told, lines = pytest.run("faults", more, "-k", "in_order"), re.findall(r"# (Faults\(.*\))", faults)
         tally.note("what hypothesis finds", "" if lines and f"faults={lines[0]}," in told else told)
     else:
         print("what hypothesis finds: skipped, since there is no python3-hypothesis")
 
 
-def main() -> int:
-    tally, interpreter = Tally(), python()
-    if interpreter is None:
+def main(tally: Tally) -> None:
+    python = interpreter()
+    if python is None:
         print("tests in simulated time: skipped, since no Python has pytest: apt-get install python3-pytest")
-        return tally.end()
+        return
     with TemporaryDirectory() as folder:
-        pytest = Pytest(interpreter, Path(folder))
+        pytest = Pytest(python, Path(folder))
         examples(tally, pytest)
         of_page(tally, pytest)
-    return tally.end()
 
 
 if __name__ == "__main__":
-    sys.exit(main())
+    judge(main)

@@ -9,18 +9,16 @@ looks at what ./install puts.
 from __future__ import annotations
 
 import re
-import subprocess
 import sys
 from pathlib import Path
 
-from tally import Tally
+from tally import TOP, Tally, judge, ran
 
-TOP = Path(__file__).resolve().parent.parent.parent
 VERSION = (TOP / "VERSION").read_text().strip()
 
 
 def found(path: Path, pattern: str) -> str:
-    """The first text of a file that a pattern has in brackets."""
+    """Returns the first text of a file that a pattern's group matches."""
     match = re.search(pattern, path.read_text(), re.M) if path.is_file() else None
     return match[1] if match else f"none in {path}"
 
@@ -32,7 +30,7 @@ def spelled(number: int) -> str:
 
 def in_sources(tally: Tally, program: str) -> None:
     tally.note("the form of VERSION", "" if re.fullmatch(r"\d+\.\d+\.\d+", VERSION) else VERSION)
-    told = subprocess.run([program, "--version"], capture_output=True, text=True).stdout
+    told = ran(program, "--version").stdout
     tally.equal("the program (crates/dummynet/src/form.rt)", ["dummynet", VERSION], told.split()[:2])
     header = found(TOP / "crates" / "hingetulip_c" / "include" / "hingetulip.h", r"^#define DN_VERSION (\d+)u$")
     tally.equal("hingetulip.h", VERSION, spelled(int(header)) if header.isdigit() else header)
@@ -40,15 +38,13 @@ def in_sources(tally: Tally, program: str) -> None:
         tally.equal(f"the crate {crate}", VERSION, found(TOP / "rust" / crate / "Cargo.toml", r'^version = "(.*)"$'))
     tally.equal("CHANGELOG.md", VERSION, found(TOP / "CHANGELOG.md", r"^## \[(\d.*?)\]"))
     tally.equal("CITATION.cff", VERSION, found(TOP / "CITATION.cff", r"^version: (.*)$"))
-    told = subprocess.run([sys.executable, TOP / "hinge", "--version"], capture_output=True, text=True).stdout
+    told = ran(sys.executable, TOP / "hinge", "--version").stdout
     tally.equal("hinge", f"hinge {VERSION}\n", told)
 
 
-def main(program: str) -> int:
-    tally = Tally()
+def main(tally: Tally, program: str) -> None:
     in_sources(tally, program)
-    return tally.end()
 
 
 if __name__ == "__main__":
-    sys.exit(main(sys.argv[1]))
+    judge(main)

@@ -9,30 +9,19 @@ caller can make a step and it isn't done.
 The model rests on this: the store that gives the word back is a fence, so that for all others the load of the bell
 comes after it. If the store may wait in a buffer while that load is made, a caller does sleep for ever. The last model
 has such a store, and has to fail. No contract says that the store is a fence: it is what `atomic_table` makes of it. So
-the machine code of the release is looked at, on x86-64, where a store that is a fence is an `xchg`.
+tools/gate/fences.py counts such stores in the machine code.
 """
 
 from __future__ import annotations
 
-import platform
-import re
-import subprocess
-import sys
 from collections import deque
 from collections.abc import Iterator
 from enum import Enum
-from pathlib import Path
 from typing import NamedTuple, Optional
 
-from tally import Tally
+from tally import TOP, Tally, judge
 
-TOP = Path(__file__).resolve().parents[2]
 SOURCES = TOP / "crates" / "dn_service" / "src"
-LIBRARY = TOP / "release" / "libhingetulip.a"
-# The functions of the library that take the book and give it back. No bell is in the library, which has an `xchg` too.
-GIVING = ("hingetulip_c::client::Client::apply", "dn_caller_wake", "dn_service_take")
-FUNCTION = re.compile(r"^[0-9a-f]+ <(?P<name>.*)>:\n(?P<body>(?:.+\n)*)", re.M)
-TAKES, GIVES = re.compile(r"\block cmpxchg %r"), re.compile(r"\bxchg +%r\w+,\S*\(%r")
 # What the model was read from.
 TEXTS = {
     "lock.rt": ["compare_exchange::<Try>(seat, 0, 0, number as u64 + 1);", "desk.table.shared.store::<Publish>(seat, 0, 0);"],
@@ -49,7 +38,7 @@ TEXTS = {
 
 
 class At(Enum):
-    """What a caller does next."""
+    """The next step of a caller."""
 
     TRY = "tries to take the book"
     PUBLISH = "gives the book back"
@@ -66,7 +55,7 @@ class At(Enum):
 
 
 class Caller(NamedTuple):
-    """Its next step, the calls that it has left, its spins since it slept, whether its store waits in a buffer, and
+    """A caller: its next step, its remaining calls, its spins since the last sleep, whether its store waits in a buffer, and
     whether it raises the bell after a sleep."""
 
     at: At
@@ -77,8 +66,8 @@ class Caller(NamedTuple):
 
 
 class State(NamedTuple):
-    """The word is 0, or k + 1 while caller k has the book. The bell is 1 where a caller may sleep whom nobody is about
-    to wake."""
+    """The word is 0, or k + 1 while caller k has the book. The bell is 1 while a caller may be asleep and nobody is about to wake
+    it."""
 
     word: int
     bell: int
@@ -98,7 +87,7 @@ class Model(NamedTuple):
         return State(0, 0, (Caller(At.TRY, self.calls),) * self.callers)
 
     def after(self, state: State) -> Iterator[tuple[str, State]]:
-        """Each step that some caller can make, and the state behind it."""
+        """Yields each possible step of a caller, with the next state."""
         for place, caller in enumerate(state.callers):
             if caller.is_buffered:
                 seen = with_caller(state._replace(word=0), place, caller._replace(is_buffered=False))
@@ -107,7 +96,7 @@ class Model(NamedTuple):
                 yield f"caller {place} {caller.at.value}", with_caller(changed, place, new)
 
     def steps(self, state: State, place: int, caller: Caller) -> Iterator[tuple[State, Caller]]:
-        """The steps of one caller. One that has to be seen at once waits for the caller's store."""
+        """Yields the steps of a caller. A step that must be visible at once waits for the caller's store."""
         at = caller.at
         if at in (At.TRY, At.SWAP, At.RAISE) and caller.is_buffered:
             return
@@ -155,7 +144,7 @@ def roused(caller: Caller) -> Caller:
 
 
 def woken(state: State, caller: Caller) -> Iterator[tuple[State, Caller]]:
-    """One of those who sleep is woken, whichever it is."""
+    """Yields the states in which one of the sleeping callers is woken."""
     asleep = [place for place, other in enumerate(state.callers) if other.at is At.ASLEEP]
     for place in asleep:
         yield with_caller(state, place, roused(state.callers[place])), caller._replace(at=At.RETURN)
@@ -164,7 +153,7 @@ def woken(state: State, caller: Caller) -> Iterator[tuple[State, Caller]]:
 
 
 class Search(NamedTuple):
-    """The count of the states, and the steps to one in which a caller sleeps for ever, if there is one."""
+    """The number of states, and the steps to a state in which a caller sleeps forever, if any."""
 
     states: int
     steps: Optional[list[str]]
@@ -195,23 +184,7 @@ def path(before: dict[State, Optional[tuple[State, str]]], state: State) -> list
     return steps[::-1]
 
 
-def look_at_the_code(tally: Tally) -> None:
-    """In each function that gives the book back, the store of the word is a fence."""
-    if platform.machine() != "x86_64":
-        print(f"the machine code is left out on {platform.machine()}")
-        return
-    words = ["objdump", "-d", "--no-show-raw-insn", str(LIBRARY)]
-    text = subprocess.run(words, stdout=subprocess.PIPE, text=True, check=True).stdout
-    bodies = {found["name"]: found["body"] for found in FUNCTION.finditer(text)}
-    for name in GIVING:
-        body = bodies.get(name, "")
-        tally.note(name, "" if TAKES.search(body) else "it takes no book")
-        tally.note(f"{name} gives the book back", "" if GIVES.search(body) else "no store is a fence")
-
-
-def main() -> int:
-    tally = Tally()
-    look_at_the_code(tally)
+def main(tally: Tally) -> None:
     for name, texts in TEXTS.items():
         source = " ".join((SOURCES / name).read_text().split())
         for text in texts:
@@ -223,8 +196,7 @@ def main() -> int:
     unfenced = search(Model(2, 1, 1, is_fence=False))
     tally.note("a store that is no fence", "" if unfenced.steps else "no caller sleeps for ever")
     print("where the store is no fence: " + "; ".join(unfenced.steps or []))
-    return tally.end()
 
 
 if __name__ == "__main__":
-    sys.exit(main())
+    judge(main)

@@ -11,15 +11,15 @@ from __future__ import annotations
 
 import os
 import re
+import resource
 import shutil
 import subprocess
 import sys
 from pathlib import Path
 from tempfile import TemporaryDirectory
 
-from tally import Tally
+from tally import TOP, Tally, judge
 
-TOP = Path(__file__).resolve().parent.parent.parent
 SCRIPTS = (
     "dummynet",
     "build",
@@ -50,11 +50,13 @@ for below in ../*; do [ -d "$below/out/rlib" ] || { echo "$below isn't built"; e
 [ "$1" = lib ] || { printf '#!/bin/sh\\necho built "$@"\\n' >out/dummynet; chmod 755 out/dummynet; }
 """
 STRIP = '#!/bin/sh\n[ "$1" = -o ] && cp "$3" "$2"\n'  # as what is pretended to be built is no executable of the system's
+PLENTY = 1000  # processes, also beside others of the user without processes
+NO_USER = 61_234  # who has no processes
 RELEASE = '#!/bin/sh\necho release "$@"\n'
 
 
 class Copy:
-    """A copy of the repository's scripts and of the sources of the program and of one test crate."""
+    """A copy of the scripts, with the sources of the program and of one test crate."""
 
     def __init__(self, place: str) -> None:
         self.top, self.tools, self.plain = Path(place) / "repo", Path(place) / "bin", Path(place) / "python"
@@ -116,7 +118,7 @@ class Copy:
 
 
 def which_program(tally: Tally, copy: Copy) -> None:
-    """The program of the present sources: the release, then the one that was built here."""
+    """Checks which program runs: the release's, then the one built here."""
     copy.release(copy.sources())
     done = copy.run("a", "b c", has_rt=False)
     tally.equal(
@@ -128,7 +130,7 @@ def which_program(tally: Tally, copy: Copy) -> None:
         "./build builds each crate once", sorted(copy.crates), sorted(w.split()[1] for w in copy.calls.read_text().splitlines())
     )
     count = len(copy.crates)
-    told = re.findall(rf"(?m)^dummynet: \d+ of {count} crates built \(\w+\), \d+\.\d minutes of about \d+$", done.stderr)
+    told = re.findall(rf"(?m)^dummynet: \d+ of {count} crates built \(\w+\), \d+\.\d minutes$", done.stderr)
     tally.equal("./build tells of each crate", count, len(told))
     done = copy.run("x", has_rt=False)
     tally.equal(
@@ -152,7 +154,7 @@ def which_program(tally: Tally, copy: Copy) -> None:
 
 
 def stale(tally: Tally, copy: Copy) -> None:
-    """Sources of which there is no program."""
+    """Checks sources without a program."""
     before = copy.built()
     copy.change("crates/dn_link/src/lib.rt")
     done = copy.run("x", has_rt=False)
@@ -176,8 +178,35 @@ def stale(tally: Tally, copy: Copy) -> None:
     tally.equal("neither release nor program", (0, "built x\n"), (done.returncode, done.stdout))
 
 
+def few_processes(tally: Tally, copy: Copy) -> None:
+    """Checks failing forks: the release runs, or there is a status, but never a build, nor a note on unreadable sources."""
+    if os.geteuid() != 0:
+        print("few processes: skipped, since only root has a user without processes")
+        return
+    copy.release(copy.sources())
+    copy.calls.write_text("")
+    copy.calls.chmod(0o666), copy.top.parent.chmod(0o755)
+
+    def begin() -> None:
+        resource.setrlimit(resource.RLIMIT_NPROC, (most, most))
+        os.setgroups([]), os.setgid(NO_USER), os.setuid(NO_USER)
+
+    for most in (*range(1, 12), PLENTY):
+        shutil.rmtree(copy.top / "built", ignore_errors=True)
+        (copy.top / "built").mkdir()
+        (copy.top / "built").chmod(0o777)
+        environment = {**os.environ, "PATH": f"{copy.tools}:/usr/bin:/bin", "CALLS": str(copy.calls)}
+        words = ["/bin/sh", str(copy.top / "dummynet"), "x"]
+        done = subprocess.run(words, cwd="/", env=environment, preexec_fn=begin, capture_output=True, text=True)
+        note = copy.top / "built" / ".sources"
+        got = (done.stdout, copy.calls.read_text(), note.read_text() if note.exists() else copy.sources())
+        expected = ("" if done.returncode else "release x\n", "", copy.sources())
+        tally.equal(f"{most} processes", expected, got)
+    tally.equal("enough processes", 0, done.returncode)
+
+
 def released(tally: Tally, copy: Copy) -> None:
-    """tools/release/release over what was built."""
+    """Checks tools/release/release with a built program."""
     done = copy.run(script="tools/release/release")
     tally.equal("tools/release/release", 0, done.returncode)
     tally.equal("its sources", copy.sources(), (copy.top / "release" / "sources").read_text())
@@ -203,7 +232,7 @@ def the_library(tally: Tally, copy: Copy) -> None:
 
 
 def through_the_wrapper(tally: Tally, program: str) -> None:
-    """The streams and the status of the real program, where one stands for the present sources."""
+    """Checks the streams and the status of the real program through the script."""
     with TemporaryDirectory() as place:
         copy = Copy(place)
         built = copy.top / "built" / copy.sources().strip()
@@ -219,25 +248,24 @@ def through_the_wrapper(tally: Tally, program: str) -> None:
 
 
 def words_of_check(tally: Tally) -> None:
-    """./check tries nothing for a word that it doesn't have."""
+    """Checks that ./check refuses unknown words."""
     for word, status in (("--help", 0), ("--quik", 2), ("quick", 2)):
         done = subprocess.run([TOP / "check", word], capture_output=True, text=True)
         told = (done.stdout if status == 0 else done.stderr).startswith("usage: ./check ")
         tally.equal(f"./check {word}", (status, True), (done.returncode, told))
 
 
-def main(program: str) -> int:
-    tally = Tally()
+def main(tally: Tally, program: str) -> None:
     words_of_check(tally)
     with TemporaryDirectory() as place:
         copy = Copy(place)
+        few_processes(tally, copy)
         which_program(tally, copy)
         stale(tally, copy)
         released(tally, copy)
         the_library(tally, copy)
     through_the_wrapper(tally, os.path.abspath(program))
-    return tally.end()
 
 
 if __name__ == "__main__":
-    sys.exit(main(sys.argv[1]))
+    judge(main)

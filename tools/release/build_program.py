@@ -2,11 +2,11 @@
 
     python3 tools/release/build_program.py [--lib]
 
-Two commands of rt never work in one crate's folder at once, and one that works on a crate holds the folders of those below it.
-So each crate is built in a folder of its own, outside the repository, which gets the built libraries of the crates below.
-What was proved is given to the repository's crates/*/out in the end, so that the next build begins with it. The program
-stands in built/SUM/dummynet, and the library in built/SUM/libhingetulip.a and libhingetulip.so.1, where SUM is the checksum of the
-sources (tools/release/program_sources). A failed build leaves what was built before as it was, answers status 70, and names the log of the
+Two rt commands never work in a crate's folder at once, and a command that works on a crate holds the folders of all crates below.
+So each crate is built in a separate folder outside the repository, which receives the built libraries of the crates below. What was
+proved is given to the repository's crates/*/out in the end, so that the next build begins with it. The program stands in
+built/SUM/dummynet, and the library in built/SUM/libhingetulip.a and libhingetulip.so.1, where SUM is the checksum of the sources
+(tools/release/program_sources). A failed build leaves what was built before as it was, answers status 70, and names the log of the
 crate that failed.
 """
 
@@ -32,25 +32,6 @@ LIBRARY = "hingetulip_c"
 FAILED = 70
 USAGE = 2
 LANES = max(1, min(4, len(os.sched_getaffinity(0))))
-# About the minutes that a crate's first check takes on four cores, by which the time that is left is told.
-MINUTES = {
-    "dn_types": 2.3,
-    "dn_config": 2.5,
-    "dn_records": 1.5,
-    "dn_heap": 1.3,
-    "dn_flows": 1.7,
-    "dn_link": 1.2,
-    "dn_wf2q": 2.9,
-    "dn_shaper": 3.7,
-    "dn_laws": 2.0,
-    "dn_service": 2.2,
-    "dn_files": 2.6,
-    "dn_history": 3.5,
-    "dn_live": 2.0,
-    "dn_replay": 3.2,
-    PROGRAM: 3.5,
-    LIBRARY: 2.0,
-}
 
 
 class BuildFault(Exception):
@@ -58,7 +39,7 @@ class BuildFault(Exception):
 
 
 class Product(NamedTuple):
-    """What is built: how it is called, its crate, what rt leaves of that, the file by which it is known, and how it is put there."""
+    """A product: its name, its crate, rt's output for that crate, the file that identifies it, and the way to install it."""
 
     called: str
     crate: str
@@ -72,7 +53,7 @@ def say(text: str) -> None:
 
 
 def sources(*words: str) -> str:
-    """The checksum of a crate's sources, or what it is built of, lowest first, as tools/release/program_sources gives them."""
+    """Returns the checksum of a crate's sources, or its parts, lowest first, from tools/release/program_sources."""
     done = subprocess.run([TOP / "tools" / "release" / "program_sources", *words], capture_output=True, text=True)
     if done.returncode:
         raise BuildFault(f"the sources can't be read: {done.stderr.strip()}")
@@ -80,12 +61,12 @@ def sources(*words: str) -> str:
 
 
 def crate_of(line: str) -> str:
-    """The crate that a line of crates.txt is about, and the empty text for none."""
+    """Returns the crate of a line in crates.txt, or an empty text."""
     return (line.partition("#")[0].partition(":")[0].split() or [""])[0]
 
 
 def dependencies(crate: str) -> dict[str, list[str]]:
-    """The crates of a product, lowest first, each with those of them that it names in crates.txt."""
+    """Returns the crates of a product, lowest first, with their dependencies among them."""
     names = sources("--crates", crate).split()
     found: dict[str, list[str]] = {}
     for line in (TOP / "crates.txt").read_text().splitlines():
@@ -94,17 +75,8 @@ def dependencies(crate: str) -> dict[str, list[str]]:
     return {name: found[name] for name in names}
 
 
-def minutes_left(below: dict[str, list[str]], started: dict[str, float], done: set[str]) -> float:
-    """The longest chain of crates that isn't built yet."""
-    ends: dict[str, float] = {}
-    for name, needs in below.items():
-        own = max(0.0, MINUTES.get(name, 1.0) - (time.monotonic() - started.get(name, time.monotonic())) / 60)
-        ends[name] = max((ends[need] for need in needs), default=0.0) + (0.0 if name in done else own)
-    return max(ends.values())
-
-
 class Builder:
-    """One build: its folder outside the repository, and what is proved in it."""
+    """A build: its folder outside the repository, and its proofs."""
 
     def __init__(self, work: Path, below: dict[str, list[str]]) -> None:
         self.work, self.below = work, below
@@ -112,7 +84,7 @@ class Builder:
         self.logs.mkdir(parents=True, exist_ok=True)
 
     def all_below(self, name: str) -> list[str]:
-        """The crates that this one stands on, also through others."""
+        """Returns the crates below a crate, directly or not."""
         found = {need for direct in self.below[name] for need in (*self.all_below(direct), direct)}
         return [other for other in self.below if other in found]
 
@@ -120,7 +92,7 @@ class Builder:
         return self.work / name / "crates" / name
 
     def prepare(self, name: str) -> None:
-        """The folder in which a crate is built: its sources and those below it, the libraries below, and what was kept here."""
+        """Prepares the folder for a crate: its sources, the libraries below it, and earlier results."""
         place = self.work / name
         members = [*self.all_below(name), name]
         for member in members:
@@ -147,27 +119,25 @@ class Builder:
         return done.returncode == 0
 
     def build_all(self) -> None:
-        """Builds each crate once those below it are built, as many side by side as there are processors."""
-        begun, started, done = time.monotonic(), {}, set()
+        """Builds each crate after those below it, in parallel on all processors."""
+        begun, done = time.monotonic(), set[str]()
         running: dict[Future[bool], str] = {}
         with ThreadPoolExecutor(LANES) as pool:
             while len(done) < len(self.below):
-                ready = [n for n in self.below if n not in started and done.issuperset(self.below[n])][: LANES - len(running)]
+                begun_ones = done.union(running.values())
+                ready = [n for n in self.below if n not in begun_ones and done.issuperset(self.below[n])][: LANES - len(running)]
                 jobs = max(1, LANES // max(1, len(running) + len(ready)))
                 for name in ready:
-                    started[name] = time.monotonic()
                     running[pool.submit(self.build, name, jobs)] = name
                 for ended in wait(running, return_when=FIRST_COMPLETED).done:
                     name = running.pop(ended)
                     if not ended.result():
                         raise BuildFault(f"{name} could not be built; what was said stands in {self.logs / name}.log")
                     done.add(name)
-                    passed = (time.monotonic() - begun) / 60
-                    total = passed + minutes_left(self.below, started, done)
-                    say(f"{len(done)} of {len(self.below)} crates built ({name}), {passed:.1f} minutes of about {total:.0f}")
+                    say(f"{len(done)} of {len(self.below)} crates built ({name}), {(time.monotonic() - begun) / 60:.1f} minutes")
 
     def give_back(self) -> None:
-        """What was proved goes to the repository, where the next build begins with it, unless rt works in the crate there."""
+        """Gives proof results back to the repository for the next build, unless rt is working in the crate there."""
         for name in self.below:
             held = os.open(TOP / "crates" / name, os.O_RDONLY)
             try:
@@ -184,7 +154,7 @@ class Builder:
 
 
 def link_or_copy(source: str, target: str) -> None:
-    """A second name for what was proved, which a check replaces and never changes; a copy of anything else, or on another disk."""
+    """Links proof results, which checks replace but never change; copies anything else, or onto another disk."""
     try:
         if source.endswith(".oantt"):
             os.link(source, target)
@@ -195,13 +165,13 @@ def link_or_copy(source: str, target: str) -> None:
 
 
 def copied(one: Path, other: Path) -> None:
-    """Copies a folder, where it is there."""
+    """Copies a folder, if it exists."""
     if one.is_dir():
         shutil.copytree(one, other, symlinks=True, copy_function=link_or_copy)
 
 
 def put_program(made: Path, folder: Path) -> None:
-    """The new program, whole from its first moment, and then none of older sources."""
+    """Installs the new program atomically, and then removes those of older sources."""
     room = folder / f"new-{os.getpid()}"
     shutil.copyfile(made, room)
     room.chmod(0o755)

@@ -2,7 +2,7 @@
 
     python3 tools/release/examples.py FOLDER
 
-The files of examples/ but for first.txt and README.md are `python3 tools/release/examples.py examples`. The random words and the
+Of them dsl is kept in examples/. The random words and the
 jitter come from a generator that is seeded by the example's name and SEED, so they are the same in each run.
 """
 
@@ -25,7 +25,7 @@ SEED = 2
 
 
 class Sender(NamedTuple):
-    """Where a stream of packets goes, and its addresses, protocol and ports."""
+    """A stream's target, with its addresses, protocol and ports."""
 
     target: str
     tuple: str
@@ -38,11 +38,11 @@ class Packet(NamedTuple):
 
 
 class Example(NamedTuple):
-    """A name, configuration lines, and the packets of some streams."""
+    """A name, the packets of some streams, and configuration lines."""
 
     name: str
-    config: str
     packets: Callable[[Random], Iterator[Packet]]
+    config: str
 
 
 def to_pipe(number: int, host: int, port: int = 443, proto: int = 6) -> Sender:
@@ -54,7 +54,7 @@ def to_queue(number: int, host: int, port: int = 443, proto: int = 6) -> Sender:
 
 
 def stream(rng: Random, sender: Sender, count: int, first: int, gap: int, length: int, jitter: int = 0) -> Iterator[Packet]:
-    """Packets of one length, one every `gap` ns from `first` on, each up to `jitter` ns later."""
+    """Yields packets of equal length, one every `gap` ns from `first` on, each delayed by up to `jitter` ns."""
     for i in range(count):
         yield Packet(first + i * gap + (rng.getrandbits(32) % jitter if jitter else 0), sender, length)
 
@@ -122,62 +122,40 @@ def unlimited(rng: Random) -> Iterator[Packet]:
         yield from burst(to_pipe(1, 10), 20, turn * 3 * MS, 1500)
 
 
+# fmt: off
 EXAMPLES = (
-    Example(
-        "dsl",
-        "# A DSL line: 16 Mbit/s towards the house, 1 Mbit/s from it\n"
-        "pipe 1 config bw 16Mbit/s delay 12ms queue 60\npipe 2 config bw 1Mbit/s delay 12ms queue 30\n",
-        dsl,
-    ),
-    Example(
-        "cable",
-        "# A cable modem: 100 Mbit/s down, 10 Mbit/s up, queues by bytes\n"
-        "pipe 1 config bw 100Mbit/s delay 8ms queue 50Kbytes\npipe 2 config bw 10Mbit/s delay 8ms queue 50Kbytes\n",
-        cable,
-    ),
-    Example("satellite", "# One way over a geostationary satellite\npipe 1 config bw 2Mbit/s delay 270ms queue 40\n", satellite),
-    Example(
-        "mobile",
-        "# A mobile link that loses two packets in a hundred, by their random words\n"
-        "pipe 1 config bw 12Mbit/s delay 35ms queue 100 plr 0.02\n",
-        mobile,
-    ),
-    Example(
-        "bufferbloat",
-        "# A long queue that an upload and a call share\npipe 1 config bw 2Mbit/s delay 10ms queue 100\n",
-        bulk_and_voice(to_pipe),
-    ),
-    Example(
-        "fair",
-        "# The cure: a queue for each sender, by a mask, and each has its share\npipe 1 config bw 2Mbit/s delay 10ms\n"
-        "queue 1 config pipe 1 queue 100 mask src-ip 0xffffffff\n",
-        bulk_and_voice(to_queue),
-    ),
-    Example(
-        "weights",
-        "# Three classes share 6 Mbit/s as 3 : 2 : 1\npipe 1 config bw 6Mbit/s\nqueue 1 config pipe 1 weight 3 queue 100\n"
-        "queue 2 config pipe 1 weight 2 queue 100\nqueue 3 config pipe 1 weight 1 queue 100\n",
-        weights,
-    ),
-    Example(
-        "bytes",
-        "# A queue of 8 Kbytes: it takes a packet while what waits isn't more than that\n"
-        "pipe 1 config bw 4Mbit/s queue 8Kbytes\n",
-        byte_limit,
-    ),
-    Example("policed", "# An uplink that holds nothing back: one packet may wait\npipe 1 config bw 5Mbit/s queue 1\n", policed),
-    Example(
-        "leased",
-        "# A leased line of 2,048 kbit/s each way\npipe 1 config bw 2048Kbit/s delay 3ms\n"
-        "pipe 2 config bw 2048Kbit/s delay 3ms\n",
-        leased,
-    ),
-    Example("unlimited", "# Delay alone: no bandwidth, so no packet waits\npipe 1 config delay 100ms\n", unlimited),
+    Example("dsl", dsl,
+            "# A DSL line: 16 Mbit/s towards the house, 1 Mbit/s from it\npipe 1 config bw 16Mbit/s delay 12ms queue 60\n"
+            "pipe 2 config bw 1Mbit/s delay 12ms queue 30\n"),
+    Example("cable", cable,
+            "# A cable modem: 100 Mbit/s down, 10 Mbit/s up, queues by bytes\n"
+            "pipe 1 config bw 100Mbit/s delay 8ms queue 50Kbytes\npipe 2 config bw 10Mbit/s delay 8ms queue 50Kbytes\n"),
+    Example("satellite", satellite, "# One way over a geostationary satellite\npipe 1 config bw 2Mbit/s delay 270ms queue 40\n"),
+    Example("mobile", mobile,
+            "# A mobile link that loses two packets in a hundred, by their random words\n"
+            "pipe 1 config bw 12Mbit/s delay 35ms queue 100 plr 0.02\n"),
+    Example("bufferbloat", bulk_and_voice(to_pipe),
+            "# A long queue that an upload and a call share\npipe 1 config bw 2Mbit/s delay 10ms queue 100\n"),
+    Example("fair", bulk_and_voice(to_queue),
+            "# The cure: a queue for each sender, by a mask, and each has its share\npipe 1 config bw 2Mbit/s delay 10ms\n"
+            "queue 1 config pipe 1 queue 100 mask src-ip 0xffffffff\n"),
+    Example("weights", weights,
+            "# Three classes share 6 Mbit/s as 3 : 2 : 1\npipe 1 config bw 6Mbit/s\nqueue 1 config pipe 1 weight 3 queue 100\n"
+            "queue 2 config pipe 1 weight 2 queue 100\nqueue 3 config pipe 1 weight 1 queue 100\n"),
+    Example("bytes", byte_limit,
+            "# A queue of 8 Kbytes: it takes a packet while what waits isn't more than that\n"
+            "pipe 1 config bw 4Mbit/s queue 8Kbytes\n"),
+    Example("policed", policed, "# An uplink that holds nothing back: one packet may wait\npipe 1 config bw 5Mbit/s queue 1\n"),
+    Example("leased", leased,
+            "# A leased line of 2,048 kbit/s each way\npipe 1 config bw 2048Kbit/s delay 3ms\n"
+            "pipe 2 config bw 2048Kbit/s delay 3ms\n"),
+    Example("unlimited", unlimited, "# Delay alone: no bandwidth, so no packet waits\npipe 1 config delay 100ms\n"),
 )
+# fmt: on
 
 
 def rows(example: Example) -> str:
-    """The packet file: rows by moment, each with its random word."""
+    """Returns the packet file: rows by moment, each with its random word."""
     rng = Random(f"{example.name}, {SEED}")
     packets = sorted(example.packets(rng), key=lambda packet: packet.moment)
     lines = [f"{p.moment},{p.sender.target},{p.sender.tuple},{p.len},{rng.getrandbits(32)}" for p in packets]
@@ -186,6 +164,7 @@ def rows(example: Example) -> str:
 
 def main(folder: str) -> None:
     place = Path(folder)
+    place.mkdir(exist_ok=True)
     for example in EXAMPLES:
         (place / f"{example.name}.config").write_text(example.config)
         (place / f"{example.name}.csv").write_text(rows(example))

@@ -4,8 +4,9 @@
     python3 tools/release/link_library.py --symbols < NAMES
 
 The toolchain's small C file between its allocator and malloc goes into both, so that a program needs nothing beside them. The
-shared one gives out the names of the headers alone. Each has the version that it came with: a program that needs a later one than the
-library has is refused when it starts. With --symbols it prints the names with their versions, in the form of Debian's deb-symbols(5).
+shared one gives out the names of the headers alone. Each function has the version that introduced it: a program that needs a later
+version than the library's is refused at its start. With --symbols it prints the names with their versions, in the form of Debian's
+deb-symbols(5).
 """
 
 from __future__ import annotations
@@ -19,17 +20,8 @@ from tempfile import TemporaryDirectory
 STATIC, SHARED = "libhingetulip.a", "libhingetulip.so.1"
 VERSIONS = {
     "HINGETULIP_1.0": (
-        "dn_version",
-        "dn_open",
-        "dn_open_with_key",
-        "dn_close",
-        "dn_configure",
-        "dn_submit",
-        "dn_submit_many",
-        "dn_advance",
-        "dn_collect",
-        "dn_show",
-        "dn_wake",
+        *("dn_version", "dn_open", "dn_open_with_key", "dn_close", "dn_configure", "dn_submit", "dn_submit_many"),
+        *("dn_advance", "dn_collect", "dn_show", "dn_wake"),
     ),
     "HINGETULIP_1.1": ("dn_service_*", "dn_caller_*"),
     "HINGETULIP_1.2": ("dn_reserve", "dn_submit_text", "dn_advance_text", "dn_collect_text"),
@@ -40,7 +32,7 @@ VERSIONS = {
 
 
 def version_of(name: str) -> str:
-    """The version of a name. As for the linker, the name itself comes before a pattern that it fits."""
+    """Returns the version of a name. As in the linker, a literal name takes precedence over a matching pattern."""
     named = [version for version, names in VERSIONS.items() if name in names]
     return next(iter([*named, *(version for version, names in VERSIONS.items() if any(fnmatch(name, it) for it in names))]))
 
@@ -50,7 +42,7 @@ def symbols(names: list[str]) -> str:
 
 
 def kit_archive() -> Path:
-    """The toolchain's archive of what its crate `libc` calls in C."""
+    """Returns the toolchain's archive of C code for its crate `libc`."""
     page = subprocess.run(["rt", "doc"], capture_output=True, text=True, check=True).stdout.split()[-1]
     return Path(page).parent / "c" / "liblibc_c.a"
 
@@ -62,7 +54,7 @@ def run(*words: str | Path, text: str = "") -> None:
 
 
 def version_script() -> str:
-    """The names that the shared library gives out, by version, each of which stands on the one before."""
+    """Returns the script with the shared library's exported names by version, each version based on the one before."""
     text, before = "", ""
     for version, names in VERSIONS.items():
         hidden = "" if before else " local: *;"
@@ -78,20 +70,9 @@ def link(archive: Path, folder: Path) -> None:
         static, shared, names = (Path(place) / name for name in (STATIC, SHARED, "names"))
         run("ar", "-M", text=f"create {static}\naddlib {archive}\naddlib {kit_archive()}\nsave\nend\n")
         names.write_text(version_script())
-        run(
-            "cc",
-            "-shared",
-            "-o",
-            shared,
-            f"-Wl,-soname,{SHARED}",
-            f"-Wl,--version-script,{names}",
-            "-Wl,-z,defs",
-            "-Wl,-z,relro,-z,now",
-            "-Wl,--gc-sections",
-            "-Wl,--whole-archive",
-            static,
-            "-Wl,--no-whole-archive",
-        )
+        named = [f"-Wl,-soname,{SHARED}", f"-Wl,--version-script,{names}"]
+        whole = ["-Wl,--whole-archive", static, "-Wl,--no-whole-archive"]
+        run("cc", "-shared", "-o", shared, *named, "-Wl,-z,defs", "-Wl,-z,relro,-z,now", "-Wl,--gc-sections", *whole)
         static.replace(folder / STATIC)
         shared.replace(folder / SHARED)
 

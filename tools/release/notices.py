@@ -1,4 +1,4 @@
-"""The licences of the crates whose code the program and the C library have: this writes them into NOTICE, behind its own text.
+"""The licences for the crates whose code the program and the C library contain, written into NOTICE after its text.
 
     python3 tools/release/notices.py [--check]
 
@@ -22,19 +22,19 @@ LICENCES = ("LICENSE-MIT", "LICENSE", "LICENSE-APACHE")  # of several, the first
 
 
 def own_crates() -> dict[str, list[str]]:
-    """The crates of this repository, with what each uses."""
+    """Returns the repository's crates with their dependencies."""
     lines = (line.partition("#")[0].partition(":") for line in (TOP / "crates.txt").read_text().splitlines())
     return {name.split()[0]: uses.split() for name, _, uses in lines if name.split()}
 
 
 def toolchain() -> Path:
-    """The folder of the toolchain's crates."""
+    """Returns the folder of the toolchain's crates."""
     page = subprocess.run(["rt", "doc"], capture_output=True, text=True, check=True).stdout.split()[0]
     return Path(page).parent / "rattle"
 
 
 def used_by(folder: Path, name: str) -> set[str]:
-    """The toolchain's crates that one of them names, except in its tests."""
+    """Returns the toolchain's crates that one of them uses outside its tests."""
     source = folder / name / "src"
     files = [path for path in source.rglob("*.rt") if "tests" not in path.name]
     modules = {path.stem for path in files} | {path.name for path in source.rglob("*") if path.is_dir()} | {name}
@@ -43,7 +43,7 @@ def used_by(folder: Path, name: str) -> set[str]:
 
 
 def shipped(folder: Path) -> list[str]:
-    """The toolchain's crates of what is shipped."""
+    """Returns the toolchain's crates in the released files."""
     own, found, left = own_crates(), set[str](), list(SHIPPED)
     while left:
         name = left.pop()
@@ -54,14 +54,14 @@ def shipped(folder: Path) -> list[str]:
 
 
 def version_of(folder: Path, name: str) -> str:
-    """The version of the crate that it is a port of, by its page."""
+    """Returns the version of the ported crate from its page."""
     page = folder / name / "README.md"
     told = re.search(rf"`{name}` (\d+\.\d+\.\d+)", page.read_text(encoding="utf-8")) if page.is_file() else None
     return f" {told[1]}" if told else ""
 
 
 def text() -> str:
-    """What NOTICE has behind its own text."""
+    """Returns the part of NOTICE after its own text."""
     folder = toolchain()
     crates = shipped(folder)
     files = {name: next((folder / name / file for file in LICENCES if (folder / name / file).is_file()), None) for name in crates}
@@ -81,9 +81,11 @@ def main() -> int:
     before, begin, _ = NOTICE.read_text(encoding="utf-8").partition(BEGIN)
     wanted = f"{before.rstrip()}\n\n{text()}"
     if sys.argv[1:] == ["--check"]:
-        same = NOTICE.read_text(encoding="utf-8") == wanted
+        same, count = NOTICE.read_text(encoding="utf-8") == wanted, len(shipped(toolchain()))
         print(
-            "1 passed, 0 failed" if same else "NOTICE isn't of these crates: tools/release/notices.py writes it\n0 passed, 1 failed"
+            f"{count} passed, 0 failed"
+            if same
+            else "NOTICE isn't of these crates: tools/release/notices.py writes it\n0 passed, 1 failed"
         )
         return 0 if same else 1
     NOTICE.write_text(wanted, encoding="utf-8")

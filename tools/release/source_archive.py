@@ -30,7 +30,7 @@ def git(*words: str) -> bytes:
 
 
 def text_at(commit: str, name: str) -> str:
-    """A file at a commit, or nothing."""
+    """Returns a file at a commit, or an empty text."""
     try:
         return git("show", f"{commit}:{name}").decode()
     except subprocess.CalledProcessError:
@@ -53,7 +53,7 @@ def is_released(commit: str, version: str) -> bool:
 
 
 def released(version: str) -> Optional[str]:
-    """The commit with which a version was complete: the last that changed its number, its changes or its binaries."""
+    """Returns the commit that completed a version: the last that changed its number, its changes or its binaries."""
     commits = git("rev-list", "--first-parent", "HEAD", "--", "VERSION", "CHANGELOG.md", "release").decode().split()
     return next((commit for commit in commits if is_released(commit, version)), None)
 
@@ -83,7 +83,7 @@ def main(words: list[str]) -> int:
 
 
 def sums(folder: Path, name: str, sum: str) -> str:
-    """The list of checksums, with one line for each archive of the folder."""
+    """Returns the list of checksums, a line for each archive in the folder."""
     path = folder / "SHA256SUMS"
     others = [line for line in path.read_text().splitlines() if not line.endswith(f"  {name}")] if path.exists() else []
     return "".join(f"{line}\n" for line in sorted([*others, f"{sum}  {name}"], key=lambda line: line[66:]))

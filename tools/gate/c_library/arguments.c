@@ -1,15 +1,9 @@
 /* Every refusal of hingetulip.h: its status, and that nothing else changed; and audits. */
 #include "hingetulip.h"
-#include "holds.h"
+#include "wrong_packets.h"
 
 static uint32_t configured(struct dn_handle *handle, const char *line, struct dn_fault *fault) {
     return dn_configure(handle, (const uint8_t *)line, strlen(line), fault);
-}
-
-/* A packet of 1,000 bytes to pipe 1. */
-static struct dn_packet good(uint64_t moment) {
-    struct dn_packet packet = {.moment = moment, .src = 1, .dst = 2, .sport = 3, .dport = 4, .length = 1000, .number = 1, .kind = DN_PIPE, .proto = 17};
-    return packet;
 }
 
 static void every_call_of_a_closed_handle(void) {
@@ -42,24 +36,10 @@ static void every_call_of_a_closed_handle(void) {
 static void packets_out_of_range(struct dn_handle *handle) {
     struct dn_fate fate;
     memset(&fate, 77, sizeof fate);
-    struct dn_packet packet = good(DN_LAST_MOMENT + 1);
-    HOLDS(dn_submit(handle, &packet, &fate) == DN_BAD_MOMENT && dn_reserve(handle, &packet) == DN_BAD_MOMENT);
-    packet.moment = UINT64_MAX;
-    HOLDS(dn_submit(handle, &packet, &fate) == DN_BAD_MOMENT && dn_reserve(handle, &packet) == DN_BAD_MOMENT);
-    packet = good(0);
-    for (int kind = 2; kind < 256; kind++) {
-        packet.kind = (uint8_t)kind;
-        HOLDS(dn_submit(handle, &packet, &fate) == DN_BAD_KIND && dn_reserve(handle, &packet) == DN_BAD_KIND);
-    }
-    packet = good(0);
-    packet.number = 0;
-    HOLDS(dn_submit(handle, &packet, &fate) == DN_BAD_NUMBER && dn_reserve(handle, &packet) == DN_BAD_NUMBER);
-    packet = good(0);
-    packet.length = 0;
-    HOLDS(dn_submit(handle, &packet, &fate) == DN_BAD_LENGTH && dn_reserve(handle, &packet) == DN_BAD_LENGTH);
-    packet = good(0);
-    packet.reserved = 1;
-    HOLDS(dn_submit(handle, &packet, &fate) == DN_BAD_RESERVED && dn_reserve(handle, &packet) == DN_BAD_RESERVED);
+#define SUBMITTED(packet) dn_submit(handle, &(packet), &fate)
+#define RESERVED(packet) dn_reserve(handle, &(packet))
+    REFUSED_PACKETS(SUBMITTED);
+    REFUSED_PACKETS(RESERVED);
     HOLDS(are_77(&fate, sizeof fate));
 }
 
@@ -138,26 +118,16 @@ static uint32_t collect_text(uint64_t caller, uint64_t moment, size_t count) {
 }
 
 static void texts_that_are_refused(void) {
-    struct dn_packet packet = good(7), other = good(DN_LAST_MOMENT + 1);
+    struct dn_packet packet = good(7);
     struct dn_fate fate = queued;
     fill_text();
     HOLDS(submit_text(16, packet, queued) == DN_BAD_CALLER && submit_text(UINT64_MAX, packet, queued) == DN_BAD_CALLER);
     HOLDS(collect_text(16, 7, 2) == DN_BAD_CALLER);
     HOLDS(dn_advance_text(16, 7, 7, text, sizeof text, &text_length) == DN_BAD_CALLER);
-    HOLDS(submit_text(0, other, queued) == DN_BAD_MOMENT && collect_text(0, DN_LAST_MOMENT + 1, 2) == DN_BAD_MOMENT);
+    HOLDS(collect_text(0, DN_LAST_MOMENT + 1, 2) == DN_BAD_MOMENT);
     HOLDS(dn_advance_text(0, UINT64_MAX, 7, text, sizeof text, &text_length) == DN_BAD_MOMENT);
-    other = packet;
-    other.kind = 2;
-    HOLDS(submit_text(0, other, queued) == DN_BAD_KIND);
-    other = packet;
-    other.number = 0;
-    HOLDS(submit_text(0, other, queued) == DN_BAD_NUMBER);
-    other = packet;
-    other.length = 0;
-    HOLDS(submit_text(0, other, queued) == DN_BAD_LENGTH);
-    other = packet;
-    other.reserved = 1;
-    HOLDS(submit_text(0, other, queued) == DN_BAD_RESERVED);
+#define TOLD(packet) submit_text(0, packet, queued)
+    REFUSED_PACKETS(TOLD);
     fate.outcome = 4;
     HOLDS(submit_text(0, packet, fate) == DN_BAD_OUTCOME);
     fate.outcome = UINT32_MAX;

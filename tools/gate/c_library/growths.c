@@ -1,28 +1,9 @@
 /* Refuses each growth of a run in turn: the call is answered DN_MEMORY and made again, and then no answer differs from those of
    the run in which none was refused. It is linked with tools/gate/refused_growths.c, which refuses. */
-#include "hingetulip.h"
-#include <stdio.h>
-#include <string.h>
+#include "hingetulip_service.h"
+#include "refusals.h"
 
-extern long growths, first_refused;
-
-static uint64_t sum; /* of all answers */
-static int refused, broken; /* broken: packets for which there was room, and memory was refused */
-
-static void mix(const void *bytes, size_t count) {
-    for (const uint8_t *at = bytes; count > 0; at++, count--) sum = (sum ^ *at) * 1099511628211u;
-}
-
-/* Makes a call, and once more where memory was refused. */
-#define ASKED(call)                 \
-    do {                            \
-        uint32_t status_ = (call);  \
-        if (status_ == DN_MEMORY) { \
-            refused++;              \
-            status_ = (call);       \
-        }                           \
-        mix(&status_, 4);           \
-    } while (0)
+static int broken; /* packets for which there was room, and memory was refused */
 
 static const char *const LINES[] = {"pipe 1 config bw 8Mbit/s delay 2 queue 20", "pipe 2 config bw 1Mbit/s delay 5",
                                     "queue 1 config pipe 2 weight 3 mask dst-port 3", "queue 2 config pipe 2 weight 1",
@@ -83,8 +64,7 @@ static void packets_arrive(struct dn_handle *handle) {
     for (int i = 0; i < 300; i++) {
         random = random * 1664525 + 1013904223;
         moment += random % 400000;
-        struct dn_packet packet = {.moment = moment, .src = random >> 8 & 7, .dst = 2, .word = random, .sport = 3, .dport = random >> 16 & 3,
-                                   .length = 500, .number = (uint16_t)(1 + (random >> 21) % 3), .kind = random >> 20 & 1, .proto = 17};
+        struct dn_packet packet = drawn(moment, random);
         struct dn_fate fate = {9, 9, 9, 9, 9};
         uint32_t room = DN_NEW_FLOW;
         if (i % 2 == 0) ASKED(room = dn_reserve(handle, &packet));
@@ -110,9 +90,7 @@ static void packets_arrive(struct dn_handle *handle) {
 static void run(void) {
     struct dn_handle handle = {0};
     struct dn_fault fault = {0, 0, 0};
-    sum = 14695981039346656037u;
-    refused = 0;
-    growths = 0;
+    begin_run();
     ASKED(dn_open_with_key(&handle, DN_ORDERED, 1, 2));
     for (size_t i = 0; i < sizeof LINES / sizeof *LINES; i++) ASKED(dn_configure(&handle, (const uint8_t *)LINES[i], strlen(LINES[i]), &fault));
     packets_arrive(&handle);
@@ -120,18 +98,6 @@ static void run(void) {
     ASKED(dn_close(&handle));
 }
 
-int main(void) {
-    run();
-    long all = growths;
-    uint64_t want = sum;
-    int told = 0, differing = 0;
-    for (first_refused = 1; first_refused <= all; first_refused++) {
-        run();
-        told += refused > 0;
-        if (sum == want && refused <= 1 && broken == 0) continue;
-        differing++;
-        printf("growth %ld refused: %d calls refused, %s answers\n", first_refused, refused, sum == want ? "the same" : "other");
-    }
-    printf("%ld growths refused in turn, %d of them answered DN_MEMORY, %d with other answers\n", all, told, differing);
-    return all == 0 || told == 0 || differing != 0;
-}
+static bool is_right(void) { return refused <= 1 && broken == 0; }
+
+int main(void) { return refuse_each(run, is_right); }

@@ -1,6 +1,6 @@
 /* Every refusal of hingetulip_service.h: its status, and that nothing else changed; and each call once, with the values worked out by hand. */
 #include "hingetulip_service.h"
-#include "holds.h"
+#include "wrong_packets.h"
 
 static uint64_t number = 77, other = 77, holder = 77;
 static struct dn_fate fate;
@@ -25,12 +25,6 @@ static bool untouched(void) {
 
 static uint32_t configured(struct dn_caller *caller, const char *line) {
     return dn_caller_configure(caller, (const uint8_t *)line, strlen(line), &fault, &holder);
-}
-
-/* A packet of 1,000 bytes to pipe 1, which takes 1 ms at 8 Mbit/s. */
-static struct dn_packet good(uint64_t moment) {
-    struct dn_packet packet = {.moment = moment, .src = 1, .dst = 2, .sport = 3, .dport = 4, .length = 1000, .number = 1, .kind = DN_PIPE, .proto = 17};
-    return packet;
 }
 
 static void every_call_of_closed_handles(void) {
@@ -73,17 +67,9 @@ static void counts_of_callers(void) {
 }
 
 static void refusals(struct dn_caller *caller) {
-    struct dn_packet packet;
     fill();
-#define REFUSED(field, value, status) \
-    packet = good(0);                 \
-    packet.field = (value);           \
-    HOLDS(dn_caller_submit(caller, &packet, &fate, &holder) == (status))
-    REFUSED(moment, DN_LAST_MOMENT + 1, DN_BAD_MOMENT);
-    REFUSED(kind, 2, DN_BAD_KIND);
-    REFUSED(number, 0, DN_BAD_NUMBER);
-    REFUSED(length, 0, DN_BAD_LENGTH);
-    REFUSED(reserved, 1, DN_BAD_RESERVED);
+#define SUBMITTED(packet) dn_caller_submit(caller, &(packet), &fate, &holder)
+    REFUSED_PACKETS(SUBMITTED);
     HOLDS(dn_caller_advance(caller, DN_LAST_MOMENT + 1, &number, &holder) == DN_BAD_MOMENT);
     HOLDS(dn_caller_collect(caller, DN_LAST_MOMENT + 1, &number, &holder) == DN_BAD_MOMENT);
     HOLDS(untouched());

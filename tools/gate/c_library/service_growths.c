@@ -1,33 +1,9 @@
 /* Refuses each growth of a run by two callers in turn: the call is answered DN_MEMORY and made again, and then no answer and no byte of
    the history differ from those of the run in which none was refused. It is linked with tools/gate/refused_growths.c, which refuses. */
 #include "hingetulip_service.h"
-#include <stdio.h>
-#include <string.h>
-
-extern long growths, first_refused;
+#include "refusals.h"
 
 enum { CALLERS = 2, CALLS = 150 };
-
-static uint64_t sum; /* of all answers */
-static int refused, busy;
-
-static void mix(const void *bytes, size_t count) {
-    for (const uint8_t *at = bytes; count > 0; at++, count--) sum = (sum ^ *at) * 1099511628211u;
-}
-
-/* Makes a call, and once more where memory was refused. */
-static uint32_t again(uint32_t status) {
-    refused += status == DN_MEMORY;
-    busy += status == DN_BUSY;
-    return status;
-}
-
-#define ASKED(call)                                             \
-    do {                                                        \
-        uint32_t status_ = again(call);                         \
-        if (status_ == DN_MEMORY) status_ = again(call);        \
-        mix(&status_, 4);                                       \
-    } while (0)
 
 static const char *const LINES[] = {"pipe 1 config bw 8Mbit/s delay 2 queue 20", "pipe 2 config bw 1Mbit/s delay 5",
                                     "queue 1 config pipe 2 weight 3 mask dst-port 3", "pipe 3 config plr 0.2 mask src-ip 0xff"};
@@ -56,8 +32,7 @@ static void calls(struct dn_service *service, struct dn_caller *callers) {
         struct dn_caller *caller = &callers[i % CALLERS];
         random = random * 1664525 + 1013904223;
         moment += random % 400000;
-        struct dn_packet packet = {.moment = moment, .src = random >> 8 & 7, .dst = 2, .word = random, .sport = 3, .dport = random >> 16 & 3,
-                                   .length = 500, .number = (uint16_t)(1 + (random >> 21) % 3), .kind = random >> 20 & 1, .proto = 17};
+        struct dn_packet packet = drawn(moment, random);
         struct dn_fate fate = {9, 9, 9, 9, 9};
         ASKED(dn_caller_submit(caller, &packet, &fate, &holder));
         mix(&fate, sizeof fate);
@@ -82,9 +57,7 @@ static void run(void) {
     struct dn_caller callers[CALLERS] = {{0}};
     struct dn_fault fault = {0, 0, 0};
     uint64_t holder = 0;
-    sum = 14695981039346656037u;
-    refused = 0;
-    growths = 0;
+    begin_run();
     ASKED(dn_service_open_with_key(&service, callers, CALLERS, 1, 2));
     for (size_t i = 0; i < sizeof LINES / sizeof *LINES; i++)
         ASKED(dn_caller_configure(&callers[i % CALLERS], (const uint8_t *)LINES[i], strlen(LINES[i]), &fault, &holder));
@@ -94,18 +67,6 @@ static void run(void) {
     ASKED(dn_service_close(&service));
 }
 
-int main(void) {
-    run();
-    long all = growths;
-    uint64_t want = sum;
-    int told = 0, differing = 0;
-    for (first_refused = 1; first_refused <= all; first_refused++) {
-        run();
-        told += refused > 0;
-        if (sum == want && refused <= 1) continue;
-        differing++;
-        printf("growth %ld refused: %d calls refused, %s answers\n", first_refused, refused, sum == want ? "the same" : "other");
-    }
-    printf("%ld growths refused in turn, %d of them answered DN_MEMORY, %d with other answers, %d calls busy\n", all, told, differing, busy);
-    return all == 0 || told == 0 || differing != 0 || busy != 0;
-}
+static bool is_right(void) { return refused <= 1; }
+
+int main(void) { return refuse_each(run, is_right) || busy != 0; }

@@ -1,0 +1,151 @@
+"""Commands don't depend on inherited settings: under a hostile parent they end with the status and output that they have under a
+usual parent, in time. The hostile one ignores SIGCHLD, SIGPIPE and SIGXFSZ, blocks all signals, takes all rights of new files, has
+closed standard input, and sets the variables of HOSTILE; PYTHONPATH has modules that fail. Under each of SCARCE they end so too, or
+say why not by a status that means no verdict, no defect and no signal.
+
+    python3 tools/gate/inherited.py PROGRAM
+
+Each script of the shell that has `cd` begins with FRONT, and the programs in Python with `inherit_nothing`.
+"""
+
+from __future__ import annotations
+
+import os
+import re
+import resource
+import signal
+import subprocess
+from functools import partial
+from pathlib import Path
+from tempfile import TemporaryDirectory
+from typing import Callable, NamedTuple, Optional
+
+from tally import TOP, Tally, judge
+
+HINGE = [str(TOP / "hinge")]
+CAPTURE = str(TOP / "python" / "tests" / "kit_data" / "mixed.pcap")
+IGNORED = (signal.SIGCHLD, signal.SIGPIPE, signal.SIGXFSZ)
+SCRIPT, FOLDER = re.compile(r"#!.*\bsh\b"), re.compile(r"(?m)^[^#\n]*\bcd\b")
+FRONT = "unset CDPATH POSIXLY_CORRECT; export LC_ALL=C"
+HOSTILE = {
+    **{"CDPATH": ".:/", "ENV": "/dev/full", "IFS": "e/", "POSIXLY_CORRECT": "1", "LC_ALL": "tr_TR.UTF-8", "LANGUAGE": "tr"},
+    **{"PYTHONWARNINGS": "error", "PYTHONOPTIMIZE": "2", "PYTHONHASHSEED": "7", "PYTHONINTMAXSTRDIGITS": "640"},
+    **{"PYTHONSTARTUP": "/dev/full", "TZ": "Pacific/Kiritimati", "COLUMNS": "1"},
+}
+SHADOWED = "json random socket tempfile subprocess argparse dataclasses csv shlex".split()
+LIMIT = 120  # s
+PACKETS = "moment,target,number,src,dst,proto,sport,dport,len,word\n0,pipe,1,10.0.0.1,10.0.0.2,17,1000,2000,1000,0\n"
+FILES = {
+    "c": "pipe 1 config bw 8Mbit/s\n",
+    "p": PACKETS,
+    "n.net": "host a true\nhost b\nlink a b 1ms\n",
+    "s.sh": "ipfw pipe 1 config\n",
+}
+COMMANDS = [
+    *([*HINGE, *words] for words in (["help"], ["check", "c", "p"], ["ipfw", "s.sh"], ["why", "1", "c", "p"])),
+    *([*HINGE, *words] for words in (["packets", CAPTURE], ["try"], ["net", "n.net", "--dry-run"], ["packets", "missing"])),
+    [*HINGE, "run", "--quiet", "--link", "1ms", "--", "sh", "-c", "cat /proc/self/status | grep ^Sig[BI]; exit 3"],
+    [*HINGE, "run", "--quiet", "--server", "sleep 9", "--server-wait", "10ms", "--", "true"],
+    [*HINGE, "net", "--quiet", "n.net"],
+    [str(TOP / "dummynet"), "--version"],
+    [str(TOP / "tools/release/program_sources")],
+    [str(TOP / "install"), "--uninstall", "usr"],
+]
+
+
+def closed(*streams: int) -> None:
+    for stream in streams:
+        os.close(stream)
+
+
+CLOSED = "all streams are closed"
+INSTALL = [str(TOP / "install"), "there"]
+SCARCE: dict[str, Callable[[], None]] = {
+    CLOSED: partial(closed, 0, 1, 2),
+    "standard input is a folder": partial(os.dup2, os.open("/", os.O_RDONLY), 0),
+    **{
+        f"at most {most} of {name}": partial(resource.setrlimit, getattr(resource, name), (most, most))
+        for name, most in (("RLIMIT_NOFILE", 20), ("RLIMIT_FSIZE", 0), ("RLIMIT_AS", 30 << 20))
+    },
+}
+NO_REASON = (1, 70)  # of a verdict, and of a defect
+
+
+class Ended(NamedTuple):
+    status: object
+    stdout: str
+    stderr: str
+
+
+def shadow(folder: str) -> None:
+    """Modules that fail, of the names of the standard library's that Python doesn't load before a program begins."""
+    os.mkdir(f"{folder}/shadow")
+    for name in SHADOWED:
+        Path(folder, "shadow", f"{name}.py").write_text(f"raise SystemError('{name} of PYTHONPATH')\n")
+
+
+def begin_hostile() -> None:
+    os.umask(0o777)
+    closed(0)
+    for number in IGNORED:
+        signal.signal(number, signal.SIG_IGN)
+    signal.pthread_sigmask(signal.SIG_BLOCK, signal.valid_signals())
+
+
+def ended(words: list[str], folder: str, program: str, begin: Optional[Callable[[], None]] = None) -> Ended:
+    is_hostile = begin is begin_hostile
+    env = {**os.environ, "DUMMYNET": program, **({**HOSTILE, "PYTHONPATH": f"{folder}/shadow"} if is_hostile else {})}
+    begun = subprocess.Popen(
+        words,
+        cwd=folder,
+        env=env,
+        stdin=subprocess.DEVNULL,
+        stdout=subprocess.PIPE,
+        stderr=subprocess.PIPE,
+        text=True,
+        restore_signals=not is_hostile,
+        preexec_fn=begin,
+    )
+    try:
+        text, complaints = begun.communicate(timeout=LIMIT)
+        return Ended(begun.returncode, re.sub(r"took [\d.]+ s", "", text), complaints)
+    except subprocess.TimeoutExpired:
+        begun.kill()
+        return Ended(f"none in {LIMIT} s", "", "")
+
+
+def fault_of(name: str, usual: Ended, scarce: Ended) -> str:
+    """Returns what is wrong with an end for want of something, or an empty text."""
+    if "Traceback" in scarce.stderr or "Fatal Python" in scarce.stderr:
+        return scarce.stderr
+    if scarce.status == usual.status or isinstance(scarce.status, int) and scarce.status >= 0 and scarce.status not in NO_REASON:
+        is_silent = scarce.status and not usual.status and not scarce.stdout + scarce.stderr and name != CLOSED
+        return f"status {scarce.status} without a word" if is_silent else ""
+    return f"status {scarce.status}: {scarce.stderr}"
+
+
+def check_scripts(tally: Tally) -> None:
+    for name in subprocess.run(["git", "ls-files"], cwd=TOP, capture_output=True, text=True, check=True).stdout.splitlines():
+        path = TOP / name
+        text = path.read_text(errors="replace") if path.is_file() and "kit_data" not in path.parts else ""
+        if SCRIPT.match(text) and FOLDER.search(text):
+            first = next(line for line in text.splitlines() if not line.startswith("#"))
+            tally.note(name, "" if first == FRONT else f"it has cd, and its first command isn't `{FRONT}`")
+
+
+def main(tally: Tally, program: str) -> None:
+    check_scripts(tally)
+    with TemporaryDirectory() as folder:
+        shadow(folder)
+        for name, text in FILES.items():
+            Path(folder, name).write_text(text)
+        for words in [*COMMANDS, INSTALL]:
+            name, usual = " ".join(words), ended(words, folder, program)
+            if words != INSTALL:
+                tally.equal(name, usual[:2], ended(words, folder, program, begin_hostile)[:2])
+            for scarcity, begin in SCARCE.items():
+                tally.note(f"{name}, {scarcity}", fault_of(scarcity, usual, ended(words, folder, program, begin)))
+
+
+if __name__ == "__main__":
+    judge(main)
