@@ -15,5 +15,6 @@ void insert_outage(struct changes *changes, uint64_t moment, int pipe, uint16_t 
 /* The moment of the next change, or DN_NEVER. */
 uint64_t next_change(const struct changes *changes);
 
-/* Makes the changes that are due at a moment. */
+/* Makes the changes that are due at a moment. Whatever tells the links a moment calls this first: time goes on while packets are read and
+   sent, and behind a later moment no change could be made at its own. */
 void make_changes(struct host *host, uint64_t moment);

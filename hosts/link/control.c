@@ -77,6 +77,7 @@ void take_control(struct host *host) {
         text[len] = 0;
         uint64_t moment = now(&host->clock);
         answer.line = NULL;
+        make_changes(host, moment);
         const char *wrong = taken_line(host, text, moment, &answer);
         int size = snprintf(whole, sizeof whole, "%" PRIu64 "%s%s\n%s", moment, wrong ? " " : "", wrong ? wrong : "", answer.line ? answer.line : "");
         send(host->control, whole, (size_t)size, MSG_DONTWAIT | MSG_NOSIGNAL);

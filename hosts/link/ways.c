@@ -84,6 +84,7 @@ static bool give(struct host *host, int way, const struct arrival *arrival, uint
     struct dn_packet packet = {.moment = moment};
     struct payload payload;
     struct headers headers;
+    make_changes(host, moment);
     if (!look_at(host, way, arrival, &payload, &packet, &headers)) return false;
     enum extent extent = extent_of_cut(host->cuts, way, &packet);
     bool is_lost = extent == OF_ITS_PORT;
@@ -139,6 +140,7 @@ static bool pass_again(struct host *host, struct packet *packet, uint64_t due) {
     int pipe = packet->again ? 0 : second_pipe(host->passes, packet->way);
     if (!pipe) return false;
     if (packet->late) pipe = packet->late; /* its draw counts, so that a fault changes nothing for the others */
+    make_changes(host, host->clock.last);
     struct dn_packet again = {.moment = host->clock.last, .word = WORD_OF_NONE};
     struct payload payload;
     struct headers headers;
@@ -214,6 +216,7 @@ void leave(struct host *host) {
     const struct dn_delivery *list;
     leaving.count = 0;
     leaving.first = NULL;
+    make_changes(host, host->clock.last);
     catch_up(host->pacing, host->clock.last);
     uint64_t count = collect(host->links, host->clock.last, &list);
     for (uint64_t i = 0; i < count; i++) {

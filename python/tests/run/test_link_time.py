@@ -9,11 +9,12 @@ import sys
 import tempfile
 import time
 import unittest
+from contextlib import suppress
 
 from hinge.run.plan import Plan
 from hinge.run.summary import void
 from link_packets import CLIENT, SERVER, plan_of, udp
-from linked import SEEDS, Linked, audited, found, ip4, needs_host, stopped, until, with_lines
+from linked import AT_ONCE, SEEDS, Linked, audited, found, ip4, needs_host, stopped, until, with_lines
 
 
 @needs_host
@@ -37,6 +38,21 @@ class OfTime(unittest.TestCase):
         assert (ended.status, ended.counts.ways[0]["no_target"], ended.counts.ways[0]["sent"]) == (0, 1, 1)
         assert "c,0,advance,2200000000\nr,advanced,2200000000\n" in ended.history
         assert int(found(r"^d,1,.*,(\d+)$", ended.history)[0]) >= 2_200_000_000
+
+    def test_each_change_is_made_at_its_moment(self) -> None:
+        """No packet that is read in between takes the links beyond a change."""
+        moments = [300_000_000 + 500_000 * number for number in range(600)]
+        changes = "".join(f"at {moment} pipe 2 config delay {number}\n" for number, moment in enumerate(moments, 1))
+        link = Linked(f"{SEEDS}line pipe 1 config\nline pipe 2 config\n{changes}")
+        for end in (link.near, link.far):
+            end.setblocking(False)
+        while link.page.read()["moment"] <= moments[-1]:
+            for act in (lambda: link.near.send(udp(1)), lambda: link.far.recv(100)):
+                with suppress(BlockingIOError):
+                    for _ in range(AT_ONCE):
+                        act()
+        made = found(r"^r,advanced,(\d+)\nc,0,configure,pipe 2 config delay", link.end().history)
+        assert [int(moment) for moment in made] == moments
 
     def test_its_lateness_is_remarked(self) -> None:
         """A host that was stopped is late, and a remark has the most that the page has. The audit passes over it."""
