@@ -147,7 +147,7 @@ def parts(fresh: Optional[int], program: str) -> list[Part]:
         Part("fuzzing of the hosts", [python, "tools/fuzz/run.py", *by_seed, str(FUZZED_IN_C)], FUZZER, True, least=5),
         Part("fuzzing of the kit", [kit, "tools/fuzz/border.py", *by_seed, str(FUZZED_IN_PYTHON)], NUMPY, True, least=9),
         Part("kills of the kit's commands", [kit, "tools/gate/kills.py", *by_seed], NUMPY, True, least=46, by_clock=True),
-        Part("the words of nets and runs", [python, "tools/gate/plans.py", *by_seed], "cc", True, 35),
+        Part("the words of nets and runs", [python, "tools/gate/plans.py", *by_seed], "cc", True, 35, by_clock=True),
         Part("the notices of the crates", [python, "tools/release/notices.py", "--check"], "rt", least=20),
         Part("the manual pages", [python, "tools/gate/manual.py", program], "mandoc", least=240),
         Part("hardening of what is released", [python, "tools/gate/hardening.py"], "readelf", least=6),
