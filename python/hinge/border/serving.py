@@ -4,6 +4,7 @@ the run begins, so that no want of threads, descriptors or memory that comes lat
 from __future__ import annotations
 
 import errno
+import fcntl
 import os
 import select
 import socket
@@ -11,9 +12,9 @@ import stat
 import threading
 import time
 from collections import deque
-from contextlib import suppress
+from contextlib import contextmanager, suppress
 from dataclasses import dataclass, field, replace
-from typing import Callable, NamedTuple, Optional, Sequence
+from typing import Callable, Iterator, NamedTuple, Optional, Sequence
 
 from hinge.border.asking import reached
 from hinge.border.messages import Order, Reply, Strange, line_of, read_message
@@ -103,18 +104,37 @@ def is_dead(path: str) -> bool:
     return stat.S_ISSOCK(result.st_mode) and result.st_uid == os.geteuid() and reached(path) == errno.ECONNREFUSED
 
 
+@contextmanager
+def alone(folder: str) -> Iterator[None]:
+    """Locks a folder for the runs that take a name in it. BlockingIOError: another program keeps the lock."""
+    place, until = os.open(folder, os.O_RDONLY | os.O_DIRECTORY | os.O_CLOEXEC), time.monotonic() + PATIENCE
+    try:
+        while True:
+            try:
+                fcntl.flock(place, fcntl.LOCK_EX | fcntl.LOCK_NB)
+                break
+            except BlockingIOError:
+                if time.monotonic() > until:
+                    raise
+                time.sleep(PAUSE)
+        yield
+    finally:
+        os.close(place)
+
+
 def take(own: str, path: str) -> None:
-    """Gives a socket its name. If the name belongs to a killed run, the two sockets exchange their names at once and a second check
-    follows: if two runs find the same name, only a single run keeps it. FileExistsError: a run or a file has the name."""
+    """Gives a socket its name. A name of a killed run goes to one run at a time: of three that exchange sockets at once, each could
+    lose the name. FileExistsError: a run or a file has the name, perhaps since a moment."""
     try:
         os.link(own, path)
     except FileExistsError:
-        if not is_dead(path):
-            raise
-        exchange(own, path)
-        if not is_dead(own):
+        with alone(os.path.dirname(path) or "."):
+            if not is_dead(path):
+                raise
             exchange(own, path)
-            raise
+            if not is_dead(own):
+                exchange(own, path)
+                raise
 
 
 @dataclass

@@ -75,20 +75,23 @@ class OfServers(WithFolder):
                     self.assertEqual(left, [])
 
     def test_of_runs_that_find_one_dead_socket_one_has_it(self) -> None:
-        """Also where another one takes the name once it was seen to be dead."""
-        usual, late, finds = serving.reached, list[Server](), iter((True,))
+        """Also where a socket that isn't a run's takes the name once it was seen to be dead."""
+        usual, finds, other = serving.reached, iter((True,)), str(self.folder / "other")
 
         def reached(path: str) -> int:
             result = usual(path)
             if next(finds, False):
-                late.append(Server(self.dead))
+                os.rename(other, self.dead)
             return result
 
         self.leave_dead()
-        with mock.patch.object(serving, "reached", reached), self.assertRaises(FileExistsError):
-            Server(self.dead)
-        self.assertEqual(usual(self.dead), 0)
-        late.pop().end()
+        with socket.socket(socket.AF_UNIX) as late:
+            late.bind(other)
+            late.listen()
+            with mock.patch.object(serving, "reached", reached), self.assertRaises(FileExistsError):
+                Server(self.dead)
+            self.assertEqual(usual(self.dead), 0)
+        os.unlink(self.dead)
         self.leave_dead()
         begin, made = threading.Barrier(8), list[Server]()
 
