@@ -1,6 +1,6 @@
 """Writes configuration lines with the answers of an independent reader, for crates/check_lists.
 
-    python3 tools/oracle/config_line_cases.py SEED COUNT      (the first that crates/check_lists/stdin keeps: 1 100)
+    python3 tools/oracle/config_line_cases.py SEED COUNT      (the first that crates/check_lists/stdin keeps: 1 24)
 
 Each case is two lines: the answer, as `ok` and the line that is printed for the command, `none`, or a fault and its
 position, and then the configuration line. COUNT cases are random: good lines with a few words changed, options with

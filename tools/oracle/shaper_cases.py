@@ -1,6 +1,6 @@
 """Writes random lists of calls with the reference's replies as histories, one after the other.
 
-    python3 tools/oracle/shaper_cases.py SEED COUNT CALLS      (the last that crates/check_lists/stdin keeps: 10 10 45)
+    python3 tools/oracle/shaper_cases.py SEED COUNT CALLS      (the last that crates/check_lists/stdin keeps: 12 2 45)
 
 Each of the COUNT histories has some CALLS calls, and its first record says the rule: version 2 is Free, which is one in
 five, and version 3 is Ordered. The replies are those of tools/oracle/fast.py.
