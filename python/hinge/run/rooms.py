@@ -139,10 +139,15 @@ def see_own_processes() -> None:
         pass  # a container that hides parts of /proc: the rooms see the container's processes
 
 
+def may_ping() -> str:
+    """Returns the range of groups that may send pings, which is the user's own."""
+    return f"{os.getegid()} {os.getegid()}"
+
+
 def furnish() -> int:
     """Prepares the current network namespace as a room; returns its descriptor."""
     set_up("lo")
-    try_to_write("/proc/sys/net/ipv4/ping_group_range", f"{os.getegid()} {os.getegid()}")
+    try_to_write("/proc/sys/net/ipv4/ping_group_range", may_ping())
     try_to_write("/proc/sys/net/ipv4/ip_unprivileged_port_start", "0")
     return this_network()
 

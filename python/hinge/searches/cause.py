@@ -1,17 +1,20 @@
-"""The cause of the least case's failure: all threads' calls around each pause, and each paused thread's place in the program."""
+"""The cause of the least case's failure: its lost packets, all threads' calls around each pause, and each paused thread's place in the
+program."""
 
 from __future__ import annotations
 
 from typing import Iterator, NamedTuple
 
 from hinge.searches.case import Case
+from hinge.searches.losses import Lost, losses_in, ways_of
 from hinge.searches.runs import Ran, Runner, Watch
 from hinge.simulated.calls_kept import KEPT, Row, around, pauses_in, rows_of
 from hinge.simulated.machine import ALL, BOOTED, NONE, OF_DEADLOCKS, Machine
 from hinge.simulated.pauses import given
 from hinge.simulated.places import has_debugger, innermost
+from hinge.simulated.start import HISTORY
 
-MOST = 4  # pauses that are told
+MOST = 4  # lost packets and pauses that are told
 
 
 class Looked(NamedTuple):
@@ -19,13 +22,18 @@ class Looked(NamedTuple):
 
     ran: Ran
     rows: "list[Row]"
+    losses: "list[Lost]"
 
 
 def looked(runner: Runner, case: Case) -> Looked:
-    rows = list[Row]()
+    """Looks at the lost packets in a run with a transcript, which would change the summary."""
+    rows, losses = list[Row](), list[Lost]()
     cores = OF_DEADLOCKS if has_debugger() else NONE
     ran = runner.case(case, Watch((f"keep {KEPT}",), cores), lambda machine: rows.extend(rows_of(machine.folder / "calls")))
-    return Looked(ran, rows)
+    if case.of_kind("losses"):
+        what = runner.asked.what
+        runner.case(case, Watch(transcript=HISTORY), lambda machine: losses.extend(losses_in(what, machine) or ()))
+    return Looked(ran, rows, losses)
 
 
 def place_of(runner: Runner, case: Case, call: int, process: int) -> str:
@@ -43,6 +51,10 @@ def place_of(runner: Runner, case: Case, call: int, process: int) -> str:
 
 def told(runner: Runner, case: Case, look: Looked) -> Iterator[str]:
     """Yields the cause as text."""
+    names = ways_of(runner.asked.what)
+    yield from (one.text(names[one.way]) for one in look.losses[:MOST])
+    if len(look.losses) > MOST:
+        yield f"and {len(look.losses) - MOST} more lost packets"
     pauses = given(case.pauses() or "")
     for one, place in list(zip(pauses, pauses_in(look.rows)))[:MOST]:
         text = place_of(runner, case, one.call, look.rows[place].process)

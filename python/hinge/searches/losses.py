@@ -8,6 +8,7 @@ from pathlib import Path
 from typing import Iterator, NamedTuple, Optional
 
 from hinge.net.description import read_description
+from hinge.replays.replay import PROTOCOLS
 from hinge.run.plan_of_options import LINKS
 from hinge.simulated.machine import Machine
 from hinge.simulated.start import HISTORY
@@ -21,6 +22,13 @@ WORDS = ("--loss up:list:", "--loss down:list:")
 class Lost(NamedTuple):
     way: int
     packet: int  # among those of its way, from 1
+    row: str  # of the transcript, behind the pipe
+
+    def text(self, name: str) -> str:
+        source, target, protocol, port, to, length, _, moment = self.row.split(",")
+        what = PROTOCOLS.get(int(protocol), f"protocol {protocol}")
+        ends = (f"{source} > {target}", f"[{source}]:{port} > [{target}]:{to}" if ":" in source else f"{source}:{port} > {target}:{to}")
+        return f"lost: {name} packet {self.packet} at {int(moment) / 1e9:.9f} s, {what} {ends[port + to != '00']}, {length} bytes"
 
 
 def ways_of(what: "list[str]") -> "list[str]":
@@ -31,17 +39,17 @@ def ways_of(what: "list[str]") -> "list[str]":
 def packets_lost(paths: "list[Path]", ways: int) -> "Optional[list[Lost]]":
     """Returns the lost packets on these ways; None if packets also met queues, which changes their numbers, or if there are too
     many. A cut's losses belong to the cut, which a search leaves out separately."""
-    count, losses, way, cuts = Counter[int](), list[Lost](), -1, set[int]()
+    count, losses, way, cuts, row = Counter[int](), list[Lost](), -1, set[int](), ""
     for line in (line for path in paths for line in path.open(encoding="utf-8", errors="replace")):
         if one := SUBMIT.match(line):
             if one[1] == "queue":
                 return None
-            way = int(one[2]) - 1
+            way, row = int(one[2]) - 1, line[one.end() :].rstrip()
             count[way] += 1
         elif one := CONFIGURED.match(line):
             (cuts.add if one["cut"] else cuts.discard)(int(one[1]) - 1)
         elif line.startswith(LOST) and way < ways and way not in cuts:
-            losses.append(Lost(way, count[way]))
+            losses.append(Lost(way, count[way], row))
     return losses if len(losses) <= MOST else None
 
 
@@ -53,8 +61,7 @@ def lines_of(what: "list[str]", losses: "list[Lost]") -> Iterator[str]:
         yield f"{begin}{one.packet}"
 
 
-def lines_in(what: "list[str]", machine: Machine) -> "Optional[list[str]]":
-    """Returns the lines for a machine's transcript."""
+def losses_in(what: "list[str]", machine: Machine) -> "Optional[list[Lost]]":
+    """Returns the lost packets of a machine's transcript."""
     paths = sorted(machine.room.kept.glob(f"{HISTORY}*"), key=lambda path: (len(path.name), path.name))
-    losses = packets_lost(paths, len(ways_of(what)))
-    return None if losses is None else list(lines_of(what, losses))
+    return packets_lost(paths, len(ways_of(what)))

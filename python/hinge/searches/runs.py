@@ -73,6 +73,14 @@ class Ran(NamedTuple):
         """Returns whether the run failed. A void run doesn't count as a failure."""
         return self.has_run and not self.record.get("void") and self.name != WELL
 
+    def remarks(self) -> "list[str]":
+        """Returns what a single run would warn of: servers that ended early beside a program that ended well, and no sure repetition."""
+        servers = {} if self.failed else {"the server": self.record.get("server"), **(self.record.get("hosts") or {})}
+        ends = [
+            f"{name} ended with {one['status']} by itself" for name, one in servers.items() if one and one["by"] == "itself" and one["status"]
+        ]
+        return [*ends, *["a second run may differ"] * (self.has_run and self.record.get("repeatable") is False)]
+
     def told(self) -> str:
         void = "void: " * bool(self.record.get("void"))
         return f"{void}{self.name or f'status {self.status}'}: {self.last_line()}".rstrip(": ")

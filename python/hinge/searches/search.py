@@ -13,7 +13,7 @@ from hinge.command import Fault, say
 from hinge.outputs import writing
 from hinge.searches.case import Case, case_of
 from hinge.searches.cause import looked, told
-from hinge.searches.losses import lines_in
+from hinge.searches.losses import Lost, lines_of, losses_in
 from hinge.searches.runs import Asked, Runner, Runs, Watch, words_of
 from hinge.searches.shrinking import least
 from hinge.simulated.failures import NET, WORDS
@@ -31,24 +31,29 @@ def write_failure(path: str, words: "list[str]", net: Optional[str], record: "di
 def show_runs(runs: Runs, numbers: "list[int]") -> "list[int]":
     """Prints a table of the failed runs; returns their seeds."""
     product, failure = runs.made(numbers), list[int]()
+    remarks = dict[str, list[int]]()
     for seed in product:
         ran = runs.of(seed)
+        for remark in ran.remarks():
+            remarks.setdefault(remark, []).append(seed)
         if ran.failed or ran.record.get("void"):
             show(f"seed {seed}: {ran.told()}")
         if ran.failed:
             failure.append(seed)
     rest = len(numbers) - len(product)
     show(f"{len(failure)} of {len(product)} runs failed{f', {rest} more are left' if rest else ''}")
+    for remark, seeds in remarks.items():
+        say(f"{remark} in {len(seeds)} of {len(product)} runs, first by seed {seeds[0]}")
     return failure
 
 
 def cases_of(runner: Runner, seed: int, record: "dict[str, Any]") -> "Iterator[Case]":
     """Yields a failing seed's cases: with a line for each lost packet, and with the words for losses."""
-    losses: "list[Optional[list[str]]]" = []
+    losses: "list[Optional[list[Lost]]]" = []
     what, pauses = runner.asked.what, runner.asked.pauses
-    runner.run(what, seed, pauses, Watch(transcript=HISTORY), lambda machine: losses.append(lines_in(what, machine)))
-    if losses and losses[0] is not None:
-        yield case_of(what, seed, record, losses[0])
+    runner.run(what, seed, pauses, Watch(transcript=HISTORY), lambda machine: losses.append(losses_in(what, machine)))
+    if losses[0] is not None:
+        yield case_of(what, seed, record, list(lines_of(what, losses[0])))
     yield case_of(what, seed, record)
 
 
@@ -87,7 +92,8 @@ def tell_least(runner: Runner, name: str, case: Case, count: int, file: Path) ->
     for line in told(runner, case, look):
         show(line)
     show(f"seed {case.seed} fails by {name} with {case.told()}, found in {several(count, 'run')}")
-    show(f"hinge {what[0]} --like {shlex.quote(str(file))} repeats it, here and elsewhere")
+    sure = "repeats it, here and elsewhere" if look.ran.record.get("repeatable") else "may repeat it: the run says why it may differ"
+    show(f"hinge {what[0]} --like {shlex.quote(str(file))} {sure}")
 
 
 def search(options: Asked, seeds: list[int], at_a_time: int, failure: Path, folder: Path) -> int:

@@ -1,5 +1,6 @@
 /* The processes that a run in rooms starts, and the waits for them. */
 #define _GNU_SOURCE
+#include <errno.h>
 #include <signal.h>
 #include <stdio.h>
 #include <string.h>
@@ -30,8 +31,9 @@ void nap(struct run *run, uint64_t ns) {
     sigemptyset(&signals);
     sigaddset(&signals, SIGCHLD);
     sigaddset(&signals, SIGTERM);
-    if (sigtimedwait(&signals, NULL, &time) == SIGTERM) run->came = SIGTERM;
-    reap(run);
+    int number = sigtimedwait(&signals, NULL, &time);
+    if (number == SIGTERM) run->came = SIGTERM; /* the children may have ended by the same cause, and not by themselves */
+    else if (number > 0 || errno == EAGAIN) reap(run);
 }
 
 void wait_for_child(struct run *run, const struct child *child, uint64_t ns) {

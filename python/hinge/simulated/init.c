@@ -238,6 +238,8 @@ static bool is_of_32_bits(const char *name) {
     return result;
 }
 
+static int unbegun = -1; /* a file of the launcher's, for the name of a command that can't be executed */
+
 _Noreturn void become(const struct user *user, char **words) {
     static const int rights[] = {CAP_NET_BIND_SERVICE, CAP_NET_ADMIN, CAP_NET_RAW};
     struct __user_cap_header_struct head = {.version = _LINUX_CAPABILITY_VERSION_3};
@@ -256,6 +258,7 @@ _Noreturn void become(const struct user *user, char **words) {
     environ = user->names;
     if (pauses >= 0 && write(pauses, "1", 1) < 0) {} /* the last call before the user's own */
     int error = execute(words);
+    if (write(unbegun, words[0], strlen(words[0])) < 0) {}
     bool is_old = error == ENOEXEC && is_of_32_bits(words[0]);
     dprintf(2, "hinge%s: %s: %s\n", user->in_rooms ? " run" : "", words[0],
             is_old ? "it is a 32-bit program, and the simulated machine runs 64-bit programs only" : strerror(error));
@@ -300,12 +303,16 @@ static int wait_for(pid_t child, uint64_t limit, int *status, const sigset_t *si
     }
 }
 
-/* Ends what waits for ever, each with a file of its memory, which has to be written before all is killed. */
-static void leave_cores(void) {
+/* Ends what waits for ever, each with a file of its memory, which has to be written before all is killed. What made rooms stands still, and is
+   told to end before it sees these ends, which it would take for the programs' own. */
+static void leave_cores(pid_t rooms) {
     struct timespec second = {1, 0};
+    siginfo_t stopped;
+    if (rooms && !kill(rooms, SIGSTOP)) waitid(P_PID, (id_t)rooms, &stopped, WSTOPPED | WEXITED | WNOWAIT);
     tell(PATTERN, CORES);
     tell("/proc/waits", "core");
     nanosleep(&second, NULL);
+    if (rooms) kill(rooms, SIGTERM), kill(rooms, SIGCONT);
 }
 
 int main(void) {
@@ -322,6 +329,7 @@ int main(void) {
     next_command(&job, &user);
     const char *kind = must_next(&job);
     user.in_rooms = strcmp(kind, "command") != 0;
+    unbegun = stream(FOLDER "/unbegun", O_WRONLY);
     /* iputils' ping takes a clock below 1 s for one that it hasn't read, and then sends all its packets at once. */
     struct timespec begin = {1000, 0};
     clock_nanosleep(CLOCK_MONOTONIC, TIMER_ABSTIME, &begin, NULL);
@@ -351,7 +359,7 @@ int main(void) {
     uint64_t ended = now();
     if (cut) {
         keep("/proc/waits", FOLDER "/waits");
-        if (cut == SIGUSR1 && strcmp(cores, "none") != 0) leave_cores();
+        if (cut == SIGUSR1 && strcmp(cores, "none") != 0) leave_cores(user.in_rooms ? child : 0);
         kill(child, SIGTERM);
         if (wait_for(child, LAST_WISHES, &status, &signals)) status = SIGKILL;
     }

@@ -9,6 +9,7 @@ import sys
 from pathlib import Path
 from typing import NamedTuple, Optional, Sequence
 
+from hinge.run.rooms import may_ping
 from hinge.run.settings import SimulatedOptions
 from hinge.run.system import Missing
 from hinge.run.words import Wrong, duration
@@ -46,9 +47,10 @@ class Job(NamedTuple):
         parts = {
             "words": joined(self.words),
             "environment": joined(self.names),
+            "user": joined([str(os.getuid()), str(os.getgid())]),
             "folder": joined([folder()]),
             "input": self.input.read_bytes(),
-            **({"link": joined(self.rooms)} if self.rooms else {}),
+            **({"link": joined([text for text in self.rooms if text != may_ping()])} if self.rooms else {}),
         }
         return {name: hashlib.sha256(part).hexdigest()[:16] for name, part in parts.items()}
 

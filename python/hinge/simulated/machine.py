@@ -18,7 +18,7 @@ from hinge.run.system import Missing, die_with_parent
 from hinge.simulated.interrupts import Interrupts
 from hinge.simulated.job import Job
 from hinge.simulated.kernel import Kernel
-from hinge.simulated.not_begun import raise_descriptors, too_few_descriptors, why
+from hinge.simulated.not_begun import raise_limits, too_few, why
 from hinge.simulated.one_processor import OneProcessor
 from hinge.simulated.pauses import Pauses, PausesMade, pauses_made
 from hinge.simulated.room import Room
@@ -95,7 +95,7 @@ class Machine:
 
     def __init__(self, kernel: Kernel, settings: Settings, job: Job, place: Optional[str] = None) -> None:
         """Creates a machine; `place` is a permanent folder for the job's files."""
-        if few := too_few_descriptors():
+        if few := too_few():
             raise Missing(few)
         self.room, self.job, self.root, self.processor = Room(settings.memory, place), job, settings.root, OneProcessor()
         self.memory = settings.memory
@@ -125,9 +125,8 @@ class Machine:
         if self.job.rooms:
             shutil.copy(program(), self.folder / "link")
         make_place(self.folder)
-        (self.folder / "opened").touch()
         put_libraries(self.folder / "libraries", settings.root or "")
-        for name in ("out", "err"):
+        for name in ("opened", "unbegun", "out", "err"):
             (self.folder / name).touch()
         if self.job.is_one_stream:
             (self.folder / "err").unlink()
@@ -143,7 +142,7 @@ class Machine:
 
         def begin() -> None:
             die_with_parent()
-            raise_descriptors()
+            raise_limits()
             self.processor.take()
 
         words, how = kernel_words(kernel, settings), {"cwd": self.folder, "env": names, "preexec_fn": begin}
@@ -193,6 +192,11 @@ class Machine:
         if self.process.returncode is None:
             self.cut = status
             os.killpg(self.process.pid, signal.SIGKILL)
+
+    @property
+    def has_begun(self) -> bool:
+        """Returns whether the job's command could be executed."""
+        return not (self.folder / "unbegun").stat().st_size
 
     def ended(self) -> Optional[MachineEnded]:
         """Returns the job's result, if the machine ended by itself."""

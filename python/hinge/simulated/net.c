@@ -175,7 +175,7 @@ static void last(struct net *net) {
 static void end_hosts(struct net *net) {
     struct run *run = &net->run;
     cont_all(net);
-    reap(run);
+    if (!run->came) reap(run);
     for (struct host *host = net->hosts; host < net->hosts + net->host_count; host++) {
         bool was_over = host->child.is_over;
         host->by = !was_over ? "SIGTERM" : goes_on(net, host, "restart") ? "kill" : "itself";

@@ -2,12 +2,17 @@
 
 from __future__ import annotations
 
+import os
 import re
 import resource
 from typing import Optional
 
 GAP = 1 << 30  # bytes of addresses that a machine takes beside its memory
-FILES = 64  # descriptors: those of a machine itself, and one for each file that its programs have open
+# Limits that programs share with their machine, what they are of, how a shell raises them, and what the machine itself may take.
+NEEDED = (
+    (resource.RLIMIT_NOFILE, "open files", "-Hn", 64),
+    (resource.RLIMIT_NPROC, "processes", "-Hu", 64),  # which root hasn't
+)
 TRACED = re.compile(r"ptrace: (?:Operation not permitted|Permission denied)|check_ptrace|PTRACE_\w+ failed|errno = 1\b")
 NO_MEMORY = re.compile(r"errno = -12\b|Cannot allocate memory")
 NO_ROOM = re.compile(r"No space left on device|errno = -28\b")
@@ -19,18 +24,21 @@ def limit_of(kind: int) -> Optional[int]:
     return None if soft == resource.RLIM_INFINITY else soft
 
 
-def raise_descriptors() -> None:
-    """Raises the limit on descriptors as far as the system allows, since the kernel's process holds all files of a machine's
-    programs."""
-    _, most = resource.getrlimit(resource.RLIMIT_NOFILE)
-    resource.setrlimit(resource.RLIMIT_NOFILE, (most, most))
+def raise_limits() -> None:
+    """Raises the limits of this process as far as the system allows, since the kernel's process holds all files of a machine's
+    programs, and each of these is a process here."""
+    for kind, _, _, _ in NEEDED:
+        _, most = resource.getrlimit(kind)
+        resource.setrlimit(kind, (most, most))
 
 
-def too_few_descriptors() -> Optional[str]:
-    _, most = resource.getrlimit(resource.RLIMIT_NOFILE)
-    if most == resource.RLIM_INFINITY or most >= FILES:
-        return None
-    return f"the limit of open files is {most}, and a machine needs {FILES} at least: ulimit -Hn 1024, before"
+def too_few() -> Optional[str]:
+    """Returns the limit that a machine would reach at once or in the middle of a run, if any."""
+    for kind, what, option, least in NEEDED:
+        _, most = resource.getrlimit(kind)
+        if most != resource.RLIM_INFINITY and most < least and (kind != resource.RLIMIT_NPROC or os.geteuid()):
+            return f"the limit of {what} is {most}, and a machine needs {least} at least: ulimit {option} 1024, before"
+    return None
 
 
 def why(log: str, memory: int) -> Optional[str]:
@@ -42,7 +50,7 @@ def why(log: str, memory: int) -> Optional[str]:
             "in a container, docker run --cap-add SYS_PTRACE, or --security-opt seccomp=unconfined"
         )
     if size is not None and size < memory + GAP:
-        return f"the limit of a file's size is {size >> 20} MB, and a machine's memory is a file of some GB: ulimit -f unlimited"
+        return f"the limit of a file's size is {size >> 10} KB, and a machine's memory is a file of some GB: ulimit -f unlimited"
     if addresses is not None and addresses < memory + GAP:
         return (
             f"the limit of addresses is {addresses >> 20} MB, and a machine takes {GAP >> 20} MB beside its memory of "

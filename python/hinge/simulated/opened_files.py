@@ -40,19 +40,27 @@ def file_record(path: str) -> "Optional[list[Any]]":
         return None
 
 
-def names_told(folder: Path, root: Optional[str]) -> "Iterator[tuple[str, bool]]":
+def paths_told(folder: Path, root: Optional[str]) -> "Iterator[tuple[str, bool]]":
     """Yields the paths that the machine's kernel reported, and whether each existed. The machine's files are left out; with a root,
-    only files below that root count, with their names in the machine."""
+    only files below that root count, with their paths in the machine."""
     begin = "/" if root is None else OWN_ROOT
     for text in (folder / "opened").read_bytes().split(b"\0"):
         path = os.fsdecode(text).removeprefix(ABSENT)
-        name = os.path.normpath("/" + path[len(begin) :].lstrip("/"))
-        if path.startswith(begin) and not f"{name}/".startswith((f"{folder}/", *(f"{own}/" for own in OWN))):
-            yield name, not text.startswith(os.fsencode(ABSENT))
+        place = os.path.normpath("/" + path[len(begin) :].lstrip("/"))
+        if path.startswith(begin) and not f"{place}/".startswith((f"{folder}/", *(f"{own}/" for own in OWN))):
+            yield place, not text.startswith(os.fsencode(ABSENT))
+
+
+def name_of(path: str) -> str:
+    """Returns the path as another user's run in another folder would name the file: `./` for the present folder, `~/` for HOME."""
+    for place, begin in ((os.getcwd(), "./"), (os.environ.get("HOME", ""), "~/")):
+        if len(place) > 1 and path.startswith(f"{place}/"):
+            return begin + path[len(place) + 1 :]
+    return path
 
 
 def files_record(folder: Path, root: Optional[str] = None) -> "dict[str, Any]":
     """Returns the summary's `files`, in the order of opening, and `absent`."""
-    names = dict.fromkeys(names_told(folder, root))
-    files = {name: record for name, is_there in names if is_there and (record := file_record(f"{root or ''}{name}"))}
-    return {"files": files, "absent": [name for name, is_there in names if not is_there]}
+    paths = dict.fromkeys(paths_told(folder, root))
+    files = {name_of(path): record for path, is_there in paths if is_there and (record := file_record(f"{root or ''}{path}"))}
+    return {"files": files, "absent": [name_of(path) for path, is_there in paths if not is_there]}

@@ -11,7 +11,7 @@ import struct
 from pathlib import Path
 from typing import BinaryIO, Iterator, Optional
 
-from hinge.simulated.opened_files import names_told
+from hinge.simulated.opened_files import paths_told
 
 # rdrand, rdseed and rdpid. Before a byte 0xff they are a part of a distance.
 RANDOM, CPUID = re.compile(rb"\x0f\xc7[\xf0-\xff][^\xff]"), b"\x0f\xa2"
@@ -75,5 +75,5 @@ def taken(path: str) -> str:
 
 def programs(folder: Path, root: Optional[str]) -> "list[str]":
     """Those that the machine in this folder read, each as `PATH takes ..`."""
-    names = dict.fromkeys(name for name, is_there in names_told(folder, root) if is_there)
+    names = dict.fromkeys(name for name, is_there in paths_told(folder, root) if is_there)
     return [f"{name} takes {what}" for name in names for what in [taken(f"{root or ''}{name}")] if what]

@@ -195,7 +195,7 @@ def reported(machine: Machine, plan: Planned, kernel: Kernel, files: bool, is_to
             say(line)
     record: Record = {"format": FORMAT, "seed": plan.seed, **summary_of(machine)}
     if verdict:
-        record = {**record, **({"status": status} if is_cut else {}), "ended": verdict.record()}
+        record = {**record, **({"status": status} if is_cut else {}), **({"ended": verdict.record()} if machine.has_begun else {})}
     if endings:
         outcome = Outcome.of(machine, told_simulated(endings, verdict), settings)
         if settings.pauses and not outcome.pauses:

@@ -56,11 +56,11 @@ static void let_last_packets_pass(struct two *two) {
 }
 
 /* How the server ended: by itself, by SIGTERM or SIGKILL. */
-static const char *end_server(struct two *two) {
+static const char *end_server(struct two *two, bool was_over) {
     struct run *run = &two->run;
     struct child *server = &two->server;
     reap(run);
-    if (server->is_over && server->status) dprintf(2, "hinge run: the server ended with %d before the command did\n", status_of(server));
+    if (was_over && server->status) dprintf(2, "hinge run: the server ended with %d before the command did\n", status_of(server));
     else if (!run->came) let_last_packets_pass(two);
     if (server->is_over) return "itself";
     signal_all(server->process, SIGTERM);
@@ -86,8 +86,9 @@ int run_link(struct job *job, const struct user *user) {
     if (run->link.is_over) return status_of(&run->link);
     if (!run->came) two.command.process = start_user(&two, CLIENT, user->words);
     while (two.command.process && !two.command.is_over && !run->link.is_over && !run->came) nap(run, FOR_EVER);
+    bool was_over = two.server.is_over;
     if (two.command.process) end(run, &two.command, SECOND);
-    const char *by = *two.server_command ? end_server(&two) : "none";
+    const char *by = *two.server_command ? end_server(&two, was_over) : "none";
     char text[200];
     snprintf(text, sizeof text, "%d %d %s %d %llu\n", two.command.is_over, two.command.status, by, two.server.status,
              (unsigned long long)(two.server.at ? two.server.at - run->begun : 0));

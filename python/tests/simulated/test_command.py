@@ -10,9 +10,11 @@ import subprocess
 import tempfile
 import time
 from pathlib import Path
+from unittest import mock
 
 from hinge.simulated.build import NEEDED
 from hinge.simulated.interrupts import children
+from hinge.simulated.not_begun import too_few
 from hinge.simulated.one_processor import OneProcessor
 from machines import COMPILED, HINGE, SIMULATED, Simulated, environment, left
 
@@ -274,6 +276,9 @@ class OfRefusals(Simulated):
             )
             self.assertEqual((done.returncode, done.stderr.count("\n")), (6, 1), done.stderr)
             self.assertIn(cure, done.stderr)
+        with mock.patch("os.geteuid", return_value=1):  # as root has no limit of processes
+            with mock.patch("resource.getrlimit", lambda kind: (9, 64 - (kind == resource.RLIMIT_NPROC))):
+                self.assertIn("the limit of processes is 63", too_few() or "")
 
     def test_a_folder_without_a_kernel(self) -> None:
         self.refused(

@@ -3,7 +3,7 @@
 from __future__ import annotations
 
 import json
-
+import shutil
 import subprocess
 from pathlib import Path
 
@@ -42,9 +42,17 @@ class OfWhatWasGiven(Simulated):
         self.assertIn("--like one: the same words, environment, folder, input and kernel; ", told)
         self.assertIn("; the simulated time is the same\n", told)
 
-    def test_another_environment(self) -> None:
-        self.run_of("one", ASKED="a")
-        self.assertIn("--like one: other environment;", self.run_of("other", "--like", "one", ASKED="b"))
+    def test_another_environment_and_folder(self) -> None:
+        """The program's own file is the same in both folders, and so is one at home."""
+        copy = self.folder / "copy" / "it"
+        copy.parent.mkdir()
+        copy.write_text("#!/bin/sh\ncat ~/it")
+        copy.chmod(0o755)
+        shutil.copy(copy, self.folder)
+        words = ("--seed", "1", "--json", str(self.folder / "one"), "--", "./it")
+        self.started(*words, env=environment(HOME=str(self.folder)))
+        told = self.started("--like", str(self.folder / "one"), *words, env=environment(HOME=str(copy.parent)), cwd=copy.parent).stderr
+        self.assertRegex(told, "other environment, folder; the same .* files; the simulated time is the same\n")
 
     def test_few_variables(self) -> None:
         """With them nothing else matters."""
@@ -73,8 +81,8 @@ class OfWhatWasGiven(Simulated):
         self.assertEqual(sorted(path.name for path in own.rglob("*") if path.is_file()), ["data", "reads"])
         self.assertFalse((self.folder / "new").exists())
         record = json.loads((self.folder / "one").read_text())
-        self.assertEqual(list(record["files"]), ["/reads", f"{self.folder}/data"])
-        self.assertIn(f"{self.folder}/new", record["absent"])
+        self.assertEqual(list(record["files"]), ["/reads", "./data"])
+        self.assertIn("./new", record["absent"])
         for words in (["--root", "never"], ["--root", str(self.folder)]):
             self.assertEqual(self.started(*words, "--", "true").returncode, 2)
 

@@ -120,13 +120,13 @@ class OfCases(unittest.TestCase):
         text = "".join(f"c,0,submit,{row},10.8.0.1\n" if "pipe" in row else f"r,{row},1\n" for row in rows)
         with TemporaryDirectory() as folder:
             (path := Path(folder, "history")).write_text(text)
-            self.assertEqual(packets_lost([path], 2), [(1, 1), (0, 2), (0, 4)])
+            self.assertEqual([one[:2] for one in packets_lost([path], 2) or ()], [(1, 1), (0, 2), (0, 4)])
             path.write_text(text + "c,0,submit,queue,1,10.8.0.1\n")
             self.assertIsNone(packets_lost([path], 2))
             lost = "c,0,submit,pipe,1,10.8.0.1\nr,lost,1\n"
             lines = [f"c,0,configure,pipe 1 config bw 8Mbit/s plr {rate}\n" for rate in ("0.5", "1", "0.1")]
             path.write_text(lost.join(["", *lines, ""]))
-            self.assertEqual(packets_lost([path], 2), [(0, 1), (0, 2), (0, 4)])  # the third is a cut's
+            self.assertEqual([one[:2] for one in packets_lost([path], 2) or ()], [(0, 1), (0, 2), (0, 4)])  # the third is a cut's
         self.assertEqual(
             joined(["--loss up:list:2", "--loss up:list:4", "loss a b 2 up:list:1"]), ["--loss up:list:2,4", "loss a b 2 up:list:1"]
         )
@@ -190,6 +190,7 @@ class OfSearches(Simulated):
         self.assertEqual(done.returncode, 1, done.stdout + done.stderr)
         command = next(line for line in done.stdout.splitlines() if line.startswith("hinge run --link "))
         self.assertIn(" with 0 faults, 0 pauses, 1 loss, found in ", done.stdout)
+        self.assertRegex(done.stdout, r"\nlost: \w+ > \w+ packet 1 at 0\.\d{9} s, icmp 10\.8\.0\.\d > 10\.8\.0\.\d, 84 bytes\n")
         self.assertRegex(command, "--link 1ms .*--loss (up|down):list:1 ")
         self.assertEqual(self.hinge(*shlex.split(command)[1:]).returncode, 1)
         again = self.hinge("run", "--like", "failure.hinge")

@@ -42,8 +42,9 @@ ASKER = "import socket; s = socket.create_connection(('server', 80)); s.recv(1)"
 
 class OfVerdicts(Simulated):
     def ended(self, *words: str) -> "tuple[int, dict[str, Any]]":
-        """The status of a run, and what its summary says of the program's end."""
+        """The status of a run, and what its summary says of the program's end, beside which no server is told to have ended."""
         done = self.started("--seed", "1", "--json", "summary", *words)
+        self.assertNotIn("the server ended", done.stderr)
         return done.returncode, json.loads((self.folder / "summary").read_text())["ended"]
 
     def compiled(self, text: str) -> str:
@@ -106,6 +107,12 @@ class OfVerdicts(Simulated):
             self.assertEqual(done.returncode, 1, done.stderr)
             self.assertIn(f"seed 2: {name}", done.stdout)
             self.assertIn(f"seed 1 fails by {name} with 0 faults", done.stdout)
+        done = self.hinge("search", "run", "--seeds", "1", "--", "./never")
+        self.assertEqual((done.returncode, done.stdout), (127, ""))
+        self.assertEqual(done.stderr, "hinge search: seed 1: ./never: No such file or directory\n")
+        done = self.hinge("search", "run", "--seeds", "1,2", "--server", "exit 3", "--", "true")
+        self.assertEqual((done.returncode, done.stdout), (0, "0 of 2 runs failed\n"))
+        self.assertEqual(done.stderr, "hinge search: the server ended with 3 by itself in 2 of 2 runs, first by seed 1\n")
 
     def test_pauses_between_calls(self) -> None:
         """A sum without a lock and without a call is wrong by a pause in the loop alone, and by the same one again."""
@@ -139,16 +146,16 @@ class OfVerdicts(Simulated):
         (self.folder / "summary").rename(self.folder / "one")
         self.assertIn("files; the simulated time", self.started("--seed", "1", "--like", "one", "--", "cat", "data").stderr)
         (self.folder / "data").write_text("b")
-        self.assertIn(f"; other {self.folder}/data; ", self.started("--seed", "1", "--like", "one", "--", "cat", "data").stderr)
+        self.assertIn("; other ./data; ", self.started("--seed", "1", "--like", "one", "--", "cat", "data").stderr)
         (self.folder / "data").unlink()
-        self.assertIn(f"; gone: {self.folder}/data", self.started("--seed", "1", "--like", "one", "--", "cat", "data").stderr)
+        self.assertIn("; gone: ./data", self.started("--seed", "1", "--like", "one", "--", "cat", "data").stderr)
 
     def test_a_file_that_was_looked_for_is_named(self) -> None:
         words = ("--", "sh", "-c", "cat data; cat more; ls other; true")
         (self.folder / "other").mkdir()
         self.ended(*words)
         (self.folder / "summary").rename(self.folder / "one")
-        for name, told in (("other/new", f"; other {self.folder}/other; "), ("data", f"; new: {self.folder}/data; ")):
+        for name, told in (("other/new", "; other ./other; "), ("data", "; new: ./data; ")):
             (self.folder / name).touch()
             self.assertIn(told, self.started("--seed", "1", "--like", "one", *words).stderr)
             (self.folder / name).unlink()
