@@ -1,4 +1,4 @@
-"""A process that keeps asking lets time pass, whatever the question; a run that was ended reports its place."""
+"""A process that keeps asking lets time pass, whatever the question."""
 
 from __future__ import annotations
 
@@ -43,7 +43,6 @@ if os.fork() == 0:
     os._exit(0)
 for one in range(4): os.wait()
 """
-NEVER = "import os\nwhile not os.path.exists('never'): os.sched_yield()"
 
 
 class OfAsking(Simulated):
@@ -74,8 +73,3 @@ class OfAsking(Simulated):
         ran = self.run_by(1, "--real-limit", LIMIT, "--", "sh", "-c", "setsid sleep 1000 & sleep 1; echo end")
         self.assertEqual((ran.status, ran.out), (0, "end\n"), ran.err)
         self.assertLess(ran.summary["simulated"], 2)
-
-    def test_a_run_that_was_ended_says_where_it_was(self) -> None:
-        done = self.started("--real-limit", "40s", "--", sys.executable, "-c", NEVER)
-        self.assertEqual(done.returncode, 124)
-        self.assertRegex(done.stderr, r"simulated time was at \d+\.\d{6} s; (nothing has waited .*)?the last was \w+ by ")

@@ -18,14 +18,6 @@ from hinge.simulated.not_begun import too_few
 from hinge.simulated.one_processor import OneProcessor
 from machines import COMPILED, HINGE, SIMULATED, Simulated, environment, left
 
-STATUSES = (
-    (["true"], 0),
-    (["sh", "-c", "exit 7"], 7),
-    (["sh", "-c", "kill -9 $$"], 128 + signal.SIGKILL),
-    (["timeout", "5", "sleep", "100"], 124),
-    (["no-such-program"], 127),
-    (["/etc/passwd"], 126),
-)
 CLIENT = """
 import socket
 print(socket.gethostbyname("server"))
@@ -54,10 +46,6 @@ PIPE, NONE = subprocess.PIPE, subprocess.DEVNULL
 
 
 class OfStreams(Simulated):
-    def test_statuses(self) -> None:
-        for command, status in STATUSES:
-            self.assertEqual(self.run_by(1, "--", *command).status, status, command)
-
     def test_an_hour_takes_a_moment(self) -> None:
         """An hour on the simulated clock needs less than a second, for a few processes' requests to the kernel."""
         ran = self.run_by(1, "--", "sleep", "3600")
@@ -149,17 +137,6 @@ class OfSurroundings(Simulated):
         done = self.started("--quiet", "--server", serves, "--", "python3", "client.py")
         self.assertEqual(done.stdout, "10.8.0.2\n7000\n", done.stderr)
 
-    def test_side_by_side(self) -> None:
-        """Three at once, of which two have one seed."""
-
-        def begun(seed: int) -> "subprocess.Popen[bytes]":
-            words = ["--quiet", "--up", "20ms", "--down", "20ms loss 20%", "--seed", str(seed), "--"]
-            return subprocess.Popen([*SIMULATED, *words, "ping", "-c", "50", "server"], stdin=NONE, stdout=PIPE)
-
-        out = [run.communicate()[0] for run in [begun(seed) for seed in (1, 2, 1)]]
-        self.assertEqual(out[0], out[2])
-        self.assertNotEqual(out[0], out[1])
-
 
 class OfEnds(Simulated):
     def begun(self, **more: str) -> "subprocess.Popen[str]":
@@ -220,6 +197,7 @@ class OfEnds(Simulated):
         done = self.started("--up", "1ms", "--real-limit", "500ms", "--", "sh", "-c", GOES_ON)
         self.assertEqual(done.returncode, 124)
         self.assertTrue(done.stderr.startswith("hinge run: it was ended after 0.5 s of real time, by --real-limit\n"))
+        self.assertRegex(done.stderr, r"simulated time was at \d+\.\d{6} s; (nothing has waited .*)?the last was \w+ by ")
 
 
 class OfRefusals(Simulated):

@@ -114,12 +114,6 @@ class OfPauses(Simulated):
         self.assertEqual((other.out, other.summary["simulated"]), (one.out, one.summary["simulated"]))
         self.assertEqual(other.history, one.history)
 
-    @needs("bash")
-    def test_two_runs_are_the_same(self) -> None:
-        done = self.started("--twice", "--seed", "7", "--pauses", "1/20", *LINK, "--", "bash", "-c", ONCE)
-        self.assertEqual(done.returncode, 0, done.stderr)
-        self.assertIn("two runs by seed 7 are the same", done.stderr)
-
     @needs("ping")
     def test_the_link_does_not_pause(self) -> None:
         """So each packet is on its way for the same time as without pauses, whenever its program sends the packet."""

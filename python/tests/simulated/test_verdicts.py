@@ -65,6 +65,9 @@ class OfVerdicts(Simulated):
             )
         status, ended = self.ended("--", "sh", "-c", "kill -SEGV $$")
         self.assertEqual((status, ended["by"], ended["signal"]), (139, "signal", "SIGSEGV"))
+        for command, status in (("no-such-program", 127), ("./never", 127), ("/etc/passwd", 126)):
+            ran = self.run_by(1, "--", command)
+            self.assertEqual((ran.status, "ended" in ran.summary), (status, False), command)
 
     def test_a_deadlock_of_threads(self) -> None:
         """It is at the same moment in each run, and each thread is told."""
