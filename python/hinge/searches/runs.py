@@ -174,7 +174,11 @@ class Runs:
         if not ran.has_run:
             why = ran.last_line().removeprefix(f"hinge {self.runner.asked.what[0]}: ") or f"status {ran.status}"
             raise Fault(f"seed {seed}: {why}", ran.status or REFUSED)
-        write_json(str(self.path(seed)), ran._asdict())
+        try:
+            write_json(str(self.path(seed)), ran._asdict())
+        except PermissionError:
+            if not self.path(seed).exists():  # else another user made the same run meanwhile
+                raise
 
     def made(self, seeds: "list[int]") -> "list[int]":
         return [seed for seed in seeds if self.path(seed).exists()]

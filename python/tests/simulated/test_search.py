@@ -65,7 +65,30 @@ Begun(pathlib.Path(sys.argv[1]), Runner()).make_all(list(range(1, 999)), 2)
 """
 
 
+TAKEN = """\
+import pathlib, sys
+from types import SimpleNamespace
+from hinge.searches import runs
+from hinge.searches.runs import PLAIN, Ran, Runs
+def refused(path, record):
+    if sys.argv[2] == "another": pathlib.Path(path).write_text("another user's run")
+    raise PermissionError(path)
+class Runner:
+    is_over, asked = False, SimpleNamespace(what=["run"], pauses=None)
+    def run(self, *words): return Ran(0, "", {"ended": {"name": "status 0"}})
+runs.write_json = refused
+Runs(pathlib.Path(sys.argv[1]), Runner()).make(1)
+"""
+
+
 class OfCases(unittest.TestCase):
+    def test_a_run_that_another_user_made_meanwhile_stays(self) -> None:
+        """In a folder such as /tmp nobody writes over another user's file."""
+        for who, status in (("another", 0), ("nobody", 1)):
+            with TemporaryDirectory() as folder:
+                done = subprocess.run([sys.executable, "-c", TAKEN, folder, who], capture_output=True, text=True, timeout=60)
+            self.assertEqual((done.returncode, "PermissionError" in done.stderr), (status, status == 1), done.stderr)
+
     def test_a_signal_before_all_runs_are_submitted_ends_those_that_began(self) -> None:
         with TemporaryDirectory() as folder:
             done = subprocess.run([sys.executable, "-c", SIGNALLED, folder], capture_output=True, timeout=60)
