@@ -13,7 +13,9 @@ from hinge.command import ROWS, Fault
 EXAMPLE = '{"client": 1, "key": "x", "op": "write", "value": 5, "begin": 0.25, "end": 0.31}'
 SHOWN = 80  # letters of a value
 NEVER, ALWAYS = math.inf, -math.inf
+LATEST = 2.0**63  # also in ns
 NULL, TRUE = "null", "true"  # of JSON: the register before its first write, an empty queue; a `cas` that took place
+text_of = json.JSONEncoder(sort_keys=True).encode  # of values, whose names have no order
 Places = dict[str, list[int]]  # bits of the open operations that change something, by their values
 UNSEEN = ""  # in a queue: a value that nobody got, of which one is like the other
 
@@ -29,7 +31,7 @@ class Operation:
     words: dict[str, str]
     begin: float
     end: float = NEVER
-    values: tuple[str, ...] = ()  # that a set showed
+    values: tuple[str, ...] = ()  # that a read showed
 
     @property
     def is_over(self) -> bool:
@@ -60,6 +62,7 @@ class Model:
 
     words: dict[str, tuple[str, ...]] = {"write": ("value",), "read": ("result",)}
     makers: tuple[str, ...] = ("write",)  # operations after which the value is there
+    asks: tuple[str, ...] = ()  # operations whose result is true or false
     start: Hashable = NULL
     shows_lists, shows_twice = False, True  # whether a read lists values, and may list one twice
 
@@ -89,8 +92,7 @@ class Model:
         return False
 
     def shown(self, operation: Operation) -> Iterator[str]:
-        if operation.op == "read":
-            yield operation.result
+        yield from operation.values
 
     def is_pure(self, operation: Operation) -> bool:
         """Returns whether the operation changes nothing, so that it may be placed wherever its result fits."""
@@ -113,6 +115,7 @@ class Exchange(Model):
 
     words = {**Model.words, "cas": ("from", "value", "result")}
     makers = ("write", "cas")
+    asks = ("cas",)
 
     def __init__(self, operations: list[Operation]) -> None:
         self.asks_more = any(one.op == "cas" and one.result != TRUE for one in operations)
@@ -155,9 +158,6 @@ class Members(Model):
 
     def bit(self, text: str) -> int:
         return self.bits.setdefault(text, 1 << len(self.bits))
-
-    def shown(self, operation: Operation) -> Iterator[str]:
-        yield from operation.values
 
     def useful(self, state: Any, pure: list[Operation], places: Places) -> Iterator[int]:
         """Yields the operations that an open read needs, ordered by value, since adds commute."""
@@ -220,9 +220,6 @@ class Sequence(Model):
         self.longest: tuple[str, ...] = max((one.values for one in operations), key=len, default=())
         super().__init__(operations)
 
-    def shown(self, operation: Operation) -> Iterator[str]:
-        yield from operation.values
-
     def after(self, operation: Operation, state: Any) -> Optional[Hashable]:
         """An append has to make the longest list in a read, or follows the read."""
         if operation.op == "read":
@@ -236,10 +233,8 @@ class Lock(Model):
 
     words = {"acquire": ("result",), "release": ()}
     makers = ()
+    asks = ("acquire",)
     start = ()  # else the holder
-
-    def shown(self, operation: Operation) -> Iterator[str]:
-        yield from ()
 
     def is_pure(self, operation: Operation) -> bool:
         return operation.op == "acquire" and operation.result not in ("", TRUE)
@@ -261,28 +256,30 @@ def operation_of(line: int, text: bytes, model: type[Model]) -> Optional[tuple[s
         raise ValueError(f"not an object of JSON; write {EXAMPLE}")
     if missing := [name for name in ("client", "key", "op", "begin") if name not in row]:
         raise ValueError(f"{missing[0]!r} is missing; write {EXAMPLE}")
-    if row["op"] not in model.words:
+    if row["op"] not in list(model.words):  # which also looks for what has no hash
         raise ValueError(f"op {row['op']!r}: write {', '.join(model.words)}, or another --model")
     if row.get("ok", True) not in (True, False):
         raise ValueError(f"ok {row['ok']!r}: write false if it surely didn't take place; leave out `end` if nobody knows")
     begin, end = row["begin"], row.get("end")
     for name, moment in (("begin", begin), *([("end", end)] if end is not None else [])):
-        if not isinstance(moment, (int, float)) or isinstance(moment, bool) or not math.isfinite(moment):
+        if not isinstance(moment, (int, float)) or isinstance(moment, bool) or not -LATEST < moment < LATEST:
             raise ValueError(f"{name} {moment!r}: write a number, of one clock for all clients")
     if end is not None and end < begin:
         raise ValueError(f"end {end} is before begin {begin}")
     is_over = end is not None
-    words = {name: json.dumps(row[name]) for name in model.words[row["op"]] if name in row and (is_over or name != "result")}
+    words = {name: text_of(row[name]) for name in model.words[row["op"]] if name in row and (is_over or name != "result")}
     for name in model.words[row["op"]]:
         if name not in words and (is_over or name != "result"):
             raise ValueError(f"{name!r} is missing: {row['op']} has {', '.join(model.words[row['op']])}")
-    texts: Optional[list[str]] = []
-    if model.shows_lists and row["op"] == "read" and is_over:
-        texts = [json.dumps(value) for value in row["result"]] if isinstance(row["result"], list) else None
-        if texts is None or not model.shows_twice and len(set(texts)) < len(texts):
+    if is_over and row["op"] in model.asks and not isinstance(row["result"], bool):
+        raise ValueError(f"result {words['result'][:SHOWN]}: write true if the {row['op']} took place, else false")
+    texts = [words["result"]] if is_over and row["op"] == "read" else []
+    if model.shows_lists and texts:
+        texts = [text_of(value) for value in row["result"]] if isinstance(row["result"], list) else []
+        if not isinstance(row["result"], list) or not model.shows_twice and len(set(texts)) < len(texts):
             raise ValueError(f"result: write the list of all values{'' if model.shows_twice else ' in the set, each once'}")
-    operation = Operation(line, str(row["client"]), row["op"], words, begin, NEVER if end is None else end, tuple(texts or ()))
-    return (json.dumps(row["key"]), operation) if row.get("ok", True) else None
+    operation = Operation(line, str(row["client"]), row["op"], words, begin, NEVER if end is None else end, tuple(texts))
+    return (text_of(row["key"]), operation) if row.get("ok", True) else None
 
 
 def operations_of(name: str, data: bytes, model: type[Model]) -> tuple[dict[str, list[Operation]], int]:

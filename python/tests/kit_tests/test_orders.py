@@ -172,8 +172,10 @@ BAD = {  # a line, and what is said of it
     "5": "not an object of JSON; write {",
     '{"client": 1, "key": 1, "op": "write", "value": 1}': "'begin' is missing; write {",
     '{"client": 1, "key": 1, "op": "add", "value": 1, "begin": 0}': "op 'add': write write, read, or another --model",
+    '{"client": 1, "key": 1, "op": ["read"], "begin": 0}': "op ['read']: write write, read, or another --model",
     '{"client": 1, "key": 1, "op": "write", "begin": 0}': "'value' is missing: write has value",
     '{"client": 1, "key": 1, "op": "write", "value": 1, "begin": "now"}': "begin 'now': write a number",
+    f'{{"client": 1, "key": 1, "op": "write", "value": 1, "begin": {10**400}}}': "begin 1000",
     '{"client": 1, "key": 1, "op": "write", "value": 1, "begin": 2, "end": 1}': "end 1 is before begin 2",
     '{"client": 1, "key": 1, "op": "read", "begin": 2, "end": 3}': "'result' is missing: read has result",
     '{"client": 1, "key": 1, "op": "read", "begin": 2, "end": 3, "ok": null}': "ok None: write false if it surely didn't take place",
@@ -204,6 +206,15 @@ class Command(unittest.TestCase):
                 status, _, error = check(json.dumps(row(STALE[0])) + "\n\n" + text + "\n", "register")
                 self.assertEqual(status, 4)
                 self.assertIn(f":3: {said}", error)
+
+    def test_a_swap_or_lock_took_place_or_not(self) -> None:
+        for model, op in (("cas", {"op": "cas", "from": None, "value": 5}), ("lock", {"op": "acquire"})):
+            status, _, error = check([{"client": 1, "key": 1, **op, "result": 1, "begin": 0, "end": 1}], model)
+            self.assertEqual((status, f":1: result 1: write true if the {op['op']} took place" in error), (4, True), error)
+
+    def test_names_in_a_value_have_no_order(self) -> None:
+        written, read = row(STALE[0]), row(STALE[3])
+        self.assertEqual(check([{**written, "value": {"a": 1, "b": 2}}, {**read, "result": {"b": 2, "a": 1}}], "register")[0], 0)
 
     def test_without_a_result_or_a_model_nothing_is_judged(self) -> None:
         files: list[list[Row] | str] = ["", [row(STALE[0])], [row("1 x read 1 from 0 to never")]]
