@@ -4,9 +4,10 @@ the monotonic clock, in seconds."""
 from __future__ import annotations
 
 import json
+import random
 import threading
 import time
-from typing import Any, Callable
+from typing import Any, Callable, Optional
 
 LOCK = threading.Lock()
 BEGIN = time.monotonic()
@@ -47,6 +48,34 @@ def at_once(work: Callable[[int], None], clients: int) -> None:
 def until(seconds: float) -> bool:
     """Whether so many seconds of the run haven't passed."""
     return time.monotonic() - BEGIN < seconds
+
+
+def add_numbers(client: int, key: str, add: Callable[[int], Any], seconds: float = 40, pause: float = 0.05) -> None:
+    """Adds every third number, from the client's own on."""
+    number = client
+    while until(seconds):
+        operation(client, key, "add", lambda: add(number), value=number)
+        number += 3
+        time.sleep(pause)
+
+
+def use_registers(
+    client: int, read: Callable[[int], Any], write: Callable[[int, int], Any], swap: Callable[[int, Optional[int], int], bool]
+) -> None:
+    """Reads, writes, and compares and swaps registers for 40 s, as chance decides. Each second has a register, and each value is
+    written once."""
+    draw, count = random.Random(random.SystemRandom().random()), 0
+    seen: Optional[int] = None
+    while until(40):
+        time.sleep(draw.random() * 0.2)
+        key, count = int(time.monotonic() - BEGIN), count + 1
+        new, choice = count * 6 + client, draw.random()
+        if choice < 0.5:
+            seen = operation(client, key, "read", lambda: read(key))
+        elif choice < 0.75:
+            operation(client, key, "write", lambda: write(key, new), value=new)
+        else:
+            operation(client, key, "cas", lambda: swap(key, seen, new), **{"from": seen, "value": new})
 
 
 def patiently(call: Callable[[], Any], tries: int = 60, pause: float = 1) -> Any:

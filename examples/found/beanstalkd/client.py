@@ -5,11 +5,10 @@ from __future__ import annotations
 
 import socket
 import sys
-import time
 from pathlib import Path
 
 sys.path.insert(0, str(Path(__file__).parent.parent))
-from operations import at_once, operation, patiently, until
+from operations import add_numbers, at_once, operation, patiently
 
 
 class Connection:
@@ -38,14 +37,6 @@ def put(number: int) -> None:
     connection.socket.close()
 
 
-def work(client: int) -> None:
-    number = client
-    while until(40):
-        operation(client, "jobs", "add", lambda: put(number), value=number)
-        number += 3
-        time.sleep(0.05)
-
-
 def everything() -> list[int]:
     """All jobs, which stay reserved until the connection ends."""
     connection, found = Connection(), set[int]()
@@ -58,5 +49,5 @@ def everything() -> list[int]:
             raise
 
 
-at_once(work, 3)
+at_once(lambda client: add_numbers(client, "jobs", put), 3)
 operation(9, "jobs", "read", lambda: patiently(everything))

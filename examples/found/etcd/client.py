@@ -1,19 +1,17 @@
-"""Six clients read, write, and compare and swap registers in etcd for 40 s, by its gateway for JSON, two on each node. Each second has
-a register of its own."""
+"""Six clients read, write, and compare and swap registers in etcd, by its gateway for JSON, two on each node."""
 
 from __future__ import annotations
 
 import base64
 import http.client
 import json
-import random
 import sys
-import time
+from functools import partial
 from pathlib import Path
 from typing import Any, Optional
 
 sys.path.insert(0, str(Path(__file__).parent.parent))
-from operations import BEGIN, at_once, operation, until
+from operations import at_once, use_registers
 
 
 def text(word: object) -> str:
@@ -44,18 +42,10 @@ def swap(host: str, key: int, old: Optional[int], new: int) -> bool:
 
 
 def work(client: int) -> None:
-    draw, host, count = random.Random(random.SystemRandom().random()), f"n{client % 3 + 1}", 0
-    seen: Optional[int] = None
-    while until(40):
-        time.sleep(draw.random() * 0.2)
-        key, count = int(time.monotonic() - BEGIN), count + 1
-        new, choice = count * 6 + client, draw.random()
-        if choice < 0.5:
-            seen = operation(client, key, "read", lambda: read(host, key))
-        elif choice < 0.75:
-            operation(client, key, "write", lambda: ask(host, "put", key=text(key), value=text(new)), value=new)
-        else:
-            operation(client, key, "cas", lambda: swap(host, key, seen, new), **{"from": seen, "value": new})
+    host = f"n{client % 3 + 1}"
+    use_registers(
+        client, partial(read, host), lambda key, value: ask(host, "put", key=text(key), value=text(value)), partial(swap, host)
+    )
 
 
 at_once(work, 6)

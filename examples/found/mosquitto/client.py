@@ -5,11 +5,10 @@ from __future__ import annotations
 
 import socket
 import sys
-import time
 from pathlib import Path
 
 sys.path.insert(0, str(Path(__file__).parent.parent))
-from operations import at_once, operation, patiently, until
+from operations import add_numbers, at_once, operation, patiently
 
 FOUND = set[int]()
 
@@ -53,14 +52,6 @@ def subscribe() -> None:
     connection.socket.close()
 
 
-def work(client: int) -> None:
-    number = client
-    while until(40):
-        operation(client, "s", "add", lambda: publish(number), value=number)
-        number += 3
-        time.sleep(0.05)
-
-
 def everything() -> list[int]:
     """All numbers that come until 5 s pass without one."""
     connection = Connection(b"reader")
@@ -76,5 +67,5 @@ def everything() -> list[int]:
 
 
 patiently(subscribe)
-at_once(work, 3)
+at_once(lambda client: add_numbers(client, "s", publish), 3)
 operation(9, "s", "read", lambda: patiently(everything))

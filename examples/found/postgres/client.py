@@ -10,7 +10,7 @@ import time
 from pathlib import Path
 
 sys.path.insert(0, str(Path(__file__).parent.parent))
-from operations import Refused, at_once, operation, patiently, until
+from operations import Refused, add_numbers, at_once, operation, patiently, until
 
 PRIMARY = ["n1"]  # and the standby behind it, once it was promoted
 OPEN = dict[int, "Connection"]()
@@ -56,11 +56,7 @@ def ask(client: int, statement: str) -> bool:
 
 
 def work(client: int) -> None:
-    number = client
-    while until(35):
-        operation(client, "s", "add", lambda: ask(client, f"INSERT INTO s VALUES ({number})"), value=number)
-        number += 3
-        time.sleep(0.3)
+    add_numbers(client, "s", lambda number: ask(client, f"INSERT INTO s VALUES ({number})"), 35, 0.3)
 
 
 def operate() -> None:

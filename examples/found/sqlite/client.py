@@ -6,11 +6,10 @@ from __future__ import annotations
 import json
 import socket
 import sys
-import time
 from pathlib import Path
 
 sys.path.insert(0, str(Path(__file__).parent.parent))
-from operations import at_once, operation, patiently, until
+from operations import add_numbers, at_once, operation, patiently
 
 
 def ask(line: str) -> list[int]:
@@ -20,13 +19,5 @@ def ask(line: str) -> list[int]:
         return answer
 
 
-def work(client: int) -> None:
-    number = client
-    while until(40):
-        operation(client, "s", "add", lambda: ask(str(number)), value=number)
-        number += 3
-        time.sleep(0.05)
-
-
-at_once(work, 3)
+at_once(lambda client: add_numbers(client, "s", lambda number: ask(str(number))), 3)
 operation(9, "s", "read", lambda: patiently(lambda: ask("")))
