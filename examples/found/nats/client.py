@@ -58,13 +58,18 @@ def publish(client: int) -> None:
         time.sleep(0.1)
 
 
+def is_gone(error: OSError) -> bool:
+    """Returns whether a node answered that there is no such message or stream."""
+    return isinstance(error.args[0], dict) and error.args[0]["code"] == 404
+
+
 def number_at(connection: Connection, place: int) -> set[int]:
     """The number at a place of the stream, none where the stream has no message there."""
     try:
         row = connection.ask("$JS.API.STREAM.MSG.GET.S", json.dumps({"seq": place}).encode(), 5)
         return {int(base64.b64decode(row["message"]["data"]))}
     except OSError as error:
-        if isinstance(error.args[0], dict) and error.args[0]["code"] == 404:
+        if is_gone(error):
             return set()
         raise
 
@@ -73,11 +78,22 @@ def everything() -> list[int]:
     """All numbers of the stream, each once."""
     connection = Connection("n1")
     state = connection.ask("$JS.API.STREAM.INFO.S", seconds=5)["state"]
-    places = range(state["first_seq"], state["last_seq"] + 1)
+    places = range(state["first_seq"], state["last_seq"] + 1) if state["messages"] else ()
     return sorted(set[int]().union(*(number_at(connection, place) for place in places)))
+
+
+def all_that_is_left() -> list[int]:
+    """A stream that isn't there after a minute without faults has lost all."""
+    try:
+        answer: list[int] = patiently(everything)
+        return answer
+    except OSError as error:
+        if is_gone(error):
+            return []
+        raise
 
 
 patiently(lambda: Connection("n1").ask("$JS.API.STREAM.CREATE.S", json.dumps(STREAM).encode(), 5))
 at_once(publish, 3)
 time.sleep(20)
-operation(9, "S", "read", lambda: patiently(everything))
+operation(9, "S", "read", all_that_is_left)
