@@ -52,6 +52,7 @@ def refuse(words: list[str], program: str = "hinge") -> None:
 
     from hinge.border import terminal
     from hinge.foreign import answer_of
+    from hinge.misplaced import kind_of, line_for
 
     answer, near = answer_of(words), difflib.get_close_matches(words[0], COMMANDS, 1)
     files = [word for word in words if os.path.isfile(word)]
@@ -61,6 +62,8 @@ def refuse(words: list[str], program: str = "hinge") -> None:
         text = f"write hinge {' '.join(words)}"
     elif answer is not None:
         text = answer.text()
+    elif os.path.exists(words[0]) and (kind := kind_of(words[0])):
+        text = f"it is {line_for(program, kind, words[0])}"
     else:
         text = f"did you mean `hinge {near[0]}`?" if near else "`hinge help` lists the commands."
     terminal.tell(f"{program}: no command {words[0]!r}; {text}")

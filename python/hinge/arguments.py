@@ -4,6 +4,7 @@ modules are here."""
 from __future__ import annotations
 
 import argparse
+import shlex
 from types import SimpleNamespace
 from typing import TYPE_CHECKING, Callable, Optional
 
@@ -56,7 +57,8 @@ def file_of(*formats: Format) -> Callable[[str], str]:
 
     def name(text: str) -> str:
         if not text.lower().endswith(endings):
-            also = "; --csv prints the table" * text.endswith((".csv", ".txt"))
+            table = "--csv " * text.endswith(".csv") + f"> {shlex.quote(text)}"
+            also = f"; in place of -o write {table}" * text.endswith((".csv", ".txt"))
             raise argparse.ArgumentTypeError(f"{text!r} doesn't end in {', '.join(endings)}{also}")
         return text
 

@@ -82,20 +82,27 @@ def say(line: str) -> None:
     tell(f"{NAME[0]}: {printable(line[:LONGEST])}" + " .." * (len(line) > LONGEST))
 
 
+def advised(refusal: str) -> str:
+    """Returns a refusal, with what to type if a word of the command line belongs to another command."""
+    from hinge import misplaced  # which a refusal alone needs
+
+    return misplaced.advised(NAME[0].removeprefix("hinge "), sys.argv[1:], refusal)
+
+
 def outcome(main: Callable[[], object]) -> tuple[int, str]:
     """Returns a command's status, and the line with the reason for a failure. A closed output pipe is no failure."""
     try:
         main()
         sys.stdout.flush()
     except Fault as fault:
-        return fault.status, str(fault)
+        return fault.status, str(fault) if fault.status == MISSING else advised(str(fault))
     except SystemExit as end:
         return (end.code, "") if isinstance(end.code, int) else (USAGE if end.code else 0, end.code or "")
     except BrokenPipeError:
         silence(sys.stdout.fileno())
     except OSError as error:
         what = error.filename or ("standard output" if error.errno in WRITING else "the system")
-        return FILES, f"{what}: {error.strerror}"
+        return FILES, advised(f"{what}: {error.strerror}")
     except KeyboardInterrupt:
         return INTERRUPTED, ""
     except MemoryError:

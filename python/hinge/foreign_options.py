@@ -8,9 +8,20 @@ OPTIONS = {
     "--outage": ("--timeline FILE with a line `5s outage {}` in FILE", True),
     "--pcap": ("--transcript {}, which `hinge look` draws", True),
     **dict.fromkeys(
-        ("--timeout", "--time", "--duration"), ("timeout {} before COMMAND, or --real-limit {} of simulated time", True)
+        ("--timeout", "--time", "--duration", "--for"), ("timeout {} before COMMAND, or --real-limit {} of simulated time", True)
     ),
     "--simulate": ("--simulated", False),
+    "-l": ("--link {}", True),
+    "-o": ("--transcript {}, which `hinge look` draws", True),
+    "--graph": ("--transcript FILE, and hinge look FILE -o FILE.png", False),
+    "--plot": ("--transcript FILE, and hinge look FILE -o FILE.png", False),
+    **dict.fromkeys(("--docker", "--podman"), ("--container {}", True)),
+    "--pid": ("--netns {}", True),
+    "--port": ("--map 'port {0} => pipe 1' for its packets alone, or --to {0} for this system's port", True),
+    **dict.fromkeys(
+        ("--iface", "--interface", "--dev", "-i"),
+        ("no interface: COMMAND runs behind the link, or --container NAME names one", True),
+    ),
 }
 SAME = """both=link uplink=up upload=up downlink=down download=down profile=preset conditions=preset log=transcript output=transcript
 report=json"""

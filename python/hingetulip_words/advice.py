@@ -41,8 +41,11 @@ NET_LINES = (  # what people write of a net, and the line that says it
     (r"at (\S+) link (.*) up", r"at \1 heal \2"),
     (r"at (\S+) (?:partition|disconnect|isolate) (.*)", r"at \1 cut \2"),
     (r"at (\S+) (cut|heal) ([A-Za-z][\w-]*?) ?(?:<?-+>?|,| and | ) ?(?!from )([A-Za-z][\w-]*)( \d\S*)?", r"at \1 \2 \3 from \4\5"),
+    (r"at (\S+) (?:set|change|delay|rate|bandwidth|link) ([A-Za-z][\w-]*) ([A-Za-z][\w-]*) (\d.*)", r"at \1 \2 \3 \4"),
+    (r"at (\S+) loss ([A-Za-z][\w-]*) ([A-Za-z][\w-]*) (\d.*)", r"at \1 \2 \3 loss \4"),
     (r"\w+:.*", "host NAME, and `link A B 20ms`, each in a line of its own, as a net isn't YAML"),
 )
+NEAR = 0.65  # of a word that may be meant
 SHOWS_NOTHING = Advice("it shows nothing here", "leave this line out")
 
 
@@ -141,7 +144,7 @@ def option_word(kind: str, before: str, text: str, more: Sequence[str] = ()) -> 
     names = [*options, *more]
     import difflib  # which a wrong word alone needs
 
-    name = OTHER_NAMES.get(text.lower()) or next(iter(difflib.get_close_matches(text, names, 1)), None)
+    name = OTHER_NAMES.get(text.lower()) or next(iter(difflib.get_close_matches(text, names, 1, NEAR)), None)
     name = "loss" if name == "plr" and "loss" in more else name
     if name in names and before not in (*FIELD_BITS, "all"):
         return Advice("not an option", f"write {name}", name)

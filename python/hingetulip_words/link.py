@@ -10,7 +10,7 @@ from typing import NamedTuple, Optional
 
 from hingetulip_words.advice import OPTIONS, left_out, missing_value, option_word
 from hingetulip_words.foreign import Meant
-from hingetulip_words.presets import PRESETS
+from hingetulip_words.presets import NEAREST, PRESETS
 from hingetulip_words.values import FIELD_BITS, LONGEST_WORD, PERCENT, Advice, bandwidth, delay, fault_of, plain, room
 
 RATE = re.compile(r"\d+[kmg]?(bits?|bytes?)/s", re.ASCII | re.IGNORECASE)
@@ -232,11 +232,13 @@ class Words:
             return WordError(word, LIKE_A_LINE)
         if word in LEFT_OUT:
             return WordError(word, left_out("", word))
+        if word in ("up", "down", "/"):
+            return WordError(word, Advice("one way of a link", "write --up LINK --down LINK, or LINK / LINK in a net's line"))
         if self.before.isdigit() and re.fullmatch(UNIT, word):
             return WordError(f"{self.before} {word}", Advice("a number and its unit are one word", f"write {self.before}{word}"))
         if word.isdigit():
             return WordError(*number_alone(word, self.rest[0] if self.rest else ""))
-        if word in ("rtt", "±", "+-", "+/-") or PERCENT.fullmatch(word) or word.lower() in PRESETS:
+        if word in ("rtt", "±", "+-", "+/-") or PERCENT.fullmatch(word) or word.lower() in {*PRESETS, *NEAREST}:
             return self.of_two(word, self.rest[0] if self.rest else "")
         is_value = word[:1].isdigit() or re.match(r"[-.]\d", word)
         more = ["loss"] if self.place is Place.DUMMYNET else [*MISSING]
@@ -254,8 +256,8 @@ class Words:
             return WordError(spread[0], Advice("a jitter adds to the delay", f"write {around(spread)}"))
         if PERCENT.fullmatch(word) and following in ("loss", "duplicate"):
             return WordError(f"{word} {following}", Advice("the name stands before its value", f"write {following} {word}"))
-        if word.lower() in PRESETS:
-            right = f"write --preset {word.lower()}, or preset {word.lower()} in a net's line"
+        if name := word.lower() if word.lower() in PRESETS else NEAREST.get(word.lower()):
+            right = f"write --preset {name}, or preset {name} in a net's line"
             return WordError(word, Advice("the name of a preset, and no word of a link", right))
         return WordError(
             word, unknown(word) if word[0].isdigit() else Advice("not an option", f"write jitter {following or '5ms'}")

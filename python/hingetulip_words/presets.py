@@ -37,6 +37,19 @@ PRESETS = {
     "bad": Preset("1Mbit/s 500ms queue 20 loss 10%", "1Mbit/s 500ms queue 20 loss 10%", f"{APPLE} Very Bad Network"),
     "lan": Preset("1Gbit/s queue 1000", "1Gbit/s queue 1000", "Gigabit Ethernet, whose delay is far below a millisecond"),
 }
+# Other names of links, and the preset that is nearest.
+OTHER_NAMES = """dialup=modem,isdn edge=2g,gprs,gsm 3g=umts,hspa,hsdpa 4g=mobile,cellular,phone lte=5g,nr dsl=adsl,vdsl,broadband
+cable=docsis,home fibre=ftth,fios,fiber satellite=starlink,leo,sat geo=viasat,geostationary,vsat
+lossy-wifi=wifi,wi-fi,wlan,wireless,lossy bad=train,terrible,poor,worst lan=ethernet,gigabit,wired,datacenter,datacentre,local"""
+NEAREST = {name: own for own, _, names in (entry.partition("=") for entry in OTHER_NAMES.split()) for name in names.split(",")}
+
+
+def near(name: str) -> str:
+    """Returns the preset that a name resembles or means; an empty text if none."""
+    import difflib  # which a wrong name alone needs
+
+    plain = "-".join(name.lower().replace("_", " ").split())
+    return NEAREST.get(plain) or "".join(difflib.get_close_matches(plain, PRESETS, 1))
 
 
 def preset(name: str) -> Preset:
@@ -44,10 +57,8 @@ def preset(name: str) -> Preset:
     plain = "-".join(name.lower().split())
     if plain in PRESETS:
         return PRESETS[plain]
-    import difflib  # which a wrong name alone needs
-
-    near = ["--list-presets"] if plain in ("list", "help", "all") else difflib.get_close_matches(plain, PRESETS, 1)
-    raise ValueError(f"'{name}': not a preset; {f'write {near[0]}' if near else 'write one of ' + ', '.join(PRESETS)}")
+    ways = "write --list-presets" if plain in ("list", "help", "all") else f"write one of {', '.join(PRESETS)}"
+    raise ValueError(f"'{name}': not a preset; {f'write {near(name)}' if near(name) else ways}")
 
 
 def either_way(name: str, up: Optional[str] = None, down: Optional[str] = None) -> tuple[str, str]:

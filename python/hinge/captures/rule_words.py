@@ -138,7 +138,19 @@ class RuleReader:
             self.short.ports[PORTS[word]] = port_span_of(self.value(word))
         elif word != "any":
             near = difflib.get_close_matches(word, WORDS, 1)
-            raise BadRule(f"'{word}': not a word of a rule; {f'write {near[0]}' if near else f'write {HELP}'}")
+            right = of_filter(" ".join([word, *self.rest])) or (near[0] if near else HELP)
+            raise BadRule(f"'{word}': not a word of a rule; write {right}")
+
+
+def of_filter(text: str) -> str:
+    """Returns the words of a rule for a display filter of Wireshark that compares addresses and ports; else an empty text."""
+    parts = filter(None, re.split(r"\s*(?:&&|\band\b)\s*", text))
+    matches = [re.fullmatch(r"(ip|ipv6|tcp|udp)\.(addr|host|(?:src|dst|)(?:port)?) *(?:==|eq) *([\w.:/]+)", part) for part in parts]
+    words = list[str]()
+    for match in filter(None, matches):
+        words += [match[1]] * (match[1] in ("tcp", "udp") and match[1] not in words)
+        words += [{"addr": "host", "srcport": "sport", "dstport": "dport"}.get(match[2], match[2]), match[3]]
+    return " ".join(words) if all(matches) else ""
 
 
 def parted(text: str) -> tuple[str, RuleTarget]:

@@ -19,6 +19,7 @@ from hinge.checks.lines import LineCheck
 from hinge.checks.rows import RowCheck
 from hinge.checks.waits import told_wait
 from hinge.command import CONFIGURATION, ROWS, parser
+from hinge.misplaced import FRONT, kind_of_text, line_for
 from hinge.plans.sessions import judged
 from hinge.run.words import duration
 
@@ -31,37 +32,19 @@ history, is judged by it: each line that wasn't done is told. With --model the f
 JSON each, and those on each key have to take effect one after another, each between its begin and its end; else the
 fewest that can't are told. The exit status is that of the first fault, 1 for a history that isn't lawful, a session that
 isn't as its file says or operations without an order."""
-CAPTURES = (b"\xd4\xc3\xb2\xa1", b"\xa1\xb2\xc3\xd4", b"\x4d\x3c\xb2\xa1", b"\xa1\xb2\x3c\x4d", b"\x0a\x0d\x0d\x0a")
-NET = (b"host", b"main", b"router", b"link", b"switch")  # first words of a net
-LINES = (b"pipe", b"queue", b"ipfw", b"--", b"moment")  # and of what dummynet reads
 CUT = re.compile(rb"(?m)^--\r*(?:\n|\Z)")
 ROW_MARKS = 8  # commas, semicolons or tabs that a header has at least
 
 
 def kind_of(path: str, data: bytes) -> str:
     """Returns a file's kind, according to its beginning."""
-    if data.startswith(CAPTURES):
-        return "capture"
-    head = data[:4096].removeprefix(b"\xef\xbb\xbf").lstrip(b"\r\n").split(b"\n")[0]
-    if head.startswith((b"dummynet-history", b"dummynet-live")):
-        return "history"
-    if head.startswith(b"event,row,flow"):
-        return "report"
-    if (word := first_word(data)) in NET:
-        return "net"
-    if head.startswith(b"{"):
-        return "operations"
-    if word not in (b"", *LINES) and b"\0" in data[:4096]:
+    kind = kind_of_text(data)
+    if kind or not data:
+        return kind or "config"
+    head = data[:FRONT].lstrip(b"\r\n").split(b"\n")[0]
+    if b"\0" in data[:FRONT]:
         return "other"
-    if head.startswith(b"moment") or path.endswith(".csv") or sum(head.count(mark) for mark in (b",", b";", b"\t")) >= ROW_MARKS:
-        return "packets"
-    return "config"
-
-
-def first_word(data: bytes) -> bytes:
-    """Returns the first word of the first line that isn't a comment."""
-    lines = (line.split(None, 1) for line in data[:4096].split(b"\n"))
-    return next((words[0] for words in lines if words and not words[0].startswith(b"#")), b"")
+    return "packets" if path.endswith(".csv") or sum(map(head.count, (b",", b";", b"\t"))) >= ROW_MARKS else "config"
 
 
 @dataclass(frozen=True)
@@ -99,20 +82,16 @@ class Check:
         if kind == "net":
             self.net = path
             return
-        if kind == "capture":
-            self.found.fault(path, f"a capture, not a packet file; `hinge packets {path} -o packets.csv` writes one", ROWS)
-        elif kind == "report":
-            self.found.fault(path, "a report of a replay, not a packet file", ROWS)
-        elif kind == "other":
+        if kind == "other":
             self.found.fault(path, "neither a configuration nor a packet file nor a history, as it isn't text", ROWS)
-        elif kind == "operations":
-            self.found.fault(path, "operations, not a configuration; name what they are on, as --model register", ROWS)
         elif kind == "history":
             check_history(path, path, data, self.found)
         elif kind == "packets":
             self.packets.append((path, data, 1))
-        else:
+        elif kind == "config":
             self.add_configuration(path, data)
+        else:
+            self.found.fault(path, line_for("check", kind, path), ROWS)
 
     def add_configuration(self, path: str, data: bytes) -> None:
         """Adds a configuration, or a joined input with packets after a line `--`."""
@@ -153,7 +132,7 @@ def main() -> None:
     words = line.parse_args()
     check = Check(None if words.late is None else duration(words.late, "--late"))
     for path in words.files:
-        if path.startswith(("pipe", "queue", "ipfw")) and not os.path.exists(path):
+        if (path.startswith(("pipe", "queue", "ipfw")) or " " in path) and not os.path.exists(path):
             typed = shlex.quote(" ".join(words.files))
             line.error(f"it reads files: printf '%s\\n' {typed} | hinge check /dev/stdin")
         if words.model:

@@ -3,6 +3,7 @@
 from __future__ import annotations
 
 import os
+import shlex
 import sys
 
 from hinge.arguments import (
@@ -98,6 +99,8 @@ def refuse_mixed(line: Parser, options: LookOptions) -> None:
         line.error("--model takes a file of operations, and a net or a failure with the faults")
     if "--end" in line.given and not is_net(options):
         line.error("--end does nothing without a net")
+    if options.csv and options.source[1:] and options.source[-1].endswith(".csv") and not os.path.exists(options.source[-1]):
+        line.error(f"--csv prints the table; write --csv > {shlex.quote(options.source[-1])}")
     if options.diff and len(options.source) != 2:
         line.error("--diff takes two histories")
     if options.diff and (options.o or options.config or options.csv):

@@ -44,6 +44,8 @@ OF_RUN = {
     "--loss": "a line `loss A B {}` in FILE",
     "--timeline": "lines as `at 5s A B 1Mbit/s` in FILE",
     "--topo": "lines `host h1`, `host h2` and `link h1 h2 10Mbit/s 20ms` in FILE",
+    "--seeds": "hinge search FILE --seeds {}",
+    **dict.fromkeys(("--duration", "--time", "--timeout"), "timeout {0} before hinge net, or --limit {0} of simulated time"),
     **dict.fromkeys(OF_LINK, "a line `link A B 10Mbit/s 20ms loss 1%` in FILE"),
 }
 EXAMPLE = """\

@@ -4,6 +4,7 @@ from __future__ import annotations
 
 import argparse
 import contextlib
+import re
 from dataclasses import dataclass
 from itertools import islice
 from typing import Optional
@@ -44,7 +45,8 @@ def two_directions(text: str) -> list[MapRule]:
     try:
         return directions(text)
     except BadRule as error:
-        what = f"{text!r} isn't an address, a network or `first` ({error})"
+        address = re.search(r"== *([\da-fA-F.:/]+)$", text)  # of a display filter
+        what = f"{text!r} isn't an address, a network or `first` ({f'write {address[1]}' if address else error})"
         raise argparse.ArgumentTypeError(what) from None
 
 

@@ -31,7 +31,8 @@ def main() -> None:
     numbers = list(takewhile(str.isdecimal, arguments.source))
     files, config = arguments.source[len(numbers) :], arguments.config
     if not numbers:
-        line.error(f"{files[0]!r} isn't the number of a row")
+        right = " ".join(sorted(files, key=os.path.exists)) if any(map(str.isdecimal, files)) else f"1 {' '.join(files)}"
+        line.error(f"{files[0]!r} isn't the number of a row; write hinge why {right}")
     if not files:
         line.error("behind the rows comes a history, or a packet file and its report")
     if len(files) == 3 and config is None:

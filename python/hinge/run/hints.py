@@ -4,6 +4,7 @@ from __future__ import annotations
 
 import os
 import re
+import shlex
 import shutil
 from itertools import takewhile
 from typing import Iterator, Optional, Sequence
@@ -23,12 +24,14 @@ OWN = re.compile(r"(server|client|localhost|127\..*|::1|10\.8\..*|fd08:.*)", re.
 
 
 def link_as_command(command: Sequence[str]) -> Optional[str]:
-    """Returns advice if the command consists of a link's words."""
+    """Returns advice if the command begins with a link's words."""
     words = list(takewhile(lambda word: word != "--", command))
-    if not words or len(words) == len(command) or shutil.which(words[0]):
+    if not words or shutil.which(words[0]):
         return None
-    link = corrected(" ".join(words))
-    return None if link is None else f"{words[0]!r} isn't a command; write --link '{link}' -- {' '.join(command[len(words) + 1:])}"
+    texts = [(count, corrected(" ".join(words[:count]))) for count in range(len(words), 0, -1)]
+    count, link = next((one for one in texts if one[1]), (0, None))
+    rest = [word for word in command[count:] if word != "--"]
+    return f"{words[0]!r} isn't a command; write --link {shlex.quote(link)} -- {' '.join(rest) or 'COMMAND'}" if link else None
 
 
 def lacking(command: Sequence[str]) -> Optional[str]:
@@ -37,11 +40,19 @@ def lacking(command: Sequence[str]) -> Optional[str]:
     if command and "/" not in command[0] and shutil.which(command[0], os.F_OK) is None:
         package = (PACKAGES | SERVERS).get(command[0])
         names.append(command[0] if package else f"{command[0]} on the path")
-        ways += [f"apt-get install {package}"] if package else []
+        ways += filter(None, [f"apt-get install {package}" if package else runnable(command[0])])
     if re.search(r"\bserver\b", " ".join(command)) and not os.path.exists(HOSTS):
         names.append(HOSTS)
         ways.append(f"touch {HOSTS}")
     return f"there is no {' and no '.join(names)}{': ' * bool(ways)}{'; '.join(ways)}" if names else None
+
+
+def runnable(name: str) -> str:
+    """Returns advice on a file of this folder, or a command line in quotes, in the place of a program."""
+    interpreter = {".py": "python3", ".sh": "sh"}.get(os.path.splitext(name)[1])
+    if os.path.isfile(name):
+        return f"write ./{name}" if os.access(name, os.X_OK) else f"write {interpreter} {name}" if interpreter else ""
+    return f"write sh -c {shlex.quote(name)}" if " " in name.strip() else ""
 
 
 def asked_hosts(command: Sequence[str]) -> Iterator[tuple[str, str]]:

@@ -31,7 +31,7 @@ def remedy(text: str) -> str:
     if rate is None:
         return ""
     percent = Fraction(rate[1]) * (1 if rate[2] or Fraction(rate[1]) > 1 else 100)
-    return f"; a rate of loss is a word of a link, as in --up 'loss {plain(percent)}%'"
+    return f"; a rate of loss is a word of a link; write loss {plain(percent)}% behind the others of --link"
 
 
 def loss_lines(text: str, link: int = 0) -> dict[int, str]:

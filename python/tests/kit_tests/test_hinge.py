@@ -117,8 +117,8 @@ class Help(unittest.TestCase):
             (["look", "x", "--tp=4"], "--tp=4; did you mean --top?"),
             (["packets", "x", "--output", "y"], "--output y; did you mean -o?"),
             (["search", "x.net", "--sed", "1"], "--sed 1; did you mean --seeds?"),
-            (["check", "x", "--output", "y"], "--output y"),
-            (["run", "--rata", "5", "--", "true"], "--rata"),
+            (["check", "x", "--output", "y"], "--output y; `hinge help check` lists the options"),
+            (["run", "--rata", "5", "--", "true"], "--rata; `hinge help run` lists the options"),
         ):
             done = run(*words)
             self.assertEqual((done.returncode, done.stderr.splitlines()[-1].split("arguments: ")[1]), (2, near))

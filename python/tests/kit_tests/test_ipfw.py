@@ -41,18 +41,6 @@ class Ipfw(unittest.TestCase):
             assert any(f"rc.firewall:{line}: left out" in note and told in note for note in notes), (line, told, done.stderr)
         assert "5 commands for pipes and queues were left out" in notes[-1]
 
-    def test_a_file_that_is_no_text_is_one_fault(self) -> None:
-        path = folder() / "picture.png"
-        path.write_bytes(b"\x89PNG\r\n\x1a\n\0\0\0\rIHDR\n" * 50)
-        done = run("ipfw", path)
-        assert (done.returncode, done.stdout, done.stderr) == (3, "", f"hinge ipfw: {path}: it isn't text\n")
-        told = "neither a configuration nor a packet file nor a history, as it isn't text"
-        done = run("check", path)
-        assert (done.returncode, done.stdout, done.stderr) == (4, f"{path}: {told}\n", "1 fault, 0 warnings\n")
-        net = write("two.net", "# a net\n\nhost a\n")
-        told = f"a net, not a configuration; `hinge net {net} --dry-run` checks it"
-        assert run("check", net).stdout == f"{net}: {told}\n"
-
     def test_what_comes_out_is_taken(self) -> None:
         replies = configured(FastDummynet(), EXPECTED.encode())
         assert len(replies) == len(EXPECTED.splitlines())

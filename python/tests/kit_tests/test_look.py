@@ -87,7 +87,6 @@ class Look(unittest.TestCase):
             (("why", 1, packets, report, report, "--config", config), 2, "a packet file has one report here, and these are 2"),
             (("look", *[packets] * 6), 2, "a packet file has up to four reports"),
             (("look", packets, report, report, "-o", "x.html"), 2, "of several reports there are pictures"),
-            (("look", packets, report, "-o", "x.csv"), 2, "; --csv prints the table"),
             (("look", packets, report, "-o", "x.pcap"), 2, "--capture, --index and -o FILE.pcap or FILE.pcapng go together"),
             (("look", packets, report, "--capture", "c", "--index", "i"), 2, "go together"),
             (("look", history_of("dsl"), "--config", config), 2, "is alone: a history has its configuration"),

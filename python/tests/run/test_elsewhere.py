@@ -199,7 +199,7 @@ class Options(unittest.TestCase):
 
     def test_a_rate_of_loss_is_written_as_a_link_takes_it(self) -> None:
         for text, share in (("0.05", "5"), ("5%", "5"), ("5", "5"), (".5%", "0.5")):
-            self.assertTrue(remedy(text).endswith(f"--up 'loss {share}%'"), remedy(text))
+            self.assertIn(f"write loss {share}% behind", remedy(text))
 
     def test_both_ways(self) -> None:
         assert "5ms" == run_options(["--link", "5ms", "--down", "7ms", "true"]).up
