@@ -14,14 +14,13 @@ from hinge.loss import KEPT, LOST as LOST_WORD
 from hinge.replays.columns import GREATEST
 from hinge.replays.link_order import LinkOrder, WaitedFor
 from hinge.replays.links import BITS_NS, UNKNOWN, Parts, Spell, bandwidth_of, delay_of
-from hinge.replays.replay import FULL, HELD, LOST, NONE, OUT
+from hinge.replays.replay import FULL, HELD, LOST, NONE, OF_NOBODY, OUT
 from hinge.replays.units import ms, packets, rows, seconds
 
 LAST_MOMENT = 2**62  # at which a replay takes what has left
 LOSS_PARTS = 2**31
 LOW_31_BITS = LOSS_PARTS - 1
 BYTES_PER_KBYTE = 1024
-OF_NOBODY = ("0.0.0.0", "0.0.0.0", 255, 0, 0)  # by which a host keeps a link busy in an outage
 
 
 @dataclass
@@ -73,9 +72,10 @@ class Explainer:
 
         def is_same(place: int) -> bool:
             setting = spells[place].setting
-            return setting is not None and value(setting) == wanted
+            return place in self.of_outages or setting is not None and value(setting) == wanted
 
         first = at - sum(1 for _ in takewhile(is_same, reversed(places[:at])))
+        first += sum(1 for _ in takewhile(self.of_outages.__contains__, places[first:at]))
         end = at + 1 + sum(1 for _ in takewhile(is_same, places[at + 1 :]))
         return spells[places[first]].moment if first else None, spells[places[end]].moment if end < len(places) else None
 
@@ -91,6 +91,11 @@ class Explainer:
         """Returns the number of the five-tuple for packets without a sender."""
         tuples = self.packets.tuples if self.is_history else ()
         return next((number for number, one in enumerate(tuples) if tuple(one) == OF_NOBODY), UNKNOWN)
+
+    @cached_property
+    def of_outages(self) -> set[int]:
+        """Returns the spells whose bandwidth only made an outage's packet take so long."""
+        return {*self.parts.carrier[self.packets.five_tuple == self.of_nobody].tolist()} - {UNKNOWN}
 
     def is_outage(self, place: int) -> bool:
         return bool(self.packets.five_tuple[place] == self.of_nobody and self.packets.word[place] == KEPT)

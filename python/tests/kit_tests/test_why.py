@@ -225,6 +225,7 @@ class Changed(unittest.TestCase):
         """As a host makes one: nobody's 1,500 bytes at 12,000 bit/s take a second."""
         texts = self.told(
             [
+                "pipe 1 config bw 8Mbit/s",
                 "pipe 1 config bw 12000bit/s",
                 f"c,0,submit,pipe,1,0.0.0.0,0.0.0.0,255,0,0,1500,{2**31 - 1},1000000000",
                 "pipe 1 config bw 8Mbit/s",
@@ -236,6 +237,7 @@ class Changed(unittest.TestCase):
         assert texts[0] == f"Row 1 is a packet that nobody sent. It stands for {outage}."
         assert f"(pipe 1): 800.000000 ms until the end of {outage}. Its" in texts[1]
         assert f"500.000000 ms until the end of {outage}; 1.000000 ms for 1 packet that came before it: row 2." in texts[2]
+        assert "8,000,000 bit/s)" in texts[2]  # which an outage doesn't change
 
     def test_a_run_over_a_trace(self) -> None:
         """4 bytes of 1,500 may leave at each moment in a trace; each packet gets a separate rate."""
