@@ -9,7 +9,7 @@ import unittest
 
 from kit import MIXED, folder, run
 
-from hinge.misplaced import FRONTS, MEANT, KINDS, TAKES, kind_of, line_for
+from hinge.misplaced import FRONTS, TAKES, advised, kind_of
 
 
 FRONT = {  # of a file of each kind, which comments and blank lines may precede
@@ -86,11 +86,13 @@ class Misplaced(unittest.TestCase):
         self.assertEqual({kind: kind_of(str(folder() / f"FILE.{kind}")) for kind, _ in FRONTS}, {kind: kind for kind in FRONT})
         self.assertEqual(kind_of(str(folder())), "folder")
 
-    def test_each_command_has_a_line_for_each_kind(self) -> None:
-        for command in TAKES:
-            for kind, (what, _) in KINDS.items():
-                self.assertTrue(line_for(command, kind, "x").startswith(what))
-        self.assertGreater(len(MEANT), 3)
+    def test_a_file_is_named_wherever_its_kind_does_not_belong(self) -> None:
+        for place, taken in TAKES.items():
+            command, *options = place.split()
+            for kind in FRONT if taken else ():
+                belongs = kind in taken.partition(",")[0].split() and (command, kind) != ("why", "config")
+                text = advised(command, [*options, str(folder() / f"FILE.{kind}")], "refused")
+                self.assertEqual(text == "refused", belongs, text)
 
     def test_each_line_is_answered_by_the_line_to_type(self) -> None:
         for line, _, wanted in (row.partition("  =>  ") for row in LINES.strip().splitlines()):
