@@ -84,9 +84,12 @@ def say(line: str) -> None:
 
 def advised(refusal: str) -> str:
     """Returns a refusal, with what to type if a word of the command line belongs to another command."""
-    from hinge import misplaced  # which a refusal alone needs
+    try:
+        from hinge import misplaced  # which a refusal alone needs
 
-    return misplaced.advised(NAME[0].removeprefix("hinge "), sys.argv[1:], refusal)
+        return misplaced.advised(NAME[0].removeprefix("hinge "), sys.argv[1:], refusal)
+    except (MemoryError, ImportError, OSError):  # where the system lacks what the refusal is about
+        return refusal
 
 
 def outcome(main: Callable[[], object]) -> tuple[int, str]:

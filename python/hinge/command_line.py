@@ -3,7 +3,6 @@
 from __future__ import annotations
 
 import argparse
-import sys
 from typing import Any, Callable, NoReturn
 
 NEAR, OUTPUT = 0.82, ("--out", "--output")  # of what was typed, and of what is meant
@@ -76,11 +75,12 @@ class Parser(argparse.ArgumentParser):
         option = message.partition("unrecognized arguments: ")[2].partition(" ")[0].partition("=")[0]
         names = [name for name, action in self._option_string_actions.items() if action.help is not argparse.SUPPRESS]
         near = ["-o"] if option in OUTPUT and "-o" in names else difflib.get_close_matches(option, names, 1, NEAR)
-        from hinge.misplaced import advised
+        from hinge.command import advised
 
-        command = self.prog.removeprefix("hinge ")
-        refusal = advised(command, sys.argv[1:], message)
+        refusal = advised(message)
         if option and refusal == message:
             is_near = near and option.startswith("--")
-            refusal += f"; did you mean {near[0]}?" if is_near else f"; `hinge help {command}` lists the options"
+            refusal += (
+                f"; did you mean {near[0]}?" if is_near else f"; `hinge help {self.prog.removeprefix('hinge ')}` lists the options"
+            )
         super().error(refusal)
