@@ -52,6 +52,7 @@ LIVE = {
     "a path": ["udp", "0", "9", *CONTROL],
     "simulated time": ["run", "--simulated", "--quiet", "--seed", "1", "--link", "1ms", "--", "sleep", "1"],
 }
+KILLED_MACHINE = "import os; from hinge.simulated.room import Room; Room(0); os.kill(os.getpid(), 9)"
 LONGEST_LEFT = 20.0  # s for which a process may outlive the one that was killed
 
 
@@ -111,6 +112,7 @@ class Place:
     def left_live(self) -> list[str]:
         """Returns temporary files, sockets, cgroups and mounts."""
         names = [*self.temporary.iterdir(), *self.folder.glob("socket"), *self.temporary.parent.glob("runtime/hinge/*")]
+        names += [path for path in Path("/dev/shm").glob(".hinge-*/kept") if self.temporary in path.resolve().parents]
         cgroups = [place for place in Path("/sys/fs/cgroup").glob(f"**/hinge-*-{HOST}")]
         mounts = [line for line in Path("/proc/self/mountinfo").read_text().splitlines() if str(self.folder.parent) in line]
         return [*map(str, names), *map(str, cgroups), *mounts]
@@ -170,7 +172,10 @@ def kill_live(place: Place, count: int, rng: random.Random, tally: Tally) -> Non
     if place.start(AFTER).wait() != 0:
         print("this user may make no namespaces here, so no live link was killed")
         return
+    subprocess.run([sys.executable, "-c", KILLED_MACHINE], cwd=TOP / "python", env=place.environment)
+    tally.equal("folders of a killed machine", 2, len(place.left_live()))
     took = place.run(AFTER)
+    tally.equal("folders behind the next run", [], place.left_live())
     for at in range(count):
         name, words = list(LIVE.items())[at % len(LIVE)]
         after = rng.uniform(0.0, 1.5) * took

@@ -16,6 +16,7 @@ from types import FrameType
 from typing import IO, ContextManager, Iterator, Optional, Union
 
 PREFIX = ".hinge-"
+IN_MEMORY = "/dev/shm"
 MARK = ".mark"  # the file by which a folder is the kit's; a name alone says nothing
 TOGETHER = 1.0  # s in which signals are one
 # The signals that end a process, with what Python has them do at first.
@@ -134,6 +135,14 @@ def remove_left(within: Union[str, Path]) -> None:
             if one.name.startswith(PREFIX):
                 with suppress(OSError):
                     remove_unlocked(one.path)
+
+
+def remove_all_left() -> None:
+    """Removes what killed processes left in both places, where they can be read."""
+    with suppress(OSError):
+        remove_left(IN_MEMORY)
+    with suppress(OSError):
+        remove_left(temporary_place())
 
 
 def remove_unlocked(folder: str) -> None:

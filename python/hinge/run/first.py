@@ -8,14 +8,18 @@ import signal
 from typing import Callable, Optional
 
 from hinge.border.programs import forked
-from hinge.run.system import die_with_parent
+from hinge.border.scratch import remove_all_left
+from hinge.run.system import die_with_parent, is_simulated
 
 INTERRUPTED = 130
 BLOCKED = {signal.SIGCHLD, signal.SIGTERM, signal.SIGHUP, signal.SIGINT, signal.SIGIO}
 
 
 def first_process(run: Callable[[], int]) -> int:
-    """Forks this process; returns the child, which ends with this process, or with the status that `run` returns."""
+    """Forks this process; returns the child, which ends with this process, or with the status that `run` returns. Beforehand it
+    removes what killed runs left, but not in a machine, whose course may not depend on that."""
+    if not is_simulated():
+        remove_all_left()
     parent = os.pidfd_open(os.getpid())  # since the child sees no number of a process outside its namespace
 
     def live() -> int:

@@ -9,7 +9,7 @@ import tempfile
 from pathlib import Path
 from typing import Optional
 
-from hinge.border.scratch import Folder, temporary_place
+from hinge.border.scratch import IN_MEMORY, Folder, temporary_place
 from hinge.run.system import Missing
 
 
@@ -26,7 +26,7 @@ def may_be_executed(folder: str) -> bool:
 
 def memory_folder(size: int) -> str:
     """Returns a folder with enough free bytes that permits execution, preferably in memory. Missing: there is no such folder."""
-    places = ["/dev/shm", temporary_place(), "/var/tmp"]
+    places = [IN_MEMORY, temporary_place(), "/var/tmp"]
     for place in places:
         if os.path.isdir(place) and may_be_executed(place) and shutil.disk_usage(place).free >= size:
             return place
