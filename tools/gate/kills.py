@@ -52,7 +52,14 @@ LIVE = {
     "a path": ["udp", "0", "9", *CONTROL],
     "simulated time": ["run", "--simulated", "--quiet", "--seed", "1", "--link", "1ms", "--", "sleep", "1"],
 }
-KILLED_MACHINE = "import os; from hinge.simulated.room import Room; Room(0); os.kill(os.getpid(), 9)"
+KILLED = f"""import contextlib, os
+from hinge.run.cgroups import name_of, own_folder
+from hinge.simulated.room import Room
+Room(0)
+with contextlib.suppress(OSError):
+    folder = own_folder()
+    folder and (folder / name_of("0" * 12, {HOST!r})).mkdir()
+os.kill(os.getpid(), 9)"""  # with a machine's folders, and a cgroup that it has just made
 LONGEST_LEFT = 20.0  # s for which a process may outlive the one that was killed
 
 
@@ -172,10 +179,10 @@ def kill_live(place: Place, count: int, rng: random.Random, tally: Tally) -> Non
     if place.start(AFTER).wait() != 0:
         print("this user may make no namespaces here, so no live link was killed")
         return
-    subprocess.run([sys.executable, "-c", KILLED_MACHINE], cwd=TOP / "python", env=place.environment)
-    tally.equal("folders of a killed machine", 2, len(place.left_live()))
+    subprocess.run([sys.executable, "-c", KILLED], cwd=TOP / "python", env=place.environment)
+    tally.note("planted: what a killed run leaves", "" if len(place.left_live()) > 1 else "it isn't seen")
     took = place.run(AFTER)
-    tally.equal("folders behind the next run", [], place.left_live())
+    tally.equal("what stays behind the next run", [], place.left_live())
     for at in range(count):
         name, words = list(LIVE.items())[at % len(LIVE)]
         after = rng.uniform(0.0, 1.5) * took

@@ -5,6 +5,7 @@ All processes in a cgroup are frozen or killed at the same moment, and no progra
 
 from __future__ import annotations
 
+import binascii
 import contextlib
 import fcntl
 import os
@@ -20,19 +21,31 @@ from hinge.run.system import write
 MOUNT = re.compile(r"^\d+ \d+ \S+ (\S+) (\S+) .* - cgroup2 ", re.MULTILINE)  # what is mounted, and where
 PATIENCE, POLL = 2.0, 0.001  # s
 FILES = ("cgroup.freeze", "cgroup.kill", "cgroup.procs")  # in which the links and `hinge exec` write
-NAME, MARK = "hinge-", "user.hinge"  # by which a cgroup is the kit's
+NAME = re.compile("hinge-([0-9a-f]{12})[0-9a-f]{8}-(.*)")  # by which a cgroup is the kit's: a number, its checksum, and a host
+
+
+def name_of(number: str, host: str) -> str:
+    """Returns a cgroup's name, which itself proves whose it is: a mark behind its creation would miss where a kill comes first."""
+    return f"hinge-{number}{binascii.crc32(number.encode()):08x}-{host}"
+
+
+def locked(folder: Path) -> int:
+    """Creates a cgroup; returns a descriptor that locks it. Another run may remove a cgroup that isn't locked yet."""
+    while True:
+        folder.mkdir()
+        with contextlib.suppress(FileNotFoundError):
+            lock = held(folder)
+            fcntl.flock(lock, fcntl.LOCK_EX)
+            if folder.exists():
+                return lock
+            os.close(lock)
 
 
 class Cgroup:
-    """A cgroup. Its process locks the folder before marking it, so that later runs recognize cgroups from killed processes."""
+    """A cgroup. Its process locks the folder, so that later runs recognize cgroups from killed processes."""
 
     def __init__(self, folder: Path) -> None:
-        self.folder = folder
-        folder.mkdir()
-        self.lock = held(folder)
-        fcntl.flock(self.lock, fcntl.LOCK_EX)
-        with contextlib.suppress(OSError):  # a system without marks
-            os.setxattr(self.lock, MARK, b"")
+        self.folder, self.lock = folder, locked(folder)
         self.tells = (folder / "cpu.pressure").exists()
         self.descriptors = {name: os.open(folder / name, os.O_WRONLY) for name in FILES}
 
@@ -93,12 +106,13 @@ class Cgroup:
 
 
 def remove_left(folder: Path) -> None:
-    """Removes the marked cgroups whose processes are no more."""
-    for path in folder.glob(f"{NAME}*"):
-        with contextlib.suppress(OSError), holding(path) as place:
-            os.getxattr(place, MARK)
-            fcntl.flock(place, fcntl.LOCK_EX | fcntl.LOCK_NB)
-            path.rmdir()
+    """Removes the kit's cgroups whose processes are no more."""
+    for path in folder.iterdir():
+        match = NAME.fullmatch(path.name)
+        if match and path.name == name_of(*match.groups()):
+            with contextlib.suppress(OSError), holding(path) as place:
+                fcntl.flock(place, fcntl.LOCK_EX | fcntl.LOCK_NB)
+                path.rmdir()
 
 
 def own_folder() -> Optional[Path]:
@@ -115,7 +129,7 @@ class Cgroups:
 
     def __init__(self) -> None:
         self.made: dict[str, Cgroup] = {}
-        self.mark = os.urandom(6).hex()
+        self.number = os.urandom(6).hex()
         self.folder: Optional[Path] = None
 
     def of(self, host: str) -> Optional[Cgroup]:
@@ -127,7 +141,7 @@ class Cgroups:
                     if self.folder is None:
                         return None
                     remove_left(self.folder)
-                self.made[host] = Cgroup(self.folder / f"{NAME}{self.mark}-{host}")
+                self.made[host] = Cgroup(self.folder / name_of(self.number, host))
             except OSError:
                 return None
         return self.made[host]
