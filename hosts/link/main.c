@@ -11,11 +11,13 @@
    call and its reply go to one transcript, which `dummynet audit` judges. It ends by SIGTERM. tools/release/hosts builds it. */
 #define _GNU_SOURCE
 #include <errno.h>
+#include <fcntl.h>
 #include <hingetulip.h>
 #include <signal.h>
 #include <string.h>
 #include <sys/prctl.h>
 #include <sys/signalfd.h>
+#include <unistd.h>
 
 #include "control.h"
 #include "host.h"
@@ -79,6 +81,13 @@ static int *descriptors(int count, char **words) {
     return made;
 }
 
+/* Holds the numbers of closed streams. A file that got one would be read as the plan, or messages would be written into it. */
+static void hold_streams(void) {
+    int file = 0;
+    while (file >= 0 && file <= STDERR_FILENO) file = open("/dev/null", O_WRONLY | O_CLOEXEC);
+    if (file >= 0) close(file);
+}
+
 /* Opens the page and the carrier that the command line names. */
 static void open_carrier(struct host *host, int count, char **words) {
     bool tun = strcmp(words[1], "tun") == 0, udp = count == 6 && strcmp(words[1], "udp") == 0;
@@ -91,6 +100,7 @@ static void open_carrier(struct host *host, int count, char **words) {
 }
 
 int main(int count, char **words) {
+    hold_streams();
     if (count < 4) fail("usage", USAGE);
     struct host host = {0};
     open_carrier(&host, count, words);

@@ -1,6 +1,7 @@
 #define _GNU_SOURCE
 #include "plan.h"
 
+#include <errno.h>
 #include <inttypes.h>
 #include <limits.h>
 #include <sched.h>
@@ -271,6 +272,7 @@ void read_plan(struct host *host) {
         line[strcspn(line, "\n")] = 0;
         if (!read_one(host, line)) refuse(line, "no line of a plan");
     }
+    if (ferror(stdin)) fail("the plan", strerror(errno));
     free(line);
     if (host->page->realtime == HAS_IT && !host->clock.stands) prefer_writer(host->transcript, PRIORITY - 1);
 }

@@ -1,11 +1,13 @@
 """Commands don't depend on inherited settings: under a hostile parent they end with the status and output that they have under a
 usual parent, in time. The hostile one ignores SIGCHLD, SIGPIPE and SIGXFSZ, blocks all signals, takes all rights of new files, has
 closed standard input, and sets the variables of HOSTILE; PYTHONPATH has modules that fail. Under each of SCARCE they end so too, or
-say why not by a status that means no verdict, no defect and no signal.
+say why not by a status that means no verdict, no defect and no signal. So do the hosts in C without a command before them. As another
+user, who may have no second process, commands end as usual, or by a line that says so and a status that means no answer.
 
     python3 tools/gate/inherited.py PROGRAM
 
-Each script of the shell that has `cd` begins with FRONT, and the programs in Python with `inherit_nothing`.
+Each script of the shell that has `cd` begins with FRONT, and the programs in Python with `inherit_nothing`. The first process of a simulated
+machine isn't tried: its parent is the machine's kernel, which passes nothing on to it.
 """
 
 from __future__ import annotations
@@ -14,11 +16,13 @@ import os
 import re
 import resource
 import signal
+import socket
 import subprocess
+from contextlib import ExitStack
 from functools import partial
 from pathlib import Path
 from tempfile import TemporaryDirectory
-from typing import Callable, NamedTuple, Optional
+from typing import Callable, Iterator, NamedTuple, Optional
 
 from tally import TOP, Tally, judge
 
@@ -40,7 +44,9 @@ FILES = {
     "p": PACKETS,
     "n.net": "host a true\nhost b\nlink a b 1ms\n",
     "s.sh": "ipfw pipe 1 config\n",
+    "plan": "line pipe 1 config\nline pipe 2 config\nseed 0 1\nseed 1 1\n",
 }
+PAGE = 1 << 16  # bytes, more than those of a page of counts
 COMMANDS = [
     *([*HINGE, *words] for words in (["help"], ["check", "c", "p"], ["ipfw", "s.sh"], ["why", "1", "c", "p"])),
     *([*HINGE, *words] for words in (["packets", CAPTURE], ["try"], ["net", "n.net", "--dry-run"], ["packets", "missing"])),
@@ -60,6 +66,14 @@ def closed(*streams: int) -> None:
 
 CLOSED = "all streams are closed"
 INSTALL = [str(TOP / "install"), "there"]
+FORKING = [
+    [*HINGE, *words]
+    for words in (["udp", "0", "9"], ["up", "n.net"], ["look", "p", "p"], ["run", "--simulated", "--quiet", "--", "true"])
+]
+# An ordinary user, since nothing bounds root's processes, who may read a clone in root's home.
+AS_ANOTHER = "setpriv --reuid 61234 --regid 61234 --clear-groups --inh-caps +dac_override --ambient-caps +dac_override".split()
+NO_PROCESS = ("it can't begin: Resource", "a process can't begin: Resource", "can't start new thread", "Cannot fork")
+NO_ANSWER = {"hinge": 6, "dummynet": 70}  # as which a command ends that can't begin another; the shell itself ends by 2
 SCARCE: dict[str, Callable[[], None]] = {
     CLOSED: partial(closed, 0, 1, 2),
     "standard input is a folder": partial(os.dup2, os.open("/", os.O_RDONLY), 0),
@@ -92,20 +106,22 @@ def begin_hostile() -> None:
     signal.pthread_sigmask(signal.SIG_BLOCK, signal.valid_signals())
 
 
-def ended(words: list[str], folder: str, program: str, begin: Optional[Callable[[], None]] = None) -> Ended:
+def ended(
+    words: list[str], folder: str, program: str, begin: Optional[Callable[[], None]] = None, given: str = os.devnull
+) -> Ended:
+    """Returns how a command ends, which inherits every descriptor that may be inherited."""
     is_hostile = begin is begin_hostile
     env = {**os.environ, "DUMMYNET": program, **({**HOSTILE, "PYTHONPATH": f"{folder}/shadow"} if is_hostile else {})}
-    begun = subprocess.Popen(
-        words,
-        cwd=folder,
-        env=env,
-        stdin=subprocess.DEVNULL,
-        stdout=subprocess.PIPE,
-        stderr=subprocess.PIPE,
-        text=True,
-        restore_signals=not is_hostile,
-        preexec_fn=begin,
-    )
+    with open(os.path.join(folder, given)) as source:
+        streams = {
+            "stdin": source,
+            "stdout": subprocess.PIPE,
+            "stderr": subprocess.PIPE,
+            "encoding": "utf-8",
+            "errors": "replace",
+            "close_fds": False,
+        }
+        begun = subprocess.Popen(words, cwd=folder, env=env, restore_signals=not is_hostile, preexec_fn=begin, **streams)
     try:
         text, complaints = begun.communicate(timeout=LIMIT)
         return Ended(begun.returncode, re.sub(r"took [\d.]+ s", "", text), complaints)
@@ -122,6 +138,48 @@ def fault_of(name: str, usual: Ended, scarce: Ended) -> str:
         is_silent = scarce.status and not usual.status and not scarce.stdout + scarce.stderr and name != CLOSED
         return f"status {scarce.status} without a word" if is_silent else ""
     return f"status {scarce.status}: {scarce.stderr}"
+
+
+def crowded_fault(words: list[str], usual: Ended, alone: Ended) -> str:
+    """Returns what is wrong with the end of a command that may begin no process, or an empty text."""
+    if alone[:2] == usual[:2]:
+        return ""
+    is_told = alone.stderr.count("\n") == 1 and any(why in alone.stderr for why in NO_PROCESS) and not alone.stdout
+    return "" if is_told and alone.status == NO_ANSWER.get(os.path.basename(words[0]), 2) else f"{alone}, and usually {usual}"
+
+
+def check_crowded(tally: Tally, folder: str, program: str) -> None:
+    begin = partial(resource.setrlimit, resource.RLIMIT_NPROC, (1, 1))
+    another = AS_ANOTHER if os.geteuid() == 0 else []
+    for words in [*COMMANDS, INSTALL, *FORKING]:
+        usual = Ended(0, "", "") if words in FORKING else ended(words, folder, program)
+        fault = crowded_fault(words, usual, ended([*another, *words], folder, program, begin))
+        tally.note(f"{' '.join(words)}, no second process", fault)
+
+
+def hosts(stack: ExitStack, folder: str) -> Iterator[tuple[list[str], str]]:
+    """Yields the hosts in C, each with its input. What hinge-link connects is closed at the other ends, so it ends by itself."""
+    pairs = [socket.socketpair(socket.AF_UNIX, socket.SOCK_SEQPACKET) for _ in range(2)]
+    Path(folder, "page").write_bytes(bytes(PAGE))
+    files = [*(stack.enter_context(end) for end, _ in pairs), stack.enter_context(open(f"{folder}/page", "r+b"))]
+    for _, other in pairs:
+        other.close()
+    for one in files:
+        os.set_inheritable(one.fileno(), True)
+    place = next(TOP / name for name in ("built", "release") if (TOP / name / "hinge-link").exists())
+    yield [str(place / "hinge-link"), *(str(one.fileno()) for one in files)], "plan"
+    yield [str(place / "hinge-packets"), "columns", "packets", PACKETS.split()[0]], "p"
+    yield ["env", f"LD_PRELOAD={place / 'hinge-clock.so'}", "sleep", "0"], os.devnull
+
+
+def check_hosts(tally: Tally, folder: str, program: str) -> None:
+    with ExitStack() as stack:
+        for words, given in hosts(stack, folder):
+            name, usual = os.path.basename(words[-3] if words[0] != "env" else "hinge-clock.so"), ended(
+                words, folder, program, None, given
+            )
+            for scarcity, begin in {"a hostile parent": begin_hostile, **SCARCE}.items():
+                tally.note(f"{name}, {scarcity}", fault_of(scarcity, usual, ended(words, folder, program, begin, given)))
 
 
 def check_scripts(tally: Tally) -> None:
@@ -145,6 +203,8 @@ def main(tally: Tally, program: str) -> None:
                 tally.equal(name, usual[:2], ended(words, folder, program, begin_hostile)[:2])
             for scarcity, begin in SCARCE.items():
                 tally.note(f"{name}, {scarcity}", fault_of(scarcity, usual, ended(words, folder, program, begin)))
+        check_crowded(tally, folder, program)
+        check_hosts(tally, folder, program)
 
 
 if __name__ == "__main__":

@@ -199,8 +199,8 @@ def few_processes(tally: Tally, copy: Copy) -> None:
         words = ["/bin/sh", str(copy.top / "dummynet"), "x"]
         done = subprocess.run(words, cwd="/", env=environment, preexec_fn=begin, capture_output=True, text=True)
         note = copy.top / "built" / ".sources"
-        got = (done.stdout, copy.calls.read_text(), note.read_text() if note.exists() else copy.sources())
-        expected = ("" if done.returncode else "release x\n", "", copy.sources())
+        got = (done.returncode, done.stdout, copy.calls.read_text(), note.read_text() if note.exists() else copy.sources())
+        expected = (*((70, "") if done.returncode else (0, "release x\n")), "", copy.sources())
         tally.equal(f"{most} processes", expected, got)
     tally.equal("enough processes", 0, done.returncode)
 
