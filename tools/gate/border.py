@@ -2,9 +2,10 @@
 
     python3 tools/gate/border.py
 
-A module of the kit that itself opens a file by a name, reads JSON or a socket, or names a standard stream is refused, by whatever name it
-imports that, unless ALLOWED has its reason. So is one that leaves the place of a temporary file to `tempfile` or has it make a folder, and one that takes argparse's
-Namespace, but for commands and the modules that give it options.
+A module of the kit that itself opens a file by a name, reads JSON or a socket, listens, makes, copies or removes a folder, begins a program
+or names a standard stream is refused, by whatever name it imports that, unless ALLOWED has its reason. So is one that imports a module which
+MODULES doesn't list, leaves the place of a temporary file to `tempfile` or has it make a folder, or takes argparse's Namespace, but for
+commands and the modules that give it options.
 PLANTED has a line of each kind, which must be refused, and HARMLESS lines that must not.
 """
 
@@ -22,8 +23,10 @@ OPTIONS = ("options.py", "command_line.py")
 NAMES = (
     *("print", "open", "eval", "exec", "compile", "__import__", "io.open", "io.open_code", "io.FileIO", "codecs.open", "gzip.open"),
     *("os.open", "os.fdopen", "os.popen", "json.load", "json.loads", "json.JSONDecoder", "fileinput.input", "linecache.getlines"),
-    *("sys.stdin", "sys.stdout", "sys.stderr", "sys.__stdin__", "sys.__stdout__", "sys.__stderr__", "np.load", "np.fromfile"),
-    *("np.loadtxt", "np.genfromtxt", "tempfile.gettempdir", "tempfile.gettempdirb", "tempfile.mktemp"),
+    *("sys.stdin", "sys.stdout", "sys.stderr", "sys.__stdin__", "sys.__stdout__", "sys.__stderr__", "np.load", "numpy.load"),
+    *("tempfile.gettempdir", "tempfile.gettempdirb", "tempfile.mktemp", "sys.modules", "importlib.import_module", "__builtins__"),
+    *("mmap.mmap", "gzip.GzipFile", "shutil.copyfile", "shutil.copyfileobj", "shutil.copy", "shutil.copy2", "shutil.copytree"),
+    *("shutil.move", "shutil.rmtree", "shutil.unpack_archive", "ctypes.CDLL", "ctypes.PyDLL", "ctypes.cdll", "ctypes.pythonapi"),
     *("subprocess", "multiprocessing", "concurrent.futures.ProcessPoolExecutor", "pty.spawn", "os.system", "os.posix_spawn"),
     *("os.posix_spawnp", "os.fork", "os.forkpty"),
     *(f"os.{kind}{end}" for kind in ("exec", "spawn") for end in ("l", "le", "lp", "lpe", "v", "ve", "vp", "vpe")),
@@ -33,45 +36,60 @@ TEMPORARY = ("TemporaryFile", "NamedTemporaryFile", "SpooledTemporaryFile", "Tem
 ABOUT_STREAMS = ("flush", "isatty", "encoding", "fileno")  # which write nothing
 METHODS = (
     *("open", "read_text", "read_bytes", "write_text", "write_bytes", "recv", "recv_into", "recvmsg", "recvmsg_into", "recvfrom"),
-    *("recvfrom_into", "recv_fds", "accept", "makefile"),
+    *("recvfrom_into", "recv_fds", "accept", "makefile", "mkdir", "makedirs", "listen", "create_server", "start_server"),
+    *(
+        "start_unix_server",
+        "create_subprocess_exec",
+        "create_subprocess_shell",
+        "fromfile",
+        "memmap",
+        "loadtxt",
+        "genfromtxt",
+        "imread",
+    ),
 )
+MODULES = {  # that reach no file, program or socket but by the names above
+    *"__future__ _pytest _signal abc argparse array asyncio binascii bisect collections concurrent contextlib csv ctypes".split(),
+    *"dataclasses datetime decimal difflib enum errno fcntl fractions functools gc grp hashlib heapq base64 hinge hingetulip".split(),
+    *"hingetulip_words html hypothesis importlib inspect io ipaddress itertools json math matplotlib mmap numpy operator os".split(),
+    *"pathlib pwd pytest queue random re resource select shlex shutil signal socket stat string struct sys tempfile textwrap".split(),
+    *"threading time traceback types typing unittest warnings weakref gzip pydoc logging".split(),
+}
 CALLED = ("input",)  # which is a name of parameters, too
 PLANTED = {
-    "import io\nio.open('x')": "io.open",
     "from io import open as other\nother('x')": "io.open",
-    "import builtins\nbuiltins.print('x')": "print",
     "print('x')": "print",
-    "show = print": "print",
     "open('x')": "open",
     "input()": "input",
     "import os\nos.open('x', os.O_RDONLY)": "os.open",
     "from os import fdopen": "os.fdopen",
     "from pathlib import Path\nPath('x').open()": "open",
     "from pathlib import Path\nlist(map(Path.read_text, []))": "read_text",
-    "from pathlib import Path\nPath('x').read_bytes()": "read_bytes",
-    "from pathlib import Path\nPath('x').write_text('')": "write_text",
-    "from pathlib import Path\nPath('x').write_bytes(b'')": "write_bytes",
     "import json\njson.loads('1')": "json.loads",
     "import json as other\nother.load(file)": "json.load",
     "from json import *": "json.*",
     "line.recv(1)": "recv",
-    "line.recv_into(data)": "recv_into",
-    "line.recvmsg(1)": "recvmsg",
-    "line.recvfrom(1)": "recvfrom",
     "import socket\nsocket.recv_fds(line, 1, 1)": "recv_fds",
-    "import sys\nout = sys.stdout": "sys.stdout",
     "import sys\nsys.stderr.write('x')": "sys.stderr.write",
     "from sys import stdin\nstdin.read()": "sys.stdin.read",
     "from tempfile import gettempdir": "tempfile.gettempdir",
     "import subprocess\nsubprocess.run(['x'])": "subprocess.run",
     "import subprocess as other\nother.Popen(['x'])": "subprocess.Popen",
-    "from subprocess import check_output": "subprocess.check_output",
-    "from os import system": "os.system",
     "import os\nos.spawnvp(os.P_WAIT, 'x', [])": "os.spawnvp",
     "import os\nos.fork()": "os.fork",
-    "from multiprocessing import Process": "multiprocessing.Process",
-    "import multiprocessing as other\nother.Pool()": "multiprocessing.Pool",
     "from concurrent.futures import ProcessPoolExecutor": "concurrent.futures.ProcessPoolExecutor",
+    "import socketserver": "import of socketserver",
+    "from zipfile import ZipFile as other": "import of zipfile",
+    "import importlib\nimportlib.import_module('pty').fork()": "importlib.import_module",
+    "import sys\nsys.modules['subprocess'].run(['x'])": "sys.modules",
+    "import ctypes\nctypes.CDLL(None).fork()": "ctypes.CDLL",
+    "import mmap\nmmap.mmap(3, 0)": "mmap.mmap",
+    "import shutil\nshutil.copyfile('x', 'y')": "shutil.copyfile",
+    "from shutil import rmtree": "shutil.rmtree",
+    "import os\nos.makedirs('.hinge-x')": "makedirs",
+    "from pathlib import Path\nPath('x').mkdir()": "mkdir",
+    "getattr(place, 'read_text')()": "read_text",
+    "line.listen()": "listen",
     "import tempfile\ntempfile.mkdtemp(prefix='x', dir='y')": "tempfile.mkdtemp",
     "from tempfile import TemporaryDirectory as other\nother(dir='y')": "tempfile.TemporaryDirectory",
     "from tempfile import TemporaryFile as other\nother()": "tempfile.TemporaryFile",
@@ -96,35 +114,64 @@ HARMLESS = (
     "def run(input): return input\ntempfile.TemporaryFile(dir='x')"
 )
 OWN, OUTPUT, SYSTEM, HOST = "a file of its own", "within `written`", "the system's own", "the host's own line"
+NAMED, PAGES, LOADED = (
+    "a folder that the user names",
+    "a file that the border has opened",
+    "a module of the kit or of what it needs",
+)
 ALLOWED = {
-    "command.py": {"open": "a standard stream that was closed"},
+    "testing/table.py": {"sys.modules.get": "whether a module was loaded"},
+    "simulated/room.py": {"mmap.mmap": OWN},
+    "run/page.py": {"mmap.mmap": OWN},
+    "run/names.py": {"makedirs": "of names, whose owner it looks at"},
+    "net/begun.py": {"makedirs": NAMED, "shutil.copyfile": NAMED},
+    "lazy.py": {"importlib.import_module": LOADED},
+    "commands/up.py": {"mkdir": NAMED},
+    "commands/try.py": {"shutil.copyfile": OWN},
+    "captures/capture_reader.py": {"mmap.mmap": PAGES},
+    "captures/capture_file.py": {"mmap.mmap": PAGES},
+    "__main__.py": {"importlib.import_module": LOADED},
+    "command.py": {"importlib.import_module": LOADED, "open": "a standard stream that was closed"},
     "version.py": {"open": OWN},
     "captures/addresses.py": {"write_text": OUTPUT},
     "captures/far_end.py": {"open": OUTPUT},
-    "run/ports.py": {"recvmsg": "sockets of the kit's own doors"},
+    "run/ports.py": {
+        "start_server": "the kit's own doors",
+        "listen": "the kit's own doors",
+        "recvmsg": "the kit's own doors",
+    },
     "commands/docs.py": {"read_text": "the kit's own pages"},
     "searches/losses.py": {"open": OWN},
-    "searches/runs.py": {"read_text": OWN},
+    "searches/runs.py": {"mkdir": NAMED, "read_text": OWN},
     "captures/through.py": {"open": OUTPUT},
-    "net/described.py": {"write_text": OWN},
+    "net/described.py": {"mkdir": NAMED, "write_text": OWN},
     "net/disks.py": {"os.open": "the root and the mounts of this process"},
-    "net/running.py": {"write_text": OWN},
+    "net/running.py": {"mkdir": NAMED, "write_text": OWN},
     "pictures/html_page.py": {"read_text": OWN, "write_text": OUTPUT},
-    "run/cgroups.py": {"os.open": SYSTEM},
+    "run/cgroups.py": {"mkdir": SYSTEM, "os.open": SYSTEM},
     "run/interfaces.py": {"os.open": "the system's /dev/net/tun"},
     "run/host.py": {"os.fdopen": OWN},
     "run/host_lines.py": {"recv": HOST},
     "run/rtnetlink.py": {"recv": "the kernel's answer"},
-    "run/system.py": {"open": SYSTEM},
-    "simulated/build.py": {"read_text": OWN, "write_text": OWN, "open": OWN},
+    "run/system.py": {"ctypes.CDLL": "calls of the system that Python lacks", "open": SYSTEM},
+    "simulated/build.py": {
+        "shutil.copyfile": OWN,
+        "mkdir": OWN,
+        "shutil.rmtree": "an old kernel of its own",
+        "read_text": OWN,
+        "write_text": OWN,
+        "open": OWN,
+    },
     "simulated/calls_kept.py": {"read_text": OWN},
     "simulated/failures.py": {"open": "a file of its own, which is none that is there"},
-    "simulated/in_machine.py": {"json.loads": "the launcher's own words"},
+    "simulated/in_machine.py": {"importlib.import_module": LOADED, "json.loads": "the launcher's own words"},
     "simulated/job.py": {"read_bytes": OWN},
     "simulated/kernel.py": {"read_text": OWN, "read_bytes": OWN},
     "simulated/link_rooms.py": {"read_text": OWN, "read_bytes": OWN},
-    "simulated/machine.py": {"read_text": OWN, "write_bytes": OWN, "open": OWN},
+    "simulated/machine.py": {"shutil.copy": OWN, "shutil.copyfile": OWN, "read_text": OWN, "write_bytes": OWN, "open": OWN},
     "simulated/one_test.py": {
+        "mkdir": OWN,
+        "shutil.rmtree": "of the test that passed, which has no files",
         "tempfile.mkdtemp": "of the test that failed, which stays",
         "read_text": OWN,
         "open": OWN,
@@ -133,9 +180,9 @@ ALLOWED = {
     "simulated/opened_files.py": {"read_bytes": OWN, "open": "a file that a run has read, whose checksum alone is kept"},
     "simulated/own_random.py": {"open": "a program that a run has read, of which one instruction is looked for"},
     "simulated/pauses.py": {"read_text": OWN},
-    "simulated/start.py": {"read_text": OWN, "json.loads": OWN},
+    "simulated/start.py": {"shutil.copyfile": OUTPUT, "read_text": OWN, "json.loads": OWN},
     "simulated/stood.py": {"read_bytes": OWN, "write_bytes": OWN},
-    "simulated/streams.py": {"open": OWN, "os.open": OWN},
+    "simulated/streams.py": {"shutil.copyfileobj": PAGES, "open": OWN, "os.open": OWN},
     "simulated/twice.py": {"open": OWN},
     "simulated/verdict.py": {"read_text": OWN},
     "testing/emulated.py": {"open": "the history of a test", "write_text": OWN},
@@ -168,6 +215,15 @@ def imports(tree: ast.AST) -> Iterator[tuple[int, str, str]]:
             yield from ((node.lineno, one.asname or one.name, f"{node.module}.{one.name}") for one in node.names)
 
 
+def modules(tree: ast.AST) -> Iterator[tuple[int, str]]:
+    """Yields the line and the module of each import, but for relative ones."""
+    for node in ast.walk(tree):
+        if isinstance(node, ast.Import):
+            yield from ((node.lineno, one.name) for one in node.names)
+        elif isinstance(node, ast.ImportFrom) and node.module and not node.level:
+            yield node.lineno, node.module
+
+
 def is_refused(name: str) -> bool:
     """Returns whether a Python name crosses the border."""
     for one in NAMES:
@@ -192,10 +248,13 @@ def crossings(tree: ast.AST) -> Iterator[tuple[int, str]]:
     """Yields the places at which a module crosses the border itself, with the names."""
     origins = {name: whole for _, name, whole in imports(tree)}
     yield from ((line, whole) for line, _, whole in imports(tree) if is_refused(whole))
+    yield from ((line, f"import of {name}") for line, name in modules(tree) if name.partition(".")[0] not in MODULES)
     inner = {id(node.value) for node in ast.walk(tree) if isinstance(node, ast.Attribute)}
     for node in ast.walk(tree):
         if isinstance(node, ast.Call) and is_crossing(node, origin(node.func, origins)):
             yield node.lineno, origin(node.func, origins)
+        elif isinstance(node, ast.Call) and dotted(node.func) == "getattr" and getattr(node.args[1], "value", "") in METHODS:
+            yield node.lineno, ast.literal_eval(node.args[1])
         elif isinstance(node, (ast.Name, ast.Attribute)) and id(node) not in inner:
             name = origin(node, origins)
             if is_refused(name):

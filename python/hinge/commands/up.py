@@ -4,7 +4,6 @@ from __future__ import annotations
 
 import argparse
 import os
-import shutil
 import time
 from pathlib import Path
 
@@ -85,7 +84,8 @@ def main() -> None:
                     process.terminate()
                     process.wait()
                 if is_new and [*folder.iterdir()] == [log]:
-                    shutil.rmtree(folder)
+                    log.unlink()
+                    folder.rmdir()
             raise
     show(
         "".join(f"{line}\n" for line in silent)
