@@ -138,7 +138,7 @@ def addresses(data: bytes, rng: random.Random) -> None:
     if rng.random() < 0.05:
         called("look", "p", "r")
     else:
-        planned(Plan(), lambda: read_addresses("p"))
+        planned(Plan(), lambda: read_addresses("p", set))
 
 
 def histories(data: bytes, rng: random.Random) -> None:

@@ -5,6 +5,7 @@ from __future__ import annotations
 import csv
 import ipaddress
 from pathlib import Path
+from typing import Callable, Container
 
 from hinge.border.files import read_front, lines_in, untrusted
 from hinge.command import FILES, ROWS, Fault
@@ -56,12 +57,13 @@ def address_of_six(text: str) -> str:
     return str(ipaddress.IPv6Address(text))
 
 
-def read_addresses(packets: str) -> dict[str, str]:
-    """Returns the IPv6 address for each stand-in; an empty dict without a file. Fault: a line is malformed."""
+def read_addresses(packets: str, used: Callable[[], Container[str]]) -> dict[str, str]:
+    """Returns the IPv6 address for each stand-in that is used, so that no other takes memory; an empty dict without a file.
+    Fault: a line is malformed."""
     path = addresses_file(packets)
     if not path.is_file():
         return {}
-    table: dict[str, str] = {}
+    table, wanted = dict[str, str](), used()
     with untrusted(path):
         rows = csv.reader(lines_in(path, errors="replace", said=None))
         if next(rows, []) != NAMES:
@@ -69,7 +71,9 @@ def read_addresses(packets: str) -> dict[str, str]:
         for row in rows:
             if len(row) != len(NAMES):
                 raise Fault(f"{path}: {FORM}", ROWS)
-            table[row[0]] = checked_address(path, row[1])
+            address = checked_address(path, row[1])
+            if row[0] in wanted:
+                table[row[0]] = address
     return table
 
 

@@ -5,7 +5,7 @@ from __future__ import annotations
 from typing import Optional, Sequence
 
 from hinge.border.files import untrusted
-from hinge.captures.addresses import addresses_file, read_addresses
+from hinge.captures.addresses import addresses_file
 from hinge.checks.lines import judged_lines
 from hinge.command import ROWS, USAGE, Fault, say
 from hinge.outputs import refuse_inputs
@@ -33,7 +33,7 @@ def read_history(path: str) -> Source:
     with untrusted(path):
         history = read_told(path, "history", HISTORY_COLUMNS)
         columns = history.rows.columns
-        packets = packets_of(path, history.rows, columns["at"], {**read_addresses(path), **addresses_in(history.remarks)})
+        packets = packets_of(path, history.rows, columns["at"], addresses_in(history.remarks))
         changes = spelled_by_program(path, history.changes)
         is_steady = history.first < 0 or all(place < history.first for place, _, _ in changes)
         cut = None if history.is_whole else history.last_line

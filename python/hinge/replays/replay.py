@@ -7,7 +7,7 @@ from __future__ import annotations
 
 from dataclasses import dataclass
 from functools import cached_property
-from typing import Sequence
+from typing import Mapping, Sequence
 
 from hinge.captures.addresses import read_addresses
 from hinge.command import ROWS, Fault
@@ -80,9 +80,15 @@ def dotted(address: int) -> str:
     return ".".join(str(address >> shift & 255) for shift in (24, 16, 8, 0))
 
 
-def packets_of(path: str, rows: Rows, moment: Integers, addresses: dict[str, str]) -> Packets:
-    """Rows with these moments, and with these IPv6 addresses."""
+def packets_of(path: str, rows: Rows, moment: Integers, remarked: Mapping[str, str]) -> Packets:
+    """Rows with these moments, and with the IPv6 addresses of remarks and of the file beside them."""
     columns, five = rows.columns, rows.tuples
+
+    def used() -> set[str]:
+        both = set(five.words[::2])
+        return {dotted(address) for word in both for address in (word >> 32 & 0xFFFFFFFF, word & 0xFFFFFFFF)}
+
+    addresses = {**read_addresses(path, used), **remarked}
 
     def named(place: int) -> tuple[str, str, int, int, int]:
         src, dst, *more = five.numbers(place)
@@ -94,7 +100,7 @@ def packets_of(path: str, rows: Rows, moment: Integers, addresses: dict[str, str
 
 def read_packets(path: str) -> Packets:
     rows = read_rows(path)
-    return packets_of(path, rows, rows.columns["moment"], read_addresses(path))
+    return packets_of(path, rows, rows.columns["moment"], {})
 
 
 def read_report(path: str, packets: Packets) -> Replay:

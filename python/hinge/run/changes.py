@@ -3,12 +3,14 @@
 from __future__ import annotations
 
 from bisect import bisect_right
+from heapq import merge
+from itertools import chain
 from operator import itemgetter
 from typing import Iterable, Iterator, NamedTuple, Sequence, Union
 
 from hinge.arguments import is_number
-from hinge.run.traces import outage_rate
-from hinge.run.words import LAST_MOMENT, Target, Wrong, configures, target_of, with_bandwidth
+from hinge.run.traces import Rates, outage_rate
+from hinge.run.words import LAST_MOMENT, Target, Wrong, around_bandwidth, configures, target_of, with_bandwidth
 
 
 class Change(NamedTuple):
@@ -36,6 +38,18 @@ class Outage(NamedTuple):
 Happening = Union[Change, Outage]
 
 
+class Bandwidths(NamedTuple):
+    """The changes of a pipe's bandwidth by a trace, with the pipe's line; each is made when it is read."""
+
+    text: str
+    rates: Rates
+
+    def changes(self) -> Iterator[Change]:
+        front, back = around_bandwidth(self.text)
+        for moment, rate in self.rates:
+            yield Change(moment, f"{front} bw {rate}bit/s{back}")
+
+
 class Changes:
     """All changes of a run, each kind in the order of the command line."""
 
@@ -44,6 +58,7 @@ class Changes:
         number of the first cut; a number must be unique within a run."""
         self.begun, self.longest, self.latest = table, longest, first - 1
         self.lines: list[Change] = []
+        self.traces: list[tuple[int, Bandwidths]] = []  # each behind so many lines
         self.outages: list[Outage] = []
 
     def add(self, happenings: Iterable[Happening]) -> None:
@@ -52,6 +67,19 @@ class Changes:
                 self.outages.append(one)
             else:
                 self.lines.append(one)
+
+    def in_order(self) -> Iterator[Iterable[Change]]:
+        """Yields the lines before each trace, and its changes."""
+        begin = 0
+        for end, trace in self.traces:
+            yield self.lines[begin:end]
+            yield trace.changes()
+            begin = end
+        yield self.lines[begin:]
+
+    def every(self) -> Iterator[Change]:
+        """Yields all changes but outages, as the command line has them."""
+        return chain.from_iterable(self.in_order())
 
     def cut(self, moment: int, length: int, pipe: int, port: str) -> list[Change]:
         """Returns a cut's lines, for a port if `port` names one. The host counts cuts: a pipe opens when its last cut ends."""
@@ -63,12 +91,12 @@ class Changes:
         """Returns a pipe's lines, sorted by moment, without its outages. The first line applies from the start."""
         target = Target("pipe", pipe)
         first = [Change(0, self.begun[target])] if target in self.begun else []
-        return first + sorted((one for one in self.lines if target_of(one.line) == target), key=lambda one: one.moment)
+        return first + sorted((one for one in self.every() if target_of(one.line) == target), key=lambda one: one.moment)
 
     def shared(self) -> set[int]:
         """Returns the pipes with queues or masks. Their packets may start in a different order than they arrived."""
         members = set()
-        for line in [*self.begun.values(), *(change.line for change in self.lines)]:
+        for line in [*self.begun.values(), *(change.line for change in self.lines), *(trace.text for _, trace in self.traces)]:
             if "mask" not in line and "queue" not in line[: len("ipfw queue")]:
                 continue
             words, target = line.split(), target_of(line)
@@ -83,13 +111,12 @@ class Changes:
         """Returns the outages of pipes with a single queue, as pipe, start and end. Overlapping outages are merged."""
         items: list[tuple[int, int, int]] = []
         common = self.shared() if self.outages else ()
-        for pipe, begin, end in sorted(
-            (one.pipe, one.moment, one.moment + one.length) for one in self.outages if one.pipe not in common
-        ):
+        for hold in sorted((one.pipe, one.moment, one.moment + one.length) for one in self.outages if one.pipe not in common):
+            pipe, begin, end = hold
             if items and items[-1][0] == pipe and begin <= items[-1][2]:
                 items[-1] = (pipe, items[-1][1], max(end, items[-1][2]))
             else:
-                items.append((pipe, begin, end))
+                items.append(hold)
         return items
 
     def of_outage(self, outage: Outage, lines: list[Change], moments: list[int]) -> list[Change]:
@@ -105,8 +132,9 @@ class Changes:
         if not self.outages:
             return
         common = self.shared()
+        texts = {one.pipe: f"outage {one.pipe} {self.longest}" for one in self.outages}
         for pipe, begin, _ in self.holds():
-            yield Change(begin, f"outage {pipe} {self.longest}")
+            yield Change(begin, texts[pipe])
         for pipe in sorted({outage.pipe for outage in self.outages} & common):
             lines = self.lines_of(pipe)
             moments = [line.moment for line in lines]
@@ -114,6 +142,8 @@ class Changes:
                 if outage.pipe == pipe:
                     yield from self.of_outage(outage, lines, moments)
 
-    def all(self) -> list[Change]:
+    def all(self) -> Iterable[Change]:
         """Returns all changes, sorted by moment. At the same moment, an outage comes after other changes."""
-        return sorted([*self.lines, *self.of_outages()], key=itemgetter(0))
+        by_moment = itemgetter(0)
+        parts = (sorted(part, key=by_moment) if isinstance(part, list) else part for part in self.in_order())
+        return merge(*parts, sorted(self.of_outages(), key=by_moment), key=by_moment)

@@ -43,8 +43,10 @@ def program() -> str:
 def plan_file(text: str) -> int:
     """Returns a descriptor for reading the plan."""
     descriptor = os.memfd_create("plan")
-    with os.fdopen(os.dup(descriptor), "wb") as file:
-        file.write(os.fsencode(text))  # which may name files of any bytes
+    with os.fdopen(
+        os.dup(descriptor), "w", encoding="utf-8", errors="surrogateescape"
+    ) as file:  # which may name files of any bytes
+        file.write(text)
     os.lseek(descriptor, 0, os.SEEK_SET)
     return descriptor
 

@@ -12,13 +12,15 @@ import os
 import re
 import shlex
 from contextlib import contextmanager
+from io import StringIO
+from itertools import chain
 from typing import TYPE_CHECKING, Iterable, Iterator, Optional, Sequence
 
 from hinge.arguments import is_number
 from hinge.border.files import untrusted
-from hinge.run.changes import Change, Changes, Happening, Outage, refuse_second
+from hinge.run.changes import Bandwidths, Change, Changes, Happening, Outage, refuse_second
 from hinge.run.options import MOST
-from hinge.run.traces import MAHIMAHI_BYTES, MOST_BINS, MS, Moments, Rate, counted, read_trace, spelled
+from hinge.run.traces import MAHIMAHI_BYTES, MOST_BINS, MS, Moments, Rates, counted, read_trace, spelled
 from hinge.run.verdict import Awaited
 from hinge.run.words import (
     LAST_MOMENT,
@@ -62,7 +64,7 @@ class Plan:
     def __init__(self, longest: int = MAHIMAHI_BYTES, links: int = 1) -> None:
         """Creates a plan for `links` links, with packets of at most `longest` bytes."""
         self.ways = 2 * links
-        self.asked: list[str] = []  # remarks: the words of the command line and of its files, by which `hinge look` judges a run
+        self.asked = StringIO()  # remarks: the words of the command line and of its files, by which `hinge look` judges a run
         self.is_noted = False
         self.moments: list[tuple[int, str]] = []  # ns, and the line that says what is to happen then
         self.chosen: list[tuple[int, int]] = []  # packets, each with its way before it; of a range the first
@@ -150,7 +152,7 @@ class Plan:
 
     def note(self, option: str, number: int, line: str) -> None:
         text = bare(line) if self.is_noted else ""
-        self.asked += [f"asked,{option},{number},{text}"] * bool(text)
+        self.asked.write(f"remark asked,{option},{number},{text}\n" * bool(text))
 
     def faults(self, path: str, names: Iterable[str], is_net: bool = False) -> None:
         """Adds the faults in a file, which then decide all losses. `names` are the names of the ways. Wrong: a line is no fault
@@ -379,7 +381,7 @@ class Plan:
             raise Wrong(f"{path}: pipe {way + 1} isn't configured")
         result = read_trace(path, lambda lines: self.noted(f"--{'down' if way else 'up'}-trace", lines))
         self.has_moments |= bool(result.moments)
-        self.moments.append((result.moments[0] * MS if result.moments else result.rates[0].moment, f"the first row of {path}"))
+        self.moments.append((result.moments[0] * MS if result.moments else result.rates.moments[0], f"the first row of {path}"))
         if result.moments and bin_ns is None and way + 1 not in self.changes.shared():
             self.rest.append(f"slots {way + 1} {spelled(result.moments)}")
         elif result.moments:
@@ -398,26 +400,35 @@ class Plan:
         for base in range(0, lasting, period) if len(rates) > 1 else [0]:
             self.changes.lines += [Change(base + moment, with_bandwidth(line, rate)) for moment, rate in rates]
 
-    def rates(self, way: int, line: str, rates: list[Rate]) -> None:
+    def rates(self, way: int, line: str, rates: Rates) -> None:
         """Adds the rates to a way. A rate of 0 is an outage until the next rate."""
-        for (moment, rate), end in zip(rates, [*(following.moment for following in rates[1:]), LAST_MOMENT]):
-            if rate:
-                self.changes.lines.append(Change(moment, with_bandwidth(line, rate)))
-            elif end > moment:
+        for (moment, rate), end in zip(rates, chain(rates.moments[1:], [LAST_MOMENT])):
+            if not rate and end > moment:
                 self.changes.outages.append(Outage(moment, end - moment, way + 1))
+        changing = Rates(one for one in rates if one.rate) if 0 in rates.rates else rates
+        self.changes.traces.append((len(self.changes.lines), Bandwidths(line, changing)))
 
     def change_line(self, moment: int, line: str) -> str:
         return f"outage {moment} {line.partition(' ')[2]}" if line.startswith("outage ") else f"at {moment} {self.lossy(line)}"
+
+    def lines(self, seed: int) -> Iterator[str]:
+        """Yields the lines behind the remarks one by one, since traces make many."""
+        yield from self.rest
+        yield from self.extra_lines(seed)
+        of_bases = ("", self.changes), ("main ", self.behind_main)
+        yield from (f"{base}hold {pipe} {begin} {end}" for base, changes in of_bases for pipe, begin, end in changes.holds())
+        yield from (f"line {self.lossy(line)}" for line in self.configured)
+        yield from (base + self.change_line(*change) for base, changes in of_bases for change in changes.all())
 
     @uncollected()
     def text(
         self, seed: int, transcript: Optional[str] = None, realtime: bool = False, most: int = MOST, in_simulated_time: bool = False
     ) -> str:
-        out = [f"transcript {most} {transcript}"] if transcript else []
-        out += [f"seed {way} {seed}" for way in range(self.ways)] + [f"remark {text}" for text in self.asked]
-        out += self.rest + self.extra_lines(seed)
-        of_bases = ("", self.changes), ("main ", self.behind_main)
-        out += [f"{base}hold {pipe} {begin} {end}" for base, changes in of_bases for pipe, begin, end in changes.holds()]
-        out += [f"line {self.lossy(line)}" for line in self.configured]
-        out += [base + self.change_line(*change) for base, changes in of_bases for change in changes.all()]
-        return "\n".join([*out, *["realtime"] * realtime, *["simulated"] * in_simulated_time, ""])
+        front = [f"transcript {most} {transcript}"] if transcript else []
+        front += [f"seed {way} {seed}" for way in range(self.ways)]
+        text = StringIO()
+        text.writelines(f"{line}\n" for line in front)
+        text.write(self.asked.getvalue())
+        text.writelines(f"{line}\n" for line in self.lines(seed))
+        text.write("realtime\n" * realtime + "simulated\n" * in_simulated_time)
+        return text.getvalue()

@@ -146,5 +146,5 @@ def drawn_seed(seed_of_user: Optional[int]) -> int:
 
 def draws(plan: Plan) -> bool:
     """Returns whether the run depends on the seed."""
-    lines = [*plan.configured, *(change.line for change in plan.changes.lines)]
+    lines = chain(plan.configured, (change.line for change in plan.changes.every()))
     return bool(plan.decided or plan.extras) or any("plr" in line for line in lines)

@@ -56,6 +56,9 @@ TEXTS = {
     "commas": b"," * SIZE,
     "doubled variables": b"A=xxxxxxxx\n" + b"A=$A$A\n" * 60 + b"ipfw pipe 1 config bw $A\n",
     "variables without an end": b"ipfw pipe 1 config bw " + b"${a-" * 250_000,
+    "rates of a trace": b"".join(b"%d,%d\n" % (n, 1000 + n) for n in range(LINES)),
+    "milliseconds of a trace": b"".join(b"%d\n" % n for n in range(LINES)),
+    "addresses without packets": b"stand-in,address\n" + b"".join(b"%x,::\n" % n for n in range(LINES)),
 }
 OF_TWO = "host a\nhost b\nlink a b 1Mbit/s\n"
 SAYING = {  # a command, and what its text begins with and says again and again

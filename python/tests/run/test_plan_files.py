@@ -5,7 +5,7 @@ from __future__ import annotations
 import time
 
 from hinge.run.plan import Plan
-from hinge.run.traces import Rate, Trace, outage_rate, read_trace
+from hinge.run.traces import Rate, outage_rate, read_trace
 from hinge.run.words import Wrong, of_link
 from plan_files import OfFiles
 
@@ -13,11 +13,11 @@ BIN = 100_000_000  # ns
 
 
 class Traces(OfFiles):
-    def rates(self, data: "str | bytes") -> Trace:
-        return read_trace(self.file(data), iter)
+    def rates(self, data: "str | bytes") -> list[Rate]:
+        return [*read_trace(self.file(data), iter).rates]
 
     def test_seconds_with_and_without_a_header(self) -> None:
-        found = Trace([Rate(0, 100), Rate(1_500_000_000, 200)], [])
+        found = [Rate(0, 100), Rate(1_500_000_000, 200)]
         for text in (
             "seconds,bit/s\n0,100\n1.5,200\n",
             "0,100\n1.5,200\n",
