@@ -183,6 +183,11 @@ class Tuples:
         addresses, ports = self.words[2 * place] & (1 << 64) - 1, self.words[2 * place + 1]
         return addresses >> 32, addresses & 0xFFFFFFFF, ports >> 48, ports >> 32 & 0xFFFF, ports >> 16 & 0xFFFF
 
+    def number_of(self, addresses: int, ports: int) -> int:
+        """Returns the number of the five-tuple with these words, or -1."""
+        places = np.flatnonzero((np.array(self.words[::2]) == addresses) & (np.array(self.words[1::2]) == ports))
+        return int(places[0]) if len(places) else -1
+
     def columns(self) -> list[Integers]:
         """Returns the addresses, protocols and ports of all flows."""
         addresses, ports = (np.array(self.words[place::2], "i8") for place in (0, 1))

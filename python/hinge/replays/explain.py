@@ -14,13 +14,14 @@ from hinge.loss import KEPT, LOST as LOST_WORD
 from hinge.replays.columns import GREATEST
 from hinge.replays.link_order import LinkOrder, WaitedFor
 from hinge.replays.links import BITS_NS, UNKNOWN, Parts, Spell, bandwidth_of, delay_of
-from hinge.replays.replay import FULL, HELD, LOST, NONE, OF_NOBODY, OUT
+from hinge.replays.replay import FULL, HELD, LOST, NONE, OUT
 from hinge.replays.units import ms, packets, rows, seconds
 
 LAST_MOMENT = 2**62  # at which a replay takes what has left
 LOSS_PARTS = 2**31
 LOW_31_BITS = LOSS_PARTS - 1
 BYTES_PER_KBYTE = 1024
+WORDS_OF_NOBODY = 0, 255 << 48  # the words of the five-tuple by which a host keeps a link busy in an outage
 
 
 @dataclass
@@ -89,8 +90,7 @@ class Explainer:
     @cached_property
     def of_nobody(self) -> int:
         """Returns the number of the five-tuple for packets without a sender."""
-        tuples = self.packets.tuples if self.is_history else ()
-        return next((number for number, one in enumerate(tuples) if tuple(one) == OF_NOBODY), UNKNOWN)
+        return self.packets.words.number_of(*WORDS_OF_NOBODY) if self.is_history and self.packets.words else UNKNOWN
 
     @cached_property
     def of_outages(self) -> set[int]:
@@ -215,7 +215,7 @@ class Explainer:
             whose = f"of {self.flow_name(int(places[0]))}"
         later = int(np.count_nonzero(places > place))
         which = "" if later == 0 else ", which came after it" if later == len(places) else f", {later:,} of which came after it"
-        return f"{ms(cost)} for {packets(len(places))} {whose}{which}: {rows(places + 1)}"
+        return f"{ms(cost)} for {packets(len(places))} {whose}{which}: {rows((places + 1).tolist())}"
 
     # ---- packets that didn't ----
 
@@ -248,7 +248,7 @@ class Explainer:
             raise self.parts.another(f"row {place + 1} would have found room")
         why = f"The queue of its flow {self.replay.flow[place]} was full, so it was dropped"
         unsure = "at most " * bool(self.parts.is_shared[place] and (self.replay.event[backlog] == HELD).any())
-        backlog_text = f"{unsure}{packets(len(backlog))} waited there ({rows(backlog + 1)}), {total:,} bytes in all, {options}"
+        backlog_text = f"{unsure}{packets(len(backlog))} waited there ({rows((backlog + 1).tolist())}), {total:,} bytes in all, {options}"
         return f"{why}: {backlog_text}. {self.room_again(place, int(backlog[leaver]))}"
 
     def room_again(self, place: int, leaver: int) -> str:

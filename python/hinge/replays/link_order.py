@@ -45,6 +45,12 @@ class Accepted:
     starts: Integers
     gone: Integers
 
+    @cached_property
+    def latest(self) -> Integers:
+        """Returns the greatest start up to each packet."""
+        latest: Integers = np.maximum.accumulate(self.starts)
+        return latest
+
 
 class Times(NamedTuple):
     """When a packet's transmission starts, in ns, and how long it and the delay are."""
@@ -114,10 +120,10 @@ class LinkOrder:
             replay, parts = self.parts.replay, self.parts
             places = np.flatnonzero((replay.is_out | (replay.event == HELD)) & (replay.flow == flow))
             starts, gone, free = replay.start[places], np.full(len(places), GREATEST), 0
-            for number, place in enumerate(places.tolist()):
-                if replay.is_out[place]:
-                    free = int(replay.start[place] + parts.transmission[place])
-                    continue
+            for number in np.flatnonzero(replay.event[places] == HELD).tolist():
+                place, before = int(places[number]), int(places[number - 1]) if number else None
+                if before is not None and replay.is_out[before]:
+                    free = int(replay.start[before] + parts.transmission[before])
                 record, moment = self.deleted(place)
                 one = self.times_of_held(place, GREATEST if parts.is_shared[place] else free)
                 is_gone = one.start > moment
@@ -129,8 +135,11 @@ class LinkOrder:
     def backlog(self, place: int) -> Integers:
         """Returns the places of the packets in the flow's queue when a row arrived."""
         replay, queue = self.parts.replay, self.accepted_of(int(self.parts.replay.flow[place]))
-        waited = (queue.starts > replay.at[place]) & (queue.gone > replay.submitted[place]) & (queue.places < place)
-        places: Integers = queue.places[waited]
+        # those before it, of which the packets in front had left
+        first, end = int(np.searchsorted(queue.latest, replay.at[place], side="right")), int(np.searchsorted(queue.places, place))
+        near = slice(first, max(first, end))
+        waited = (queue.starts[near] > replay.at[place]) & (queue.gone[near] > replay.submitted[place])
+        places: Integers = queue.places[near][waited]
         return places
 
     @cached_property

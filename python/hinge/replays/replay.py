@@ -7,12 +7,12 @@ from __future__ import annotations
 
 from dataclasses import dataclass
 from functools import cached_property
-from typing import Mapping, Sequence
+from typing import Mapping, Optional, Sequence
 
 from hinge.captures.addresses import read_addresses
 from hinge.command import ROWS, Fault
 from hinge.lazy import Integers, Mask, few as np
-from hinge.replays.columns import EVENT_NAMES, EVENTS, FULL, HELD, LOST, NONE, OUT, Lazily, Rows, read_lines, read_rows
+from hinge.replays.columns import EVENT_NAMES, EVENTS, FULL, HELD, LOST, NONE, OUT, Lazily, Rows, Tuples, read_lines, read_rows
 from hinge.replays.units import socket_address
 
 __all__ = ["EVENTS", "EVENT_NAMES", "FULL", "HELD", "LOST", "NONE", "OUT", "Packets", "Replay", "read_packets", "read_report"]
@@ -32,6 +32,7 @@ class Packets:
     word: Integers
     targets: list[tuple[str, int]]
     tuples: Sequence[tuple[str, str, int, int, int]]
+    words: Optional[Tuples] = None  # of the same five-tuples
 
     def __len__(self) -> int:
         return len(self.moment)
@@ -95,7 +96,8 @@ def packets_of(path: str, rows: Rows, moment: Integers, remarked: Mapping[str, s
         return (*(addresses.get(dotted(address), dotted(address)) for address in (src, dst)), *more)  # type: ignore[return-value]
 
     tuples = Lazily(len(five.words) // 2, named)
-    return Packets(path, moment, columns["target"], columns["five_tuple"], columns["length"], columns["word"], rows.targets, tuples)
+    of_rows = (columns[name] for name in ("target", "five_tuple", "length", "word"))
+    return Packets(path, moment, *of_rows, rows.targets, tuples, five)
 
 
 def read_packets(path: str) -> Packets:
