@@ -18,22 +18,15 @@ void add_row(struct columns *columns) {
     columns->count++;
 }
 
-static void put_number(struct columns *columns, size_t column, struct table *table, const struct waiting *waiting, size_t row) {
-    put(columns, column, row, number_of(table, waiting->items[row % MOST_WAITING]));
-}
-
 void number_later(struct columns *columns, size_t column, struct table *table, struct waiting *waiting, const uint64_t *five_tuple) {
-    enum { NEAR = MOST_WAITING / 2 };
     size_t row = columns->count - 1;
-    if (row >= MOST_WAITING) put_number(columns, column, table, waiting, row - MOST_WAITING);
-    memcpy(waiting->items[row % MOST_WAITING], five_tuple, sizeof *waiting->items);
-    expect(table, five_tuple, false);
-    if (row >= NEAR) expect(table, waiting->items[(row - NEAR) % MOST_WAITING], true);
+    if (row >= MOST_WAITING) put(columns, column, row - MOST_WAITING, waited(table, waiting, row - MOST_WAITING));
+    wait_for(table, waiting, row, five_tuple);
 }
 
 void number_rest(struct columns *columns, size_t column, struct table *table, struct waiting *waiting) {
     size_t first = columns->count > MOST_WAITING ? columns->count - MOST_WAITING : 0;
-    for (size_t row = first; row < columns->count; row++) put_number(columns, column, table, waiting, row);
+    for (size_t row = first; row < columns->count; row++) put(columns, column, row, waited(table, waiting, row));
 }
 
 void answer(const void *bytes, size_t size) { write_all(STDOUT_FILENO, bytes, size); }

@@ -44,13 +44,6 @@ static inline void put(struct columns *columns, size_t column, size_t row, int64
 /* Answers them, and lets them go. */
 void answer_columns(struct columns *columns);
 
-enum { MOST_WAITING = 32 };
-
-/* The five-tuples of the last rows, whose numbers are put some rows later, when memory has brought their places in the table. */
-struct waiting {
-    uint64_t items[MOST_WAITING][2];
-};
-
 /* Takes the five-tuple of the last row. */
 void number_later(struct columns *columns, size_t column, struct table *table, struct waiting *waiting, const uint64_t *five_tuple);
 

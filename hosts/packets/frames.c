@@ -24,7 +24,11 @@ static void add(struct frames *frames, const struct frame *frame) {
     frames->items[frames->count++] = *frame;
 }
 
-static void take(struct frames *frames, const struct raw *raw) {
+static void number_flow(struct frames *frames, const struct waiting *waiting, size_t place) {
+    frames->items[place].flow = waited(&frames->flows, waiting, place);
+}
+
+static void take(struct frames *frames, struct waiting *waiting, const struct raw *raw) {
     uint64_t number = ++frames->captured;
     struct packet packet;
     int found = dissect(raw->link, raw->bytes, &packet);
@@ -38,7 +42,10 @@ static void take(struct frames *frames, const struct raw *raw) {
     struct flow flow = {.sport = packet.sport, .dport = packet.dport, .proto = packet.proto, .dscp = packet.dscp};
     flow.src = number_of(&frames->addresses, &packet.src);
     flow.dst = number_of(&frames->addresses, &packet.dst);
-    add(frames, &(struct frame){raw->time, number, packet.headers, number_of(&frames->flows, &flow), packet.length});
+    size_t place = frames->count;
+    if (place >= MOST_WAITING) number_flow(frames, waiting, place - MOST_WAITING);
+    wait_for(&frames->flows, waiting, place, &flow);
+    add(frames, &(struct frame){raw->time, number, packet.headers, 0, packet.length});
 }
 
 static int by_time(const void *one, const void *other) {
@@ -61,10 +68,12 @@ static void sort(struct frames *frames) {
 
 void read_frames(struct capture *capture, struct frames *frames) {
     struct raw raw;
+    struct waiting waiting;
     bool is_in_order = true;
     *frames = (struct frames){.addresses = empty_table(sizeof(struct address)), .flows = empty_table(sizeof(struct flow))};
     begin_capture(capture);
-    while (next_frame(capture, &raw)) take(frames, &raw);
+    while (next_frame(capture, &raw)) take(frames, &waiting, &raw);
+    for (size_t i = frames->count > MOST_WAITING ? frames->count - MOST_WAITING : 0; i < frames->count; i++) number_flow(frames, &waiting, i);
     for (size_t i = 1; i < frames->count; i++) is_in_order = is_in_order && frames->items[i - 1].time <= frames->items[i].time;
     if (!is_in_order) sort(frames);
 }

@@ -128,8 +128,11 @@ static void put_row(struct writer *writer, size_t place, nanoseconds moment, uin
     put_number(out, flow->dport, ',');
     put_number(out, on_link < LONGEST_PACKET ? on_link : LONGEST_PACKET, ',');
     put_number(out, word(writer->plan->seed, ++writer->drawn[target], target), '\n');
-    put_number(&writer->index, ++writer->counts.rows, ',');
-    put_number(&writer->index, frame->number, '\n');
+    writer->counts.rows++;
+    if (writer->index.descriptor >= 0) {
+        put_number(&writer->index, writer->counts.rows, ',');
+        put_number(&writer->index, frame->number, '\n');
+    }
     writer->counts.cut += on_link > LONGEST_PACKET;
 }
 

@@ -42,7 +42,8 @@ static uint32_t *slot_of(const struct table *table, const uint64_t *item) {
     return &table->slots[at];
 }
 
-void expect(const struct table *table, const void *item, bool is_near) {
+/* Has memory bring the slot of an item that is asked for soon, or the item in the slot, so that nobody waits for them. */
+static void expect(const struct table *table, const void *item, bool is_near) {
     if (!table->room) return;
     const uint32_t *slot = &table->slots[(uint32_t)hash(table, item) & (2 * table->room - 1)];
     if (!is_near) __builtin_prefetch(slot);
@@ -63,6 +64,15 @@ static void make_room(struct table *table) {
         table->slots[at] = i + 1;
     }
 }
+
+void wait_for(const struct table *table, struct waiting *waiting, size_t place, const void *item) {
+    enum { NEAR = MOST_WAITING / 2 };
+    memcpy(waiting->items[place % MOST_WAITING], item, sizeof *waiting->items);
+    expect(table, item, false);
+    if (place >= NEAR) expect(table, waiting->items[(place - NEAR) % MOST_WAITING], true);
+}
+
+uint32_t waited(struct table *table, const struct waiting *waiting, size_t place) { return number_of(table, waiting->items[place % MOST_WAITING]); }
 
 uint32_t number_of(struct table *table, const void *item) {
     if (table->count == table->room) make_room(table);

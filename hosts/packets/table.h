@@ -18,8 +18,18 @@ struct table empty_table(size_t bytes);
 /* The number of an item, which is added where it is new. */
 uint32_t number_of(struct table *table, const void *item);
 
-/* Has memory bring the slot of an item that is asked for soon, or the item in the slot, so that nobody waits for them. */
-void expect(const struct table *table, const void *item, bool is_near);
+enum { MOST_WAITING = 32 };
+
+/* Items of two words, which are numbered some places later, when memory has brought their places in the table. */
+struct waiting {
+    uint64_t items[MOST_WAITING][2];
+};
+
+/* Takes the item of a place, behind those of all places before it. */
+void wait_for(const struct table *table, struct waiting *waiting, size_t place, const void *item);
+
+/* The number of the item of a place, which waits: one of the last MOST_WAITING. They are asked for in the order of their places. */
+uint32_t waited(struct table *table, const struct waiting *waiting, size_t place);
 
 const void *item_of(const struct table *table, uint32_t number);
 #endif

@@ -2,6 +2,8 @@
 
 from __future__ import annotations
 
+from array import array
+from itertools import compress
 from typing import IO, Iterator, NamedTuple, Optional, Sequence, TextIO
 
 from hinge.border.files import Input
@@ -19,9 +21,13 @@ HEADER = "moment,target,number,src,dst,proto,sport,dport,len,word"
 def meetings(frames: Asked, directions: Sequence[int], names: Sequence[str]) -> Iterator[str]:
     """Yields warnings about pairs of hosts whose packets use one pipe or queue in both directions."""
     warnings = list[tuple[int, str]]()
-    passages = [src << 32 | dst for src, dst in zip(frames.src, frames.dst)]
+    if set(frames.src).isdisjoint(frames.dst):
+        return iter(())
+    ends = array("I", bytes(8 * len(frames.src)))
+    ends[0::2], ends[1::2] = array("I", frames.dst), array("I", frames.src)
+    passages = memoryview(ends).cast("B").cast("Q")  # the source above the destination
     for direction in set(directions) - {0}:
-        pairs_there = {one for one, own in zip(passages, directions) if own == direction}
+        pairs_there = set(compress(passages, map(direction.__eq__, directions)))
         both = {one for one in pairs_there if one >> 32 != one & ENDS and turned(one) in pairs_there}
         first = dict[int, int]()  # the place of the first packet of each
         for place, one in enumerate(passages) if both else ():
