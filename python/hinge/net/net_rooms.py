@@ -32,6 +32,7 @@ LONGEST_INTERFACE = 15  # letters
 NETWORK = "10.8.0.0/16"  # of the hosts' own addresses
 GROUPS = ("224.0.0.0", 4)  # all groups of IPv4, and their bits
 WORST = 1 << 24  # the metric of a route that each daemon's are better than
+LEAST_BITS = 4  # of the hosts that one route leads to together
 AT_NO_HOST = -1  # in the place of an interface's descriptor
 
 
@@ -56,12 +57,25 @@ def mac_of(link: int) -> bytes:
     return bytes([2, 0, 0, 0]) + (link + 1).to_bytes(2, "big")
 
 
+def networks(places: list[int]) -> Iterator[tuple[int, int]]:
+    """Yields the networks that contain exactly these places, which ascend: the first place and the bits of the places behind it."""
+    at = 0
+    while at < len(places):
+        first, bits = places[at], 0
+        while first % (2 << bits) == 0 and places[at - 1 + (2 << bits) :][:1] == [first - 1 + (2 << bits)]:
+            bits += 1
+        bits = bits if bits >= LEAST_BITS else 0
+        yield first, bits
+        at += 1 << bits
+
+
 class NetEnds:
     """The names and addresses of a net's hosts and link ends."""
 
     def __init__(self, net: Description) -> None:
         self.net = net
-        self.own = {name: own_addresses(place) for place, name in enumerate(net.hosts, 1) if not net.hosts[name].is_switch}
+        self.places = {name: place for place, name in enumerate(net.hosts, 1) if not net.hosts[name].is_switch}
+        self.own = {name: own_addresses(place) for name, place in self.places.items()}
         self.links, self.ports = links_by_host(net), net.ports()
 
     def label(self, name: str, link: int) -> str:
@@ -184,19 +198,26 @@ class NetRooms:
         try_to_write("/proc/sys/net/ipv6/conf/all/forwarding", "1")
 
     def ways_of(self, name: str) -> Iterator[Request]:
-        """Yields routes from the current host to all reachable hosts and to multicast groups.
+        """Yields routes from the current host to all reachable hosts and to multicast groups. Many hosts in a row that are reached
+        alike share a route, as a net of 200 hosts would have 80,000.
 
         If the net leaves routes to a daemon, it yields only routes to neighbours, with a metric worse than any daemon's.
         """
         own, numbers = self.ends.own[name], dict[int, int]()
         for link, _ in self.ends.links[name]:
             numbers[link] = index_of(self.ends.interface(name, link))
-        is_plain = self.ends.net.has_routes
+        is_plain, alike = self.ends.net.has_routes, dict[tuple[int, tuple[Optional[str], Optional[str]]], list[int]]()
+        metric = None if is_plain else WORST
         for to, hop in first_hops(name, self.ends.net, self.ends.links).items():
-            for address, source, gateway in zip(self.ends.own.get(to, ()), own, self.ends.gateways(to, hop)):
-                if is_plain or to == hop.host:
-                    metric, may_fail = None if is_plain else WORST, source == own.six
-                    yield interface_route(address, numbers[hop.link], source, None, MAIN_TABLE, metric, may_fail, gateway)
+            if to in self.ends.own and (is_plain or to == hop.host):
+                alike.setdefault((hop.link, self.ends.gateways(to, hop)), []).append(self.ends.places[to])
+        for (link, gateways), places in alike.items():
+            # its own place may be within a network, since packets to it never leave
+            for first, bits in networks(sorted([*places, self.ends.places[name]])):
+                for address, source, gateway, most in zip(own_addresses(first), own, gateways, (32, 128)):
+                    if bits or first != self.ends.places[name]:
+                        may_fail = source == own.six
+                        yield interface_route(address, numbers[link], source, most - bits, MAIN_TABLE, metric, may_fail, gateway)
         if is_plain and numbers:
             # By the metric it has a next hop of its own: the kernel keeps with that whether a packet is for a group, and
             # would give the next one for a host the time to live of groups.
