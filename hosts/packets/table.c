@@ -4,7 +4,7 @@
 #include <string.h>
 #include <sys/random.h>
 
-enum { WORD = sizeof(uint64_t), LEAST_ROOM = 256, SOON = 16 };
+enum { WORD = sizeof(uint64_t), LEAST_ROOM = 256 };
 #define MOST_ITEMS (UINT32_C(1) << 30)
 
 struct table empty_table(size_t bytes) {
@@ -35,51 +35,56 @@ static bool is_item(const struct table *table, uint32_t number, const uint64_t *
     return !difference;
 }
 
-/* The slot of an item, or the empty one in which it is to be. */
-static uint32_t *slot_of(const struct table *table, const uint64_t *item) {
-    uint32_t mask = 2 * table->room - 1, at = (uint32_t)hash(table, item) & mask;
-    while (table->slots[at] && !is_item(table, table->slots[at] - 1, item)) at = (at + 1) & mask;
+static size_t mask_of(const struct table *table) { return 2 * (size_t)table->room - 1; }
+
+/* The slot of an item with this hash, or the empty one in which it is to be. */
+static uint64_t *slot_of(const struct table *table, const uint64_t *item, uint64_t hash) {
+    size_t mask = mask_of(table), at = hash >> 32 & mask;
+    while (table->slots[at] && ((table->slots[at] ^ hash) >> 32 || !is_item(table, (uint32_t)table->slots[at] - 1, item))) at = (at + 1) & mask;
     return &table->slots[at];
 }
 
-/* Has memory bring the slot of an item that is asked for soon, or the item in the slot, so that nobody waits for them. */
-static void expect(const struct table *table, const void *item, bool is_near) {
-    if (!table->room) return;
-    const uint32_t *slot = &table->slots[(uint32_t)hash(table, item) & (2 * table->room - 1)];
-    if (!is_near) __builtin_prefetch(slot);
-    else if (*slot) __builtin_prefetch(item_of(table, *slot - 1));
-}
-
+/* The slots come in the order of the hashes, twice, so that memory is read and written one place after the other. */
 static void make_room(struct table *table) {
     if (table->room >= MOST_ITEMS) refuse("it takes more memory than there is");
+    uint64_t *old = table->slots;
+    size_t count = old ? mask_of(table) + 1 : 0;
     table->room = table->room ? 2 * table->room : LEAST_ROOM;
     table->items = grown(table->items, table->room * table->words * WORD);
-    free(table->slots);
     table->slots = zeroed(2 * (size_t)table->room, sizeof *table->slots);
-    uint32_t mask = 2 * table->room - 1;
-    for (uint32_t i = 0; i < table->count; i++) { /* no two are equal, so that none is compared */
-        uint32_t at = (uint32_t)hash(table, item_of(table, i)) & mask;
-        if (table->count - i > SOON) expect(table, item_of(table, i + SOON), false);
+    for (size_t i = 0; i < count; i++) { /* no two are equal, so that none is compared */
+        if (!old[i]) continue;
+        size_t mask = mask_of(table), at = old[i] >> 32 & mask;
         while (table->slots[at]) at = (at + 1) & mask;
-        table->slots[at] = i + 1;
+        table->slots[at] = old[i];
     }
+    free(old);
 }
+
+static uint32_t number_by_hash(struct table *table, const uint64_t *item, uint64_t hash) {
+    if (table->count == table->room) make_room(table);
+    uint64_t *slot = slot_of(table, item, hash);
+    if (!*slot) {
+        memcpy(table->items + table->count * table->words, item, table->words * WORD);
+        *slot = hash >> 32 << 32 | ++table->count;
+    }
+    return (uint32_t)*slot - 1;
+}
+
+uint32_t number_of(struct table *table, const void *item) { return number_by_hash(table, item, hash(table, item)); }
 
 void wait_for(const struct table *table, struct waiting *waiting, size_t place, const void *item) {
     enum { NEAR = MOST_WAITING / 2 };
-    memcpy(waiting->items[place % MOST_WAITING], item, sizeof *waiting->items);
-    expect(table, item, false);
-    if (place >= NEAR) expect(table, waiting->items[(place - NEAR) % MOST_WAITING], true);
+    size_t at = place % MOST_WAITING;
+    memcpy(waiting->items[at], item, sizeof *waiting->items);
+    waiting->hashes[at] = hash(table, waiting->items[at]);
+    if (!table->room) return;
+    __builtin_prefetch(&table->slots[waiting->hashes[at] >> 32 & mask_of(table)]);
+    if (place < NEAR) return;
+    uint64_t near = table->slots[waiting->hashes[(place - NEAR) % MOST_WAITING] >> 32 & mask_of(table)];
+    if (near) __builtin_prefetch(item_of(table, (uint32_t)near - 1));
 }
 
-uint32_t waited(struct table *table, const struct waiting *waiting, size_t place) { return number_of(table, waiting->items[place % MOST_WAITING]); }
-
-uint32_t number_of(struct table *table, const void *item) {
-    if (table->count == table->room) make_room(table);
-    uint32_t *slot = slot_of(table, item);
-    if (!*slot) {
-        memcpy(table->items + table->count * table->words, item, table->words * WORD);
-        *slot = ++table->count;
-    }
-    return *slot - 1;
+uint32_t waited(struct table *table, const struct waiting *waiting, size_t place) {
+    return number_by_hash(table, waiting->items[place % MOST_WAITING], waiting->hashes[place % MOST_WAITING]);
 }

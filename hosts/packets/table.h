@@ -8,7 +8,7 @@ struct table {
     size_t words; /* of 64 bits, of an item */
     uint64_t *items;
     uint32_t count, room;
-    uint32_t *slots; /* twice as many as there is room for, 0 or an item's number and one */
+    uint64_t *slots; /* twice as many as there is room for, 0 or an item's number and one, below 32 bits of its hash */
     uint64_t secrets[2];
 };
 
@@ -22,7 +22,7 @@ enum { MOST_WAITING = 32 };
 
 /* Items of two words, which are numbered some places later, when memory has brought their places in the table. */
 struct waiting {
-    uint64_t items[MOST_WAITING][2];
+    uint64_t items[MOST_WAITING][2], hashes[MOST_WAITING];
 };
 
 /* Takes the item of a place, behind those of all places before it. */

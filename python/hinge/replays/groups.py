@@ -30,12 +30,13 @@ class Groups:
     def largest(self, sizes: Integers, most: int) -> Groups:
         """Returns at most `most` groups with the largest sums of sizes, and the rest as one group."""
         sums = np.bincount(self.of, weights=sizes, minlength=len(self.names))
-        order = np.argsort(-sums, kind="stable")
-        part, rest = order[:most], order[most:]
-        number = np.full(len(self.names), len(part))
+        least = np.partition(sums, [len(sums) - most])[len(sums) - most] if len(sums) > most else 0
+        candidates = np.flatnonzero(sums >= least)  # which are few, so that no million of flows is sorted
+        part = candidates[np.argsort(-sums[candidates], kind="stable")][:most]
+        number, rest = np.full(len(self.names), len(part)), len(self.names) - len(part)
         number[part] = np.arange(len(part))
         names = [self.names[i] for i in part]
-        return Groups(number[self.of], names + ([f"{len(rest):,} others"] if len(rest) else []), len(rest) > 0, self.of)
+        return Groups(number[self.of], names + ([f"{rest:,} others"] if rest else []), rest > 0, self.of)
 
 
 def group(replay: Replay, way: str) -> Groups:
