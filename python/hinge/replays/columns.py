@@ -16,7 +16,7 @@ from hinge.border.scratch import unnamed
 from hinge.command import ROWS, Fault, working
 from hinge.lazy import Integers, few as np
 from hinge.program import packets
-from hinge.replays.record_lines import blocks_of, rows_of
+from hinge.replays.record_lines import rows_of, without_quotes
 
 GREATEST = 2**63 - 1  # of a number of 63 bits
 QUOTED, FAULT, SYSTEM, BAD_HEADER, BAD_ROW, TOO_LONG = 3, 4, (5, 6), 8, 9, 10  # the statuses with which it ends
@@ -167,7 +167,7 @@ def read_columns(
         except Quoted:
             pass
         with unnamed() as (copy, name):
-            copy.writelines(text.replace(b'"', b"'") for text in blocks_of(file.path, "replace"))
+            copy.writelines(without_quotes(file.path))
             copy.flush()
             with opened(name, None) as source, asked(source, words, refuse) as answer:
                 return take(answer)

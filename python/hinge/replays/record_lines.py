@@ -1,4 +1,4 @@
-"""A file's lines as records, one by one or in blocks without quotes."""
+"""A file's lines as records, or without quotes."""
 
 from __future__ import annotations
 
@@ -8,12 +8,11 @@ import sys
 from itertools import islice, tee
 from typing import BinaryIO, Iterator, NamedTuple
 
-from hinge.border.files import LONGEST_LINE, MOST_TABLE, MOST_TEXT, Exceeded, lines_of, opened, read_front
+from hinge.border.files import MOST_TABLE, MOST_TEXT, Exceeded, lines_of, opened, read_front
 
 csv.field_size_limit(sys.maxsize)  # a field may be as long as its file
 
 BYTE_ORDER_MARK = b"\xef\xbb\xbf"
-BLOCK = 1 << 19  # bytes of a file that are read together
 BEGINNINGS = (b"dummynet-history,", b"dummynet-live,")
 
 
@@ -36,40 +35,20 @@ def rows_of(file: BinaryIO, line: int = 1, encoding: str = "utf-8-sig") -> Itera
         count = reader.line_num
 
 
-def plain(text: bytes, errors: str = "strict") -> bytes:
-    """Returns a text whose lines end in line feeds, without quotes."""
-    if b'"' in text:
-        return without_quotes(text, errors)
-    return text.replace(b"\r\n", b"\n").replace(b"\r", b"\n") if b"\r" in text else text
-
-
-def without_quotes(text: bytes, errors: str) -> bytes:
-    out = bytearray()
-    for row in csv.reader(io.TextIOWrapper(io.BytesIO(text), "utf-8", errors, newline="")):
-        out += ",".join(row).encode() + b"\n"
-    return bytes(out if text.endswith((b"\n", b"\r")) else out[:-1])
-
-
-def blocks_of(path: str, errors: str = "strict") -> Iterator[bytes]:
-    """Yields a file's blocks of whole lines; the last line may lack its end. The part from the first quote on forms one block,
-    since quotes can contain line ends. Exceeded: a line or that part is too long."""
+def without_quotes(path: str) -> Iterator[bytes]:
+    """Yields a file's content without quotes. From the first quote on it comes at once, since quotes can contain line ends. Exceeded:
+    that part is too long."""
     with opened(path, MOST_TABLE) as file:
-        piece, rest = file.read(BLOCK).removeprefix(BYTE_ORDER_MARK), bytearray()
-        while piece and b'"' not in piece:
-            if end := piece.rfind(b"\n") + 1:
-                yield plain(b"".join((rest, memoryview(piece)[:end])))
-                rest.clear()
-            rest += piece[end:]
-            if len(rest) > LONGEST_LINE:
-                raise Exceeded(LONGEST_LINE, "bytes in a line")
-            piece = file.read(BLOCK)
-        if len(rest_of_file := file.read(MOST_TEXT + 1)) > MOST_TEXT:
-            raise Exceeded(MOST_TEXT, "bytes behind a quote")
-        text, at = plain(bytes(rest) + piece + rest_of_file, errors), 0
-    while at < len(text):
-        end = text.rfind(b"\n", at, at + BLOCK) + 1 or text.find(b"\n", at) + 1 or len(text)
-        yield text[at:end]
-        at = end
+        line = file.readline(MOST_TEXT + 1).removeprefix(BYTE_ORDER_MARK)
+        while line and b'"' not in line:
+            yield line
+            line = file.readline(MOST_TEXT + 1)
+        text = line + file.read(MOST_TEXT + 1)
+    if len(text) > MOST_TEXT:
+        raise Exceeded(MOST_TEXT, "bytes behind a quote")
+    rows = csv.reader(io.TextIOWrapper(io.BytesIO(text), "utf-8", "replace", newline=""))
+    plain = b"".join(",".join(row).replace('"', "'").encode() + b"\n" for row in rows)
+    yield plain if text.endswith((b"\n", b"\r")) else plain[:-1]
 
 
 def is_history_file(path: str) -> bool:
