@@ -1,17 +1,19 @@
 """Writes the inputs of a load: a configuration and a packet file.
 
-    python3 bench/loads.py pipe|queues|links|flows|backlogged ROWS FOLDER
+    python3 bench/loads.py LOAD ROWS FOLDER
 
 Writes FOLDER/LOAD.config and FOLDER/LOAD.csv. `pipe` is one pipe of 8 Gbit/s with 100 hosts on it, filled to nine tenths and more;
 `queues` are 100 queues with weights 1 to 100 on such a pipe; `links` is a pipe with a link of its own for each of 16,384 flows;
-`flows` are 40,000 flows over ten queues of 64 Kbytes that lose one packet of a hundred; and `backlogged` are 10,000 flows of one queue to
-which a tenth more is sent than the pipe carries, so that all of them wait. The same words give the same files.
+`flows` are 40,000 flows over ten queues of 64 Kbytes that lose one packet of a hundred; `backlogged` are 10,000 flows of one queue to
+which a tenth more is sent than the pipe carries, so that all of them wait; and `overload` and `crowd` are the same of 20,000 and of
+320,000 flows. The same words give the same files.
 """
 
 from __future__ import annotations
 
 import sys
 from collections.abc import Callable, Iterator
+from functools import partial
 from pathlib import Path
 
 HEADER = "moment,target,number,src,dst,proto,sport,dport,len,word\n"
@@ -57,6 +59,13 @@ def backlogged(r: int) -> tuple[int, str]:
     return r % 1400, f"queue,1,{flow},2000,{length(r, 32)},{r >> 20 & 0xFFFFFFFF}"
 
 
+def overload(flows: int, r: int) -> tuple[int, str]:
+    flow = r % flows
+    source = f"10.{flow >> 16}.{flow >> 8 & 255}.{flow & 255}"
+    return (r >> 40) % 1400, f"queue,1,{source},10.0.0.2,17,1,2,{length(r, 32)},{r >> 20 & 0xFFFFFFFF}"
+
+
+ONE_QUEUE = "pipe 1 config bw 8Gbit/s delay 5ms\nqueue 1 config pipe 1 queue 100 mask all\n"
 CONFIGS = {
     "pipe": "pipe 1 config bw 8Gbit/s delay 5ms queue 1000\n",
     "queues": "pipe 1 config bw 8Gbit/s delay 5ms\n"
@@ -67,7 +76,7 @@ CONFIGS = {
         f"queue {n} config pipe 1 weight {n * 10} queue 64Kbytes plr 0.01 mask src-ip 0xffff src-port 0xffff\n"
         for n in range(1, 11)
     ),
-    "backlogged": "pipe 1 config bw 8Gbit/s delay 5ms\nqueue 1 config pipe 1 queue 100 mask all\n",
+    **dict.fromkeys(("backlogged", "overload", "crowd"), ONE_QUEUE),
 }
 ROWS: dict[str, Callable[[int], tuple[int, str]]] = {
     "pipe": pipe,
@@ -75,6 +84,8 @@ ROWS: dict[str, Callable[[int], tuple[int, str]]] = {
     "links": links,
     "flows": flows,
     "backlogged": backlogged,
+    "overload": partial(overload, 20_000),
+    "crowd": partial(overload, 320_000),
 }
 
 

@@ -1,6 +1,6 @@
 #!/bin/sh
-# The program beside plain Rust and the limit on five loads of 1,000,000 rows, as tables of times and, where there is valgrind, of counts, below what the
-# machine is and how busy: bench/replay.sh [ROUNDS [ROWS]]. It takes about five minutes, and the counts an hour.
+# The program beside plain Rust and the limit on seven loads of 1,000,000 rows, as one table of times and, where there is valgrind, of counts, below
+# what the machine is and how busy: bench/replay.sh [ROUNDS [ROWS [LOAD ..]]]. It takes about seven minutes, and the counts an hour.
 unset CDPATH POSIXLY_CORRECT; export LC_ALL=C
 set -e
 cd "$(dirname "$0")/.."
@@ -13,4 +13,3 @@ program=built/$(tools/release/program_sources)/dummynet
 [ -x "$program" ] || program=release/dummynet
 date -u +%F && sed -n "s/^model name.*: //p" /proc/cpuinfo | uniq -c && cat /proc/loadavg
 python3 bench/replay.py "$program" "$work/release/twin" "$work/limit" "$@"
-! command -v valgrind >/dev/null || python3 bench/replay_counts.py "$program" "$work/release/twin" "$work/limit" "${2:-1000000}"

@@ -11,7 +11,7 @@ usage: bench/shaper_counts.py     (after bench/shaper.sh, which proves and build
 import os
 from concurrent.futures import ThreadPoolExecutor
 
-from replay_counts import counts
+from replay import counts
 
 PROGRAM = os.path.join(os.path.dirname(__file__), "..", "crates", "bench_calls", "out", "bench_calls")
 LOADS = ["one flow of a pipe", "100 queues on a pipe", "1,000 links", "16,384 links", "40,000 flows over 10 queues"]

@@ -3,7 +3,7 @@
     python3 tools/gate/hosts.py PROGRAM
 
 The host in C is built anew from the present sources, where there is cc, else that of the release is taken. The clock of a machine
-that does other work says only that nothing comes early; bench/live_udp.py reports how late a host is.
+that does other work says only that nothing comes early; bench/live_rates.py reports how late a host is.
 """
 
 from __future__ import annotations
