@@ -96,8 +96,8 @@ def packets_of(path: str, rows: Rows, moment: Integers, remarked: Mapping[str, s
         return (*(addresses.get(dotted(address), dotted(address)) for address in (src, dst)), *more)  # type: ignore[return-value]
 
     tuples = Lazily(len(five.words) // 2, named)
-    of_rows = (columns[name] for name in ("target", "five_tuple", "length", "word"))
-    return Packets(path, moment, *of_rows, rows.targets, tuples, five)
+    target, five_tuple, length, word = (columns[name] for name in ("target", "five_tuple", "length", "word"))
+    return Packets(path, moment, target, five_tuple, length, word, rows.targets, tuples, five)
 
 
 def read_packets(path: str) -> Packets:
