@@ -9,7 +9,9 @@ import select
 import selectors
 import socket
 import socketserver
+import sqlite3
 import subprocess
+import tempfile
 import threading
 import time
 import unittest
@@ -166,13 +168,16 @@ class Threads(unittest.TestCase):
 
         async def main() -> None:
             thread.start()
+            started.append(thread)  # what starts a thread may be a constructor in C, which an error would leave half done
             await asyncio.sleep(1)
 
+        started = list[threading.Thread]()
         with one, other:
             with mock.patch.object(baton, "LONGEST", 1), pytest.raises(aio.RealTimeError, match="(?s)^a thread of the run .* run"):
                 aio.run(main())
             other.send(b"x")
             thread.join()
+        assert [thread] == started
         assert 3 == aio.run(asyncio.to_thread(lambda: 3))
 
     def test_an_interpreter_that_is_not_known_is_refused(self) -> None:
@@ -228,6 +233,21 @@ class Told(unittest.TestCase):
                 report = aio.run(main())
         for text in (r"real: \S+ send\n", r"real: \S+ recv\n", "real: subprocess.Popen\n"):
             assert re.search(text, report)
+
+    @unittest.skipIf(LIBRARY is None, "no hinge-clock.so")
+    def test_c_code_that_waits_in_a_thread_of_the_run(self) -> None:
+        def wait() -> None:
+            with tempfile.TemporaryDirectory() as folder:
+                one, other = (sqlite3.connect(f"{folder}/data", timeout=0.01) for _ in range(2))
+                one.execute("begin exclusive")
+                with pytest.raises(sqlite3.OperationalError, match="locked"):
+                    other.execute("begin exclusive")
+                one.close(), other.close()
+
+        with aio.Network() as net:
+            net.run(asyncio.to_thread(wait))
+            (called,) = net.real_uses.all()
+        assert "sqlite3" in called and "sleep" in called
 
     def test_other_families_and_subclasses_are_refused(self) -> None:
         class Own(socket.socket):

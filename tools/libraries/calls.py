@@ -25,11 +25,14 @@ class Row(NamedTuple):
     says: str = ""  # a part of the value, of the refusal or of the name of what was real
 
 
+OF_SNMP = """SnmpEngine(), CommunityData('x'), UdpTransportTarget(('10.0.0.2', 9), 1, 1), ContextData(),
+    ObjectType(ObjectIdentity('1.3.6'))"""
+OLDER = "import types; vars(asyncio).update({'coroutine': types.coroutine, 'async': asyncio.ensure_future}); "  # what pysnmp wants
 TCP = "simulated hosts have datagrams alone"
 ROWS = (
     Row("statsd", EXACT, "import statsd", "statsd.StatsClient('server', 7).incr('x')", "None"),
     Row("pyrad", EXACT, "from pyrad import client, dictionary, packet", "RADIUS", "Timeout"),
-    Row("pysnmp4", EXACT, "from pysnmp.hlapi import *", "SNMP", "No SNMP response"),
+    Row("pysnmp4", EXACT, "from pysnmp.hlapi import *", f"next(getCmd({OF_SNMP}))", "No SNMP response"),
     Row("tornado", EXACT, "import tornado.gen", "await tornado.gen.sleep(1.5)", "None"),
     Row("influxdb", EXACT, "import influxdb", "INFLUX", "True"),
     Row("redis", REFUSED, "import redis", "redis.Redis(host='127.0.0.1', port=PORT).ping()", TCP),
@@ -75,6 +78,54 @@ ROWS = (
     Row("icmplib", REFUSED, "import icmplib", "icmplib.ping('127.0.0.1', count=1)", "real"),
     Row("pyftpdlib", REFUSED, "from pyftpdlib.servers import FTPServer", "FTPServer(AT, None)", TCP),
     Row("libtorrent", REAL, "import libtorrent", "TORRENT", "libtorrent"),
+    Row(
+        "logging",
+        EXACT,
+        "import logging, logging.handlers as h",
+        "h.SysLogHandler(AWAY).emit(logging.makeLogRecord({}))",
+        "None at 0",
+    ),
+    Row("logging", REFUSED, "import logging.handlers as h", "h.SysLogHandler(AT, 1, 1)", TCP),
+    Row(
+        "aiohttp",
+        REFUSED,
+        "from aiohttp import test_utils, web",
+        "await test_utils.TestServer(web.Application()).start_server()",
+        TCP,
+    ),
+    Row(
+        "zmq",
+        REAL,
+        "import zmq.asyncio as z",
+        "await (s := z.Context().socket(7), s.connect('tcp://' + PLACE), s.poll(99))[2]",
+        "desc",
+    ),
+    Row("grpcio", REAL, "import grpc", "await grpc.aio.insecure_channel(PLACE).unary_unary('/a/b')(b'x')", "grpc"),
+    Row("gevent", REFUSED, "from gevent.server import DatagramServer", "DatagramServer(PLACE, print).start()", "real"),
+    Row("gevent", REAL, "import gevent", "gevent.sleep(0.1)", "libev"),
+    Row("can", EXACT, "import can", "CAN", "1, 2.0) at 3.0"),
+    Row("trio", EXACT, "import trio", "await guest(trio, trio.sleep, 1.5)", "Value(None) at 1.5"),
+    Row(
+        "trio", REFUSED, "import socket, trio", "trio.socket.from_stdlib_socket(socket.socket(2, 2))", "trio.lowlevel.wait_readable"
+    ),
+    Row("pysnmp4", EXACT, OLDER + "from pysnmp.hlapi.asyncio import *", f"await getCmd({OF_SNMP})", "No SNMP response"),
+    Row("smtplib", REFUSED, "import smtplib", "smtplib.SMTP(*AT)", TCP),
+    Row("xmlrpc", REFUSED, "import xmlrpc.client as x", "x.ServerProxy(URL).y()", TCP),
+    Row("xmlrpc", REFUSED, "from xmlrpc.server import SimpleXMLRPCServer as Server", "Server(AT)", TCP),
+    Row("socketserver", EXACT, "import socket, socketserver, threading", "SERVER", "(b'x', None) at 0.0"),
+    Row("socketserver", REFUSED, "import socketserver", "socketserver.TCPServer(AT, None)", TCP),
+    Row("graypy", EXACT, "import graypy, logging", "graypy.GELFUDPHandler(*AWAY).emit(logging.makeLogRecord({}))", "None at 0"),
+    Row("rpyc", EXACT, "from rpyc.utils import registry", "registry.UDPRegistryClient('10.0.0.2').discover('X')", "() at 2.0"),
+    Row("rpyc", REFUSED, "import rpyc", "rpyc.connect(*AT)", TCP),
+    Row("mpd", REFUSED, "import mpd", "mpd.MPDClient().connect(*AT)", TCP),
+    Row("paramiko", REFUSED, "import paramiko", "paramiko.SSHClient().connect(*AT)", TCP),
+    Row("websocket", REFUSED, "import websocket", "websocket.create_connection('ws://' + PLACE)", TCP),
+    Row("stomp", REFUSED, "import stomp", "stomp.Connection([AT], reconnect_attempts_max=1).connect()", TCP),
+    Row("thrift", REFUSED, "from thrift.transport.TSocket import TSocket", "TSocket(*AT).open()", TCP),
+    Row("memcache", REFUSED, "import memcache", "memcache.Client([PLACE]).get('x')", TCP),
+    Row("socks", REFUSED, "import socks", "socks.socksocket(2, 2).sendto(b'x', AT)", "real"),
+    Row("uvloop", REAL, "import uvloop", "uvloop.new_event_loop().run_until_complete(asyncio.sleep(0.1))", "libuv"),
+    Row("pylibmc", REAL, "import pylibmc", "pylibmc.Client([PLACE]).get('x')", "libmemcached"),
     Row("slixmpp", REAL, "import aiodns, slixmpp", "await asyncio.sleep(9, slixmpp.ClientXMPP('a@b', 'c').connect(AT))", "cares"),
 )
 LONGER = {  # calls of several statements, as functions
@@ -90,10 +141,23 @@ LONGER = {  # calls of several statements, as functions
     session = libtorrent.session({'listen_interfaces': '127.0.0.1:%d' % (PORT + 1)})
     __import__('time').sleep(1)
     return session.is_listening()""",
-    "SNMP": """
-    target = UdpTransportTarget(('10.0.0.2', 9), timeout=1, retries=1)
-    words = SnmpEngine(), CommunityData('public'), target, ContextData(), ObjectType(ObjectIdentity('1.3.6.1.2.1.1.1.0'))
-    return str(next(getCmd(*words))[0])""",
+    "CAN": """
+    one, other = (can.Bus(interface='virtual', channel='x') for _ in range(2))
+    heard, clock = can.BufferedReader(), __import__('time')
+    notifier = can.Notifier(other, [heard])
+    clock.sleep(2)
+    one.send(can.Message(arbitration_id=1))
+    message, moment = heard.get_message(9), clock.monotonic()
+    return notifier.stop(), message.arbitration_id, moment""",
+    "SERVER": """
+    class Echo(socketserver.DatagramRequestHandler):
+        def handle(self):
+            self.wfile.write(self.rfile.read())
+    server = socketserver.ThreadingUDPServer(('10.0.0.1', 9), Echo)
+    threading.Thread(target=server.serve_forever).start()
+    asker = socket.socket(socket.AF_INET, socket.SOCK_DGRAM)
+    asker.sendto(b'x', ('10.0.0.1', 9))
+    return asker.recv(9), server.shutdown()""",
     "INFLUX": """
     asker = influxdb.InfluxDBClient('127.0.0.1', use_udp=True, udp_port=7)
     return asker.write_points([{'measurement': 'x', 'fields': {'y': 1}}])""",
@@ -116,7 +180,7 @@ LONGER = {  # calls of several statements, as functions
 CHILD = """
 import asyncio, sys
 PORT = int(sys.argv[1])
-AT, PLACE, URL = ("127.0.0.1", PORT), f"127.0.0.1:{{PORT}}", f"http://127.0.0.1:{{PORT}}/"
+AWAY, AT, PLACE, URL = ("server", 7), ("127.0.0.1", PORT), f"127.0.0.1:{{PORT}}", f"http://127.0.0.1:{{PORT}}/"
 try:
     {imports}
 except ImportError as lacking:
@@ -126,6 +190,12 @@ from hingetulip import aio
 
 def longer():
     {longer}
+
+async def guest(trio, *words):
+    loop = asyncio.get_running_loop()
+    end = loop.create_future()
+    trio.lowlevel.start_guest_run(*words, run_sync_soon_threadsafe=loop.call_soon_threadsafe, done_callback=end.set_result)
+    return await end
 
 async def main(net):
     client, server = net.host("10.0.0.1"), net.host("10.0.0.2", name="server")

@@ -17,6 +17,7 @@ from queue import SimpleQueue
 from typing import TYPE_CHECKING, Any, Callable, Iterator, Optional
 from unittest import mock
 
+from hingetulip.aio.border import joining
 from hingetulip.aio.datagram import NS
 from hingetulip.aio.refusals import ALLOWED, BLOCKS, HANGS, NO_THREADS, SLEEP, RealTimeError
 from hingetulip.aio.switched import Either, Function, of_run, own_of, switched, switched_methods
@@ -72,7 +73,7 @@ class Baton:
 
     def __init__(self, loop: Loop) -> None:
         self.loop, self.back, self.is_closing = loop, bounded_pipe(), False
-        self.has_lost = False  # a thread, which goes on as one of the system
+        self.lost: Optional[str] = None  # why the run ends, if a thread goes on as one of the system; empty if it has ended
         self.members: dict[int, Member] = {}
 
     def start(self, function: Callable[..., Any], words: Any = (), named: Any = {}) -> int:
@@ -82,6 +83,8 @@ class Baton:
         def body() -> None:
             of_run.add(threading.get_ident())
             self.members[threading.get_ident()] = member
+            for join in joining:
+                join()
             os.write(begun[1], b".")
             os.read(member.turn[0], 1)
             try:
@@ -110,13 +113,13 @@ class Baton:
         if member is not None:
             return self._given_way(member, ready, seconds)
         for _ in range(MOST_TURNS):
-            if not self.step():
+            if not self.turns():
                 break
             if ready():
                 return True
         result = None if really is None else really()
         if result is None:
-            raise RealTimeError(BLOCKS + ALLOWED)
+            raise RealTimeError(self.lost or BLOCKS + ALLOWED)
         return result
 
     def _given_way(self, member: Member, ready: Ready, seconds: Optional[float]) -> bool:
@@ -133,18 +136,22 @@ class Baton:
         return threading.get_ident() in self.members
 
     def step(self) -> bool:
-        """Gives a turn to each thread that can go on; whether there was one."""
-        turns = 0
+        """Gives each thread that can go on a turn, if any. RealTimeError: a thread is lost."""
+        if not self.lost or self.loop.net.closing:
+            return self.turns()
+        raise RealTimeError(self.lost)
+
+    def turns(self) -> bool:
+        """Gives a step's turns; returns whether there was one."""
+        has_turned = False
         for ident, member in list(self.members.items()):
             member.is_ready = member.ready()
             if member.is_ready or self.is_closing or self.loop.clock.now >= member.until:
-                turns += 1
-                self._turn(ident, member)
-        return bool(turns)
+                has_turned = self._turn(ident, member)
+        return has_turned
 
     def _comes_back(self) -> bool:
-        """Returns whether the current thread yields or ends in time. While the network is open, a working thread has unlimited
-        time."""
+        """Returns whether the current thread yields or ends in time, which a working thread of an open network always does."""
         seconds = 0
         while seconds < (PATIENCE if self.is_closing else LONGEST):
             worked = own_process_time()
@@ -154,29 +161,30 @@ class Baton:
                 seconds += PATIENCE * (self.is_closing or own_process_time() - worked < IDLE)
         return False
 
-    def _lost(self, ident: int) -> None:
-        """Lets a thread continue as an ordinary thread. RealTimeError: the network is open, and the run can't continue without the
-        thread."""
+    def _lose(self, ident: int) -> None:
+        """Lets a thread continue as an ordinary thread. If the network is open, the run ends at its next step, since it can't
+        continue without the thread. An error here would leave the code that started the thread half done."""
         del self.members[ident]
         of_run.discard(ident)
-        self.has_lost = True
+        self.lost = self.lost or ""
         if not self.is_closing:
             self.is_closing = True
             place = "".join(traceback.format_stack(sys._current_frames().get(ident), 3))
-            raise RealTimeError(f"{HANGS}{ALLOWED}\n{place}")
+            self.lost = f"{HANGS}{ALLOWED}\n{place}"
 
-    def _turn(self, ident: int, member: Member) -> None:
+    def _turn(self, ident: int, member: Member) -> bool:
         os.write(member.turn[1], b".")
         if not self._comes_back():
-            self._lost(ident)
+            self._lose(ident)
         elif member.has_ended:
             del self.members[ident]
             for end in member.turn:
                 os.close(end)
-            while member.sentinel is not None and not own_acquire(member.sentinel, False):
-                os.stat("/")  # which lets the other thread go on and, unlike a wait for the lock, isn't counted as real
             if member.sentinel is not None:
+                while not own_acquire(member.sentinel, False):
+                    os.stat("/")  # which lets the other thread go on and, unlike a wait for the lock, isn't counted as real
                 member.sentinel.release()
+        return True
 
     def until(self) -> int:
         """Returns the next moment in ns at which a thread's timeout ends, or NEVER."""
@@ -186,8 +194,8 @@ class Baton:
         """Ends all threads, where they wait."""
         self.is_closing = True
         with mock.patch.object(threading, "excepthook", quiet(threading.excepthook)):
-            self.step()
-        if not self.has_lost:
+            self.turns()
+        if self.lost is None:
             for end in self.back:
                 os.close(end)
 

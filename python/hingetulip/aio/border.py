@@ -9,6 +9,7 @@ from collections import Counter
 from contextlib import contextmanager
 from ctypes import POINTER, c_char_p, c_int, c_int64, c_size_t, c_uint, c_uint64, c_void_p
 from pathlib import Path
+from random import Random
 from typing import Any, Callable, Iterator, Optional
 
 from hingetulip.aio.clock import Clock
@@ -47,6 +48,7 @@ def loaded() -> Optional[Any]:
 
 
 LIBRARY = loaded()
+joining: list[Callable[[], object]] = []  # what a thread that joins the run calls, if a run is under way
 
 
 def calls() -> Counter[str]:
@@ -74,8 +76,9 @@ def bound_anew(own: Callable[..., Any]) -> Callable[..., Any]:
 
 
 @contextmanager
-def border(clock: Clock, epoch: int, seed: int) -> Iterator[None]:
-    """Gives this thread's C code a run's clock and random numbers within the context, and counts its calls."""
+def border(clock: Clock, epoch: int, source: Random) -> Iterator[None]:
+    """Gives the C code of this thread, and of those that join the run, the run's clock and random numbers within the context, and
+    counts its calls."""
     if LIBRARY is None:
         yield
         return
@@ -85,9 +88,12 @@ def border(clock: Clock, epoch: int, seed: int) -> Iterator[None]:
     loads = {(_imp, "create_dynamic"): bound_anew, (_ctypes, "dlopen"): bound_anew}
     LIBRARY.hinge_border()
     calls()
-    LIBRARY.hinge_run(clock.place, epoch, seed)
+    run = LIBRARY.hinge_run
+    joining.append(lambda: run(clock.place, epoch, source.getrandbits(64)))
+    joining[-1]()
     try:
         with switched(loads):
             yield
     finally:
-        LIBRARY.hinge_run(None, 0, 0)
+        joining.pop()
+        run(None, 0, 0)

@@ -44,14 +44,15 @@ class Clock:
     def select(self, timeout: Optional[float]) -> Sequence[asyncio.Handle]:
         """Moves the clock by `timeout` seconds or to the next event; returns the handles to run. None: there is no timer."""
         net, descriptors, self.asked = self.net, self.descriptors, 0
-        if self.loop.baton.members and self.loop.baton.step():
+        baton = self.loop.baton
+        if (baton.members or baton.lost) and baton.step():
             timeout = 0
         waits = descriptors.readers or descriptors.writers
         if waits and descriptors.ready():
             timeout = 0
         wake = net.wake() if net.changed else net.next_moment
-        if self.loop.baton.members:
-            wake = min(wake, self.loop.baton.until())
+        if baton.members:
+            wake = min(wake, baton.until())
         if timeout is None:
             self._move(wake)
         elif timeout > 0:

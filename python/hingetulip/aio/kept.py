@@ -1,14 +1,18 @@
-"""Replaces functions in some libraries that copied system functions when imported, or use C code to call them."""
+"""Replaces functions in some libraries that copied system functions when imported, use C code to call them, or accept system sockets
+alone."""
 
 from __future__ import annotations
 
+import socket
 import sys
 from contextlib import ExitStack, contextmanager
 from typing import Any, Iterator
 from unittest import mock
 
 from hingetulip.aio.addresses import is_of_6
+from hingetulip.aio.datagram_socket import DatagramSocket
 from hingetulip.aio.host import current_host
+from hingetulip.aio.refusals import NO_TRIO, RealTimeError
 
 PREFIX, PREFIX_OF_6 = 24, 64
 
@@ -26,11 +30,26 @@ def addresses(use_ipv4: bool, use_ipv6: bool) -> list[str]:
     return [it for it in current_host().addresses if (use_ipv6 if is_of_6(it) else use_ipv4)]
 
 
+def wrapped(sock: socket.socket) -> Any:
+    """Returns trio's socket. RealTimeError: it would be of a simulated socket, whose methods trio doesn't call."""
+    if isinstance(sock, DatagramSocket):
+        raise RealTimeError(NO_TRIO)
+    return sys.modules["trio._socket"]._SocketType(sock)
+
+
+GIVEN = (
+    ("ifaddr", "get_adapters", adapters),
+    ("aioice.ice", "get_host_addresses", addresses),
+    ("trio._socket", "from_stdlib_socket", wrapped),
+    ("trio.socket", "from_stdlib_socket", wrapped),
+)
+
+
 @contextmanager
 def given_anew() -> Iterator[None]:
-    """Makes ifaddr and aioice find the current host's addresses within the context."""
+    """Makes ifaddr and aioice find the current host's addresses, and trio refuse its sockets, within the context."""
     with ExitStack() as stack:
-        for module, name, function in (("ifaddr", "get_adapters", adapters), ("aioice.ice", "get_host_addresses", addresses)):
+        for module, name, function in GIVEN:
             if module in sys.modules:
                 stack.enter_context(mock.patch.object(sys.modules[module], name, function, create=True))
         yield

@@ -170,7 +170,7 @@ def _patched(loop: Loop, source: random.Random) -> Iterator[None]:
         with ExitStack() as stack:
             stack.enter_context(random_of_openssl(source.getrandbits(64)))
             stack.enter_context(state_of_numpy(of_c))
-            stack.enter_context(border(loop.clock, round(loop.net.start * NS), of_c.getrandbits(64)))
+            stack.enter_context(border(loop.clock, round(loop.net.start * NS), of_c))
             functions = {**told.functions(), **dict.fromkeys(((posix, "urandom"), (posix, "getrandom")), drawn_from(source))}
             functions.update({} if UUIDS is None else {(UUIDS, "generate_time_safe"): uuid_of(told, of_c)})
             stack.enter_context(switched(functions))
