@@ -246,6 +246,9 @@ def pytest_runtest_makereport(item: pytest.Item, call: pytest.CallInfo[None]) ->
     own_links = [link for link in links if hasattr(link, "is_disturbed")]
     if report.when == "call" and report.passed and not is_tried and (unmet := [line for it in own_links for line in it.unmet()]):
         report.outcome, report.longrepr = "failed", "\n".join([UNMET, *unmet])
+    if report.when == "call" and report.passed and not is_tried:
+        for text in (text for link in own_links for text in link.idle()):
+            item.warn(pytest.PytestWarning(text))
     if report.when == "call":
         item.stash[PASSED] = report.passed
         report.user_properties += table.row_of(item, seed_of(item), links) + table.met_of(item, links)

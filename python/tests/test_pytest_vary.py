@@ -181,6 +181,43 @@ class OfTests(Runs):
         self.assertRegex(done.text, r"\n\S+::test_swept: (\d+) of 20 seeds failed: [\d, ]+( and \d more)? \(delay 1\.\.9ms\)\n")
         self.assertNotIn("in no test was a packet", done.text)
 
+    def test_a_part_of_a_network_that_no_packet_meets_is_told(self) -> None:
+        done = self.run_pytest(
+            """
+            def three(net):
+                hosts = [net.host(f"10.0.0.{number}") for number in (1, 2, 3)]
+                for host in hosts[:2]:
+                    net.path(host, hosts[2], "1ms")
+                return hosts
+
+            async def test_no_packet(sim_net):
+                three(sim_net)
+
+            async def test_parts(sim_net):
+                one, other, third = three(sim_net)
+                link, _ = sim_net.path(one, other, "20ms")
+                link.change("9ms")
+                sim_net.link(third, sim_net.host("10.0.0.4"), "5ms", jitter=lambda it: 9)
+                await session(sim_net, 3)
+                link.change("5ms")
+                link.change("20ms")
+                sim_net.route(one, other, via=third)
+
+            async def test_met(sim_net):
+                one, other, third = three(sim_net)
+                sim_net.route(one, other, via=third)
+                await session(sim_net, 3)
+            """
+        )
+        self.assertEqual({"passed": 3, "warnings": 4}, done.counts, done.text)
+        for text in (
+            "no packet came to a link",
+            "no packet met the change of 10.0.0.1 > 10.0.0.2 at 3 s",
+            "no packet met the jitter of 10.0.0.3 > 10.0.0.4",
+            "no packet met the route from 10.0.0.1 to 10.0.0.2",
+        ):
+            self.assertIn(f"PytestWarning: {text}\n", done.text)
+
     def test_that_nothing_ever_happened(self) -> None:
         done = self.run_pytest("async def test_it(sim_net):\n    assert await session(sim_net, 3) == 3\n")
         self.assertIn("\nin no test was a packet lost, late or out of order: ", done.text)

@@ -102,6 +102,10 @@ class Emulated(ABC):
         is_met = "link" not in words or self.history.exists() and any(submissions(self.history))
         return ["the mark link: no packet came to a link of the test"] * (not is_met)
 
+    def idle(self) -> list[str]:
+        """Returns a line for each part of a simulated network that no packet met."""
+        return []
+
     @abstractmethod
     def end(self) -> None:
         """Ends the link."""
@@ -167,6 +171,9 @@ class SimulatedPath(Emulated):
             what = "no packet came to the links with its words" if self.net.unsaid else "no link of the test has its words"
             lines.append(f"the mark link: {what}")
         return lines
+
+    def idle(self) -> list[str]:
+        return self.net.idle() if self.net.chosen is None else []
 
     def is_disturbed(self) -> Optional[bool]:
         """Returns whether a packet was lost, found a full queue, or was delayed or doubled beyond its link's words; None without

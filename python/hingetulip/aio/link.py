@@ -73,6 +73,8 @@ class Link:
         if hasattr(loss, "clock"):  # of a model by time
             setattr(loss, "clock", net.loop.time)
         self.has_model = loss is not None
+        self.given = {"loss": loss, "copies": copies, "jitter": jitter, "classes": classes}
+        self.changes = list[tuple[float, int]]()  # when its words changed between packets, and how many had come
         self.options = self.begun = Options(options, has_model=self.has_model, place=Place.RUN)
         self.class_options = {name: Options(text, "queue", self.has_model) for name, text in (classes or {}).items()}
         self.class_words: dict[int, Words] = {
@@ -149,7 +151,14 @@ class Link:
         changed = Options(said(options), has_model=self.has_model, place=Place.CHANGE)
         if why := refusal(self.begun.settings, changed.settings):
             raise LineError(f"'{options}': {why}", 0)
+        if self.came and changed.settings != self.begun.settings:
+            self.changes.append((self.net.loop.time(), self.came))
         self._configure(changed)
+
+    def idle(self) -> list[str]:
+        """Returns what no packet met, of the link's functions and changes."""
+        functions = [f"the {name} of {self.name}" for name, it in self.given.items() if it is not None and not self.came]
+        return functions + [f"the change of {self.name} at {moment:g} s" for moment, came in self.changes if came == self.came]
 
     def change_class(self, name: str, options: str) -> None:
         """Reconfigures the queue of a class, as in `link.change_class("video", "weight 10")`."""

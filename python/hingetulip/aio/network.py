@@ -173,6 +173,13 @@ class Network(Disturbed, Traffic):
         self.routes.give(near, target, self.links[near, via])
         self.forget_ways()
 
+    def idle(self) -> list[str]:
+        """Returns a line for each part of the network that no packet met: a link's functions and changes, a route, or all links."""
+        if self.links and not any(link.came for link in self.links.values()):
+            return ["no packet came to a link"]
+        routes = [f"the route from {near.name} to {target.name}" for near, target in self.routes.untaken]
+        return [f"no packet met {it}" for it in [*(it for link in self.links.values() for it in link.idle()), *routes]]
+
     def obey(self, line: str) -> None:
         """Applies a configuration line at the current moment."""
         self.changed = True

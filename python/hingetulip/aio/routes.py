@@ -17,6 +17,7 @@ class Routes:
         self.out: dict[Host, list[Link]] = {}
         self.chosen: dict[tuple[Host, Host], Optional[Link]] = {}
         self.given: dict[tuple[Host, Host], Link] = {}
+        self.untaken: dict[tuple[Host, Host], Link] = {}  # of those
         self.first: dict[Host, dict[Host, Link]] = {}
 
     def add(self, link: Link) -> None:
@@ -26,7 +27,7 @@ class Routes:
 
     def give(self, near: Host, target: Host, link: Link) -> None:
         """Sets the link for datagrams from a host to a target."""
-        self.given[near, target] = link
+        self.given[near, target] = self.untaken[near, target] = link
         self.chosen.clear()
 
     def next(self, near: Host, target: Host) -> Optional[Link]:
@@ -34,6 +35,7 @@ class Routes:
         try:
             return self.chosen[near, target]
         except KeyError:
+            self.untaken.pop((near, target), None)
             found = self.chosen[near, target] = self.given.get((near, target)) or self._search(near, target)
             return found
 
