@@ -209,6 +209,23 @@ class OfOneThread(unittest.TestCase):
         time.sleep(0)
         assert time.time() > 1_700_000_100
 
+    def test_a_copy_of_a_module(self) -> None:
+        """As eventlet has one of `time`, by which it waits."""
+        with mock.patch.dict(sys.modules):
+            del sys.modules["time"]
+            other: Any = __import__("time")
+
+        async def main() -> tuple[float, float]:
+            await asyncio.sleep(5)
+            with pytest.raises(aio.RealTimeError):
+                other.sleep(9)
+            await asyncio.to_thread(other.sleep, 2)
+            return other.time() - time.time(), other.monotonic()
+
+        assert other.time is not time.time
+        assert (0, 7) == aio.run(main())
+        assert other.time() > 1_700_000_100
+
     def test_a_loop_in_another_thread_goes_on(self) -> None:
         beats, is_over = [0.0], threading.Event()
 

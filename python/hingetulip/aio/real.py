@@ -18,7 +18,7 @@ from hingetulip.aio.addresses import FLAGS
 from hingetulip.aio.baton import LONGEST
 from hingetulip.aio.border import calls
 from hingetulip.aio.refusals import ALLOWED, NO_TCP, SOCKET, RealTimeError
-from hingetulip.aio.switched import Either, Function, of_run, switched, switched_methods
+from hingetulip.aio.switched import Either, Function, note_all, of_run, switched, switched_methods
 
 if TYPE_CHECKING:
     from hingetulip.aio.descriptors import Descriptors
@@ -37,6 +37,7 @@ class RealUses:
         self.descriptors: dict[int, None] = {}
         self.calls, self.refused = Counter[str](), Counter[str]()
         self.is_unwatched = False
+        installed()
 
     def saw(self, event: str, words: Any) -> None:
         """Counts what Python's audit hook is told during a run. RealTimeError: a socket of the system is refused."""
@@ -116,6 +117,8 @@ watches: list[RealUses] = []  # those of the run, if one is under way
 
 
 def hook(event: str, words: Any) -> None:
+    if event == "import":
+        note_all.cache_clear()
     if watches and event in SEEN:
         watches[-1].saw(event, words)
 
@@ -124,6 +127,7 @@ def hook(event: str, words: Any) -> None:
 def installed() -> list[RealUses]:
     """Returns the real uses that the audit hook asks. Hooks can't be removed, so there is a single one."""
     sys.addaudithook(hook)
+    note_all.cache_clear()
     return watches
 
 

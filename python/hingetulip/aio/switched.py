@@ -57,10 +57,6 @@ def is_known() -> bool:
     )
 
 
-def is_own(function: Any, module: ModuleType, name: str) -> bool:
-    return type(function) is BuiltinFunctionType and function.__self__ is module and function.__name__ == name
-
-
 class Changed:
     """A C function, its fields, and a copy of the original."""
 
@@ -73,19 +69,39 @@ class Changed:
         self.made: Optional[Function] = None  # of the last run: another thread may be in it
 
 
-@functools.lru_cache(None)
-def changed(module: ModuleType, name: str) -> Optional[Changed]:
-    """Returns a module's C function, even if its name refers to another function; None if the function can't be changed."""
-    found = [getattr(module, name, None)]
-    if not is_own(found[0], module, name):
-        found = [it for it in gc.get_objects() if is_own(it, module, name)]
-    return next((Changed(it) for it in found if not Method.from_address(fields_of(it)[METHOD]).flags & OF_CLASS), None)
+known: dict[tuple[str, str], dict[int, Any]] = {}  # functions in C, by the names of module and function, of each module
+changes: dict[int, Changed] = {}  # by the functions' identities
+
+
+def note(function: Any) -> None:
+    """Adds a function to the known ones. One that a run has changed belongs to no module meanwhile, and is known already."""
+    if type(function) is BuiltinFunctionType and isinstance(function.__self__, ModuleType):
+        known.setdefault((function.__self__.__name__, function.__name__), {}).setdefault(id(function.__self__), function)
+
+
+@functools.lru_cache(1)
+def note_all() -> None:
+    """Notes all functions, again after each import. Libraries such as eventlet load a module a second time, for functions that
+    nobody replaces."""
+    for it in gc.get_objects():
+        note(it)
+
+
+def changed(module: ModuleType, name: str) -> list[Changed]:
+    """Returns a module's C function and those of the module's copies, even if their names refer to other functions, and without
+    functions that can't be changed."""
+    note_all()
+    note(getattr(module, name, None))
+    them = known.get((module.__name__, name), {}).values()
+    for it in them:
+        if id(it) not in changes and not Method.from_address(fields_of(it)[METHOD]).flags & OF_CLASS:
+            changes[id(it)] = Changed(it)
+    return [changes[id(it)] for it in them if id(it) in changes]
 
 
 def own_of(module: ModuleType, name: str) -> Function:
     """The same function, which no run changes."""
-    found = changed(module, name)
-    return getattr(module, name) if found is None else found.own  # type: ignore[no-any-return]
+    return next((it.own for it in changed(module, name)), getattr(module, name))
 
 
 def of_thread(own: Function, in_run: Either) -> Function:
@@ -103,8 +119,7 @@ def switched(functions: Mapping[tuple[ModuleType, str], Either]) -> Iterator[Non
     """Replaces modules' C functions by the run's in this thread, within the context."""
     kept = []
     for (module, name), in_run in functions.items():
-        it = changed(module, name)
-        if it is not None:
+        for it in changed(module, name):
             made = it.made = of_thread(it.own, in_run)
             pythonapi.Py_IncRef(made)  # what the function refers to from now on, as to the object of a method
             it.fields[METHOD], it.fields[OBJECT], it.fields[FAST] = addressof(it.method), id(made), None
