@@ -103,6 +103,7 @@ ROWS = (
     Row("grpcio", REAL, "import grpc", "await grpc.aio.insecure_channel(PLACE).unary_unary('/a/b')(b'x')", "grpc"),
     Row("gevent", REFUSED, "from gevent.server import DatagramServer", "DatagramServer(PLACE, print).start()", "real"),
     Row("gevent", REAL, "import gevent", "gevent.sleep(0.1)", "libev"),
+    Row("eventlet", EXACT, "import eventlet", "eventlet.sleep(3)", "None at 3.0"),
     Row("can", EXACT, "import can", "CAN", "1, 2.0) at 3.0"),
     Row("trio", EXACT, "import trio", "await guest(trio, trio.sleep, 1.5)", "Value(None) at 1.5"),
     Row(
