@@ -167,6 +167,11 @@ class Acts(Ticker):
         self.rests.append((act.host, rest))
         return self.done[-1]
 
+    def note_later(self, host: str, moment: int) -> None:
+        """Notes that a host's latest act was done at a later moment."""
+        place = max(place for place, one in enumerate(self.done) if one.act.host == host)
+        self.done[place] = self.done[place]._replace(moment=moment)
+
     def moment_of(self, act: Act) -> int:
         """Returns the moment of an act in ns on the links' clock. The links report the moments of their acts."""
         if not self.is_of_links(act):

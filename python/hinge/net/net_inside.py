@@ -92,8 +92,7 @@ class NetInside:
         if act.word == "skew":
             set_clock(number_of(act.host, self.net.hosts), act.more)
         elif self.is_of_links(act):
-            rest: Callable[[], None] = partial(self.see_gone, self.linked[act.host])
-            return rest if act.word == "kill" else nothing
+            return partial(self.see_gone, act.host) if act.word == "kill" else nothing
         elif act.host in self.linked:
             self.linked[act.host].empty()
         else:
@@ -102,12 +101,27 @@ class NetInside:
         self.processes.reap()
         if act.word == "crash":
             self.disks.ask("lose", act.host)
-        if act.word == "restart":
-            self.begin(act.host)
-        return nothing
+        return self.begun_again(act.host) if act.word == "restart" else nothing
 
-    def see_gone(self, cgroup: Cgroup) -> None:
-        cgroup.is_empty()
+    def begun_again(self, host: str) -> Callable[[], None]:
+        """Starts a host's command again. What remains is its entry into the host, before which no kill finds it."""
+        there, entry = os.pipe()
+        self.begin(host, entry)
+        os.close(entry)
+
+        def see_there() -> None:
+            os.read(there, 1)
+            os.close(there)
+            self.acts.note_later(host, self.lines.ask("moment").moment)
+
+        return see_there
+
+    def see_gone(self, host: str) -> None:
+        """Waits for the end of a killed host's processes. A late restart may have come behind the kill: its command is killed here."""
+        before, kill = [0, *(one.moment for one in self.acts.done if one.act.host == host)][-2:]
+        if before > kill:
+            self.linked[host].empty()
+        self.linked[host].is_empty()
         self.processes.reap()
 
     def on_host(self, name: str) -> HostProcesses:
@@ -124,8 +138,8 @@ class NetInside:
         take_clock(number_of(name, self.net.hosts))
         os.environ.update(self.variables(name))
 
-    def begin(self, name: str) -> None:
-        """Starts a host's command. Each command except the main one gets a new process group."""
+    def begin(self, name: str, entry: Optional[int] = None) -> None:
+        """Starts a host's command. Each command except the main one gets a new process group. It closes `entry` once it is there."""
         is_main, is_first, cgroup = name == self.net.main, name not in self.started, self.cgroups.of(name)
         is_stopped = self.acts.goes_on(name, "cont")
 
@@ -142,6 +156,8 @@ class NetInside:
                 log = opened_log(os.path.join(self.options.logs, f"{name}.log"), is_first)
                 os.dup2(log, 1), os.dup2(log, 2)
             self.enter(name)
+            if entry is not None:
+                os.close(entry)
             if is_stopped and not cgroup:
                 os.kill(os.getpid(), signal.SIGSTOP)
 

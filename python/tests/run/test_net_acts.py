@@ -38,6 +38,15 @@ class OfHosts(InAFolder):
         self.assertEqual(found("^#,act,(.*)", self.history()), ["kill a", "restart a", "kill a"])
         self.assertRegex(done.stderr, r"net: a: killed by an act after [0-9.]+ s, and not begun again\n")
 
+    def test_a_kill_just_behind_a_restart_ends_its_command(self) -> None:
+        """Also where the restart comes late, behind the kill."""
+        names = [f"h{number}" for number in range(8)]
+        lines = [f"host {name} exec sleep 78.3\nlink {name} m 1ms\nat 500ms kill {name} 500ms\n" for name in names]
+        lines += [f"at {1001 + 2 * place}ms kill {name}\n" for place, name in enumerate(names)]
+        done = self.net("".join(lines) + "main m sleep 3; cat /proc/[0-9]*/cmdline | tr '\\0' ' '\n")
+        assert len(self.summary()["acts"]) == 3 * len(names)
+        assert (done.returncode, found("sleep (78)", done.stdout)) == (0, []), done.stdout + done.stderr
+
     def test_a_host_that_stands_still(self) -> None:
         command = f"while :; do echo on >> {self.folder}/told; sleep 0.05; done"
         count = f"wc -l < {self.folder}/told"
