@@ -38,6 +38,9 @@ struct carrier {
     /* Whether a packet can go to the system in one write with so many of its way, behind them. */
     bool (*joins)(const struct bytes *packets, int count, const struct bytes *next);
 
+    /* Makes a packet whole where some of it is left to a card. */
+    void (*finish)(unsigned char *packet, size_t len);
+
     /* What is to be done at each turn and at the end. */
     void (*look_after)(void *state, uint64_t moment);
     void (*end)(void *state);

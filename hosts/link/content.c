@@ -49,3 +49,8 @@ uint64_t content_of(const unsigned char *bytes, size_t len) {
 }
 
 uint64_t content_of_bytes(const unsigned char *bytes, size_t len) { return mixed_bytes(1, bytes, len); }
+
+size_t bits_behind_header(const unsigned char *bytes, size_t len) {
+    size_t header = bytes[0] >> 4 == 4 ? (size_t)(bytes[0] & 15) * 4 : IPV6_HEADER;
+    return len > header ? 8 * (len - header) : 0;
+}

@@ -13,3 +13,6 @@ uint64_t content_of(const unsigned char *bytes, size_t len);
 
 /* The same of any bytes, each of which counts. */
 uint64_t content_of_bytes(const unsigned char *bytes, size_t len);
+
+/* How many bits an IP packet has behind its header. */
+size_t bits_behind_header(const unsigned char *bytes, size_t len);

@@ -13,7 +13,7 @@ enum realtime { NOT_ASKED, HAS_IT, NOT_ALLOWED };
 struct way {
     uint64_t came, came_bytes, sent, sent_bytes;
     uint64_t lost, full, no_target; /* by the link */
-    uint64_t refused;               /* by the system, behind the link */
+    uint64_t refused, corrupted;    /* by the system, behind the link; those that left with a flipped bit */
     uint64_t not_ip, turned_away;   /* turned away: of more clients than there can be, longer than LONGEST, or shorter than a frame */
     uint64_t dropped;               /* by the system, before the link, as far as this program can see */
     uint64_t held, discarded;       /* packets in the link; those that a delete took out of it */

@@ -4,13 +4,13 @@
 #include "losses.h"
 
 /* Streams of random words apart from those of losses, which are numbered by ways. */
-enum { OF_JITTER = 1 << 20, OF_COPIES = 2 << 20 };
+enum { OF_JITTER = 1 << 20, OF_COPIES = 2 << 20, OF_CORRUPTION = 3 << 20, OF_BITS = 4 << 20 };
 
 struct passes {
     int first, count;
-    uint32_t chance;
+    uint32_t chance, of_corruption;
     uint64_t seed, jitters, copies; /* the words that were drawn of each stream */
-    uint64_t came;                  /* the packets so far */
+    uint64_t came, left;            /* the packets so far; those that have left, where bits are flipped */
     struct faults {
         struct fault_of_packet {
             uint64_t packet;
@@ -32,6 +32,11 @@ void set_jitter(struct passes *passes, int way, int first, int count, uint64_t s
 
 void set_copies(struct passes *passes, int way, uint32_t chance, uint64_t seed) {
     passes[way].chance = chance;
+    passes[way].seed = seed;
+}
+
+void set_corruption(struct passes *passes, int way, uint32_t chance, uint64_t seed) {
+    passes[way].of_corruption = chance;
     passes[way].seed = seed;
 }
 
@@ -60,4 +65,13 @@ int second_pipe(struct passes *passes, int way) {
 bool is_copied(struct passes *passes, int way) {
     struct passes *of_way = &passes[way];
     return of_way->chance && drawn_word(of_way->seed, OF_COPIES + (uint64_t)way, ++of_way->copies) < of_way->chance;
+}
+
+bool is_corrupted(struct passes *passes, int way) {
+    struct passes *of_way = &passes[way];
+    return of_way->of_corruption && drawn_word(of_way->seed, OF_CORRUPTION + (uint64_t)way, ++of_way->left) < of_way->of_corruption;
+}
+
+size_t flipped_bit(const struct passes *passes, int way, size_t bits) {
+    return drawn_word(passes[way].seed, OF_BITS + (uint64_t)way, passes[way].left) % bits;
 }

@@ -174,15 +174,19 @@ static bool read_jitter(struct host *host, const char *rest) {
     return true;
 }
 
-/* copies WAY CHANCE SEED: the chance that a packet enters twice. */
-static bool read_copies(struct host *host, const char *rest) {
+/* copies WAY CHANCE SEED: the chance that a packet enters twice; corruption WAY CHANCE SEED: that it leaves with a flipped bit. */
+static bool read_chance(struct host *host, const char *rest, void (*set)(struct passes *passes, int way, uint32_t chance, uint64_t seed)) {
     int way;
     uint32_t chance;
     uint64_t seed;
     if (!take_way(host, &rest, &way) || !take_chance(&rest, &chance) || !take_number(&rest, &seed)) return false;
-    set_copies(host->passes, way, chance, seed);
+    set(host->passes, way, chance, seed);
     return true;
 }
+
+static bool read_copies(struct host *host, const char *rest) { return read_chance(host, rest, set_copies); }
+
+static bool read_corruption(struct host *host, const char *rest) { return read_chance(host, rest, set_corruption); }
 
 /* switch WAY WAY ..: the ways that end at a switch of frames. */
 static bool read_switch(struct host *host, const char *rest) {
@@ -246,7 +250,7 @@ static bool read_one(struct host *host, const char *line) {
         {"realtime", read_realtime},      {"epoch ", read_epoch},   {"remark ", read_remark},     {"contents", read_contents},
         {"hold ", read_hold},             {"slots ", read_slots},   {"control ", read_control},   {"jitter ", read_jitter},
         {"copies ", read_copies},         {"main ", read_main},     {"simulated", read_simulated}, {"switch ", read_switch},
-        {"fault ", read_fault},           {"host ", read_host},
+        {"fault ", read_fault},           {"host ", read_host},     {"corruption ", read_corruption},
     };
     /* clang-format on */
     for (size_t i = 0; i < sizeof kinds / sizeof *kinds; i++)

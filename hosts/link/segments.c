@@ -76,3 +76,15 @@ size_t cut_next(struct whole *whole, unsigned char **packet) {
     whole->cut += data;
     return len;
 }
+
+void finish_checksum(unsigned char *packet, size_t len) {
+    struct virtio_net_hdr note;
+    unsigned long sum = 0;
+    memcpy(&note, packet - NOTE, NOTE);
+    size_t place = (size_t)note.csum_start + note.csum_offset;
+    memset(packet - NOTE, 0, NOTE);
+    if (!(note.flags & VIRTIO_NET_HDR_F_NEEDS_CSUM) || place + 2 > len) return;
+    for (size_t at = note.csum_start; at < len; at += 2) sum += at + 1 < len ? two(packet + at) : (unsigned)packet[at] << 8;
+    unsigned whole = ~folded(sum) & 0xffff;
+    put_two(packet + place, whole ? whole : 0xffff); /* to UDP 0 is no checksum */
+}

@@ -25,6 +25,9 @@ void begin_cutting(struct whole *whole, size_t len);
 /* The next packet, behind its note; it is good until the next call. Returns its length. */
 size_t cut_next(struct whole *whole, unsigned char **packet);
 
+/* Completes the checksum that was left to a card, so that the packet behind its note is as it goes over a wire. */
+void finish_checksum(unsigned char *packet, size_t len);
+
 /* Has the IP header tell the length of the packet, and a number that is higher by so much than it was. */
 void fit_ip(unsigned char *ip, size_t len, size_t number);
 

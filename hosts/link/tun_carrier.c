@@ -52,6 +52,7 @@ struct carrier tun_carrier(int count, const int *descriptors) {
     for (int way = 0; way < count; way++) fcntl(descriptors[way], F_SETFL, O_NONBLOCK);
     struct carrier carrier = {.ways = count, .polled = descriptors, .prefix = NOTE, .state = tuns, .receive = receive, .transmit = transmit};
     carrier.goes_on = goes_on;
+    carrier.finish = finish_checksum;
     carrier.joins = takes_udp_at_once() ? joins : joins_tcp;
     return carrier;
 }

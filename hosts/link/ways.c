@@ -161,6 +161,25 @@ static bool pass_again(struct host *host, struct packet *packet, uint64_t due) {
     return true;
 }
 
+/* Flips a bit behind the IP header, which checksums cover, where the seed draws it; a frame that isn't IP stays whole. */
+static void corrupt(struct host *host, struct packet *packet) {
+    unsigned char *bytes = packet->bytes + host->carrier.prefix;
+    struct dn_packet seen = {0};
+    struct payload payload;
+    struct headers headers;
+    if (!is_corrupted(host->passes, packet->way)) return;
+    look_at(host, packet->way, &(struct arrival){.bytes = bytes, .size = packet->size}, &payload, &seen, &headers);
+    size_t bits = payload.is_ip ? bits_behind_header(payload.bytes, payload.len) : 0, bit = 0;
+    if (bits) {
+        bit = flipped_bit(host->passes, packet->way, bits);
+        if (host->carrier.finish) host->carrier.finish(bytes, packet->size);
+        bytes[packet->size - 1 - bit / 8] ^= (unsigned char)(1 << bit % 8);
+        host->page->ways[packet->way].corrupted++;
+    }
+    uint64_t content = (payload.is_ip ? content_of : content_of_bytes)(payload.bytes, payload.len);
+    remark(host->transcript, "#,corrupt,%" PRIu64 ",%zu,%zu,%016" PRIx64 "\n", packet->number, bit, bits, content);
+}
+
 /* A packet is late from its due moment to the end of the write that sent it, and by what its first pass was late. */
 static void note_left(struct host *host, const struct packet *packet, uint64_t due, bool sent, uint64_t moment) {
     struct way *counts = &host->page->ways[packet->way];
@@ -221,9 +240,13 @@ void leave(struct host *host) {
     uint64_t count = collect(host->links, host->clock.last, &list);
     for (uint64_t i = 0; i < count; i++) {
         struct packet *packet = taken(host->held, list[i].packet);
-        if (!packet->len) let_go(host->held, packet);
-        else if (pass_again(host, packet, list[i].due)) continue;
-        else if (ends_at_switch(host->switches, packet->way)) arrive_at_switch(host, &leaving, packet, list[i].due);
+        if (!packet->len) {
+            let_go(host->held, packet);
+            continue;
+        }
+        if (pass_again(host, packet, list[i].due)) continue;
+        corrupt(host, packet);
+        if (ends_at_switch(host->switches, packet->way)) arrive_at_switch(host, &leaving, packet, list[i].due);
         else add_leaving(host, &leaving, packet, list[i].due);
     }
     send_on(host, &leaving);

@@ -64,9 +64,9 @@ static bool read_numbers(const char *at, int64_t *numbers, size_t count) {
 /* ---- remarks ---- */
 
 static void note_remark(struct history *history, const char *line, const char *end) {
-    static const char *const told[] = {"address", "seed",   "late",  "host",    "switch",   "outside",
+    static const char *const told[] = {"address", "seed",   "late",  "corrupt", "host",     "switch", "outside",
                                        "pipe",    "copies", "model", "refused", "rejected", "routes"};
-    enum { OF_HISTORIES = 3 };
+    enum { OF_HISTORIES = 4 };
     const char *content = behind(line, "#,content,");
     if (content && end - content == WIDTH_OF_CONTENT) {
         char digits[WIDTH_OF_CONTENT + 1] = {0};

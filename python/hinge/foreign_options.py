@@ -30,4 +30,4 @@ OPTIONS.update(dict.fromkeys(("--meter-all", "--verbose", "-v"), ("--watch", Fal
 OPTIONS.update(dict.fromkeys(("--internet", "--network"), ("--outside", False)))
 OPTIONS.update({f"--{way}link-queue": (f"--{way} '10Mbit/s queue 100'", True) for way in ("up", "down")})
 OF_LINK = """--rate --bandwidth --bw --speed --delay --latency --rtt --jitter --plr --packet-loss --drop --queue --target-bw
---duplicate""".split()
+--duplicate --corrupt""".split()

@@ -123,7 +123,7 @@ def option_word(kind: str, before: str, text: str, more: Sequence[str] = ()) -> 
     options, other = OPTIONS.get(kind, []), "queue" if kind == "pipe" else "pipe"
     takes = f"a {kind} takes {', '.join(options)}"
     if "jitter" in more:
-        takes = "write 10Mbit/s, 20ms, queue 100, loss 1%, jitter 5ms or duplicate 1%"
+        takes = "write 10Mbit/s, 20ms, queue 100, loss 1%, jitter 5ms, duplicate 1% or corrupt 1%"
     typed, equals, value = text.partition("=")
     own = typed if typed in (*options, *more) else OTHER_NAMES.get(typed.lower(), typed)
     if equals and own in (*options, *more):

@@ -14,7 +14,7 @@ from hingetulip_words.values import plain
 TABLE = """
 netem up; delay latency = delay:us spread:us !correlation; loss drop random = loss:% !correlation; gemodel = model:%; seed = -;
  rate = bw:tc !overhead !cellsize !celloverhead; duplicate = duplicate:% !correlation; limit = queue:packets;
- corrupt reorder gap slot ecn distribution state = !
+ corrupt = corrupt:% !correlation; reorder gap slot ecn distribution state = !
 tbf up; rate = bw:tc; limit = size:bytes; latency = lasting:us; burst buffer maxburst peakrate minburst mtu mpu overhead = !
 htb up; rate = bw:tc; ceil burst cburst prio quantum = !
 mahimahi both; mm-delay = >both delay:ms; mm-link = >both up-trace:file down-trace:file; uplink = >up loss:part;
@@ -23,16 +23,16 @@ mahimahi both; mm-delay = >both delay:ms; mm-link = >both up-trace:file down-tra
 comcast up; latency = delay:ms; target-bw = bw:kbit; packet-loss = loss:%; device = -;
  default-bw target-addr target-port target-proto = !value
 pumba up; time = delay:ms; jitter = spread:ms; rate = bw:tc; loss-percent = loss:%; duplicate-percent = duplicate:%; pg pb = model:%;
- corrupt-percent = !corrupt; duration interface = -; correlation distribution target tc-image = !value; loss-state = !
+ corrupt-percent = corrupt:%; duration interface = -; correlation distribution target tc-image = !value; loss-state = !
 toxiproxy down; u upstream = >up; d downstream = >down; latency = delay:ms; jitter = spread:ms; rate = bw:KB; toxicity = !value;
  slow_close timeout reset_peer slicer limit_data = !; bandwidth t type a attribute n toxicName =
 trickle both; d = >down bw:KiB; u = >up bw:KiB; L = >both delay:ms; s v = ; w t l = !value
 wondershaper both; a = -; d = >down bw:kbit; u = >up bw:kbit
 tcset up; rate = bw:bits; delay = delay:ms; delay-distro = spread:ms; loss = loss:%; duplicate = duplicate:%; incoming = >down;
- direction outgoing add change overwrite = ; corrupt reordering network port src-network src-port exclude-dst-network = !value
+ corrupt = corrupt:%; direction outgoing add change overwrite = ; reordering network port src-network src-port exclude-dst-network = !value
 mn both; bw = bw:mbit; delay = delay:us; jitter = spread:us; loss = loss:%; max_queue_size = queue:packets; link tc = ; use_htb = -
 ours both; rate bandwidth bw speed = bw:bits; delay latency = delay:ms; rtt = rtt:ms; jitter = jitter:ms; plr = loss:part;
- loss packet-loss drop = loss:%; limit queue = queue:packets; target-bw = bw:kbit; duplicate = duplicate:%
+ loss packet-loss drop = loss:%; limit queue = queue:packets; target-bw = bw:kbit; duplicate = duplicate:%; corrupt = corrupt:%
 """  # ours: what people try as options of `hinge run`
 WAYS, WORDS = dict[str, str](), dict[str, dict[str, list[str]]]()
 for row in TABLE.replace("\n ", " ").strip().splitlines():
@@ -174,7 +174,7 @@ class Meant:
             link.append(f"queue {of['queue']}")
         elif size:
             link.append(f"queue {min(1024, max(1, math.ceil(size / 1024)))}Kbytes")
-        return " ".join([*link, *(f"{name} {plain(of[name])}%" for name in ("loss", "duplicate") if name in of)])
+        return " ".join([*link, *(f"{name} {plain(of[name])}%" for name in ("loss", "duplicate", "corrupt") if name in of)])
 
     def options(self) -> list[str]:
         """Returns the options for `hinge run`; only a single way if the tool slows only that way."""

@@ -28,14 +28,15 @@ MOST_CORRECTIONS = 12  # of one text
 NO_WORDS = "no words of a link (example: 10Mbit/s 20ms)"
 MOST_JITTER = 1000  # ms: each has a pipe of its own
 CERTAIN = 2**31
-JITTER, DUPLICATE = "write jitter 5ms, a whole number from 1ms to 1000ms", "write duplicate 1%"
+JITTER = "write jitter 5ms, a whole number from 1ms to 1000ms"
+SHARES = ("duplicate", "corrupt")  # the words of a run with a percentage
 ENDED = {
     "bw": "bw 0",
     "delay": "delay 0",
     "queue": "queue 50",
     "plr": "loss 0%",
 }  # how a change says that a link has no such option
-MISSING = {"loss": "write loss 1%", "jitter": JITTER, "duplicate": DUPLICATE}
+MISSING = {"loss": "write loss 1%", "jitter": JITTER, **{word: f"write {word} 1%" for word in SHARES}}
 NAMES = {
     "bw": "bandwidth",
     "delay": "delay",
@@ -48,17 +49,17 @@ NAMES = {
 
 
 class Place(Enum):
-    """The place of a link's words. Jitter and duplicates aren't dummynet's: a run adds them from its start."""
+    """The place of a link's words. Jitter, duplicates and flipped bits aren't dummynet's: a run adds them from its start."""
 
     DUMMYNET = "dummynet"
     RUN = "run"
+    KERNELS = "kernels"  # a run with checksums, which discard a packet with a flipped bit
     CHANGE = "change"
 
 
-OF_RUNS = {
-    Place.RUN: Advice("no link reorders by a share", "write jitter 5ms, by which packets overtake each other"),
-    Place.CHANGE: Advice("of a whole run", "write it in --up, --down or a line `link`, from the beginning on"),
-}
+REORDER = Advice("no link reorders by a share", "write jitter 5ms, by which packets overtake each other")
+WITHOUT_CHECKSUMS = Advice("no packet has a checksum here, which would discard it", "write loss 1%")
+OF_RUNS = Advice("of a whole run", "write it in --up, --down or a line `link`, from the beginning on")
 
 
 class WordError(ValueError):
@@ -75,10 +76,12 @@ class WordError(ValueError):
 
 
 class Extra(NamedTuple):
-    """A run's additions to dummynet: the maximum random delay in ms, and the chance (of 2^31) that a packet is doubled."""
+    """A run's additions to dummynet: the maximum random delay in ms, and the chances (of 2^31) that a packet is doubled, or that one
+    of its bits is flipped."""
 
     jitter: int = 0
     duplicate: int = 0
+    corrupt: int = 0
 
     @property
     def pipes(self) -> int:
@@ -180,15 +183,17 @@ class Words:
         elif word == "loss":
             text = self.value_of(word)
             self.put("plr", self.part_of_one(text), f"{word} {text}")
-        elif word in ("jitter", "duplicate", "reorder") and self.place is not Place.DUMMYNET:
+        elif word in ("jitter", "reorder", *SHARES) and self.place is not Place.DUMMYNET:
             self.read_extra(word)
         else:
             raise self.refused(word)
 
     def read_extra(self, word: str) -> None:
         """Reads a word of a run's additions to dummynet."""
-        if word == "reorder" or self.place is not Place.RUN:
-            raise WordError(word, OF_RUNS[Place.RUN if word == "reorder" else self.place])
+        if word == "reorder" or self.place is Place.CHANGE:
+            raise WordError(word, REORDER if word == "reorder" else OF_RUNS)
+        if word == "corrupt" and self.place is Place.RUN:
+            raise WordError(word, WITHOUT_CHECKSUMS)
         text = self.value_of(word)
         typed = f"{word} {text}"
         self.note(word, typed)
@@ -199,8 +204,8 @@ class Words:
         else:
             share = PERCENT.fullmatch(text)
             if not share or float(share[1]) > 100:
-                raise WordError(typed, Advice("not a share of the packets", DUPLICATE))
-            self.extra = self.extra._replace(duplicate=round(float(share[1]) * CERTAIN / 100))
+                raise WordError(typed, Advice("not a share of the packets", MISSING[word]))
+            self.extra = self.extra._replace(**{word: round(float(share[1]) * CERTAIN / 100)})
 
     def part_of_one(self, text: str) -> str:
         """Returns a percentage as a fraction for `plr`."""
@@ -254,7 +259,7 @@ class Words:
             return WordError(f"{word} {following}".strip(), advice)
         if spread := re.fullmatch(AROUND, f"{self.before} {word} {following}"):
             return WordError(spread[0], Advice("a jitter adds to the delay", f"write {around(spread)}"))
-        if PERCENT.fullmatch(word) and following in ("loss", "duplicate"):
+        if PERCENT.fullmatch(word) and following in ("loss", *SHARES):
             return WordError(f"{word} {following}", Advice("the name stands before its value", f"write {following} {word}"))
         if name := word.lower() if word.lower() in PRESETS else NEAREST.get(word.lower()):
             right = f"write --preset {name}, or preset {name} in a net's line"
@@ -288,7 +293,7 @@ def read_link(text: str, kind: str = "pipe") -> dict[str, str]:
     return read_words(text, Place.DUMMYNET, kind).options
 
 
-def corrected(text: str, place: Place = Place.RUN, kind: str = "pipe") -> Optional[str]:
+def corrected(text: str, place: Place = Place.KERNELS, kind: str = "pipe") -> Optional[str]:
     """Returns the likely intended words: netem's converted, or the words with advised replacements."""
     text = " ".join(text.partition("#")[0].split())
     words = text.split()

@@ -73,7 +73,7 @@ class Drawn:
             self.ms(1, 40),
             *[f"loss {self.draw.randint(1, 30)}%"] * (not self.has_model),
         ]
-        more = [f"jitter {self.ms(1, 4)}", f"duplicate {self.draw.randint(1, 20)}%"]
+        more = [f"jitter {self.ms(1, 4)}", *(f"{word} {self.draw.randint(1, 20)}%" for word in ("duplicate", "corrupt"))]
         return " ".join([self.ms(41, 60)] * (not (kept := self.some(chosen))) + [*kept, *self.some(more)])
 
     def change(self) -> str:
@@ -238,6 +238,21 @@ class Transcript:
         *head, word, moment = self.lines[at].split(",")
         return self.changed(at, ",".join([*head, str(int(word) ^ 1 << 9), moment]))
 
+    def flips(self) -> list[int]:
+        """Flipped bits, where the seed draws those of all packets."""
+        return [] if self.undrawn else self.places(r"#,corrupt,\d+,\d+,[1-9]")
+
+    def no_flip(self, draw: random.Random) -> Optional[str]:
+        flips = self.flips()
+        return self.changed(draw.choice(flips)) if flips else None
+
+    def other_flip(self, draw: random.Random) -> Optional[str]:
+        flips = self.flips()
+        if not flips:
+            return None
+        kind, number, bit, bits, rest = self.lines[at := draw.choice(flips)].removeprefix("#,").split(",")
+        return self.changed(at, f"#,{kind},{number},{(int(bit) + 1) % int(bits)},{bits},{rest}")
+
     def acts(self) -> list[int]:
         """Those of hosts before the end, so long before it that their lack is seen."""
         end = self.places("#,ending") or [len(self.lines)]
@@ -286,7 +301,7 @@ class Transcript:
 CHANGES = [
     kind
     for name, kind in vars(Transcript).items()
-    if name.endswith(("_cut", "_delay", "_lost", "_word", "_act", "_length", "_order"))
+    if name.endswith(("_cut", "_delay", "_lost", "_word", "_flip", "_act", "_length", "_order"))
 ]
 
 

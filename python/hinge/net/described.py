@@ -61,7 +61,7 @@ class Described:
         ways = [link or ""] if back is None else [link or "", back]
         for way in ways:
             try:
-                link_of(way, "the link", Place.RUN)
+                link_of(way, "the link", Place.KERNELS)
             except Wrong as wrong:
                 raise NetError(str(wrong)) from None
         return " / ".join(ways) if any(ways) else ""

@@ -57,7 +57,7 @@ class NetPlan:
         self.seed, self.moments = seed, Draw(seed, OF_MOMENTS)
         for number, link in enumerate(net.links):
             for way, text in enumerate(link.ways):
-                words = link_of(text, link.statement.place, Place.RUN)
+                words = link_of(text, link.statement.place, Place.KERNELS)
                 self.configure(link.statement, words.line(2 * number + way + 1))
                 self.plan.words(2 * number + way, words)
         for add in (self.line, self.loss, self.faults, self.map, self.trace, self.at, self.nemesis):

@@ -91,7 +91,8 @@ def is_new(passages: Passages, choice: Mask) -> Mask:
     receipts = np.flatnonzero(passages.handed >= 0)
     both, packet = np.concatenate((receipts, np.flatnonzero(choice))), np.flatnonzero(choice)
     host = np.concatenate((passages.end[receipts], passages.start[packet]))
-    key = numbered(host, *passages.flow[:, both], passages.length[both], passages.content[both])
+    content = np.concatenate((passages.left[receipts], passages.content[packet]))
+    key = numbered(host, *passages.flow[:, both], passages.length[both], content)
     places: Mask = np.zeros(len(passages), bool)
     places[packet] = ~np.isin(key[len(receipts) :], key[: len(receipts)])
     return places
@@ -126,7 +127,8 @@ def handings(passages: Passages, ends: Ends) -> Handings:
     ways = [np.zeros(len(plain), np.int64), *(np.full(len(rows), pipe) for pipe, rows in by_way.items())]
     way = np.concatenate((*ways, np.where(ends.sent_for_many[packet], passages.pipe[packet], 0)))
     both, host = np.concatenate((receipts, packet)), np.concatenate((passages.end[receipts], passages.start[packet]))
-    key = numbered(host, way, *passages.flow[:, both], passages.length[both], passages.content[both])
+    content = np.concatenate((passages.left[receipts], passages.content[packet]))
+    key = numbered(host, way, *passages.flow[:, both], passages.length[both], content)
     return Handings(receipts, packet, key[: len(receipts)], key[len(receipts) :])
 
 

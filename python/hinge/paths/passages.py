@@ -138,6 +138,7 @@ class Passages:
     flow: Integers  # five columns: addresses, protocol, ports
     length: Integers
     content: Integers
+    left: Integers  # the content with which it left, which a flipped bit changes
     last: Integers  # 1 where no host may hand it on, else 0
     flooded: Integers  # 1 where a switch sends it by each other link, else 0
     pipe: Integers
@@ -197,12 +198,23 @@ class Reader:
         flow = [column[get("five_tuple")] for column in history.rows.tuples.columns()]
         is_own = (flow[2] == OUTAGE_PROTOCOL) & (get("content") == 0)
         pipe = self.pipes_of(path, history.rows.targets)[get("target")]
-        of_packet = (get(name) for name in ("length", "content", "last", "flooded"))
+        last, flooded, content = get("last"), get("flooded"), get("content")
+        of_packet = get("length"), content, self.contents_left(history, content), last, flooded
         places = get("line"), np.full(len(pipe), len(self.columns)), self.counts[-1] + 1 + np.arange(len(pipe))
         times = pipe, get("event"), get("at"), get("due"), submitted, handed, *places
         self.counts.append(self.counts[-1] + len(pipe))
         self.columns.append([column[~is_own] for column in (*flow, *of_packet, *times)])
         self.records += history.records
+
+    @staticmethod
+    def contents_left(history: Told, content: Integers) -> Integers:
+        """Returns the contents with which packets left: another one behind a flipped bit."""
+        remarks = [one.split(",") for one in remarks_of_kinds(history.remarks, [b"corrupt"])]
+        flips = {int(number): int(text, 16) for _, _, number, _, _, text in remarks}
+        left, packet = content.copy(), history.rows.columns["packet"]
+        rows = np.flatnonzero((history.rows.columns["event"] == OUT) & np.isin(packet, np.array([*flips], np.int64)))
+        left[rows] = np.array([flips[number] for number in packet[rows].tolist()], np.uint64).astype(np.int64)
+        return left
 
     def pipes_of(self, path: str, targets: Iterable[tuple[str, int]]) -> Integers:
         """Returns the pipe of each target. Fault: a pipe's hosts are unknown."""
@@ -213,12 +225,12 @@ class Reader:
 
     def passages(self) -> Passages:
         columns = [np.concatenate(parts) for parts in zip(*self.columns)]
-        length, content, last, flooded, pipe = columns[5:10]
+        length, content, left, last, flooded, pipe = columns[5:11]
         pipes = sorted(self.topology.pipes)
         ends = np.array([self.topology.pipes[number] for number in pipes], np.int64).reshape(-1, 2)
         place = np.searchsorted(np.array(pipes, np.int64), pipe)
         flow, start, end = np.stack(columns[:5]), ends[place, 0], ends[place, 1]
-        return Passages(self.topology, flow, length, content, last, flooded, pipe, start, end, *columns[10:])
+        return Passages(self.topology, flow, length, content, left, last, flooded, pipe, start, end, *columns[11:])
 
 
 class Transcript(NamedTuple):

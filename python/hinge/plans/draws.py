@@ -1,4 +1,4 @@
-"""The random words, copies and second passes of a way's packets: drawn from the seed, or from a model or chosen packets, as
+"""The random words, copies, second passes and flipped bits of a way's packets: drawn from the seed, or from a model or chosen packets, as
 docs/LINKS.md and docs/CAPTURE.md describe. Programs that run a link share no code with this module."""
 
 from __future__ import annotations
@@ -9,7 +9,7 @@ from typing import Iterator, Optional, Union
 
 LOST, NONE = 0, (1 << 31) - 1  # the word of a packet that is lost, and of one that isn't, beside a model
 MOST_LISTED = 10**6  # packets of a range
-OF_JITTER, OF_COPIES = 1 << 20, 2 << 20
+OF_JITTER, OF_COPIES, OF_CORRUPTION, OF_BITS = (number << 20 for number in range(1, 5))
 Chosen = dict[str, dict[int, int]]  # by kinds: packets of a way, and how late they are, in ms
 
 
@@ -36,10 +36,12 @@ class Draws:
     def __init__(self, seed: int, way: int, words: list[str], model: str, chosen: Optional[Chosen]) -> None:
         """Follows the link's words, and `gilbert:..` or `list:..`. Chosen packets decide about all losses."""
         self.seed, self.way, self.model, self.chosen = seed, way, model, chosen
-        self.copies = parts(Fraction(after(words, "duplicate").rstrip("%") or 0) / 100)
+        self.copies, self.corruption = (
+            parts(Fraction(after(words, name).rstrip("%") or 0) / 100) for name in ("duplicate", "corrupt")
+        )
         self.jitter = int(after(words, "jitter").removesuffix("ms") or 0)
         self.late = (chosen or {}).get("late", {})
-        self.jitters = count(1)
+        self.jitters, self.leaving = count(1), count(1)
         self.packets = self.drawn()
 
     def losses(self) -> Iterator[int]:
@@ -75,6 +77,15 @@ class Draws:
         """The delay of a packet's second pass, in ms."""
         drawn = word(self.seed, OF_JITTER + self.way, next(self.jitters)) % (self.jitter + 1) if self.jitter else 0
         return self.late.get(number, drawn)
+
+    def flipped(self) -> int:
+        """The number of the next packet that leaves if one of its bits is flipped, or 0."""
+        number = next(self.leaving)
+        return number if word(self.seed, OF_CORRUPTION + self.way, number) < self.corruption else 0
+
+    def bit(self, number: int, bits: int) -> int:
+        """The flipped bit of so many, or 0 without one."""
+        return word(self.seed, OF_BITS + self.way, number) % bits if bits else 0
 
 
 def listed(text: str) -> set[int]:

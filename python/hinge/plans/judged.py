@@ -40,6 +40,8 @@ class Judge(OfHosts):
         self.draws: dict[int, Draws] = {}  # by pipes
         self.passing: dict[str, tuple[Draws, int]] = {}  # packets with a second pass, and their numbers
         self.left: list[tuple[Draws, int]] = []  # those whose second pass is to come now
+        self.leaving: dict[str, Draws] = {}  # packets on their last pass, of which a bit may be flipped
+        self.flips: dict[str, tuple[Draws, int]] = {}  # those that left so, and their numbers among those of the way that left
         self.middles: dict[str, int] = {}  # where the jitter of a way begins, and the way's pipe
         self.way_of: dict[int, int] = {}  # the way's pipe of each pipe of a second pass
 
@@ -77,6 +79,8 @@ class Judge(OfHosts):
             self.configured(rest)
             return
         self.pass_to(int(rest.rpartition(",")[2]))
+        if word == "collect":
+            self.no_flips()
         if word == "submit":
             target, number, *packet = rest.split(",")
             self.submitted = (target, int(number)), self.now, packet
@@ -130,7 +134,7 @@ class Judge(OfHosts):
             if number not in self.meaning.traced and moment not in [one.moment for one in self.of[pipe].holds]:
                 self.fault(moment, f"an outage of {self.name(pipe)} isn't {self.meaning.said}'s")
         elif number > 2 * len(self.meaning.links):
-            self.passed_again(moment, pipe)
+            self.passed_again(moment, pipe, rest.split(",")[2] if outcome == "queued" else "")
         else:
             self.entered_pipe(target, pipe, moment, packet, rest.split(",")[2] if outcome == "queued" else "")
 
@@ -168,6 +172,8 @@ class Judge(OfHosts):
             )
         if number and draws.has_passes():
             self.passing[number] = draws, place
+        elif number and draws.corruption:
+            self.leaving[number] = draws
 
     @staticmethod
     def words_in_cuts(course: Course, moment: int, packet: list[str], word: int) -> set[int]:
@@ -180,7 +186,7 @@ class Judge(OfHosts):
         must_be_lost = True not in is_all and any(of_port == [{True}, {True}] for of_port in states)
         return {LOST} if must_be_lost else {LOST, word} if may_be_lost else {word}
 
-    def passed_again(self, moment: int, pipe: Target) -> None:
+    def passed_again(self, moment: int, pipe: Target, number: str) -> None:
         """The second pass of the packet that left first on its way has the drawn or chosen delay."""
         delay, way = self.delay(pipe) // MS, self.way_of.get(pipe[1])
         if way in self.meaning.undrawn or way is None and self.meaning.undrawn:
@@ -191,6 +197,8 @@ class Judge(OfHosts):
                 self.fault(moment, f"a packet is late by {delay} ms, for which no line asks")
             return
         draws, place = self.left.pop(first)
+        if number and draws.corruption:
+            self.leaving[number] = draws
         wanted = draws.delay(place)
         if delay != wanted:
             name = self.name(("pipe", draws.way + 1))
@@ -209,9 +217,25 @@ class Judge(OfHosts):
 
     def delivered(self, fields: list[str]) -> None:
         self.left += [self.passing.pop(fields[0])] if fields[0] in self.passing else []
+        if fields[0] in self.leaving and (place := (draws := self.leaving.pop(fields[0])).flipped()):
+            self.flips[fields[0]] = draws, place
         hold, delay = self.held.pop(fields[0], (None, 0))
         if hold and hold.target[1] not in self.shared() and int(fields[3]) < hold.end + min(delay, self.delay(hold.target)):
             self.fault(int(fields[3]), f"{hold.where} didn't hold: a packet left before its end")
+
+    def flipped(self, number: str, bit: int, bits: int) -> None:
+        """A packet left with a bit flipped, of which so many were there."""
+        draws, place = self.flips.pop(number, (None, 0))
+        if draws and bit != draws.bit(place, bits):
+            self.fault(self.now, f"bit {bit} of packet {number} was flipped: the seed draws {draws.bit(place, bits)} of {bits}")
+        elif not draws and not any("corrupt" in self.meaning.words.get(pipe, ()) for pipe in self.meaning.undrawn):
+            self.fault(self.now, f"a bit of packet {number} was flipped, for which no line asks")
+
+    def no_flips(self) -> None:
+        """All flipped bits have been told of the packets that have left."""
+        for number in self.flips:
+            self.fault(self.now, f"packet {number} left whole: the seed flips one of its bits")
+        self.flips.clear()
 
     def shared(self) -> set[int]:
         """Returns the pipes with queues or masks, which an outage that holds slows down."""
@@ -234,6 +258,9 @@ class Judge(OfHosts):
         elif kind == "act" and rest.split()[0] not in ("cut", "heal"):
             self.note_act(self.now + self.late_act, *rest.split()[:2])
             self.late_act = 0
+        elif kind == "corrupt":
+            number, bit, bits = rest.split(",")[:3]
+            self.flipped(number, int(bit), int(bits))
         elif kind == "seed":
             self.seed = int(rest)
         elif kind == "exec":

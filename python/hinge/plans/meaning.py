@@ -20,6 +20,7 @@ NEVER = 2**62
 RATE, DELAY = re.compile(r"\d+[kmg]?(bits?|bytes?)/s", re.I), re.compile(r"\d+ms")
 ENDS = {"kill": "restart", "crash": "restart", "stop": "cont"}
 PROTOCOLS = {"tcp": "6", "udp": "17"}
+OF_HOST = ("jitter", "duplicate", "corrupt")  # the words of a link that aren't dummynet's
 NEMESES = {"kill-one": "kill", "crash-one": "crash", "stop-one": "stop"}  # the others cut
 
 
@@ -167,7 +168,7 @@ class Meaning:
         """Returns the configuration line for a link's words."""
         result, before = f"pipe {pipe} config", ""
         for word in words:
-            if before in ("jitter", "duplicate") or word in ("loss", "jitter", "duplicate"):
+            if before in OF_HOST or word in ("loss", *OF_HOST):
                 pass  # the host's own; the transcript's remarks tell them
             elif before == "loss":
                 whole, digits = divmod(int(Fraction(word.rstrip("%")) * 10**16), 10**18)
@@ -177,7 +178,7 @@ class Meaning:
                 result += (
                     f" {'bw ' if alone and RATE.fullmatch(word) else 'delay ' if alone and DELAY.fullmatch(word) else ''}{word}"
                 )
-            before = "" if before in (*OPTIONS[:-1], "loss", "jitter", "duplicate") else word
+            before = "" if before in (*OPTIONS[:-1], "loss", *OF_HOST) else word
         return result
 
     def link(self, where: str, ends: tuple[str, str], words: list[str]) -> None:

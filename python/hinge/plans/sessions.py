@@ -62,6 +62,7 @@ def judged_by(path: str, files: list[str], read: Callable[[Remarks], Meaning], l
         for name in files:
             judge.read(transcript(name))
         judge.pass_to(judge.now)
+        judge.no_flips()
     except (ValueError, IndexError, KeyError, ArithmeticError) as error:
         raise Fault(f"{files[0]}: it can't be judged by {path}: {error}", ROWS) from None
     judge.judge_acts()

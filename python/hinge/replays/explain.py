@@ -156,7 +156,9 @@ class Explainer:
             before, parts_of_it = f"{before} {self.stayed_behind(place, behind)}", f"{parts_of_it} + {ms(behind)} behind another"
         further = self.order.further.get(place) if self.is_history else None
         goes_on = "" if further is None else f" It went on as row {further + 1}, for its jitter or a delay of its own."
-        return f"{before} In all it took {parts_of_it}, and it left at {seconds(due)}.{goes_on}"
+        flip = self.replay.flips.get(int(self.replay.packet[place]))
+        flipped = f" Bit {flip[0]} of {flip[1]:,} behind its header, counted from the last, was flipped as it left." if flip else ""
+        return f"{before} In all it took {parts_of_it}, and it left at {seconds(due)}.{flipped}{goes_on}"
 
     def stayed_behind(self, place: int, behind: int) -> str:
         """Describes a packet that doesn't leave before its predecessor on the link, though the delay became shorter."""

@@ -12,7 +12,7 @@ from hinge.outputs import refuse_inputs
 from hinge.replays.columns import HISTORY_COLUMNS, REPORT_COLUMNS, Change, read_told
 from hinge.replays.links import Configuration
 from hinge.replays.record_lines import is_history_file
-from hinge.replays.remarks import addresses_in, lateness_in, seed_in
+from hinge.replays.remarks import addresses_in, flips_in, lateness_in, seed_in
 from hinge.replays.replay import Replay, packets_of
 from hinge.replays.source import Source, of_reports
 
@@ -37,7 +37,8 @@ def read_history(path: str) -> Source:
         changes = spelled_by_program(path, history.changes)
         is_steady = history.first < 0 or all(place < history.first for place, _, _ in changes)
         cut = None if history.is_whole else history.last_line
-        replay = Replay(path, packets, **{name: columns[name] for name in (*REPORT_COLUMNS, "submitted", "handed")})
+        own = {name: columns[name] for name in (*REPORT_COLUMNS, "submitted", "handed")}
+        replay = Replay(path, packets, **own, flips=flips_in(history.remarks))
         known = seed_in(history.remarks), lateness_in(history.remarks)
         return Source(replay, (path,), Configuration(path, changes), is_steady, True, cut, *known)
 

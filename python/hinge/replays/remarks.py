@@ -1,4 +1,4 @@
-"""A live host's remarks in its transcript, which are records that begin with `#`: IPv6 addresses, the seed, and lateness."""
+"""A live host's remarks in its transcript, which are records that begin with `#`: IPv6 addresses, the seed, flipped bits, and lateness."""
 
 from __future__ import annotations
 
@@ -39,6 +39,12 @@ def addresses_in(data: bytes) -> dict[str, str]:
 def seed_in(data: bytes) -> Optional[str]:
     """Returns the seed of the host's draws, from the first remark `#,seed,N`."""
     return next((fields[0] for fields in remarks_of(data, b"seed") if fields[0].isdecimal()), None)
+
+
+def flips_in(data: bytes) -> dict[int, tuple[int, int]]:
+    """Returns each flipped bit by its packet, with the number of bits, from the remarks `#,corrupt,PACKET,BIT,BITS,CONTENT`."""
+    flips = (fields[:3] for fields in remarks_of(data, b"corrupt") if all(map(is_number, fields[:3])) and len(fields) == 4)
+    return {int(packet): (int(bit), int(bits)) for packet, bit, bits in flips if int(bits)}
 
 
 def lateness_in(data: bytes) -> Lateness:

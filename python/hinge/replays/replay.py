@@ -5,7 +5,7 @@ A column contains a number for each row of the packet file, in order: place i be
 
 from __future__ import annotations
 
-from dataclasses import dataclass
+from dataclasses import dataclass, field
 from functools import cached_property
 from typing import Mapping, Optional, Sequence
 
@@ -62,6 +62,7 @@ class Replay:
     due: Integers
     submitted: Integers  # the record of the call, and that of the delivery; in a report each comes behind all commands
     handed: Integers
+    flips: dict[int, tuple[int, int]] = field(default_factory=dict)  # by packets: the flipped bit from the last on, and of how many
 
     @cached_property
     def is_out(self) -> Mask:

@@ -52,6 +52,8 @@ class Source:
     def remarks(self) -> Iterator[str]:
         """Returns remarks for a table or a picture: rows without a target, and a history's remarks on its host."""
         yield from untargeted_lines(self.replay)
+        if self.replay.flips:
+            yield f"{several(len(self.replay.flips), 'packet')} left with a flipped bit"
         if self.lateness:
             yield from late_remark(self.most_late("late"), self.most_late("unread"))
 

@@ -30,6 +30,7 @@ COUNTERS = (
     ("no_target_packets", "packets", "no_target", "Packets whose pipe or queue was not there."),
     ("discarded_packets", "packets", "discarded", "Packets that the delete of a pipe or queue took away."),
     ("refused_packets", "packets", "refused", "Packets that the system refused behind the way."),
+    ("corrupted_packets", "packets", "corrupted", "Packets that left the way with a flipped bit."),
     ("system_dropped_packets", "packets", "system_drops", "Packets that the system dropped before the way."),
     ("not_ip_packets", "packets", "not_ip", "Packets that were none of IP."),
     ("stayed_seconds", "seconds", "stayed", "The sum of the times that sent packets were on the way."),

@@ -81,7 +81,7 @@ def add_link(parser: Parser) -> None:
         "--up",
         metavar="LINK",
         action=Joined,
-        help="towards the server, as '2Mbit/s 20ms queue 100 loss 1%% jitter 5ms duplicate 1%%': pipe 1",
+        help="towards the server, as '2Mbit/s 20ms queue 100 loss 1%% jitter 5ms duplicate 1%% corrupt 1%%': pipe 1",
     )
     link.add_argument("--down", metavar="LINK", action=Joined, help="from the server: pipe 2")
     link.add_argument("--link", metavar="LINK", action=BothWays, default=argparse.SUPPRESS, help="both ways")

@@ -10,7 +10,7 @@ import time
 BINS = 480  # of times in us: 16 for each power of two; page.h has the same
 HEAD = ("state", "moment", "wakes", "turns", "underway", "realtime", "parts")
 COUNTS = (
-    *("came", "came_bytes", "sent", "sent_bytes", "lost", "full", "no_target", "refused"),
+    *("came", "came_bytes", "sent", "sent_bytes", "lost", "full", "no_target", "refused", "corrupted"),
     *("not_ip", "turned_away", "dropped", "held", "discarded", "stayed", "late_most", "unread_most"),
 )
 KINDS = 4  # of bins: packets late and unread, and the time in which some were

@@ -241,6 +241,7 @@ class Plan:
         for way, (extra, pipes) in self.extras.items():
             items += [f"jitter {way} {pipes[0]} {max(1, extra.pipes)} {seed}"] if pipes else []
             items += [f"copies {way} {extra.duplicate} {seed}"] if extra.duplicate else []
+            items += [f"corruption {way} {extra.corrupt} {seed}"] if extra.corrupt else []
         return items
 
     def link(self, line: str, link: int = 0) -> None:

@@ -32,7 +32,7 @@ def own_link(text: str, option: str) -> Link:
     """Returns a link of the command line. Wrong: the text is no link, or empty."""
     if not bare(text):
         raise Wrong(f"{option} {text!r}: no words of a link (example: 10Mbit/s 20ms); an open one is 'bw 0'")
-    return link_of(text, option, Place.RUN)
+    return link_of(text, option, Place.KERNELS)
 
 
 def asking(option: str, lines: Iterable[Placed]) -> Iterator[Placed]:
@@ -117,7 +117,7 @@ def plan_of(options: LiveOptions, longest: int) -> Plan:
     preset = preset_of(options.preset)
     texts = (("up", options.up, preset and preset.up), ("down", options.down, preset and preset.down))
     for way, (option, text, preset_text) in enumerate(texts):
-        plan.words(way, link_of((preset_text or "") if text is None else text, f"--{option}", Place.RUN))
+        plan.words(way, link_of((preset_text or "") if text is None else text, f"--{option}", Place.KERNELS))
     for rule in options.map:
         plan.rule(rule)
     for model in options.loss:

@@ -70,7 +70,10 @@ def cautions(counts: Counts, drops: Sequence[int], plan: str, names: Sequence[st
     ] * bool(result)
 
 
-SELDOM = (("discarded", "discarded"), ("no_target", "had no pipe"), ("not_ip", "not IP"), ("turned_away", "turned away"))
+SELDOM = (
+    ("corrupted", "left with a flipped bit"),
+    *(("discarded", "discarded"), ("no_target", "had no pipe"), ("not_ip", "not IP"), ("turned_away", "turned away")),
+)
 
 
 def direction(name: str, way: Way, drops: int) -> str:

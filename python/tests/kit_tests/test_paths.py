@@ -153,6 +153,15 @@ class Paths(unittest.TestCase):
             text = re.sub(rf"(d,{numbers[place]},0,.*\n)", rf"\1#,refused,{numbers[place]}\n", text)
         assert self.told(text)[0] == 0
 
+    def test_a_packet_with_a_flipped_bit_goes_on_as_another(self) -> None:
+        """The router hands on what the first link's remark describes; of a packet without a remark that is a fault."""
+        packets = [Packet(place) for place in range(5)]
+        text = Net(lambda number, packet: good(number, packet._replace(content=77 if number == 3 else packet.content)), packets).text
+        assert faults_of(text) == {"came from nowhere": 1, "lost in a host": 1}
+        number = re.findall(r"c,0,submit,pipe,1,.*\nr,queued,\d+,0,(\d+)", text)[2]
+        remark = f"#,corrupt,{number},5,640,{77:016x}\n"
+        assert faults_of(re.sub(rf"(d,{number},0,.*\n)", rf"\1{remark}", text)) == {}
+
     def test_what_a_router_told_its_sender_of(self) -> None:
         """It forwards no packet from the third to the twelfth, and tells of the fourth. 10.8.0.3 as a number is 168296451."""
 

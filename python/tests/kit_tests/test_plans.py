@@ -7,7 +7,7 @@ from itertools import islice
 
 from with_folder import WithFolder
 
-from hinge.plans.draws import Draws
+from hinge.plans.draws import Draws, word
 from hinge.plans.judged import Judge
 from hinge.plans.sessions import judged, judged_run
 from hinge.command import Fault
@@ -134,6 +134,22 @@ at 1300ms stop a 5s
             ([*acts[:-1], end], "line 11: `at 1300ms stop a 5s`: `stop a` at 1.300000 s wasn't done"),
         ):
             self.assertIn(wanted, self.broken(begun + "".join(history) + at(4 * S), net))
+
+    def test_each_flipped_bit_is_the_seeds(self) -> None:
+        """At 100 % each packet that leaves has one, and none without the word."""
+        net = "host a exec a\nmain b exec b\nlink a b 5ms corrupt 100% / 5ms\n"
+        draws = Draws(7, 0, "corrupt 100%".split(), "", None)
+        sent = f"c,0,submit,pipe,1,10.8.0.1,10.8.0.2,17,1,2,36,{word(7, 0, 1)},50\nr,queued,50,0,0\n"
+        left = sent + "c,0,collect,5000050\nd,0,0,50,5000050\nr,collected,5000050,1\n"
+        bit, begun = draws.bit(draws.flipped(), 128), ENDS + "#,seed,7\n" + lines(*FIRST[:2])
+        for history, wanted in (
+            (f"{left}#,corrupt,0,{bit},128,0\n", ""),
+            (left, "packet 0 left whole: the seed flips one of its bits"),
+            (f"{left}#,corrupt,0,{bit ^ 1},128,0\n", f"bit {bit ^ 1} of packet 0 was flipped: the seed draws {bit} of 128"),
+            (f"{left}#,corrupt,1,{bit},128,0\n", "a bit of packet 1 was flipped, for which no line asks"),
+        ):
+            self.assertEqual(self.broken(begun + history, net), wanted)
+        self.assertIn("for which no line asks", self.broken(f"{begun}{left}#,corrupt,0,{bit},128,0\n", net.replace(" corrupt 100%", "")))
 
     def test_a_killed_host_sends_nothing(self) -> None:
         """But for what `hinge exec` began there, as transcripts of format 3 tell; and its kernel ends connections."""

@@ -23,7 +23,7 @@ from hinge.run.settings import LiveOptions
 from hinge.run.words import Wrong, link_of
 from hingetulip_words.link import CERTAIN, Extra, Place
 
-OF_JITTER, OF_COPIES = 1 << 20, 2 << 20  # the streams of random words, as passes.c has them
+OF_JITTER, OF_COPIES, OF_CORRUPTION, OF_BITS = (number << 20 for number in range(1, 5))  # the streams of random words, as passes.c has them
 COUNT, FIRST, STEP = 40, 60000, 60  # packets; the first second pipe; ms between their delays
 PIPES = "".join(f"line pipe {FIRST + place} config delay {STEP * place}\n" for place in range(5))
 
@@ -87,6 +87,23 @@ class OfPasses(unittest.TestCase):
         words = found(r"^c,0,submit,pipe,1,.*,(\d+),\d+$", link.end().history)
         assert words == [str(word(1, number)) for number in range(1, 2 * COUNT + 1)]
 
+    def test_a_bit_is_flipped_behind_the_last_pass(self) -> None:
+        """By the place among those that left, and not in a packet without a byte behind its header."""
+        link = Linked(f"{SEEDS}line pipe 1 config\nline pipe {FIRST} config\njitter 0 {FIRST} 1 7\ncorruption 0 {CERTAIN // 4} 7\n")
+        wanted, got = [udp(0)[:20]], list[bytes]()
+        for number in range(1, COUNT):
+            packet, bit = bytearray(udp(number)), word(7, number + 1, 1 + OF_BITS) % 640
+            packet[-1 - bit // 8] ^= (word(7, number + 1, 1 + OF_CORRUPTION) < CERTAIN // 4) << bit % 8
+            wanted.append(bytes(packet))
+        for number in range(COUNT):
+            link.near.send(udp(number)[: 20 if number == 0 else 100])
+            got.append(link.far.recv(1000))
+        assert got == wanted
+        flipped = sum(one != udp(number) for number, one in enumerate(wanted[1:], 1))
+        ended = link.end()
+        assert ended.counts.ways[0]["corrupted"] == flipped > 0
+        assert len(found(r"^#,corrupt,\d+,\d+,640,", ended.history)) == flipped
+
     def test_a_second_pipe_that_was_deleted(self) -> None:
         link = Linked(
             f"{SEEDS}line pipe 1 config delay 20\nline pipe {FIRST} config\njitter 0 {FIRST} 1 7\nat 0 pipe delete" f" {FIRST}\n"
@@ -97,7 +114,7 @@ class OfPasses(unittest.TestCase):
         assert (ended.counts.ways[0].underway, ended.counts.ways[0]["held"]) == (0, 0)
 
     def test_lines_that_are_none(self) -> None:
-        jitters = ("jitter 0 1", "jitter 2 60000 5 7", "jitter 0 0 5 7", "jitter 0 65530 7 7", "copies 0 1", "copies 5 1 1")
+        jitters = ("jitter 0 1", "jitter 2 60000 5 7", "jitter 0 0 5 7", "jitter 0 65530 7 7", "copies 0 1", "copies 5 1 1", "corruption 0 1")
         for line in (*jitters, "fault 0 1 1", "fault 2 1 1 1", "fault 0 3 1 1", "fault 0 2 1 0", "fault 0 2 1 65536"):
             ended = Linked(f"{SEEDS}{line}\n").ended()
             assert (ended.status, ended.said) == (3, f"hinge: {line}: no line of a plan\n")
@@ -111,8 +128,9 @@ class OfWords(unittest.TestCase):
             ("jitter 1000ms duplicate 100%", "pipe 1 config", Extra(1000, CERTAIN)),
             ("", "pipe 1 config", Extra()),
             ("duplicate 100%", "pipe 1 config", Extra(0, CERTAIN)),
+            ("corrupt 25%", "pipe 1 config", Extra(0, 0, CERTAIN // 4)),
         ):
-            link = link_of(text, "x", Place.RUN)
+            link = link_of(text, "x", Place.KERNELS)
             assert (link.line(1), link.extra) == (line, extra)
 
     def test_a_plan_has_a_pipe_for_each_delay(self) -> None:

@@ -12,6 +12,7 @@ import time
 import unittest
 from functools import partial
 
+from hinge.captures.random_words import word
 from linked import SEEDS, Linked, found, ip4, needs_host, stopped, until
 
 # struct virtio_net_hdr: flags, kind, headers' length, size, start and offset of the checksum
@@ -19,6 +20,7 @@ NOTE = struct.Struct("=BBHHHH")
 CHECKSUM, TCP4, TCP6, UDP, ECN = 1, 1, 4, 5, 0x80
 FIN, PUSH, ACK, ECHO, REDUCED = 1, 8, 16, 64, 128
 TCP_CHECKSUM = 16
+OF_BITS = 4 << 20  # the stream of random words, as passes.c has it
 TIMES = bytes([1, 1, 8, 10]) + bytes(range(8))  # a time stamp, as most packets have it
 ENDS = socket.inet_aton("10.8.0.1") + socket.inet_aton("10.8.0.2")
 ENDS_OF_6 = socket.inet_pton(socket.AF_INET6, "fd08::1") + socket.inet_pton(socket.AF_INET6, "fd08::2")
@@ -120,6 +122,25 @@ class OfSegments(unittest.TestCase):
         got, _ = self.through(sent, 7)
         cut = [noted(in_ipv4(at, ACK, data[at : at + 1500], 3 + at // 1500)) for at in (0, 1500)]
         self.assertEqual(got, [plain, small, *cut, small, odd, plain])
+
+
+    def test_a_flipped_bit_is_behind_a_whole_checksum(self) -> None:
+        """The card's part is done first, or a receiver would believe the checksum. An odd packet has a byte of 0 behind it."""
+        sent = [build(at, ACK, os.urandom(999 + at % 2), at) for at in range(20) for build in (in_ipv4, in_ipv6)]
+        link = Linked(f"{SEEDS}line pipe 1 config\ncorruption 0 {2**31} 9\n", carrier="tun")
+        for number, packet in enumerate(sent, 1):
+            link.near.send(noted(packet))
+            got, header = link.far.recv(70000), 24 if packet[0] >> 4 == 4 else 40
+            bits = 8 * (len(packet) - header)
+            bit = word(9, number, 1 + OF_BITS) % bits
+            whole = bytearray(got[10:])
+            whole[-1 - bit // 8] ^= 1 << bit % 8
+            pseudo = (ENDS if header == 24 else ENDS_OF_6) + struct.pack("!HH", 6, bits // 8)
+            ended = [bytes(whole[:place]) + bytes(whole[place + 2 :]) for place in (header + TCP_CHECKSUM,)]
+            assert (got[:10], ended[0]) == (bytes(10), packet[: header + TCP_CHECKSUM] + packet[header + TCP_CHECKSUM + 2 :])
+            assert summed(pseudo + whole[header:] + bytes(len(whole) % 2)) == 0xFFFF
+        ended = link.end()
+        assert (ended.counts.ways[0]["corrupted"], len(found("^#,corrupt,", ended.history))) == (len(sent), len(sent))
 
 
 bare_ipv4 = partial(in_ipv4, options=b"")

@@ -19,6 +19,41 @@ link r b 5Mbit/s 15ms queue 50
 link c r 20Mbit/s 5ms
 main c sh -c 'ping -q -c 3 -i 0.2 a; ping -q -c 3 -i 0.2 b; iperf3 -c b -t 1'
 """
+ENDS = """
+import hashlib, socket, sys
+DATA = bytes(range(251)) * 1195
+if sys.argv[1] == "stream":
+    with socket.create_server(("0.0.0.0", 5000)) as server, server.accept()[0] as near:
+        near.sendall(DATA)
+elif sys.argv[1] == "echo":
+    near = socket.socket(socket.AF_INET, socket.SOCK_DGRAM)
+    near.bind(("0.0.0.0", 9))
+    while True:
+        near.sendto(*near.recvfrom(2000))
+else:
+    with socket.create_connection(("b", 5000)) as near, near.makefile("rb") as file:
+        assert file.read() == DATA
+    near = socket.socket(socket.AF_INET, socket.SOCK_DGRAM)
+    near.settimeout(0.5)
+    came = 0
+    for number in range(100):
+        near.sendto(text := b"%d" % number * 100, ("c", 9))
+        try:
+            assert near.recv(2000) == text
+            came += 1
+        except TimeoutError:
+            pass
+    print(came)
+"""
+CORRUPTED = f"""
+host b {sys.executable} ends.py stream
+host c {sys.executable} ends.py echo
+router r
+main a {sys.executable} ends.py client; grep -h ^Udp: /proc/net/snmp
+switch s b c r 1ms corrupt 2%
+link r a 20Mbit/s 2ms jitter 1ms corrupt 2%
+wait b port 5000
+"""
 CLOCKS = f"""
 host o {sys.executable} looks.py
 main m {sys.executable} looks.py; sleep 1
@@ -150,6 +185,19 @@ class OfFaults(Simulated):
 
 @needs("iperf3", "ping")
 class OfTheLinks(Simulated):
+    def test_flipped_bits_are_the_same_twice(self) -> None:
+        """Checksums discard what has one: a stream arrives whole, and some datagrams nowhere, through a switch and a router."""
+        (self.folder / "ends.py").write_text(ENDS)
+        done = self.net(CORRUPTED, 3, "--twice")
+        self.assertIn("two runs by seed 3 are the same: ", done.stderr)
+        came, names, counts = done.stdout.splitlines()
+        errors = dict(zip(names.split(), counts.split()))["InCsumErrors"]
+        self.assertTrue(0 < int(came) < 100 and int(errors) > 0, done.stdout)
+        ways = json.loads((self.folder / "session" / "net.json").read_text())["ways"]
+        self.assertEqual(sum(way["corrupted"] for way in ways), (self.folder / "session" / "net.history").read_text().count("#,corrupt,"))
+        looked = self.hinge("look", "session")
+        self.assertEqual((looked.returncode, looked.stdout.splitlines()[-1]), (0, "lawful between links"), looked.stdout)
+
     def test_no_program_runs_before_them(self) -> None:
         """b answers each of two connections, and what c sends to that is on the link at once. Linux has a server that
         lets others run before one with priority, for 50 ms of a second: iperf3 would spin for 5 ms before the link.
