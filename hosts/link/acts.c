@@ -14,8 +14,9 @@
 
 struct place {
     char *name;
-    int freeze, kill; /* descriptors */
-    uint64_t *stops;  /* the numbers of those that go on */
+    int freeze, kill, events; /* descriptors */
+    bool was_empty;           /* when the last stop or kill came */
+    uint64_t *stops;          /* the numbers of those that go on */
     size_t count;
     uint64_t done;
 };
@@ -40,7 +41,9 @@ bool add_host(struct acts *acts, const char *rest) {
     struct place place = {.name = strndup(rest, len)};
     rest += len + (rest[len] == ' ');
     if (!place.name) fail("the plan", "out of memory");
-    if (!take_int(&rest, 0, INT_MAX, &place.freeze) || !take_int(&rest, 0, INT_MAX, &place.kill) || *rest) return false;
+    if (!take_int(&rest, 0, INT_MAX, &place.freeze) || !take_int(&rest, 0, INT_MAX, &place.kill) || !take_int(&rest, 0, INT_MAX, &place.events) ||
+        *rest)
+        return false;
     acts->places = grown(acts->places, (acts->count + 1) * sizeof *acts->places);
     acts->places[acts->count++] = place;
     return true;
@@ -93,9 +96,17 @@ static bool ends_stop(struct place *place, uint64_t number) {
 
 static bool put(int descriptor, char digit) { return write(descriptor, &digit, 1) == 1; }
 
+static bool is_empty(const struct place *place) {
+    char text[256];
+    ssize_t len = pread(place->events, text, sizeof text - 1, 0);
+    text[len > 0 ? len : 0] = 0;
+    return strstr(text, "populated 0") != NULL;
+}
+
 /* What is killed stands still first, so that none of it sees the end of another. */
 static bool do_act(const struct act *act) {
     struct place *place = act->place;
+    place->was_empty = *act->words != 'c' && is_empty(place);
     if (*act->words == 's') begin_stop(place, act->number);
     if (*act->words != 'k') return put(place->freeze, *act->words == 's' ? '1' : '0');
     bool is_done = put(place->freeze, '1') && put(place->kill, '1');
@@ -116,4 +127,9 @@ const char *make_change(struct host *host, const char *line, uint64_t due) {
 uint64_t last_act(const struct acts *acts, const char *name) {
     const struct place *place = named(acts, name, strlen(name));
     return place ? place->done : 0;
+}
+
+bool met_nothing(const struct acts *acts, const char *name) {
+    const struct place *place = named(acts, name, strlen(name));
+    return place && place->was_empty;
 }

@@ -14,7 +14,7 @@ struct host;
 
 struct acts *new_acts(void);
 
-/* Takes a host, as NAME FREEZE KILL: the descriptors of cgroup.freeze and cgroup.kill. */
+/* Takes a host, as NAME FREEZE KILL EVENTS: the descriptors of cgroup.freeze, cgroup.kill and cgroup.events. */
 bool add_host(struct acts *acts, const char *rest);
 
 /* What is wrong with a line of any kind, or NULL. Nothing changes. */
@@ -25,3 +25,6 @@ const char *make_change(struct host *host, const char *line, uint64_t due);
 
 /* When the last act on a host was done; 0 where none was. */
 uint64_t last_act(const struct acts *acts, const char *name);
+
+/* Whether nothing ran on a host when the last stop or kill came. */
+bool met_nothing(const struct acts *acts, const char *name);

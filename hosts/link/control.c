@@ -61,7 +61,8 @@ static const char *taken_line(struct host *host, const char *text, uint64_t mome
     }
     if (strncmp(text, "at ", strlen("at ")) == 0) return obey_later(host, text + strlen("at "), moment, answer);
     if (strncmp(text, "acted ", strlen("acted ")) == 0) {
-        snprintf(answer->both, sizeof answer->both, "%" PRIu64, last_act(host->acts, text + strlen("acted ")));
+        const char *name = text + strlen("acted ");
+        snprintf(answer->both, sizeof answer->both, "%" PRIu64 "%s", last_act(host->acts, name), met_nothing(host->acts, name) ? " nothing" : "");
         answer->line = answer->both;
         return NULL;
     }

@@ -230,7 +230,7 @@ static bool read_remark(struct host *host, const char *rest) {
     return true;
 }
 
-/* host NAME FREEZE KILL: the descriptors of its cgroup's files, for acts. */
+/* host NAME FREEZE KILL EVENTS: the descriptors of its cgroup's files, for acts. */
 static bool read_host(struct host *host, const char *rest) { return add_host(host->acts, rest); }
 
 /* control DESCRIPTOR: where lines come from while packets pass. */

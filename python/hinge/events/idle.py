@@ -6,9 +6,10 @@ from __future__ import annotations
 
 from bisect import bisect_left
 from collections import defaultdict
-from typing import Iterator, NamedTuple, Sequence, Tuple, Union
+from typing import NamedTuple, Sequence, Tuple, Union
 
 from hinge.events.kinds import HoldingOutage, TimedEvent, is_end
+from hinge.run.words import LAST_MOMENT
 
 GONE_ON = {"kill": ("kill", "crash"), "crash": ("crash",), "stop": ("stop",), "cut": ("cut",), "hold": ("hold",)}
 Key = Tuple[bool, str, Union[int, str]]  # the base, and the kind of a fault of a way or a host
@@ -50,36 +51,39 @@ class Faults:
         ends = self.ends[of_main, event.ending, one]
         behind = ends[bisect_left(ends, (begin, place)) :]
         first = [end for end, other in behind if is_end(self.events[other].event, event)][:1]
-        end = min([begin + event.length, *first])
+        end = min([begin + event.length, LAST_MOMENT, *first])
         self.spans[of_main, kind_of(self.events[place]), one].append(Span(begin, place, end))
 
-    def around(self, place: int, kinds: Sequence[str]) -> Iterator[int]:
-        """Yields the places of faults of these kinds that begin before a fault and last until its end, for each of its ways or its
-        host; stops at the first way without such a fault."""
-        of_main, own = self.events[place].moment.of_main, kind_of(self.events[place])
+    def covering(self, place: int, kinds: Sequence[str], idle: set[int]) -> list[int]:
+        """Returns the places of other faults of these kinds that together last as long as a fault, for each of its ways or its host;
+        nothing if one way has none. Idle faults cover nothing."""
+        of_main, own, result = self.events[place].moment.of_main, kind_of(self.events[place]), list[int]()
         for one in self.events[place].event.of:
-            span = next(span for span in self.spans[of_main, own, one] if span.place == place)
-            others = (other for kind in kinds for other in self.spans[of_main, kind, one])
-            found = [other.place for other in others if other[:2] < span[:2] and span.end <= other.end]
-            if not found:
-                return
-            yield found[0]
+            _, _, end = span = next(span for span in self.spans[of_main, own, one] if span.place == place)
+            reach, found = span.begin, list[int]()
+            for other in sorted(other for kind in kinds for other in self.spans[of_main, kind, one]):
+                if other.place not in {place, *idle} and other.begin < reach + (not found) and other.end > reach < end:
+                    reach = other.end
+                    found.append(other.place)
+            if reach < end:
+                return []
+            result += found
+        return result
 
 
-def idle_events(events: Sequence[TimedEvent], is_open: bool) -> "Iterator[tuple[TimedEvent, TimedEvent]]":
-    """Yields each event without effect, with the ongoing or equal event. If the net is open to `hinge exec`, something may run on a
+def idle_events(events: Sequence[TimedEvent], is_open: bool) -> "list[tuple[TimedEvent, TimedEvent]]":
+    """Returns each event without effect, with an ongoing or equal event. If the net is open to `hinge exec`, something may run on a
     dead host, so a stop changes that."""
-    faults, before = Faults(events), dict[str, TimedEvent]()
+    faults, before = Faults(events), dict[str, int]()
+    why = dict[int, int]()  # by places of idle events, the latest first, so that the first of two equal faults counts
     for place, timed in enumerate(events):
-        same = before.setdefault(f"{timed.moment.of_main} {timed.moment.ns} {timed.event.words}", timed)
-        kind = kind_of(timed)
-        tries = (
-            [("cut", kind) if timed.event.port else GONE_ON[kind], *[GONE_ON["kill"]] * (kind == "stop" and not is_open)]
-            if kind
-            else []
-        )
-        found = [around for kinds in tries for around in [[*faults.around(place, kinds)]] if len(around) == len(timed.event.of)]
-        if same is not timed:
-            yield timed, same
-        elif found:
-            yield timed, events[found[0][0]]
+        first = before.setdefault(f"{timed.moment.of_main} {timed.moment.ns} {timed.event.words}", place)
+        why |= {place: first} if first != place else {}
+    for place in sorted(range(len(events)), key=lambda place: (events[place].moment.ns, place), reverse=True):
+        kind = kind_of(events[place])
+        if kind and place not in why:
+            kinds = ("cut", kind) if events[place].event.port else GONE_ON[kind]
+            kinds += GONE_ON["kill"] if kind == "stop" and not is_open else ()
+            found = faults.covering(place, kinds, {*why})
+            why |= {place: found[0]} if found else {}
+    return [(events[place], events[why[place]]) for place in sorted(why)]

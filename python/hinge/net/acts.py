@@ -28,6 +28,7 @@ class Done(NamedTuple):
 
     moment: int  # ns
     act: Act
+    is_idle: bool = False  # a fault of a host whose command had ended by itself, so that nothing ran there
 
 
 def line_of(act: Act) -> str:
@@ -110,11 +111,13 @@ class Acts(Ticker):
         lines: HostLines,
         do: Callable[[Act], Callable[[], None]],
         is_of_links: Callable[[Act], bool],
+        has_nothing: Callable[[str], bool],
         beside: Optional[Ticker] = None,
     ) -> None:
         """`do` carries out an act, except the links' part, and returns the work that remains after its report. Another thread may
         tick, too."""
         self.planned, self.lines, self.do_act, self.is_of_links, self.beside = acts, lines, do, is_of_links, beside
+        self.has_nothing = has_nothing
         self.pending: list[tuple[float, Act]] = []  # by the monotonic clock
         self.asked: queue.SimpleQueue[tuple[list[Act], queue.SimpleQueue[Done]]] = queue.SimpleQueue()
         self.done: list[Done] = []
@@ -159,11 +162,14 @@ class Acts(Ticker):
             self.add(acts[1:], acts[0].moment.ns)
 
     def carry_out(self, act: Act) -> Done:
+        may_be_idle = act.word in ENDS and not self.goes_on(act.host, "restart")
         if self.is_held(act):
             return Done(act.moment.ns, act)
         self.finish(act.host)
+        is_idle = may_be_idle and not self.is_of_links(act) and self.has_nothing(act.host)
         rest = self.do_act(act)
-        self.done.append(Done(self.moment_of(act), act))
+        moment, met_nothing = self.told_of(act)
+        self.done.append(Done(moment, act, is_idle or may_be_idle and met_nothing))
         self.rests.append((act.host, rest))
         return self.done[-1]
 
@@ -172,12 +178,14 @@ class Acts(Ticker):
         place = max(place for place, one in enumerate(self.done) if one.act.host == host)
         self.done[place] = self.done[place]._replace(moment=moment)
 
-    def moment_of(self, act: Act) -> int:
-        """Returns the moment of an act in ns on the links' clock. The links report the moments of their acts."""
+    def told_of(self, act: Act) -> tuple[int, bool]:
+        """Returns the moment of an act in ns on the links' clock. The links report the moments of their acts, and whether a fault found
+        no process."""
         if not self.is_of_links(act):
-            return self.lines.ask(f"line remark act,{act.word} {act.host}").moment
+            return self.lines.ask(f"line remark act,{act.word} {act.host}").moment, False
         answer = self.lines.ask(f"acted {act.host}")
-        return int(answer.line or answer.moment)
+        moment, _, nothing = (answer.line or str(answer.moment)).partition(" ")
+        return int(moment), bool(nothing)
 
     def finish(self, host: str) -> None:
         """Completes the acts on a host."""

@@ -15,7 +15,7 @@ from hinge.border.terminal import silence
 from hinge.command import say
 from hinge.events.kinds import Act
 from hinge.net.acts import Acts, GroupProcesses, HostProcesses, line_of, sees_own_processes
-from hinge.run.cgroups import FILES, Cgroup, Cgroups
+from hinge.run.cgroups import OF_LINKS, Cgroups
 from hinge.net.clocks import number_of, set_clock, take_clock
 from hinge.net.description import Wait
 from hinge.net.disks import Disks
@@ -66,18 +66,18 @@ class NetInside:
         self.cgroups, self.waits = Cgroups(), Waits()
         hosts = [*self.rooms.network] if self.options.control else list(dict.fromkeys(act.host for act in order.made.acts))
         self.linked = {name: cgroup for name in hosts for cgroup in [self.cgroups.of(name)] if cgroup}  # whose acts are the links'
-        descriptors = {name: (cgroup.descriptors[FILES[0]], cgroup.descriptors[FILES[1]]) for name, cgroup in self.linked.items()}
+        descriptors = {name: [cgroup.descriptors[file] for file in OF_LINKS] for name, cgroup in self.linked.items()}
         self.links_plan = LinksPlan(order, self.rooms.ends, descriptors)
         self.is_of_links = self.links_plan.is_of_links
         ticker = None if is_simulated() else Ticker(self.look_at_waits)
-        self.acts = Acts(order.made.acts, self.lines, self.act, self.is_of_links, ticker)
+        self.acts = Acts(order.made.acts, self.lines, self.act, self.is_of_links, self.has_nothing, ticker)
         self.main_moment: Optional[int] = None  # ns, of the links
 
     def started_links(self) -> tuple[Link, Optional[int]]:
         """Starts the process that hosts all links. Acts on hosts don't affect it. Returns the links' status too, if they ended at
         once."""
         enter(self.network)
-        of_hosts = [cgroup.descriptors[file] for cgroup in self.linked.values() for file in FILES[:2]]
+        of_hosts = [cgroup.descriptors[file] for cgroup in self.linked.values() for file in OF_LINKS]
         descriptors, words = [*self.rooms.descriptors(), *of_hosts], ["tun", *map(str, self.rooms.interfaces)]
         more = descriptors, self.links_plan.text(), self.order.mask, opened_control(self), self.lines
         link = Link(self.processes, self.page, words, *more)
@@ -86,6 +86,10 @@ class NetInside:
     def look_at_waits(self, _: float) -> None:
         running = {name: process for name, process in self.started.items() if process not in self.processes.ended}
         self.waits.look(self.cgroups.made, running)
+
+    def has_nothing(self, host: str) -> bool:
+        """Returns whether no process runs on a host."""
+        return self.linked[host].has_nothing() if host in self.linked else not self.on_host(host).all()
 
     def act(self, act: Act) -> Callable[[], None]:
         """Carries out an act on a host's processes or clock, except the links' part. Returns the remaining work, which may wait."""

@@ -118,6 +118,13 @@ def status_without(missing: str) -> int:
     return NOT_FOUND if f"ended with {NOT_FOUND}" in missing else VOID
 
 
+def of_nothing(order: NetOrder, acts: Sequence[Done]) -> Iterator[tuple[str, bool]]:
+    """Yields the faults of hosts on which nothing ran, and whether a seed drew each. A stop keeps `hinge exec` from an open net's host."""
+    drawn = {(one.moment, one.event.word, one.event.of) for one in order.made.events if one.is_drawn}
+    for act in (one.act for one in acts if one.is_idle and not (one.act.word == "stop" and order.options.control)):
+        yield f"`{act.word} {act.host}`", (act.moment, act.word, (act.host,)) in drawn
+
+
 def report(order: NetOrder, ran: NetRan, waits: Optional[Waits], tell: Callable[[str], None] = say) -> int:
     """Reports the run, and writes the file that --json names; returns the status, or that for a void run. In simulated time nothing
     waits."""
@@ -130,7 +137,9 @@ def report(order: NetOrder, ran: NetRan, waits: Optional[Waits], tell: Callable[
     moments = [(moment_of(one, ran.main) or 0, str(one)) for one in order.made.events if not one.is_drawn]
     plan, end = order.made.plan, counts["moment"]
     idle = [one for one in idle_events(order.made.events, bool(order.options.control)) if (moment_of(one[0], ran.main) or 0) <= end]
-    awaited = Awaited([*moments, *plan.moments], plan.chosen, idle, plan.rules, order.made.unruled())
+    awaited = Awaited(
+        [*moments, *plan.moments], plan.chosen, idle, plan.rules, order.made.unruled(), [*of_nothing(order, ran.acts)]
+    )
     faults, warnings = verdict(counts, ran.drops, order.plan, order.limit, of_programs, names, awaited, waits is not None)
     faults = [ran.missing] * bool(ran.missing) + faults
     lines = [

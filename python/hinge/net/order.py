@@ -19,7 +19,7 @@ from hinge.run.settings import NetOptions
 from hinge.run.words import Wrong, duration
 
 BY_LINKS = ("stop", "cont", "kill")  # the acts that are a write each, on hosts with cgroups
-Linked = Mapping[str, "tuple[int, int]"]  # the descriptors that freeze and that kill a host, whose acts are the links'
+Linked = Mapping[str, "list[int]"]  # the descriptors of a host's cgroup, whose acts are the links'
 
 
 class NetOrder(NamedTuple):
@@ -75,7 +75,7 @@ class LinksPlan:
             for act in self.order.made.acts
             if self.is_of_links(act)
         ]
-        return [*(f"host {name} {freeze} {kill}" for name, (freeze, kill) in self.linked.items()), *lines]
+        return [*(f"host {name} {' '.join(map(str, files))}" for name, files in self.linked.items()), *lines]
 
     def act_remarks(self) -> list[str]:
         """Returns remarks for the scheduled cuts and heals; other acts are recorded when they happen."""

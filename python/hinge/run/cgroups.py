@@ -20,7 +20,8 @@ from hinge.run.system import write
 
 MOUNT = re.compile(r"^\d+ \d+ \S+ (\S+) (\S+) .* - cgroup2 ", re.MULTILINE)  # what is mounted, and where
 PATIENCE, POLL = 2.0, 0.001  # s
-FILES = ("cgroup.freeze", "cgroup.kill", "cgroup.procs")  # in which the links and `hinge exec` write
+OF_LINKS = ("cgroup.freeze", "cgroup.kill", "cgroup.events")  # the files by which the links act
+FILES = (*OF_LINKS, "cgroup.procs")  # and that in which `hinge exec` writes
 NAME = re.compile("hinge-([0-9a-f]{12})[0-9a-f]{8}-(.*)")  # by which a cgroup is the kit's: a number, its checksum, and a host
 
 
@@ -47,7 +48,7 @@ class Cgroup:
     def __init__(self, folder: Path) -> None:
         self.folder, self.lock = folder, locked(folder)
         self.tells = (folder / "cpu.pressure").exists()
-        self.descriptors = {name: os.open(folder / name, os.O_WRONLY) for name in FILES}
+        self.descriptors = {name: os.open(folder / name, os.O_RDONLY if name == "cgroup.events" else os.O_WRONLY) for name in FILES}
 
     def write(self, name: str, text: str) -> bool:
         """Returns whether the kernel accepted the text."""
@@ -66,6 +67,10 @@ class Cgroup:
             time.sleep(POLL)
         return True
 
+    def has_nothing(self) -> bool:
+        """Returns whether no process is there now."""
+        return "populated 0" in read_text(self.folder / "cgroup.events").splitlines()
+
     def hold(self) -> bool:
         """Freezes all processes. Each stops when the kernel has finished its current call."""
         return self.write("cgroup.freeze", "1")
@@ -79,7 +84,7 @@ class Cgroup:
 
     def empty(self) -> None:
         """Kills all processes, frozen, so that none sees another's end. Later processes stay frozen."""
-        if "populated 0" in read_text(self.folder / "cgroup.events").splitlines():
+        if self.has_nothing():
             return  # each write would hold up the links' acts
         was_held = read_text(self.folder / "cgroup.freeze").strip()
         if self.hold() and self.kill():

@@ -17,6 +17,7 @@ if TYPE_CHECKING:
 
 WITHOUT_LIMIT = 20.0  # ms
 MOST_TOLD = 4  # hosts of which it is told
+NOTHING_RAN = "changed nothing, as the host's command had ended by itself"
 PART = 0.01  # of the time: less is told of no packet either
 
 
@@ -49,6 +50,7 @@ class Awaited(NamedTuple):
     idle: Sequence[tuple[TimedEvent, TimedEvent]] = ()  # events that change nothing, and why
     rules: Sequence[str] = ()  # the words of each line of a rule, in the order of the plan
     queues: Sequence[str] = ()  # those to which no rule sends a packet
+    faults: Sequence[tuple[str, bool]] = ()  # of hosts on which nothing ran, and whether a seed drew each
 
     def missed(self, counts: Counts, names: Sequence[str]) -> Iterator[str]:
         """Returns the requested events that never happened, or had no effect."""
@@ -57,10 +59,12 @@ class Awaited(NamedTuple):
         yield from some("not yet when the run ended", late)
         yield from some("chosen, but never came", packets)
         yield from some("changed nothing", [f"`{one}`, beside `{other}`" for one, other in self.idle if not one.is_drawn])
+        yield from some(NOTHING_RAN, [words for words, is_drawn in self.faults if not is_drawn])
 
     def remarks(self, counts: Counts) -> Iterator[str]:
         """Returns remarks that aren't mistakes: drawn faults without effect, and rules and queues that no packet reached."""
         yield from some("changed nothing", [f"`{one}`, beside `{other}`" for one, other in self.idle if one.is_drawn])
+        yield from some(NOTHING_RAN, [words for words, is_drawn in self.faults if is_drawn])
         met = {text for place, text in enumerate(self.rules) if counts.has_met(place)}
         yield from some("met no packet", [f"`{text}`" for text in dict.fromkeys(self.rules) if text not in met])
         yield from some("no rule names", self.queues)

@@ -77,7 +77,8 @@ class OfPlans(unittest.TestCase):
             self.addCleanup(os.close, end)
         words = "stop a 1,stop a 2,cont a 2,kill a 3,cont a 2,cont a 1,kill a 4,stop a 5,stop a 6,cont a 0,cont a 6".split(",")
         freeze, kill = ends["freeze"][1], ends["kill"][1]
-        plan = f"host a {freeze} {kill}\n" + "".join(f"at {place} act {one}\n" for place, one in enumerate(words, 1))
+        host = f"host a {freeze} {kill} {freeze}\n"
+        plan = host + "".join(f"at {place} act {one}\n" for place, one in enumerate(words, 1))
         link = Linked(f"{plan}at 9 cut 1 1\nat 30000000 remark end\n", descriptors=[freeze, kill])
         until(lambda: link.page.read()["moment"] >= 30_000_000)
         ended = link.end()
@@ -86,8 +87,8 @@ class OfPlans(unittest.TestCase):
         stops, kills, conts = ["stop a"], ["kill a"], ["cont a"]
         assert found("^#,act,(.*)", ended.history) == stops * 2 + kills + conts + kills + stops * 2 + conts
         assert len(found(r"^#,late-act,\d+\n#,act,", ended.history)) == 8
-        for line in ("act stop b 1", "act hold a 1", "act stop a", "act stop a 1 2", "host b 3", "host b 3 4 5"):
-            assert Linked(f"host a {freeze} {kill}\n{'' if line[0] == 'h' else 'at 1 '}{line}\n").ended().status == 3, line
+        for line in ("act stop b 1", "act hold a 1", "act stop a", "act stop a 1 2", "host b 3 4", "host b 3 4 5 6"):
+            assert Linked(f"{host}{'' if line[0] == 'h' else 'at 1 '}{line}\n").ended().status == 3, line
 
     def test_a_line_in_any_spelling(self) -> None:
         assert self.obeyed("at 1 ipfw pipe 1 config bw 1KByte/s plr .25 queue 5k\nat 2 cut 1 1\nat 3 open 1 1\n") == [

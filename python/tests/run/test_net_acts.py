@@ -74,6 +74,16 @@ class OfHosts(InAFolder):
         moments = [one["moment"] for one in self.summary()["acts"]]
         self.assertGreaterEqual(moments[2], self.summary()["main"] + 1_190_000_000)
 
+    def test_a_fault_of_a_host_on_which_nothing_runs(self) -> None:
+        """Its command had ended by itself; a stop of a host that a kill has ended changes something, as it lasts longer."""
+        lines = "host a true\nhost b exec sleep 99\nmain c sleep 2\nlink a c 5ms\nlink b c 5ms\nat 1s kill a\n"
+        more = "at 1s kill b 300ms\nat 1200ms stop b 300ms\n"
+        why = "changed nothing, as the host's command had ended by itself: `kill a`"
+        done = self.net(lines + more)
+        assert (done.returncode, found("CAUTION, (changed nothing.*)", done.stderr)) == (0, [why]), done.stderr
+        done = self.net(lines + more, "--late", "100s")
+        assert done.returncode == 75 and why in found("void: (.*)", done.stderr), done.stderr
+
     def test_a_stop_lasts_over_a_restart(self) -> None:
         """What begins on a stopped host waits until the host goes on."""
         count = f"wc -l < {self.folder}/told"
@@ -136,6 +146,8 @@ class OfHosts(InAFolder):
         until(lambda: net.output("a") == "begun\n")
         self.assertEqual([one.line for one in net.kill("a")], ["kill a"])
         self.assertEqual(sleeps(), 0)
+        self.assertRaisesRegex(NetError, "kill: nothing runs on a; `restart a` begins its command", net.kill, "a")
+        self.assertRaisesRegex(NetError, "kill: nothing runs on b$", net.kill, "b")
         net.restart("a")
         until(lambda: sleeps() == 1)
         until(lambda: net.output("a") == "begun\nbegun\n")

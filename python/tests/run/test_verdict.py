@@ -97,6 +97,19 @@ class OfIdleEvents(InAFolder):
             first, second = one.split(" ", 1)[1], other.split(" ", 1)[1]
             self.assertEqual(self.idle(one, other), [f"{second} / {first}"] * is_idle, (one, other))
 
+    def test_faults_within_several_others(self) -> None:
+        """Each pair of the others leaves a gap, and of equal ones the first counts."""
+        for first, second, third, wanted in (
+            ("1s cut a 2s", "2500ms cut a 2s", "2s cut a 2s", "cut a 2s / cut a 2s"),
+            ("1s kill a 2s", "2500ms kill a 2s", "2s kill a 1s", "kill a 1s / kill a 2s"),
+            ("1s kill a 2s", "2500ms stop a 2s", "2s stop a 1s", "stop a 1s / kill a 2s"),
+            ("1s cut a 1s", "2s cut a 2s", "1500ms cut a 1s", ""),
+            ("1s cut a 1s", "3s cut a 2s", "1500ms cut a 2s", ""),
+            ("1s cut a", "2s heal a", "3s cut a 1s", ""),
+            ("1s cut a", "2s cut a", "3s heal a", "cut a / cut a"),
+        ):
+            self.assertEqual(self.idle(first, second, third), [wanted] * bool(wanted), (first, second, third))
+
     def test_what_ends_earlier_covers_nothing_behind(self) -> None:
         self.assertEqual(self.idle("1s stop a 4s", "2s cont a", "3s stop a 1s"), [])
         self.assertEqual(self.idle("1s kill a 9s", "2s restart a", "3s stop a 1s"), [])
