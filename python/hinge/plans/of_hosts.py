@@ -86,7 +86,8 @@ class OfHosts:
             self.acts.append((moment, word, host))
 
     def judge_acts(self) -> None:
-        rest, latest = list(self.acts), (0, "")
+        """Looks at each act that a line requests. An act of the same moment on another host may come before a restart, which takes longer."""
+        rest, before = list(self.acts), list[tuple[int, int, str, str]]()
         begun: dict[int, int] = {}
         for moment, word, host, event in sorted(self.expected(), key=lambda one: (one[0], one[3].place)):
             told = next((one for one in rest if one[1:] == (word, host) and one[0] >= moment - MS), None)
@@ -96,14 +97,16 @@ class OfHosts:
                 continue
             rest.remove(told)
             late = told[0] - moment - event.doubt
+            ordered = (one for one in before if one[1] < moment or one[2] == host or not one[3].startswith("`restart "))
+            latest = max(ordered, default=(0, 0, "", ""))
             if late > self.limit:
                 self.fault(told[0], f"{event.where}: `{word} {host}` came {late / MS:.3f} ms late")
             elif told[0] < latest[0]:
-                self.fault(told[0], f"{event.where}: `{word} {host}` came before {latest[1]}")
+                self.fault(told[0], f"{event.where}: `{word} {host}` came before {latest[3]}")
             elif event.place in begun and (short := event.end - event.moment - (told[0] - begun[event.place])) > self.limit:
                 self.fault(told[0], f"{event.where} lasted {short / MS:.3f} ms less than it should")
             begun.setdefault(event.place, told[0])
-            latest = max(latest, (told[0], f"`{word} {host}` of {event.where}"))
+            before.append((told[0], moment, host, f"`{word} {host}` of {event.where}"))
         for at, word, host in rest:
             text = f"`{word} {host}` at {seconds(at)} isn't the file's"
             if self.tells_changes:

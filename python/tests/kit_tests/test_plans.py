@@ -135,6 +135,15 @@ at 1300ms stop a 5s
         ):
             self.assertIn(wanted, self.broken(begun + "".join(history) + at(4 * S), net))
 
+    def test_an_act_may_come_before_another_hosts_restart_of_its_moment(self) -> None:
+        """A restart takes longer than a stop, which the links carry out; an act of a later moment comes behind both."""
+        net = "host a exec a\nhost b exec b\nmain c exec c\nlink a c 5ms\nlink b c 5ms\nat 1s restart a\nat 1s stop b\nat 1001ms cont b\n"
+        begun = ENDS + lines(*FIRST[:2], "pipe 3 config delay 5", "pipe 4 config delay 5")
+        stop, restart, cont = (at(S + 100 + late, f"#,act,{word}\n") for late, word in ((5000, "stop b"), (9000, "restart a"), (1001000, "cont b")))
+        self.assertEqual(self.broken(begun + stop + restart + cont + at(3 * S), net), "")
+        late = at(S + 2000000, "#,act,restart a\n")
+        self.assertIn("`cont b` came before `restart a` of line 6", self.broken(begun + stop + cont + late + at(3 * S), net))
+
     def test_each_flipped_bit_is_the_seeds(self) -> None:
         """At 100 % each packet that leaves has one, and none without the word."""
         net = "host a exec a\nmain b exec b\nlink a b 5ms corrupt 100% / 5ms\n"
