@@ -96,7 +96,8 @@ class NetInside:
         if act.word == "skew":
             set_clock(number_of(act.host, self.net.hosts), act.more)
         elif self.is_of_links(act):
-            return partial(self.see_gone, act.host) if act.word == "kill" else nothing
+            rest: Callable[[], None] = partial(self.see_gone, act.host)
+            return rest if act.word == "kill" else nothing
         elif act.host in self.linked:
             self.linked[act.host].empty()
         else:
@@ -108,7 +109,7 @@ class NetInside:
         return self.begun_again(act.host) if act.word == "restart" else nothing
 
     def begun_again(self, host: str) -> Callable[[], None]:
-        """Starts a host's command again. What remains is its entry into the host, before which no kill finds it."""
+        """Starts a host's command again. Returns the wait for its entry into the host, before which no kill finds it."""
         there, entry = os.pipe()
         self.begin(host, entry)
         os.close(entry)

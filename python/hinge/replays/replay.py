@@ -5,7 +5,7 @@ A column contains a number for each row of the packet file, in order: place i be
 
 from __future__ import annotations
 
-from dataclasses import dataclass, field
+from dataclasses import dataclass
 from functools import cached_property
 from typing import Mapping, Optional, Sequence
 
@@ -62,7 +62,7 @@ class Replay:
     due: Integers
     submitted: Integers  # the record of the call, and that of the delivery; in a report each comes behind all commands
     handed: Integers
-    flips: dict[int, tuple[int, int]] = field(default_factory=dict)  # by packets: the flipped bit from the last on, and of how many
+    flips: dict[int, tuple[int, int]]  # by packets: the flipped bit from the last on, and of how many
 
     @cached_property
     def is_out(self) -> Mask:
@@ -115,4 +115,5 @@ def read_report(path: str, packets: Packets) -> Replay:
     if is_early.any():
         row, why = int(np.argmax(is_early)) + 1, "it is the report of other packets"
         raise Fault(f"{path}: row {row} was sent before its moment in {packets.path}: {why}", ROWS)
-    return Replay(path, packets, **columns, submitted=np.zeros(len(packets), np.int64), handed=columns["packet"])
+    calls = np.zeros(len(packets), np.int64)
+    return Replay(path, packets, **columns, submitted=calls, handed=columns["packet"], flips={})

@@ -42,7 +42,7 @@ def full_link(flows: int) -> Replay:
     zero, one = np.zeros(1000, np.int64), np.ones(1000, np.int64)
     names = [("10.0.0.1", "10.0.0.2", 17, number, 2) for number in range(flows)]
     packets = Packets("full", due - NS_PER_MS, zero, np.arange(1000) % flows, 1000 * one, zero, [("pipe", 1)], names)
-    return Replay("full", packets, OUT * one, zero, np.arange(1000), due - NS_PER_MS, due - NS_PER_MS, due, zero, zero)
+    return Replay("full", packets, OUT * one, zero, np.arange(1000), due - NS_PER_MS, due - NS_PER_MS, due, zero, zero, {})
 
 
 def series_of(name: str, step_ns: int = NS_PER_S) -> Series:

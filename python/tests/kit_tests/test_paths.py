@@ -156,7 +156,9 @@ class Paths(unittest.TestCase):
     def test_a_packet_with_a_flipped_bit_goes_on_as_another(self) -> None:
         """The router hands on what the first link's remark describes; of a packet without a remark that is a fault."""
         packets = [Packet(place) for place in range(5)]
-        text = Net(lambda number, packet: good(number, packet._replace(content=77 if number == 3 else packet.content)), packets).text
+        text = Net(
+            lambda number, packet: good(number, packet._replace(content=77 if number == 3 else packet.content)), packets
+        ).text
         assert faults_of(text) == {"came from nowhere": 1, "lost in a host": 1}
         number = re.findall(r"c,0,submit,pipe,1,.*\nr,queued,\d+,0,(\d+)", text)[2]
         remark = f"#,corrupt,{number},5,640,{77:016x}\n"

@@ -139,7 +139,9 @@ at 1300ms stop a 5s
         """A restart takes longer than a stop, which the links carry out; an act of a later moment comes behind both."""
         net = "host a exec a\nhost b exec b\nmain c exec c\nlink a c 5ms\nlink b c 5ms\nat 1s restart a\nat 1s stop b\nat 1001ms cont b\n"
         begun = ENDS + lines(*FIRST[:2], "pipe 3 config delay 5", "pipe 4 config delay 5")
-        stop, restart, cont = (at(S + 100 + late, f"#,act,{word}\n") for late, word in ((5000, "stop b"), (9000, "restart a"), (1001000, "cont b")))
+        stop, restart, cont = (
+            at(S + 100 + late, f"#,act,{word}\n") for late, word in ((5000, "stop b"), (9000, "restart a"), (1001000, "cont b"))
+        )
         self.assertEqual(self.broken(begun + stop + restart + cont + at(3 * S), net), "")
         late = at(S + 2000000, "#,act,restart a\n")
         self.assertIn("`cont b` came before `restart a` of line 6", self.broken(begun + stop + cont + late + at(3 * S), net))
@@ -158,7 +160,9 @@ at 1300ms stop a 5s
             (f"{left}#,corrupt,1,{bit},128,0\n", "a bit of packet 1 was flipped, for which no line asks"),
         ):
             self.assertEqual(self.broken(begun + history, net), wanted)
-        self.assertIn("for which no line asks", self.broken(f"{begun}{left}#,corrupt,0,{bit},128,0\n", net.replace(" corrupt 100%", "")))
+        self.assertIn(
+            "for which no line asks", self.broken(f"{begun}{left}#,corrupt,0,{bit},128,0\n", net.replace(" corrupt 100%", ""))
+        )
 
     def test_a_killed_host_sends_nothing(self) -> None:
         """But for what `hinge exec` began there, as transcripts of format 3 tell; and its kernel ends connections."""

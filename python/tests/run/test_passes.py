@@ -23,7 +23,9 @@ from hinge.run.settings import LiveOptions
 from hinge.run.words import Wrong, link_of
 from hingetulip_words.link import CERTAIN, Extra, Place
 
-OF_JITTER, OF_COPIES, OF_CORRUPTION, OF_BITS = (number << 20 for number in range(1, 5))  # the streams of random words, as passes.c has them
+OF_JITTER, OF_COPIES, OF_CORRUPTION, OF_BITS = (
+    number << 20 for number in range(1, 5)
+)  # the streams of random words, as passes.c has them
 COUNT, FIRST, STEP = 40, 60000, 60  # packets; the first second pipe; ms between their delays
 PIPES = "".join(f"line pipe {FIRST + place} config delay {STEP * place}\n" for place in range(5))
 
@@ -114,7 +116,15 @@ class OfPasses(unittest.TestCase):
         assert (ended.counts.ways[0].underway, ended.counts.ways[0]["held"]) == (0, 0)
 
     def test_lines_that_are_none(self) -> None:
-        jitters = ("jitter 0 1", "jitter 2 60000 5 7", "jitter 0 0 5 7", "jitter 0 65530 7 7", "copies 0 1", "copies 5 1 1", "corruption 0 1")
+        jitters = (
+            "jitter 0 1",
+            "jitter 2 60000 5 7",
+            "jitter 0 0 5 7",
+            "jitter 0 65530 7 7",
+            "copies 0 1",
+            "copies 5 1 1",
+            "corruption 0 1",
+        )
         for line in (*jitters, "fault 0 1 1", "fault 2 1 1 1", "fault 0 3 1 1", "fault 0 2 1 0", "fault 0 2 1 65536"):
             ended = Linked(f"{SEEDS}{line}\n").ended()
             assert (ended.status, ended.said) == (3, f"hinge: {line}: no line of a plan\n")

@@ -123,7 +123,6 @@ class OfSegments(unittest.TestCase):
         cut = [noted(in_ipv4(at, ACK, data[at : at + 1500], 3 + at // 1500)) for at in (0, 1500)]
         self.assertEqual(got, [plain, small, *cut, small, odd, plain])
 
-
     def test_a_flipped_bit_is_behind_a_whole_checksum(self) -> None:
         """The card's part is done first, or a receiver would believe the checksum. An odd packet has a byte of 0 behind it."""
         sent = [build(at, ACK, os.urandom(999 + at % 2), at) for at in range(20) for build in (in_ipv4, in_ipv6)]

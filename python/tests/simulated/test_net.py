@@ -194,7 +194,9 @@ class OfTheLinks(Simulated):
         errors = dict(zip(names.split(), counts.split()))["InCsumErrors"]
         self.assertTrue(0 < int(came) < 100 and int(errors) > 0, done.stdout)
         ways = json.loads((self.folder / "session" / "net.json").read_text())["ways"]
-        self.assertEqual(sum(way["corrupted"] for way in ways), (self.folder / "session" / "net.history").read_text().count("#,corrupt,"))
+        self.assertEqual(
+            sum(way["corrupted"] for way in ways), (self.folder / "session" / "net.history").read_text().count("#,corrupt,")
+        )
         looked = self.hinge("look", "session")
         self.assertEqual((looked.returncode, looked.stdout.splitlines()[-1]), (0, "lawful between links"), looked.stdout)
 
