@@ -24,49 +24,52 @@ pub mod Exactly
 pub mod Fair
 mod FairWitness
 pub mod Fates
+pub mod FieldsRead
 pub mod GivesHold
 pub mod Heads
 pub mod Isolation
 pub mod JoinsHold
 pub mod Kept
 mod KeptWitnesses
-pub mod LawsHold
 mod LawWitnesses
 pub mod LawWords
+pub mod LawsHold
 pub mod Least
 pub mod LineDeletesHold
 pub mod LineLawsHold
 pub mod LineOptionsHold
 pub mod LinePrefixHolds
+mod LineRefusalWitnesses
 pub mod LineSteps
 pub mod LineValues
-mod LineRefusalWitnesses
 mod LineWitnesses
 pub mod LineWordsHold
 pub mod Masks
 pub mod Obeyed
 pub mod Obeying
-pub mod OneLink
 pub mod OnPipes
+pub mod OneLink
+pub mod OnlyHistoriesHold
+pub mod OnlyRowsHold
 pub mod PartCalls
 pub mod PartGiven
 pub mod PartReplays
 pub mod PartReplies
-pub mod Parts
-pub mod PartsAlone
 pub mod PartSettings
 pub mod PartStarts
-pub mod PartsWhole
 mod PartWitnesses
+pub mod Parts
+pub mod PartsAlone
+pub mod PartsWhole
 pub mod Pauses
 pub mod PickLaws
 pub mod Places
 pub mod PlainLawsHold
 pub mod QueuesRate
 pub mod Rates
+mod ReadingWitnesses
 pub mod Readings
 pub mod ReadingsObey
-mod ReadingWitnesses
 pub mod RecordLawsHold
 mod RecordWitnesses
 mod ReplyWitnesses
@@ -95,7 +98,7 @@ pub mod ToldCommands
 pub mod ToldCounts
 pub mod ToldDeliveries
 pub mod WaitBounds
-pub mod Waits
 mod WaitWitnesses
+pub mod Waits
 mod Witnesses
 pub mod Words

@@ -94,13 +94,13 @@ pub use Rattle.dn_laws.specs.ReplyLaws.{ClockIsTheGreatest, CollectsAreTold, Com
 pub use Rattle.dn_laws.specs.ReplyLaws.{QueuedPacketsStay, RepliesTellTheClock, ShowsAreTold, ToldWhenDue, Waits, WasDiscarded}
 pub use Rattle.dn_laws.specs.ReplyParts.{delivery_by, status_by}
 pub use Rattle.dn_laws.specs.ReservationLaws.{ChangesHaveRoom, IsOfFlow, OnlyMakersLackMemory, RoomStays}
-pub use Rattle.dn_laws.specs.ResetLaws.{DroppedChangesNothing, IsDropped, PipeDeleteResets, QueueDeleteResets, TagsBeginAfresh}
+pub use Rattle.dn_laws.specs.SharingLaws.{DroppedChangesNothing, IsDropped, PipeDeleteResets, QueueDeleteResets, TagsBeginAfresh}
 pub use Rattle.dn_laws.specs.ServiceLaws.{AnswersSuffice, CallersAreLeft, CallsByTheLaws, HistoriesSuffice, IsAccounted, IsDelivered, NoneIsForeign, NoneIsOvertaken, ServicesByTheLaws, WasTold}
 pub use Rattle.dn_laws.specs.SharingLaws.{CommandsMoveNothing, GrowsByWork, PacketsKeepApart, PickIsLeast, PipeDeleteEmpties, PipeDeleteSpares, QueueDeleteEmpties, QueueDeleteSpares, TagsByWeight}
 pub use Rattle.dn_laws.specs.TimeLaws.{DelaysAddUp, IsLack, IsMadeBy, NoneStartsEarly, StartsBehind, StartsInTime, WaitsForItsLink}
 pub use Rattle.dn_laws.specs.Told.{IsQueueOf, IsReached}
 pub use Rattle.dn_laws.specs.WaitLaws.{KbytesBoundTheDelay, KbytesBoundTheWait, LinksMakeNoPause, SlotsBoundTheDelay, SlotsBoundTheWait, WaitIsKnown, WaitsForThoseAhead, sending, starting}
-pub use Rattle.dn_laws.specs.WordLaws.{ClockFollows, ObeysAsTold, StartsAreCounted}
+pub use Rattle.dn_laws.specs.ReadingLaws.{ClockFollows, ObeysAsTold, StartsAreCounted}
 pub use Rattle.dn_records.proofs.ReadBack.{read-back}
 pub use Rattle.dn_records.specs.Records.{AllFilled, HasNoMark, line_of, records_of}
 unfoldable pub use Rattle.dn_records.specs.Records.{text_of}

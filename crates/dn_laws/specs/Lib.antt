@@ -19,10 +19,8 @@ pub mod Replays
 pub mod ReplyLaws
 pub mod ReplyParts
 pub mod ReservationLaws
-pub mod ResetLaws
 pub mod ServiceLaws
 pub mod SharingLaws
 pub mod TimeLaws
 pub mod Told
 pub mod WaitLaws
-pub mod WordLaws

@@ -1,5 +1,5 @@
--- The laws of readings: what other laws read off calls and events, in words of these alone.
-use Rattle.std.specs.Prelude.{cond, ℕ, Option, ◌≡◌, ◌≢◌, ◌≤◌, ◌<◌, ◌+◌, ⊤, true, false, List, [], ◌∷◌, ◌++◌, drop, length, nat_eq, Some, None}
+-- The laws of readings and words: what other laws read off calls and events, in words of calls, replies and events alone.
+use Rattle.std.specs.Prelude.{cond, ℕ, Option, ◌≡◌, ◌≢◌, ◌≤◌, ◌<◌, ◌+◌, ⊤, true, false, List, [], ◌∷◌, ◌++◌, drop, length, nat_eq, Some, None, max}
 use Rattle.std.specs.List.{count_by}
 use Rattle.dn_types.specs.Calls.{trace_of, after_command}
 use Rattle.dn_types.specs.Clock.{call_limit, effective_moment, moment_of}
@@ -11,7 +11,7 @@ use Rattle.dn_types.specs.Links.{free}
 use Rattle.dn_types.specs.Replies.{reply}
 use Rattle.dn_types.specs.SharedLinks.{next_packet}
 use Rattle.dn_types.specs.Starts.{next_start, settled}
-use Rattle.dn_types.specs.Trace.{Link, link_eq, Accepted, Start, Event, arrived, started, discarded, collected, is_of, backlog}
+use Rattle.dn_types.specs.Trace.{Link, link_eq, Accepted, Start, Event, arrived, started, discarded, collected, is_of, backlog, is_start_of}
 use Rattle.dn_types.specs.declared.call.Call.{Call}
 use Rattle.dn_types.specs.declared.call.Call.TheVariants.{Configure, Submit, Advance, Collect, Show}
 use Rattle.dn_types.specs.declared.command.Command.{Command}
@@ -25,6 +25,8 @@ use Rattle.dn_types.specs.declared.rule.Rule.{Rule}
 use Rattle.dn_types.specs.declared.target.Target.{Target}
 use Rattle.dn_types.specs.declared.target.Target.TheVariants.{Pipe as ToPipe, Queue as ToQueue}
 use Rattle.dn_laws.specs.FlowLaws.{IsMaskedBy, kept_by}
+use Rattle.dn_laws.specs.Determined.Reports.{starts_of}
+use Rattle.dn_types.specs.declared.reply.Reply.TheVariants.{Configured, Deleted}
 
 -- The moment that a call names, and 0 for one that names none.
 abbrev pub MomentsAreNamed : Type 0
@@ -112,3 +114,28 @@ PacketsAreCounted = (number : ℕ) →
     × ((rule : Rule) (at : ℕ) (trace : List Event) →
     given_count rule number (collected at ∷ trace) ≡ given_as number (given rule at trace) + given_count rule number trace)
     × ((rule : Rule) (s : Start) (trace : List Event) → given_count rule number (started s ∷ trace) ≡ given_count rule number trace)
+
+-- A command that is told Configured is in force for its pipe or queue, and none is once a delete of it was told Deleted.
+abbrev pub ObeysAsTold : Type 0
+ObeysAsTold = (rule : Rule) (calls : List Call) → length calls < call_limit →
+    ((number bw delay : ℕ) (limit : Limit) (loss : ℕ) (buckets : Option ℕ) (mask : Mask) →
+    reply rule calls (Configure (Pipe number bw delay limit loss buckets mask)) ≡ Configured →
+    settings (Configure (Pipe number bw delay limit loss buckets mask) ∷ calls) (ToPipe number) ≡ Some (Pipe number bw delay limit loss buckets mask))
+    × ((number pipe weight : ℕ) (limit : Limit) (loss : ℕ) (buckets : Option ℕ) (mask : Mask) →
+    reply rule calls (Configure (Queue number pipe weight limit loss buckets mask)) ≡ Configured →
+    settings (Configure (Queue number pipe weight limit loss buckets mask) ∷ calls) (ToQueue number) ≡ Some (Queue number pipe weight limit loss buckets mask))
+    × ((number : ℕ) → reply rule calls (Configure (DeletePipe number)) ≡ Deleted → settings (Configure (DeletePipe number) ∷ calls) (ToPipe number) ≡ None)
+    × ((number : ℕ) → reply rule calls (Configure (DeleteQueue number)) ≡ Deleted → settings (Configure (DeleteQueue number) ∷ calls) (ToQueue number) ≡ None)
+
+-- A packet, an Advance and a Collect move the clock to the moment that they name, where that is later. No other call does.
+abbrev pub ClockFollows : Type 0
+ClockFollows = (calls : List Call) →
+    ((target : Target) (packet : Packet) (moment : ℕ) → effective_moment (Submit target packet moment ∷ calls) ≡ max (effective_moment calls) moment)
+    × ((moment : ℕ) → effective_moment (Advance moment ∷ calls) ≡ max (effective_moment calls) moment)
+    × ((moment : ℕ) → effective_moment (Collect moment ∷ calls) ≡ max (effective_moment calls) moment)
+    × ((command : Command) → effective_moment (Configure command ∷ calls) ≡ effective_moment calls)
+    × (effective_moment (Show ∷ calls) ≡ effective_moment calls)
+
+-- The starts that a Show tells are those that happened. So it tells which queued packets started and which were discarded.
+abbrev pub StartsAreCounted : Type 0
+StartsAreCounted = (flow : ℕ) (trace : List Event) → count_by (is_start_of flow) trace ≡ starts_of flow trace

@@ -1,5 +1,6 @@
--- The laws of sharing and of isolation: weights share a link, and a delete or a packet reaches only what it is about.
-use Rattle.std.specs.Prelude.{ℕ, ◌≡◌, ◌≢◌, ◌≤◌, ◌<◌, ◌+◌, ◌*◌, max, List, [], ◌∷◌, ◌++◌, map, sum, take, length, nat_eq, Option, Some}
+-- The laws of sharing and of isolation: weights share a link, and a delete or a packet reaches only what it is about. A busy period
+-- begins with tags of 0, and a delete forgets its flows' tags.
+use Rattle.std.specs.Prelude.{ℕ, ◌≡◌, ◌≢◌, ◌≤◌, ◌<◌, ◌+◌, ◌*◌, max, List, [], ◌∷◌, ◌++◌, map, sum, take, length, nat_eq, Option, Some, ⊤}
 use Rattle.std.specs.List.{All, filter}
 use Rattle.dn_types.specs.Calls.{trace_of}
 use Rattle.dn_types.specs.Configuration.{settings, reply_to_command}
@@ -7,7 +8,7 @@ use Rattle.dn_types.specs.Deliveries.{undelivered}
 use Rattle.dn_laws.specs.Explained.{IsTagged, IsJudgedBy}
 use Rattle.dn_types.specs.Flows.{keys}
 use Rattle.dn_types.specs.Links.{free, last_due}
-use Rattle.dn_types.specs.SharedLinks.{virtual_time, link_heads}
+use Rattle.dn_types.specs.SharedLinks.{virtual_time, link_heads, last_finish_tag}
 use Rattle.dn_types.specs.Trace.{Link, shared, Accepted, Start, Event, arrived, started, backlog, pipe_of}
 use Rattle.dn_types.specs.Wf2q.{Stamped, pick, raised}
 use Rattle.dn_types.specs.declared.call.Call.{Call}
@@ -18,10 +19,13 @@ use Rattle.dn_types.specs.declared.flow_key.FlowKey.{FlowKey}
 use Rattle.dn_types.specs.declared.limit.Limit.{Limit}
 use Rattle.dn_types.specs.declared.mask.Mask.{Mask}
 use Rattle.dn_types.specs.declared.packet.Packet.{Packet}
-use Rattle.dn_types.specs.declared.reply.Reply.TheVariants.{Deleted}
+use Rattle.dn_types.specs.declared.reply.Reply.TheVariants.{Deleted, Lost, Full, NoTarget}
 use Rattle.dn_types.specs.declared.rule.Rule.{Rule}
 use Rattle.dn_types.specs.declared.target.Target.{Target}
 use Rattle.dn_types.specs.declared.target.Target.TheVariants.{Queue as ToQueue}
+use Rattle.dn_types.specs.Clock.{effective_moment}
+use Rattle.dn_types.specs.Replies.{reply}
+use Rattle.dn_types.specs.declared.reply.Reply.{Reply}
 
 -- A packet to a queue is tagged by its length and the queue's weight in force.
 abbrev pub TagsByWeight : Type 0
@@ -106,3 +110,38 @@ PacketsKeepApart = (rule : Rule) (calls : List Call) (target : Target) (packet :
     let without = trace_of (Advance moment ∷ calls) in
     ((flow : ℕ) → backlog link flow with_it ≡ backlog link flow without) × (free link with_it ≡ free link without)
     × (last_due rule link with_it ≡ last_due rule link without) × (virtual_time link with_it ≡ virtual_time link without)
+
+-- A packet that is accepted on a link which is free by its moment has start tag 0: no share of an earlier busy period counts.
+abbrev pub TagsBeginAfresh : Type 0
+TagsBeginAfresh = (calls : List Call) (target : Target) (packet : Packet) (moment : ℕ) (later between : List Event) (p : Accepted) →
+    trace_of (Submit target packet moment ∷ calls) ≡ later ++ arrived p ∷ between ++ trace_of calls →
+    free p.link (trace_of (Advance moment ∷ calls)) ≤ effective_moment (Advance moment ∷ calls) → p.stamped.start_tag ≡ 0
+
+-- After the delete of a queue the last finish tag of each of its flows is 0, and so it is after that of a pipe for each flow
+-- that the pipe carries. A flow is the place of its key.
+abbrev pub QueueDeleteResets : Type 0
+QueueDeleteResets = (calls : List Call) (number : ℕ) (link : Link) (before behind : List FlowKey) (key : FlowKey) →
+    reply_to_command calls (DeleteQueue number) ≡ Deleted → keys calls ≡ before ++ key ∷ behind → key.target ≡ ToQueue number →
+    last_finish_tag link (length before) (trace_of (Configure (DeleteQueue number) ∷ calls)) ≡ 0
+
+abbrev pub PipeDeleteResets : Type 0
+PipeDeleteResets = (calls : List Call) (number : ℕ) (link : Link) (before behind : List FlowKey) (key : FlowKey) →
+    reply_to_command calls (DeletePipe number) ≡ Deleted → keys calls ≡ before ++ key ∷ behind → key.pipe ≡ number →
+    last_finish_tag link (length before) (trace_of (Configure (DeletePipe number) ∷ calls)) ≡ 0
+
+abbrev pub IsDropped : Reply → Type 0
+IsDropped (Lost at flow) = ⊤
+IsDropped (Full at flow) = ⊤
+IsDropped (NoTarget at) = ⊤
+IsDropped _ = ⊥
+
+-- A packet that is lost, refused or without a target changes no queue, link or delivery, against an Advance to its moment.
+abbrev pub DroppedChangesNothing : Type 0
+DroppedChangesNothing = (rule : Rule) (calls : List Call) (target : Target) (packet : Packet) (moment : ℕ) (link : Link) →
+    IsDropped (reply rule calls (Submit target packet moment)) →
+    let with_it = trace_of (Submit target packet moment ∷ calls) in
+    let without = trace_of (Advance moment ∷ calls) in
+    ((flow : ℕ) → (backlog link flow with_it ≡ backlog link flow without) × (last_finish_tag link flow with_it ≡ last_finish_tag link flow without))
+    × (free link with_it ≡ free link without) × (last_due rule link with_it ≡ last_due rule link without)
+    × (virtual_time link with_it ≡ virtual_time link without)
+    × (undelivered rule with_it ≡ undelivered rule without)

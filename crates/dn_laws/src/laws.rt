@@ -36,8 +36,8 @@ ghost use Rattle.dn_laws.specs.ReplyLaws.{FlowsWereTold, LimitIsCounted, Packets
 ghost use Rattle.dn_laws.specs.ReplyLaws.{QueuedPacketsAreDelivered, QueuedPacketsStay};
 ghost use Rattle.dn_laws.specs.ReplyLaws.{RepliesTellTheClock, ShowsAreTold, ToldOnce};
 ghost use Rattle.dn_laws.specs.ReplyLaws.{ToldWhenDue};
-ghost use Rattle.dn_laws.specs.ResetLaws.{DroppedChangesNothing, PipeDeleteResets};
-ghost use Rattle.dn_laws.specs.ResetLaws.{QueueDeleteResets, TagsBeginAfresh};
+ghost use Rattle.dn_laws.specs.SharingLaws.{DroppedChangesNothing, PipeDeleteResets};
+ghost use Rattle.dn_laws.specs.SharingLaws.{QueueDeleteResets, TagsBeginAfresh};
 ghost use Rattle.dn_laws.specs.SharingLaws.{CommandsMoveNothing, GrowsByWork, HeadsAreFirst};
 ghost use Rattle.dn_laws.specs.SharingLaws.{PacketsKeepApart, PickIsFair, PickIsLeast};
 ghost use Rattle.dn_laws.specs.SharingLaws.{PipeDeleteEmpties, PipeDeleteSpares};
@@ -49,7 +49,7 @@ ghost use Rattle.dn_laws.specs.TimeLaws.{StartsBehind, StartsInTime, UnlimitedTa
 ghost use Rattle.dn_laws.specs.WaitLaws.{KbytesBoundTheDelay, KbytesBoundTheWait};
 ghost use Rattle.dn_laws.specs.WaitLaws.{LinksMakeNoPause, SlotsBoundTheDelay};
 ghost use Rattle.dn_laws.specs.WaitLaws.{SlotsBoundTheWait, WaitIsKnown, WaitsForThoseAhead};
-ghost use Rattle.dn_laws.specs.WordLaws.{ClockFollows, ObeysAsTold, StartsAreCounted};
+ghost use Rattle.dn_laws.specs.ReadingLaws.{ClockFollows, ObeysAsTold, StartsAreCounted};
 
 use dn_types::Call;
 

@@ -1,12 +1,16 @@
 //! The laws of packet files and histories.
 
-ghost use Rattle.dn_laws.specs.RecordLaws.{HistoriesAreRead, HistoriesAreWritten, LimitsAreKnown, RowsAreRead, RowsHaveTenFields};
+ghost use Rattle.dn_laws.specs.RecordLaws.{HistoriesAreRead, HistoriesAreWritten, LimitsAreKnown, OnlyHistoriesAreRead, OnlyRowsAreRead, RowsAreRead, RowsHaveTenFields};
 
 /// The columns of a packet file and the records of a history say what their names say, each in its units.
+///
+/// What is read consists of such columns and records, and of nothing else. A history ends with its last record, and only a transcript has remarks.
 pub fn laws_of_records()
     ensures rows { RowsAreRead }
+    ensures only_rows { OnlyRowsAreRead }
     ensures ten { RowsHaveTenFields }
     ensures written { HistoriesAreWritten }
     ensures read { HistoriesAreRead }
+    ensures only_histories { OnlyHistoriesAreRead }
     ensures limits { LimitsAreKnown }
 {}

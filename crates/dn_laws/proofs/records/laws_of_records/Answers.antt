@@ -1,4 +1,6 @@
 use Rattle.dn_laws.proofs.RecordLawsHold.{histories-are-read, histories-are-written, limits-are-known, rows-are-read, rows-have-ten-fields}
+use Rattle.dn_laws.proofs.OnlyHistoriesHold.{only-histories-are-read}
+use Rattle.dn_laws.proofs.OnlyRowsHold.{only-rows-are-read}
 use Rattle.dn_laws.proofs.records.laws_of_records.Goals as goal
 
 pub returns-clause-rows : goal.returns-clause-rows
@@ -15,3 +17,9 @@ returns-clause-read c = histories-are-read
 
 pub returns-clause-limits : goal.returns-clause-limits
 returns-clause-limits c = limits-are-known
+
+pub returns-clause-only_rows : goal.returns-clause-only_rows
+returns-clause-only_rows c = only-rows-are-read
+
+pub returns-clause-only_histories : goal.returns-clause-only_histories
+returns-clause-only_histories c = only-histories-are-read
