@@ -45,6 +45,9 @@ EACH += [
     for target in ("pipe,3", "pipe,3", "pipe,3", "pipe,2", "pipe,9", "queue,3")
 ]
 EACH += [Entry("c,0,advance,9", [])]
+# The statuses of calls behind the 2^62nd, which no session reaches: DN_EXHAUSTED by the header.
+EXHAUSTED = data("Reply.Exhausted")
+STATUSES = [("Submits", "fate_status"), *(("Statuses", f"{call}_status") for call in ("configure", "clock", "collect", "show", "list"))]
 # What is wrong, the file, the right text, and the wrong one.
 ROWS: list[tuple[str, str, object, object]] = [
     ("lost and full are exchanged", "Submits", ("= 1;", "= 2;", "= 9;"), ("= 9;", "= 1;", "= 2;")),
@@ -65,6 +68,8 @@ ROWS: list[tuple[str, str, object, object]] = [
     ("a pipe with queues is told as a missing one", "Statuses", "PipeHasQueues = 3", "PipeHasQueues = 2"),
     ("an Advance tells no moment", "Statuses", "clock_of old (Advanced at) = at", "clock_of old (Advanced at) = old"),
     ("a faulty packet counts as answered", "Statuses", "nat_eq status 1", "nat_le status 14"),
+    ("an Advance behind the last is told as good", "Statuses", "clock_status _ = 1", "clock_status _ = 0"),
+    ("no target is told as a full queue", "Submits", "outcome = 3;", "outcome = 2;"),
 ]
 
 
@@ -177,6 +182,7 @@ def difference(definitions: Definitions, done: Done) -> str:
         wanted += [(said("Submits", "fate_of", old, done.reply), done.written)]
     if done.packet:
         wanted += [(said("Statuses", "answered", done.status), not is_faulty)]
+    wanted += [(said(file, name, EXHAUSTED), 1) for file, name in STATUSES]
     return "" if all(one == other for one, other in wanted) else f"{done.line}: status {done.status}"
 
 
