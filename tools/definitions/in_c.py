@@ -47,7 +47,10 @@ EACH += [
 EACH += [Entry("c,0,advance,9", [])]
 # The statuses of calls behind the 2^62nd, which no session reaches: DN_EXHAUSTED by the header.
 EXHAUSTED = data("Reply.Exhausted")
-STATUSES = [("Submits", "fate_status"), *(("Statuses", f"{call}_status") for call in ("configure", "clock", "collect", "show", "list"))]
+STATUSES = [
+    ("Submits", "fate_status"),
+    *(("Statuses", f"{call}_status") for call in ("configure", "clock", "collect", "show", "list")),
+]
 # What is wrong, the file, the right text, and the wrong one.
 ROWS: list[tuple[str, str, object, object]] = [
     ("lost and full are exchanged", "Submits", ("= 1;", "= 2;", "= 9;"), ("= 9;", "= 1;", "= 2;")),
