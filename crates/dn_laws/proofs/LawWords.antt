@@ -10,7 +10,7 @@ pub use Rattle.dn_laws.specs.Emulated.{emulated, is_on, on_link}
 pub use Rattle.dn_laws.specs.Explained.{IsAtBandwidth, IsAtLimit, IsDeliveryOf, IsDueBy, IsExplained, IsJudgedBy, IsStartBy, IsTagged, sent}
 pub use Rattle.dn_laws.specs.FlowLaws.{AgreeUnder, IsMaskedBy, flow_told, kept_by}
 pub use Rattle.dn_laws.specs.KeptLaws.{IsApart, IsNoOpening, IsNoStart}
-pub use Rattle.dn_laws.specs.OtherPipes.{AreElsewhere, IsCommandElsewhere, IsElsewhere}
+pub use Rattle.dn_laws.specs.KeptLaws.{AreElsewhere, IsCommandElsewhere, IsElsewhere}
 pub use Rattle.dn_laws.specs.PacketLaws.{IsAccepted, IsDelete}
 pub use Rattle.dn_laws.specs.PartLaws.{IsTimed}
 pub use Rattle.dn_laws.specs.Parts.{Choice, calls_on, is_carried, is_flow_of, is_flow_on, is_key_on, is_link_on, is_packet_on, is_some_key_on, of_pipe, part, part_of, place}

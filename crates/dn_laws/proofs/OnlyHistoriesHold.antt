@@ -28,7 +28,8 @@ use Rattle.dn_history.specs.declared.history_version.HistoryVersion.{HistoryVers
 use Rattle.dn_history.specs.declared.history_version.HistoryVersion.TheVariants.{First, Second, Third, Live}
 use Rattle.dn_history.proofs.HistoryReading.{numbered}
 use Rattle.dn_laws.specs.Determined.Emulators.{Has}
-use Rattle.dn_laws.specs.RecordLaws.{tuple, IsAsked, IsRemark, OnlyHistoriesAreRead, Tell, rules}
+use Rattle.dn_laws.specs.RecordLaws.{tuple, rules}
+use Rattle.dn_laws.specs.HistoryRefusals.{IsAsked, IsRemark, OnlyHistoriesAreRead, Tell}
 use Rattle.dn_laws.proofs.FieldsRead.{bound, cond-ok, form-read, from, name-read, number-read, ok-is, packet-read, target-read, tuple-read}
 
 in-record-is : {A : Type 0} (number : ℕ) (read : Result A ℕ) (a : A) → in_record number read ≡ Ok a → read ≡ Ok a

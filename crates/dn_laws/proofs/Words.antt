@@ -81,7 +81,7 @@ pub use Rattle.dn_laws.specs.Laws.{IsFirstEligible}
 pub use Rattle.dn_laws.specs.LineLaws.{DefaultsAreKnown, IsLimit, IsLoss, IsMask, IsRate, OthersAreRefused, PipesAreSet, QueuesAreSet, Says, endings, multiples, ranges, with_bits}
 pub use Rattle.dn_laws.specs.LineRefusals.{AreGood, BehindKinds, Deletes, DeletesAreKnown, HeadsAreKnown, IsBare, IsWord, KindsAreKnown, Lacks, LeftOutIsTold, OptionsAreRefused}
 pub use Rattle.dn_laws.specs.LineRefusals.{OtherWordsAreRefused, PipesAreNeeded, PrefixSaysNothing, WordsAreKnown, fields, later, left_out, options_of, queries, separators}
-pub use Rattle.dn_laws.specs.OtherPipes.{OtherPipesChangeNothing}
+pub use Rattle.dn_laws.specs.KeptLaws.{OtherPipesChangeNothing}
 pub use Rattle.dn_laws.specs.PacketLaws.{ArrivalsAreTold, CommandsSpare, DiscardsAreDeletes, PacketsAddUp, QueuedPacketsArrive, is_of_queues, sent_by_queues}
 pub use Rattle.dn_laws.specs.PartLaws.{AgreeingCallsAgree, AreAlike, AreMatched, CommandsActByForce, IsUntimed, PartsAreWhole, PartsRestOnTheirPipe, ReplaysFallApart, emptied}
 pub use Rattle.dn_laws.specs.Parts.{Choice, accepted_by, call_on, event_by, is_event_on, is_link_on, link_by, part, stamped_by, start_by}

@@ -5,11 +5,11 @@ pub mod Emulated
 pub mod Explained
 pub mod FairShare
 pub mod FlowLaws
+pub mod HistoryRefusals
 pub mod KeptLaws
 pub mod Laws
 pub mod LineLaws
 pub mod LineRefusals
-pub mod OtherPipes
 pub mod PacketLaws
 pub mod PartLaws
 pub mod Parts

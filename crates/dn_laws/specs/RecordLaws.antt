@@ -1,7 +1,6 @@
 -- The laws of packet files and histories: which field of a record says what, in which units, and which rows and files are refused.
-use Rattle.std.specs.Prelude.{ℕ, ◌≡◌, ◌≢◌, ◌≤◌, ◌<◌, ◌+◌, ◌/◌, ◌%◌, ◌^◌, List, [], ◌∷◌, ◌++◌, ◌⊎◌, length, map, flat_map, codes, decimal, Some, Ok, Err}
+use Rattle.std.specs.Prelude.{ℕ, ◌≡◌, ◌≢◌, ◌≤◌, ◌<◌, ◌+◌, ◌/◌, ◌%◌, ◌^◌, List, [], ◌∷◌, ◌++◌, ◌⊎◌, length, map, flat_map, codes, decimal, Ok, Err}
 use Rattle.std.specs.List.{All, join_with_byte}
-use Rattle.dn_config.specs.Line.{answer}
 use Rattle.dn_config.specs.Text.{text as canonical}
 use Rattle.dn_files.specs.ConfigFile.{config_file}
 use Rattle.dn_files.specs.PacketFile.{packet_file, rows_of}
@@ -132,26 +131,6 @@ rules = (codes "dummynet-history" ∷ codes "2" ∷ [], Free) ∷ (codes "dummyn
 abbrev pub HistoriesAreRead : Type 0
 HistoriesAreRead = (text : List ℕ) (entries : List Entry) (first : Texts × Rule) → length text ≤ 2 ^ 28 → AreEntries entries → All (λ e. e.caller < 16) entries →
     Has rules first → records_of text ≡ first.0 ∷ records entries → history_file text ≡ Ok (first.1, entries)
-
--- A remark of a transcript begins with `#` (35). A command may be told by each line that says it.
-abbrev pub IsRemark : Texts → Texts → Type 0
-IsRemark first fields = (first ≡ codes "dummynet-live" ∷ codes "1" ∷ []) × (rest : List ℕ) × (more : Texts) × (fields ≡ (35 ∷ rest) ∷ more)
-
-abbrev pub IsAsked : Call → Texts → Type 0
-IsAsked (Configure command) fields = (line : List ℕ) × (answer line ≡ Ok (Some command)) × (fields ≡ codes "configure" ∷ line ∷ [])
-IsAsked call fields = fields ≡ asked call
-
--- Behind the first record stand those of these entries, and remarks before each or behind the last.
-abbrev pub Tell : Texts → List Entry → List Texts → Type 0
-Tell first [] left = All (IsRemark first) left
-Tell first (e ∷ entries) left = (remarks : List Texts) × (call : Texts) × (behind : List Texts) × All (IsRemark first) remarks × (e.caller < 16) × IsAsked e.call call
-    × Tell first entries behind × (left ≡ remarks ++ ((codes "c" ∷ decimal e.caller ∷ call) ∷ (codes "r" ∷ answered e.reply) ∷ (listed e.reply ++ behind)))
-
--- No other history is read: the last record is the count of the entries, and those before it tell them, but for version 1.
-abbrev pub OnlyHistoriesAreRead : Type 0
-OnlyHistoriesAreRead = (text : List ℕ) (rule : Rule) (entries : List Entry) → history_file text ≡ Ok (rule, entries) →
-    (first : Texts) × (left : List Texts) × (records_of text ≡ first ∷ (left ++ (codes "end" ∷ decimal (length entries) ∷ []) ∷ []))
-    × Has ((codes "dummynet-history" ∷ codes "1" ∷ [], Free) ∷ rules) (first, rule) × (first ≢ codes "dummynet-history" ∷ codes "1" ∷ [] → Tell first entries left)
 
 -- The greatest lengths of files in bytes.
 pub record LongFilesAreRefused (text : List ℕ) : Type 0 where

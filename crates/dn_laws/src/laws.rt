@@ -21,7 +21,7 @@ ghost use Rattle.dn_laws.specs.Laws.{LeavesWhatIsNotDue, OwnEntriesBegin};
 ghost use Rattle.dn_laws.specs.Laws.{MomentsAreBounded, OwnEntriesGrow, PickIsFirst, PickIsThere};
 ghost use Rattle.dn_laws.specs.Laws.{RepliesByStanding, SendsOneAtATime, SettlingEnds};
 ghost use Rattle.dn_laws.specs.Laws.{StartsInOrder, StartsOnce, TransmissionIsLeast};
-ghost use Rattle.dn_laws.specs.OtherPipes.{OtherPipesChangeNothing};
+ghost use Rattle.dn_laws.specs.KeptLaws.{OtherPipesChangeNothing};
 ghost use Rattle.dn_laws.specs.PacketLaws.{ArrivalsAreTold, CommandsSpare, DiscardsAreDeletes};
 ghost use Rattle.dn_laws.specs.PacketLaws.{PacketsAddUp, QueuedPacketsArrive, QueuesShareTheRate};
 ghost use Rattle.dn_laws.specs.PartLaws.{AdvancesAreNoMore, AgreeingCallsAgree, CommandsActByForce};

@@ -1,6 +1,7 @@
 //! The laws of packet files and histories.
 
-ghost use Rattle.dn_laws.specs.RecordLaws.{HistoriesAreRead, HistoriesAreWritten, LimitsAreKnown, OnlyHistoriesAreRead, OnlyRowsAreRead, RowsAreRead, RowsHaveTenFields};
+ghost use Rattle.dn_laws.specs.RecordLaws.{HistoriesAreRead, HistoriesAreWritten, LimitsAreKnown, OnlyRowsAreRead, RowsAreRead, RowsHaveTenFields};
+ghost use Rattle.dn_laws.specs.HistoryRefusals.{OnlyHistoriesAreRead};
 
 /// The columns of a packet file and the records of a history say what their names say, each in its units.
 ///
