@@ -2,8 +2,8 @@
 
     python3 tools/release/examples.py FOLDER
 
-Of them dsl is kept in examples/. The random words and the
-jitter come from a generator that is seeded by the example's name and SEED, so they are the same in each run.
+Of them dsl is kept in examples/. The random words and the jitter come from a generator that is seeded by the example's name and SEED,
+so they are the same in each run.
 """
 
 from __future__ import annotations
@@ -12,7 +12,7 @@ import sys
 from io import BytesIO
 from pathlib import Path
 from random import Random
-from typing import Callable, Iterator, NamedTuple
+from typing import Iterator, NamedTuple
 
 sys.path.insert(0, str(Path(__file__).parent.parent / "oracle"))
 
@@ -31,6 +31,17 @@ class Sender(NamedTuple):
     tuple: str
 
 
+class Stream(NamedTuple):
+    """Packets of equal length, one every `gap` ns from `first` on, each delayed by up to `jitter` ns."""
+
+    sender: Sender
+    count: int
+    first: int
+    gap: int
+    length: int
+    jitter: int = 0
+
+
 class Packet(NamedTuple):
     moment: int
     sender: Sender
@@ -38,10 +49,10 @@ class Packet(NamedTuple):
 
 
 class Example(NamedTuple):
-    """A name, the packets of some streams, and configuration lines."""
+    """A name, streams, and configuration lines."""
 
     name: str
-    packets: Callable[[Random], Iterator[Packet]]
+    streams: list[Stream]
     config: str
 
 
@@ -53,112 +64,65 @@ def to_queue(number: int, host: int, port: int = 443, proto: int = 6) -> Sender:
     return Sender(f"queue,{number}", to_pipe(1, host, port, proto).tuple)
 
 
-def stream(rng: Random, sender: Sender, count: int, first: int, gap: int, length: int, jitter: int = 0) -> Iterator[Packet]:
-    """Yields packets of equal length, one every `gap` ns from `first` on, each delayed by up to `jitter` ns."""
-    for i in range(count):
-        yield Packet(first + i * gap + (rng.getrandbits(32) % jitter if jitter else 0), sender, length)
-
-
-def burst(sender: Sender, count: int, moment: int, length: int) -> Iterator[Packet]:
+def burst(sender: Sender, count: int, moment: int, length: int) -> Stream:
     """Packets that are sent at once."""
-    for _ in range(count):
-        yield Packet(moment, sender, length)
+    return Stream(sender, count, moment, 0, length)
 
 
-def dsl(rng: Random) -> Iterator[Packet]:
-    yield from stream(rng, to_pipe(1, 10), 120, 0, MS, 1500, MS // 4)
-    yield from stream(rng, to_pipe(2, 10), 60, 0, 2 * MS, 52, MS // 4)
-    yield from stream(rng, to_pipe(2, 11), 20, 10 * MS, 12 * MS, 1500)
-
-
-def cable(rng: Random) -> Iterator[Packet]:
-    for turn in range(4):
-        yield from burst(to_pipe(1, 10), 40, turn * 10 * MS, 1500)
-    yield from stream(rng, to_pipe(2, 10), 40, 0, MS, 52, MS // 10)
-
-
-def satellite(rng: Random) -> Iterator[Packet]:
-    yield from stream(rng, to_pipe(1, 10), 100, 0, 7 * MS, 1500, MS)
-    yield from stream(rng, to_pipe(1, 11, 5004, 17), 60, 0, 20 * MS, 200, MS)
-
-
-def mobile(rng: Random) -> Iterator[Packet]:
-    yield from stream(rng, to_pipe(1, 10), 200, 0, 2 * MS, 1400, 2 * MS)
-
-
-def bulk_and_voice(send: Callable[[int, int, int, int], Sender]) -> Callable[[Random], Iterator[Packet]]:
-    def packets(rng: Random) -> Iterator[Packet]:
-        yield from burst(send(1, 10, 443, 6), 40, 0, 1500)
-        yield from stream(rng, send(1, 10, 443, 6), 90, 6 * MS, 6 * MS, 1500, MS)
-        yield from stream(rng, send(1, 20, 5004, 17), 30, 5 * MS, 20 * MS, 200)
-
-    return packets
-
-
-def weights(rng: Random) -> Iterator[Packet]:
-    for number in (1, 2, 3):
-        yield from stream(rng, to_queue(number, 10 * number), 60, 0, MS, 1000, MS // 10)
-
-
-def byte_limit(rng: Random) -> Iterator[Packet]:
-    for turn in range(6):
-        yield from burst(to_pipe(1, 10), 10, turn * 40 * MS, 1500)
-    yield from stream(rng, to_pipe(1, 11, 53, 17), 120, MS, 2 * MS, 80)
-
-
-def policed(rng: Random) -> Iterator[Packet]:
-    yield from stream(rng, to_pipe(1, 10), 120, 0, 2 * MS, 1000, MS)
-    for turn in range(4):
-        yield from burst(to_pipe(1, 11), 10, (20 + 60 * turn) * MS, 1000)
-
-
-def leased(rng: Random) -> Iterator[Packet]:
-    for pipe in (1, 2):
-        yield from stream(rng, to_pipe(pipe, 10 * pipe, 5004, 17), 90, 0, 5 * MS, 1024)
-
-
-def unlimited(rng: Random) -> Iterator[Packet]:
-    for turn in range(5):
-        yield from burst(to_pipe(1, 10), 20, turn * 3 * MS, 1500)
+def bulk_and_voice(bulk: Sender, voice: Sender) -> list[Stream]:
+    return [burst(bulk, 40, 0, 1500), Stream(bulk, 90, 6 * MS, 6 * MS, 1500, MS), Stream(voice, 30, 5 * MS, 20 * MS, 200)]
 
 
 # fmt: off
 EXAMPLES = (
-    Example("dsl", dsl,
+    Example("dsl", [Stream(to_pipe(1, 10), 120, 0, MS, 1500, MS // 4), Stream(to_pipe(2, 10), 60, 0, 2 * MS, 52, MS // 4),
+                    Stream(to_pipe(2, 11), 20, 10 * MS, 12 * MS, 1500)],
             "# A DSL line: 16 Mbit/s towards the house, 1 Mbit/s from it\npipe 1 config bw 16Mbit/s delay 12ms queue 60\n"
             "pipe 2 config bw 1Mbit/s delay 12ms queue 30\n"),
-    Example("cable", cable,
+    Example("cable", [*(burst(to_pipe(1, 10), 40, turn * 10 * MS, 1500) for turn in range(4)),
+                      Stream(to_pipe(2, 10), 40, 0, MS, 52, MS // 10)],
             "# A cable modem: 100 Mbit/s down, 10 Mbit/s up, queues by bytes\n"
             "pipe 1 config bw 100Mbit/s delay 8ms queue 50Kbytes\npipe 2 config bw 10Mbit/s delay 8ms queue 50Kbytes\n"),
-    Example("satellite", satellite, "# One way over a geostationary satellite\npipe 1 config bw 2Mbit/s delay 270ms queue 40\n"),
-    Example("mobile", mobile,
+    Example("satellite", [Stream(to_pipe(1, 10), 100, 0, 7 * MS, 1500, MS), Stream(to_pipe(1, 11, 5004, 17), 60, 0, 20 * MS, 200, MS)],
+            "# One way over a geostationary satellite\npipe 1 config bw 2Mbit/s delay 270ms queue 40\n"),
+    Example("mobile", [Stream(to_pipe(1, 10), 200, 0, 2 * MS, 1400, 2 * MS)],
             "# A mobile link that loses two packets in a hundred, by their random words\n"
             "pipe 1 config bw 12Mbit/s delay 35ms queue 100 plr 0.02\n"),
-    Example("bufferbloat", bulk_and_voice(to_pipe),
+    Example("bufferbloat", bulk_and_voice(to_pipe(1, 10), to_pipe(1, 20, 5004, 17)),
             "# A long queue that an upload and a call share\npipe 1 config bw 2Mbit/s delay 10ms queue 100\n"),
-    Example("fair", bulk_and_voice(to_queue),
+    Example("fair", bulk_and_voice(to_queue(1, 10), to_queue(1, 20, 5004, 17)),
             "# The cure: a queue for each sender, by a mask, and each has its share\npipe 1 config bw 2Mbit/s delay 10ms\n"
             "queue 1 config pipe 1 queue 100 mask src-ip 0xffffffff\n"),
-    Example("weights", weights,
+    Example("weights", [Stream(to_queue(number, 10 * number), 60, 0, MS, 1000, MS // 10) for number in (1, 2, 3)],
             "# Three classes share 6 Mbit/s as 3 : 2 : 1\npipe 1 config bw 6Mbit/s\nqueue 1 config pipe 1 weight 3 queue 100\n"
             "queue 2 config pipe 1 weight 2 queue 100\nqueue 3 config pipe 1 weight 1 queue 100\n"),
-    Example("bytes", byte_limit,
+    Example("bytes", [*(burst(to_pipe(1, 10), 10, turn * 40 * MS, 1500) for turn in range(6)),
+                      Stream(to_pipe(1, 11, 53, 17), 120, MS, 2 * MS, 80)],
             "# A queue of 8 Kbytes: it takes a packet while what waits isn't more than that\n"
             "pipe 1 config bw 4Mbit/s queue 8Kbytes\n"),
-    Example("policed", policed, "# An uplink that holds nothing back: one packet may wait\npipe 1 config bw 5Mbit/s queue 1\n"),
-    Example("leased", leased,
+    Example("policed", [Stream(to_pipe(1, 10), 120, 0, 2 * MS, 1000, MS),
+                        *(burst(to_pipe(1, 11), 10, (20 + 60 * turn) * MS, 1000) for turn in range(4))],
+            "# An uplink that holds nothing back: one packet may wait\npipe 1 config bw 5Mbit/s queue 1\n"),
+    Example("leased", [Stream(to_pipe(pipe, 10 * pipe, 5004, 17), 90, 0, 5 * MS, 1024) for pipe in (1, 2)],
             "# A leased line of 2,048 kbit/s each way\npipe 1 config bw 2048Kbit/s delay 3ms\n"
             "pipe 2 config bw 2048Kbit/s delay 3ms\n"),
-    Example("unlimited", unlimited, "# Delay alone: no bandwidth, so no packet waits\npipe 1 config delay 100ms\n"),
+    Example("unlimited", [burst(to_pipe(1, 10), 20, turn * 3 * MS, 1500) for turn in range(5)],
+            "# Delay alone: no bandwidth, so no packet waits\npipe 1 config delay 100ms\n"),
 )
 # fmt: on
+
+
+def packets(stream: Stream, rng: Random) -> Iterator[Packet]:
+    for i in range(stream.count):
+        delay = rng.getrandbits(32) % stream.jitter if stream.jitter else 0
+        yield Packet(stream.first + i * stream.gap + delay, stream.sender, stream.length)
 
 
 def rows(example: Example) -> str:
     """Returns the packet file: rows by moment, each with its random word."""
     rng = Random(f"{example.name}, {SEED}")
-    packets = sorted(example.packets(rng), key=lambda packet: packet.moment)
-    lines = [f"{p.moment},{p.sender.target},{p.sender.tuple},{p.len},{rng.getrandbits(32)}" for p in packets]
+    sent = sorted((packet for stream in example.streams for packet in packets(stream, rng)), key=lambda packet: packet.moment)
+    lines = [f"{p.moment},{p.sender.target},{p.sender.tuple},{p.len},{rng.getrandbits(32)}" for p in sent]
     return "".join(f"{line}\n" for line in [PACKET_HEADER, *lines])
 
 
