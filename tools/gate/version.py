@@ -28,7 +28,7 @@ def spelled(number: int) -> str:
     return f"{number // 1_000_000}.{number // 1_000 % 1_000}.{number % 1_000}"
 
 
-def in_sources(tally: Tally, program: str) -> None:
+def main(tally: Tally, program: str) -> None:
     tally.note("the form of VERSION", "" if re.fullmatch(r"\d+\.\d+\.\d+", VERSION) else VERSION)
     told = ran(program, "--version").stdout
     tally.equal("the program (crates/dummynet/src/form.rt)", ["dummynet", VERSION], told.split()[:2])
@@ -40,10 +40,6 @@ def in_sources(tally: Tally, program: str) -> None:
     tally.equal("CITATION.cff", VERSION, found(TOP / "CITATION.cff", r"^version: (.*)$"))
     told = ran(sys.executable, TOP / "hinge", "--version").stdout
     tally.equal("hinge", f"hinge {VERSION}\n", told)
-
-
-def main(tally: Tally, program: str) -> None:
-    in_sources(tally, program)
 
 
 if __name__ == "__main__":
