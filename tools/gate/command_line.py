@@ -292,8 +292,8 @@ def devices(tally: Tally, program: str) -> None:
 
 
 def short_writes(tally: Tally, program: str) -> None:
-    """Checks files limited to 512 bytes, which receive the beginning of the output: the status is 6, and the history isn't
-    complete."""
+    """Checks files limited to 512 bytes, which receive the beginning of the output: the status is 6, the history isn't
+    complete, and an older one survives."""
     limited = ["sh", "-c", "trap '' XFSZ; ulimit -f 1; exec \"$@\"", "sh", program]
     rows = HEADER + ROW * 40
     packed = [f"{form}\n" for form in (CONFIG.rstrip(), *[SUBMIT.rstrip()] * 40)]
@@ -324,6 +324,10 @@ def short_writes(tally: Tally, program: str) -> None:
                 (done.returncode, done.stderr, cut.read_bytes()),
             )
             tally.equal(f"{name} has more bytes", True, len(whole[what]) > 512)
+        (Path(folder) / "old").write_text(HISTORY)
+        done = subprocess.run([*limited, *replay("--history", "old")], cwd=folder, capture_output=True, timeout=120)
+        told = done.returncode, done.stderr, (Path(folder) / "old").read_text()
+        tally.equal("a longer history over an older one", (6, b"cannot write history\n", HISTORY), told)
 
 
 def links(tally: Tally, program: str) -> None:
@@ -349,21 +353,6 @@ def links(tally: Tally, program: str) -> None:
         os.symlink("new", Path(folder) / "link")
         done = run(program, replay("--history", "link"), folder, "")
         tally.equal("a history through a link to no file", (0, HISTORY), (done.returncode, (Path(folder) / "new").read_text()))
-
-
-def full_disks(tally: Tally, program: str) -> None:
-    """Checks that an older history survives if its replacement finds no room. A limit on file length simulates the full disk."""
-    limited = ["sh", "-c", "trap '' XFSZ; ulimit -f 1; exec \"$@\"", "sh", program]
-    with TemporaryDirectory() as folder:
-        laid(Path(folder), {"c": CONFIG, "p": HEADER + ROW * 40, "old": HISTORY})
-        done = subprocess.run(
-            [*limited, *replay("--history", "old")], cwd=folder, stdout=subprocess.PIPE, stderr=subprocess.PIPE, timeout=120
-        )
-        tally.equal(
-            "a longer history on a full disk",
-            (6, b"cannot write history\n", HISTORY),
-            (done.returncode, done.stderr, (Path(folder) / "old").read_text()),
-        )
 
 
 def rights(tally: Tally, program: str) -> None:
@@ -396,7 +385,6 @@ def main(tally: Tally, program: str) -> None:
     texts(tally, program)
     devices(tally, program)
     links(tally, program)
-    full_disks(tally, program)
     short_writes(tally, program)
     rights(tally, program)
 
