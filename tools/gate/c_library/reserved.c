@@ -1,22 +1,11 @@
 /* A sender in real time: room is made for each packet before it comes, and then its dn_submit takes no memory. The packets' flows are
    known, on pipes of their own and on one that queues share. It is linked with tools/gate/refused_growths.c, which counts growths. */
 #include "hingetulip.h"
-#include <stdio.h>
-#include <string.h>
+#include "holds.h"
 
 enum { FLOWS = 64, PACKETS = 1000000, START = 20000, LIST = 4096 };
 
-extern long growths, first_refused;
-
-static int failed;
-
-static void holds(bool it, const char *what) {
-    if (it) return;
-    failed++;
-    printf("%s\n", what);
-}
-
-#define HOLDS(it) holds(it, #it)
+extern long growths;
 
 static const char *const LINES[] = {"pipe 1 config bw 8Mbit/s delay 2 queue 20 mask dst-port 7", "pipe 2 config bw 8Mbit/s delay 5",
                                     "queue 1 config pipe 2 weight 3 queue 15 mask dst-port 15", "queue 2 config pipe 2 queue 15 mask src-ip 31"};
@@ -93,7 +82,8 @@ int main(void) {
     HOLDS(later.reserve == 0 && later.others == 0);
     HOLDS(start.reserve > 0 && without.submit > 0); /* else nothing is shown */
     HOLDS(dn_close(&handle) == DN_OK && dn_close(&unreserved) == DN_OK);
+    int status = told();
     printf("%d packets in reserved room: %ld growths in dn_submit, %ld in all calls. At the start dn_reserve had %ld, and without it "
            "dn_submit %ld\n", PACKETS, later.submit, later.reserve + later.submit + later.others, start.reserve, without.submit);
-    return failed != 0;
+    return status;
 }

@@ -4,25 +4,16 @@
 
    It passes over the first line, and has a list of ROOM places. Behind the rows it prints what else it was told. */
 #include "hingetulip.h"
-#include <inttypes.h>
-#include <stdio.h>
+#include "plain.h"
 #include <stdlib.h>
 #include <string.h>
 
 enum { LONGEST = 1 << 22 };
 
-static void print_address(uint32_t a) { printf("%" PRIu32 ".%" PRIu32 ".%" PRIu32 ".%" PRIu32 ",", a >> 24, a >> 16 & 255, a >> 8 & 255, a & 255); }
-
 static void print_row(const struct dn_packet *p) {
     printf("%" PRIu64 ",%s,%u,", p->moment, p->kind == DN_PIPE ? "pipe" : "queue", p->number);
     print_address(p->src), print_address(p->dst);
     printf("%u,%u,%u,%u,%" PRIu32 "%s\n", p->proto, p->sport, p->dport, p->length, p->word, p->reserved ? " reserved" : "");
-}
-
-static bool untouched(const void *bytes, size_t count) {
-    for (const uint8_t *at = bytes; count > 0; at++, count--)
-        if (*at != 77) return false;
-    return true;
 }
 
 int main(int argc, char **argv) {
@@ -38,12 +29,12 @@ int main(int argc, char **argv) {
         memcpy(part, at, (size_t)(end - at));
         uint32_t status = dn_read_packets(part, (size_t)(end - at), packets, room, &count, &used, &row, &field);
         free(part);
-        if (status == DN_OK && count <= room && row == 7 && field == 7 && untouched(packets + count, (room + 1 - count) * sizeof *packets)) {
+        if (status == DN_OK && count <= room && row == 7 && field == 7 && are_77(packets + count, (room + 1 - count) * sizeof *packets)) {
             for (uint64_t i = 0; i < count; i++) print_row(&packets[i]);
             at += used, before += count;
-        } else if (status == DN_BAD_ROW && count == 7 && used == 7 && untouched(packets, room * sizeof *packets)) {
+        } else if (status == DN_BAD_ROW && count == 7 && used == 7 && are_77(packets, room * sizeof *packets)) {
             return printf("bad %" PRIu64 " %" PRIu64 "\n", before + row, field), 0;
-        } else if (status == DN_ROOM && used == 7 && row == 7 && untouched(packets, room * sizeof *packets)) {
+        } else if (status == DN_ROOM && used == 7 && row == 7 && are_77(packets, room * sizeof *packets)) {
             return printf("room %" PRIu64 "\n", count), 0;
         } else return printf("status %" PRIu32 "\n", status), 1;
     }

@@ -7,8 +7,7 @@
    here, without the masks of its flows, which records don't have. The history is asked for without room first, then with each list a
    place too short, and then with just enough on the heap. So is each text. */
 #include "hingetulip.h"
-#include <inttypes.h>
-#include <stdio.h>
+#include "plain.h"
 #include <stdlib.h>
 #include <string.h>
 
@@ -40,12 +39,6 @@ static void *filled(size_t size) {
     return memset(made, 77, size);
 }
 
-static bool untouched(const void *bytes, size_t count) {
-    for (const uint8_t *at = bytes; count > 0; at++, count--)
-        if (*at != 77) return false;
-    return true;
-}
-
 static uint32_t read_history(struct lists *to, const uint64_t *rooms) {
     *to = (struct lists){filled(rooms[0] * sizeof *to->entries), filled(rooms[1]), filled(rooms[2] * sizeof *to->deliveries),
                          filled(rooms[3] * sizeof *to->flows)};
@@ -59,10 +52,10 @@ static void let_go(struct lists *of) { free(of->entries), free(of->lines), free(
 static uint32_t refused(const uint64_t *rooms) {
     struct lists lists;
     uint32_t status = read_history(&lists, rooms);
-    wanted("an entry without room", untouched(lists.entries, rooms[0] * sizeof *lists.entries));
-    wanted("a line without room", untouched(lists.lines, rooms[1]));
-    wanted("a delivery without room", untouched(lists.deliveries, rooms[2] * sizeof *lists.deliveries));
-    wanted("a flow without room", untouched(lists.flows, rooms[3] * sizeof *lists.flows));
+    wanted("an entry without room", are_77(lists.entries, rooms[0] * sizeof *lists.entries));
+    wanted("a line without room", are_77(lists.lines, rooms[1]));
+    wanted("a delivery without room", are_77(lists.deliveries, rooms[2] * sizeof *lists.deliveries));
+    wanted("a flow without room", are_77(lists.flows, rooms[3] * sizeof *lists.flows));
     let_go(&lists);
     return status;
 }
@@ -72,8 +65,8 @@ static bool is_read(struct lists *lists) {
     uint64_t rooms[LISTS] = {0};
     memset(&history, 77, sizeof history), memset(&record, 77, sizeof record);
     uint32_t status = refused(rooms);
-    wanted("a record", untouched(&record, sizeof record) == (status != DN_BAD_RECORD));
-    wanted("sizes", untouched(&history, sizeof history) == (status == DN_BAD_RECORD));
+    wanted("a record", are_77(&record, sizeof record) == (status != DN_BAD_RECORD));
+    wanted("sizes", are_77(&history, sizeof history) == (status == DN_BAD_RECORD));
     if (status == DN_BAD_RECORD) return printf("bad %" PRIu64 "\n", record), false;
     struct dn_history sizes = history;
     memcpy(rooms, (uint64_t[LISTS]){sizes.entries, sizes.bytes, sizes.deliveries, sizes.flows}, sizeof rooms);
@@ -103,15 +96,13 @@ static void write_text(const struct dn_entry *e, const char *line, const struct 
     uint8_t small[8];
     memset(small, 77, sizeof small);
     wanted("a text without room", text_of(e, line, list, small, sizeof small - 1, &length) == DN_ROOM && length >= sizeof small);
-    wanted("a byte of a text without room", untouched(small, sizeof small));
+    wanted("a byte of a text without room", are_77(small, sizeof small));
     uint8_t *made = malloc(length);
     wanted("a byte too few", made && text_of(e, line, list, made, length - 1, &again) == DN_ROOM && again == length);
     wanted("a text", text_of(e, line, list, made, length, &again) == DN_OK && again == length);
     wanted("the output", fwrite(made, 1, length, stdout) == length);
     free(made);
 }
-
-static void print_address(uint32_t a) { printf("%" PRIu32 ".%" PRIu32 ".%" PRIu32 ".%" PRIu32 ",", a >> 24, a >> 16 & 255, a >> 8 & 255, a & 255); }
 
 static void write_show(const struct dn_entry *e, const struct dn_flow *f) {
     printf("c,%" PRIu64 ",show\nr,status,%" PRIu64 "\n", e->caller, e->count);
