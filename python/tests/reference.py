@@ -5,7 +5,7 @@ from __future__ import annotations
 import sys
 from functools import cache
 from pathlib import Path
-from typing import Iterable, Optional, Sequence
+from typing import Iterable, Sequence
 
 TOOLS = Path(__file__).resolve().parents[2] / "tools"
 sys.path.insert(0, str(TOOLS / "oracle"))
@@ -27,7 +27,6 @@ __all__ = [
     "bad_line",
     "deliveries",
     "model",
-    "next_event",
     "packets_of",
     "parse_line",
     "reply_of",
@@ -35,7 +34,6 @@ __all__ = [
 ]
 
 SEED, SCENARIOS, CALLS = 35, 200, 45
-REFUSALS = {"no such pipe": model.NoSuchPipe(), "pipe has queues": model.PipeHasQueues(), "no such queue": model.NoSuchQueue()}
 REPLIES = {
     hingetulip.Outcome.QUEUED: model.Queued,
     hingetulip.Outcome.LOST: model.Lost,
@@ -58,8 +56,8 @@ def configured(shaper: hingetulip.Shaper, command: model.Command) -> model.Reply
     try:
         shaper.configure(command_text(command))
     except hingetulip.RefusedError as refusal:
-        return REFUSALS[str(refusal)]
-    return model.Deleted() if isinstance(command, (model.DeletePipe, model.DeleteQueue)) else model.Configured()
+        return model.Bare(str(refusal).replace(" ", "-"))
+    return model.Bare.DELETED if isinstance(command, model.Delete) else model.Bare.CONFIGURED
 
 
 def reply_of(fate: hingetulip.Fate) -> model.Reply:
@@ -132,9 +130,3 @@ def answer(shaper: hingetulip.Shaper, call: model.Call, wanted: model.Reply) -> 
     if isinstance(call, model.Collect):
         return collected(shaper, call.moment)
     return status(shaper, [flow.key.mask for flow in wanted.list])
-
-
-def next_event(net: FastDummynet) -> Optional[int]:
-    """When the reference starts or delivers a packet next."""
-    moments = [d.due for d in net.delay_line] + [link.free for link in net.links if link.backlog]
-    return min(moments, default=None)

@@ -15,7 +15,6 @@ from reference import (
     bad_line,
     deliveries,
     model,
-    next_event,
     packets_of,
     parse_line,
     reply_of,
@@ -67,7 +66,7 @@ class Scenarios(unittest.TestCase):
                 for call in calls:
                     answer(shaper, call, net.apply(call))
                     wake = shaper.wake()
-                    self.assertEqual(next_event(net), wake)
+                    self.assertEqual(net.next_moment(), wake)
                     if wake is not None and shaper.advance(0) < wake:
                         before = min(wake - 1, hingetulip.LAST_MOMENT)
                         self.assertEqual([], shaper.collect(before))

@@ -16,7 +16,6 @@ import os
 import shutil
 import subprocess
 from collections import Counter
-from dataclasses import astuple
 from pathlib import Path
 from random import Random
 from tempfile import TemporaryDirectory
@@ -72,7 +71,7 @@ def line_of(rng: Random, call: Call) -> str:
         return f"f {spell(rng, call.command)}"
     if isinstance(call, Submit):
         packet, is_queue = call.packet, int(call.target.kind == "queue")
-        return " ".join(map(str, ("p", call.moment, is_queue, call.target.number, *astuple(packet.tuple), packet.len, packet.word)))
+        return " ".join(map(str, ("p", call.moment, is_queue, call.target.number, *packet.tuple, packet.len, packet.word)))
     return "s" if isinstance(call, Show) else f"{'a' if isinstance(call, Advance) else 'c'} {call.moment}"
 
 

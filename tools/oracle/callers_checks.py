@@ -21,17 +21,15 @@ sys.path.insert(0, str(Path(__file__).resolve().parents[1] / "gate"))
 from fast import first_difference  # noqa: E402
 from files import read_line, read_packets, report, split_lines  # noqa: E402
 from history_reader import HistoryReader  # noqa: E402
-from model import MAX_CALLERS, MAX_MOMENT, ORDERED, Collect, Configure, Submit  # noqa: E402
+from model import MAX_CALLERS, MAX_MOMENT, ORDERED, Collect, Configure, Entry, Submit  # noqa: E402
 from program_cases import replay_input  # noqa: E402
 from scenarios import STYLES  # noqa: E402
 from tally import Tally, judge  # noqa: E402
 
 
-def faults(config: bytes, packets: bytes, callers: int, text: bytes, history: bytes) -> list[str]:
+def faults(config: bytes, submits: list[Submit], callers: int, text: bytes, rule: str, entries: list[Entry]) -> list[str]:
     """Returns the faults of a run, in a few words each."""
-    rule, entries = HistoryReader(history).read()
     commands = [c for c in (read_line(i, line) for i, line in enumerate(split_lines(config), 1)) if c is not None]
-    submits = [Submit(row.target, row.packet, row.moment) for row in read_packets(packets)]
     head, rest, last = entries[: len(commands)], entries[len(commands) : -1], entries[-1]
     rights = {
         "the history is lawful by the rule Ordered": rule == ORDERED and first_difference(entries, rule) is None,
@@ -45,11 +43,6 @@ def faults(config: bytes, packets: bytes, callers: int, text: bytes, history: by
     return [right for right, holds in rights.items() if not holds]
 
 
-def is_in_order(packets: bytes, history: bytes) -> bool:
-    rows = [Submit(row.target, row.packet, row.moment) for row in read_packets(packets)]
-    return [e.call for e in HistoryReader(history).read()[1] if isinstance(e.call, Submit)] == rows
-
-
 def main(tally: Tally, program: str, seed: str, count: str) -> None:
     rng, mixed = Random(int(seed)), 0
     for turn in range(int(count)):
@@ -60,9 +53,10 @@ def main(tally: Tally, program: str, seed: str, count: str) -> None:
             (Path(folder) / "packets").write_bytes(packets)
             words = [str(Path(program).resolve()), "replay", "config", "packets", "--callers", str(callers), "--history", "history"]
             done = subprocess.run(words, cwd=folder, capture_output=True, check=True)
-            history = (Path(folder) / "history").read_bytes()
-        mixed += not is_in_order(packets, history)
-        wrong = faults(config, packets, callers, done.stdout, history)
+            rule, entries = HistoryReader((Path(folder) / "history").read_bytes()).read()
+        submits = read_packets(packets)
+        mixed += [e.call for e in entries if isinstance(e.call, Submit)] != submits
+        wrong = faults(config, submits, callers, done.stdout, rule, entries)
         tally.note(f"run {turn} of {callers} callers", *(f"not so: {fault}" for fault in wrong))
     print(f"{mixed} of {count} runs had the rows in another order than the file")
 

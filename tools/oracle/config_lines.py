@@ -3,8 +3,7 @@
 from __future__ import annotations
 
 import re
-from dataclasses import dataclass
-from typing import Optional
+from typing import Any, Optional
 
 import model
 
@@ -53,10 +52,8 @@ def read_number(text: str) -> Optional[int]:
 
 def split_digits(text: str) -> tuple[str, str]:
     """Returns the leading digits 0-9, and the rest."""
-    n = 0
-    while n < len(text) and text[n] in "0123456789":
-        n += 1
-    return text[:n], text[n:]
+    rest = text.lstrip("0123456789")
+    return text[: len(text) - len(rest)], rest
 
 
 def split_words(line: str) -> list[str]:
@@ -189,20 +186,6 @@ def read_mask(words: Words) -> model.FiveTuple:
         some = True
 
 
-@dataclass
-class Options:
-    """The values of a line's options so far."""
-
-    bw: int = 0
-    delay: int = 0
-    pipe: Optional[int] = None
-    weight: int = 1
-    limit: model.Limit = model.DEFAULT_LIMIT
-    loss: int = 0
-    buckets: Optional[int] = None
-    mask: model.FiveTuple = model.NO_BITS
-
-
 def read_head(words: Words) -> tuple[str, int]:
     """`pipe` or `queue`, and the position of this word."""
     if words.peek() == "ipfw":
@@ -234,27 +217,27 @@ def read_action(words: Words) -> tuple[int, bool]:
     return number, is_delete
 
 
-def read_option(words: Words, is_pipe: bool, found: Options) -> None:
-    """Reads the value of the option whose first word was taken last."""
+def read_option(words: Words, is_pipe: bool, found: dict[str, Any]) -> None:
+    """Reads the value of the option whose first word was taken last, under its name in the command."""
     option, at = words.words[words.taken - 1], words.position
     if option in LEFT_OUT_WORDS:
         raise LineFault(LEFT_OUT, at)
     if option == "mask":
-        found.mask = read_mask(words)
+        found["mask"] = read_mask(words)
     elif option == "queue":
-        found.limit = read_limit(words.need(), at + 1)
+        found["limit"] = read_limit(words.need(), at + 1)
     elif option == "plr":
-        found.loss = read_plr(words.need(), at + 1)
+        found["loss"] = read_plr(words.need(), at + 1)
     elif option == "buckets":
-        found.buckets = ranged(read_number(words.need()), 16, 65536, at + 1)
+        found["buckets"] = ranged(read_number(words.need()), 16, 65536, at + 1)
     elif option == "bw" and is_pipe:
-        found.bw = read_bw(words.need(), at + 1)
+        found["bw"] = read_bw(words.need(), at + 1)
     elif option == "delay" and is_pipe:
-        found.delay = read_delay(words.need(), at + 1)
+        found["delay"] = read_delay(words.need(), at + 1)
     elif option == "weight" and not is_pipe:
-        found.weight = ranged(read_number(words.need()), 1, 100, at + 1)
+        found["weight"] = ranged(read_number(words.need()), 1, 100, at + 1)
     elif option == "pipe" and not is_pipe:
-        found.pipe = ranged(read_number(words.need()), 1, 65535, at + 1)
+        found["pipe"] = ranged(read_number(words.need()), 1, 65535, at + 1)
     else:
         raise LineFault(UNKNOWN_WORD, at)
 
@@ -270,12 +253,12 @@ def parse_line(line: str) -> Optional[model.Command]:
     if is_delete:
         if words.take() is not None:
             raise LineFault(UNKNOWN_WORD, words.position)
-        return model.DeletePipe(number) if is_pipe else model.DeleteQueue(number)
-    found = Options()
+        return model.Delete(model.Target(kind, number))
+    found: dict[str, Any] = {}
     while words.take() is not None:
         read_option(words, is_pipe, found)
     if is_pipe:
-        return model.Pipe(number, found.bw, found.delay, found.limit, found.loss, found.buckets, found.mask)
-    if found.pipe is None:
+        return model.Pipe(number, **found)
+    if "pipe" not in found:
         raise LineFault(NEEDS_PIPE, head)
-    return model.Queue(number, found.pipe, found.weight, found.limit, found.loss, found.buckets, found.mask)
+    return model.Queue(number, **found)

@@ -139,27 +139,28 @@ class FastDummynet:
     def configure(self, c: model.Command) -> model.Reply:
         if isinstance(c, model.Pipe):
             self.pipes[c.number] = c
-            return model.Configured()
+            return model.Bare.CONFIGURED
         if isinstance(c, model.Queue):
             if c.pipe not in self.pipes:
-                return model.NoSuchPipe()
+                return model.Bare.NO_SUCH_PIPE
             self.queues[c.number] = c
-            return model.Configured()
-        if isinstance(c, model.DeletePipe):
-            if c.number not in self.pipes:
-                return model.NoSuchPipe()
-            if any(q.pipe == c.number for q in self.queues.values()):
-                return model.PipeHasQueues()
-            del self.pipes[c.number]
-            reached = [f for f in self.flows if f.key.pipe == c.number]
+            return model.Bare.CONFIGURED
+        number = c.target.number
+        if c.target.kind == "pipe":
+            if number not in self.pipes:
+                return model.Bare.NO_SUCH_PIPE
+            if any(q.pipe == number for q in self.queues.values()):
+                return model.Bare.PIPE_HAS_QUEUES
+            del self.pipes[number]
+            reached = [f for f in self.flows if f.key.pipe == number]
         else:
-            if c.number not in self.queues:
-                return model.NoSuchQueue()
-            del self.queues[c.number]
-            reached = [f for f in self.flows if f.key.target.kind == "queue" and f.key.target.number == c.number]
+            if number not in self.queues:
+                return model.Bare.NO_SUCH_QUEUE
+            del self.queues[number]
+            reached = [f for f in self.flows if f.key.target == c.target]
         for flow in reached:
             self.discard(flow)
-        return model.Deleted()
+        return model.Bare.DELETED
 
     def discard(self, flow: Flow) -> None:
         link = self.link_of_flow.get(flow.number)

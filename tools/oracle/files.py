@@ -3,7 +3,7 @@
 from __future__ import annotations
 
 from collections import Counter
-from typing import Iterable, Optional
+from typing import Iterable, Optional, TypeVar
 
 from config_lines import LineFault, parse_line, read_number
 from csv_bytes import read_records
@@ -11,8 +11,10 @@ import model
 
 PACKET_HEADER = "moment,target,number,src,dst,proto,sport,dport,len,word"
 REPORT_HEADER = "event,row,flow,packet,at,start,due"
+EVENTS = {model.Queued: "held", model.Lost: "lost", model.Full: "full", model.NoTarget: "none"}  # of packets that didn't leave
+VALUE = TypeVar("VALUE")
+CALL_WIDTHS = {b"configure": 4, b"submit": 13, b"advance": 4, b"collect": 4, b"show": 3}
 LIMITS = {"config": 1_048_576, "packets": 67_108_864, "input": 67_108_864, "history": 268_435_456}
-REFUSALS = {model.NoSuchPipe: "no such pipe", model.PipeHasQueues: "pipe has queues", model.NoSuchQueue: "no such queue"}
 
 
 class ReplayFault(Exception):
@@ -24,8 +26,8 @@ class ReplayFault(Exception):
         self.status = status
 
 
-def refused_line(line: int, reply: model.Reply) -> ReplayFault:
-    return ReplayFault(f"config line {line}: {REFUSALS[type(reply)]}", 3)
+def refused_line(line: int, reply: model.Bare) -> ReplayFault:
+    return ReplayFault(f"config line {line}: {reply.value.replace('-', ' ')}", 3)
 
 
 def bad_row(row: int, field: int) -> ReplayFault:
@@ -96,10 +98,81 @@ def kind_of(field: bytes) -> Optional[str]:
     return {b"pipe": "pipe", b"queue": "queue"}.get(field)
 
 
+class BadField(Exception):
+    """Raised with the place of the first bad field, from 1, or 0, and the reason."""
+
+    def __init__(self, field: int, cause: str = "bad field") -> None:
+        super().__init__(field, cause)
+        self.field, self.cause = field, cause
+
+
+class Record:
+    """The fields of a record, counted from 1."""
+
+    def __init__(self, fields: list[bytes]) -> None:
+        self.fields = fields
+
+    def field(self, place: int) -> bytes:
+        return self.fields[place - 1] if place <= len(self.fields) else b""
+
+    def known(self, place: int, value: Optional[VALUE]) -> VALUE:
+        if value is None:
+            raise BadField(place)
+        return value
+
+    def number(self, place: int, low: int = 0, high: int = model.MAX_U64) -> int:
+        return self.known(place, number_of(self.field(place), low, high))
+
+    def numbers(self, first: int) -> list[int]:
+        """Returns the numbers in all fields from a place on."""
+        return [self.number(place) for place in range(first, len(self.fields) + 1)]
+
+    def target(self, place: int) -> model.Target:
+        kind = self.known(place, kind_of(self.field(place)))
+        return model.Target(kind, self.number(place + 1, 1, model.MAX_NUMBER))
+
+    def five(self, place: int) -> model.FiveTuple:
+        src, dst = (self.known(at, address_of(self.field(at))) for at in (place, place + 1))
+        ends = (self.number(at, 0, high) for at, high in enumerate((255, 65535, 65535), place + 2))
+        return model.FiveTuple(src, dst, *ends)
+
+    def packet(self, place: int) -> model.Packet:
+        five = self.five(place)
+        return model.Packet(five, self.number(place + 5, 1, model.MAX_LEN), self.number(place + 6, 0, 2**32 - 1))
+
+
+def call_of(fields: list[bytes]) -> tuple[int, model.Call]:
+    """Returns the call of a record, with its caller."""
+    record = Record(fields)
+    caller, name = record.number(2, 0, model.MAX_CALLERS - 1), record.field(3)
+    if CALL_WIDTHS.get(name) != len(fields):
+        raise BadField(3)
+    if name == b"configure":
+        command = command_of(record.field(4), 4)
+        if command is None:
+            raise BadField(4, "no command")
+        return caller, model.Configure(command)
+    if name == b"show":
+        return caller, model.Show()
+    if name == b"submit":
+        return caller, model.Submit(record.target(4), record.packet(6), record.number(13, 0, model.MAX_MOMENT))
+    return caller, (model.Advance if name == b"advance" else model.Collect)(record.number(4, 0, model.MAX_MOMENT))
+
+
+def command_of(line: bytes, field: int) -> Optional[model.Command]:
+    text = text_of(line)
+    if text is None:
+        raise BadField(field, "not UTF-8")
+    try:
+        return parse_line(text)
+    except LineFault as fault:
+        raise BadField(field, f"word {fault.word}: {fault.kind}") from None
+
+
 # ---- Packet file -------------------------------------------------------------------------------------------------
 
 
-def read_packets(data: bytes) -> list[model.Row]:
+def read_packets(data: bytes) -> list[model.Submit]:
     records = read_records(data)
     if not records:
         return []
@@ -108,25 +181,15 @@ def read_packets(data: bytes) -> list[model.Row]:
     return [read_row(number, record) for number, record in enumerate(records[1:], 1)]
 
 
-def read_row(row: int, record: list[bytes]) -> model.Row:
-    if len(record) != 10:
+def read_row(row: int, fields: list[bytes]) -> model.Submit:
+    if len(fields) != 10:
         raise bad_row(row, 0)
-    values = (
-        number_of(record[0], 0, model.MAX_MOMENT),
-        kind_of(record[1]),
-        number_of(record[2], 1, model.MAX_NUMBER),
-        address_of(record[3]),
-        address_of(record[4]),
-        number_of(record[5], 0, 255),
-        number_of(record[6], 0, 65535),
-        number_of(record[7], 0, 65535),
-        number_of(record[8], 1, model.MAX_LEN),
-        number_of(record[9], 0, 2**32 - 1),
-    )
-    if None in values:
-        raise bad_row(row, values.index(None) + 1)
-    moment, kind, number, src, dst, proto, sport, dport, length, word = values
-    return model.Row(moment, model.Target(kind, number), model.Packet(model.FiveTuple(src, dst, proto, sport, dport), length, word))
+    record = Record(fields)
+    try:
+        moment = record.number(1, 0, model.MAX_MOMENT)
+        return model.Submit(record.target(2), record.packet(4), moment)
+    except BadField as bad:
+        raise bad_row(row, bad.field) from None
 
 
 # ---- Report ------------------------------------------------------------------------------------------------------
@@ -134,14 +197,7 @@ def read_row(row: int, record: list[bytes]) -> model.Row:
 
 def other_line(row: int, r: model.Reply) -> str:
     """Returns the line of a packet that didn't leave."""
-    if isinstance(r, model.Queued):
-        return f"held,{row},{r.flow},{r.packet},{r.at},,"
-    if isinstance(r, model.Lost):
-        return f"lost,{row},{r.flow},,{r.at},,"
-    if isinstance(r, model.Full):
-        return f"full,{row},{r.flow},,{r.at},,"
-    assert isinstance(r, model.NoTarget)
-    return f"none,{row},,,{r.at},,"
+    return f"{EVENTS[type(r)]},{row},{getattr(r, 'flow', '')},{getattr(r, 'packet', '')},{r.at},,"
 
 
 def report(history: Iterable[model.Entry], callers: int = 1) -> str:

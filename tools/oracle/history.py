@@ -7,14 +7,6 @@ from typing import Iterable
 import model
 from printing import command_text
 
-BARE_REPLIES = {
-    model.Configured: "configured",
-    model.NoSuchPipe: "no-such-pipe",
-    model.Deleted: "deleted",
-    model.PipeHasQueues: "pipe-has-queues",
-    model.NoSuchQueue: "no-such-queue",
-    model.Exhausted: "exhausted",
-}
 NUMBERED_REPLIES = {
     model.Queued: "queued",
     model.Lost: "lost",
@@ -56,8 +48,8 @@ def status_text(f: model.FlowStatus, version: int) -> str:
 
 def reply_lines(r: model.Reply, version: int) -> list[str]:
     """Returns the record of a reply, and those of its items."""
-    if type(r) in BARE_REPLIES:
-        return [f"r,{BARE_REPLIES[type(r)]}"]
+    if isinstance(r, model.Bare):
+        return [f"r,{r.value}"]
     if isinstance(r, model.Delivered):
         return [f"r,delivered,{r.at},{len(r.list)}"] + [f"d,{d.packet},{d.flow},{d.start},{d.due}" for d in r.list]
     if isinstance(r, model.Status):

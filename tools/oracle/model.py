@@ -3,7 +3,8 @@
 from __future__ import annotations
 
 from dataclasses import dataclass
-from typing import Optional, Union
+from enum import Enum
+from typing import NamedTuple, Optional, Union
 
 MAX_MOMENT = 2**62
 MAX_U64 = 2**64 - 1
@@ -14,8 +15,7 @@ FREE = "free"
 ORDERED = "ordered"
 
 
-@dataclass(frozen=True)
-class FiveTuple:
+class FiveTuple(NamedTuple):
     """A five-tuple, or the bits of a mask."""
 
     src: int = 0
@@ -30,17 +30,10 @@ ALL_BITS = FiveTuple(2**32 - 1, 2**32 - 1, 255, 65535, 65535)
 
 
 def masked(mask: FiveTuple, t: FiveTuple) -> FiveTuple:
-    return FiveTuple(
-        mask.src & t.src,
-        mask.dst & t.dst,
-        mask.proto & t.proto,
-        mask.sport & t.sport,
-        mask.dport & t.dport,
-    )
+    return FiveTuple(*(bits & value for bits, value in zip(mask, t)))
 
 
-@dataclass(frozen=True)
-class Limit:
+class Limit(NamedTuple):
     slots: Optional[int] = 50
     kbytes: Optional[int] = None
 
@@ -48,20 +41,18 @@ class Limit:
 DEFAULT_LIMIT = Limit(50, None)
 
 
-@dataclass(frozen=True)
-class Target:
+class Target(NamedTuple):
     kind: str  # 'pipe' or 'queue'
     number: int
 
 
-@dataclass(frozen=True)
-class Packet:
+class Packet(NamedTuple):
     tuple: FiveTuple
     len: int
     word: int
 
 
-# Commands
+# Commands, calls and replies of different kinds are never equal, whatever their values, so they aren't tuples.
 
 
 @dataclass(frozen=True)
@@ -87,18 +78,11 @@ class Queue:
 
 
 @dataclass(frozen=True)
-class DeletePipe:
-    number: int
+class Delete:
+    target: Target
 
 
-@dataclass(frozen=True)
-class DeleteQueue:
-    number: int
-
-
-Command = Union[Pipe, Queue, DeletePipe, DeleteQueue]
-
-# Calls
+Command = Union[Pipe, Queue, Delete]
 
 
 @dataclass(frozen=True)
@@ -108,6 +92,8 @@ class Configure:
 
 @dataclass(frozen=True)
 class Submit:
+    """A packet that is sent, in a call or by a row of a packet file."""
+
     target: Target
     packet: Packet
     moment: int
@@ -130,32 +116,16 @@ class Show:
 
 Call = Union[Configure, Submit, Advance, Collect, Show]
 
-# Replies
 
+class Bare(Enum):
+    """A reply without numbers, by its name in a record."""
 
-@dataclass(frozen=True)
-class Configured:
-    pass
-
-
-@dataclass(frozen=True)
-class NoSuchPipe:
-    pass
-
-
-@dataclass(frozen=True)
-class Deleted:
-    pass
-
-
-@dataclass(frozen=True)
-class PipeHasQueues:
-    pass
-
-
-@dataclass(frozen=True)
-class NoSuchQueue:
-    pass
+    CONFIGURED = "configured"
+    NO_SUCH_PIPE = "no-such-pipe"
+    DELETED = "deleted"
+    PIPE_HAS_QUEUES = "pipe-has-queues"
+    NO_SUCH_QUEUE = "no-such-queue"
+    EXHAUSTED = "exhausted"
 
 
 @dataclass(frozen=True)
@@ -187,8 +157,7 @@ class Advanced:
     at: int
 
 
-@dataclass(frozen=True, order=True)
-class Delivery:
+class Delivery(NamedTuple):
     due: int
     packet: int
     flow: int
@@ -201,16 +170,14 @@ class Delivered:
     list: tuple[Delivery, ...]
 
 
-@dataclass(frozen=True)
-class FlowKey:
+class FlowKey(NamedTuple):
     target: Target
     pipe: int
     mask: FiveTuple
     tuple: FiveTuple
 
 
-@dataclass(frozen=True)
-class FlowStatus:
+class FlowStatus(NamedTuple):
     flow: int
     key: FlowKey
     queued: int
@@ -226,39 +193,10 @@ class Status:
     list: tuple[FlowStatus, ...]
 
 
-@dataclass(frozen=True)
-class Exhausted:
-    pass
+Reply = Union[Bare, Queued, Lost, Full, NoTarget, Advanced, Delivered, Status]
 
 
-Reply = Union[
-    Configured,
-    NoSuchPipe,
-    Deleted,
-    PipeHasQueues,
-    NoSuchQueue,
-    Queued,
-    Lost,
-    Full,
-    NoTarget,
-    Advanced,
-    Delivered,
-    Status,
-    Exhausted,
-]
-
-
-@dataclass(frozen=True)
-class Entry:
+class Entry(NamedTuple):
     caller: int
     call: Call
     reply: Reply
-
-
-@dataclass(frozen=True)
-class Row:
-    """A row of a packet file."""
-
-    moment: int
-    target: Target
-    packet: Packet

@@ -3,7 +3,7 @@
 from __future__ import annotations
 
 from config_lines import LOSS_OF_ALL
-from model import ALL_BITS, NO_BITS, Command, DeletePipe, DeleteQueue, FiveTuple, Pipe
+from model import ALL_BITS, NO_BITS, Command, Delete, FiveTuple, Pipe
 
 # The order of a printed mask, with the hexadecimal digits of each field.
 PRINTED_MASK = (
@@ -34,8 +34,8 @@ def loss_words(loss: int) -> list[str]:
 
 def command_text(c: Command) -> str:
     """The canonical configuration line."""
-    if isinstance(c, (DeletePipe, DeleteQueue)):
-        return f"{'pipe' if isinstance(c, DeletePipe) else 'queue'} delete {c.number}"
+    if isinstance(c, Delete):
+        return f"{c.target.kind} delete {c.target.number}"
     if isinstance(c, Pipe):
         words = [f"pipe {c.number} config"]
         words += [f"bw {c.bw}bit/s"] if c.bw else []

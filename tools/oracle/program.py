@@ -16,7 +16,7 @@ from fast import FastDummynet
 from files import LIMITS, ReplayFault, read_line, read_packets, refused_line, report, split_joined, split_lines
 from history import history_text
 from history_reader import audit_line
-from model import MAX_MOMENT, ORDERED, Collect, Configure, Configured, Deleted, Entry, Submit
+from model import MAX_MOMENT, ORDERED, Bare, Collect, Configure, Entry
 
 
 @dataclass(frozen=True)
@@ -55,7 +55,7 @@ def configured(net: FastDummynet, config: bytes) -> list[Entry]:
         if command is None:
             continue
         reply = net.apply(Configure(command))
-        if not isinstance(reply, (Configured, Deleted)):
+        if reply not in (Bare.CONFIGURED, Bare.DELETED):
             raise refused_line(number, reply)
         entries.append(Entry(0, Configure(command), reply))
     return entries
@@ -65,8 +65,7 @@ def replay_over(config: bytes, packets: Callable[[], bytes]) -> list[Entry]:
     """Returns the history of a replay. The packets are read if the configuration is correct."""
     net = FastDummynet()
     entries = configured(net, config)
-    calls = [Submit(row.target, row.packet, row.moment) for row in read_packets(packets())]
-    return entries + [Entry(0, call, net.apply(call)) for call in [*calls, Collect(MAX_MOMENT)]]
+    return entries + [Entry(0, call, net.apply(call)) for call in [*read_packets(packets()), Collect(MAX_MOMENT)]]
 
 
 def replay_joined(stdin: BinaryIO) -> list[Entry]:

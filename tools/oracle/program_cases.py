@@ -19,7 +19,7 @@ from broken import bad_line, damaged_record, random_words_line
 from files import PACKET_HEADER
 from fixed_cases import AUDITS, JOINED, REPLAYS
 from history import tuple_text
-from model import Command, DeletePipe, DeleteQueue, Queue, Row
+from model import Command, Delete, Queue, Submit, Target
 from printing import command_text
 from program import Outcome, outcome
 from random_histories import random_history
@@ -65,12 +65,12 @@ def case(name: str, words: list[str], stdin: Optional[bytes] = None, files: Opti
 # ---- Texts -------------------------------------------------------------------------------------------------------
 
 
-def row_fields(r: Row) -> list[str]:
+def row_fields(r: Submit) -> list[str]:
     p = r.packet
     return f"{r.moment},{r.target.kind},{r.target.number},{tuple_text(p.tuple)},{p.len},{p.word}".split(",")
 
 
-def packet_text(rng: Random, rows: list[Row], plain: bool) -> bytes:
+def packet_text(rng: Random, rows: list[Submit], plain: bool) -> bytes:
     """The file of these rows; where not plain, with line ends, quotes, empty lines and a mark that change nothing."""
     end = "\n" if plain else rng.choice(("\n", "\n", "\r\n", "\r"))
     quotes = 0.0 if plain else rng.choice((0.0, 0.0, 0.1, 1.0))
@@ -102,11 +102,11 @@ def with_deletes(rng: Random, commands: list[Command]) -> list[Command]:
     found = list(commands)
     for c in rng.sample(commands, min(2, len(commands))):
         if isinstance(c, Queue):
-            found.append(DeleteQueue(c.number))
+            found.append(Delete(Target("queue", c.number)))
             if rng.random() < 0.5:
                 found.append(c)
         elif not any(isinstance(q, Queue) and q.pipe == c.number for q in commands):
-            found.append(DeletePipe(c.number))
+            found.append(Delete(Target("pipe", c.number)))
     return found
 
 

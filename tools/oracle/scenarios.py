@@ -9,27 +9,8 @@ from dataclasses import dataclass, replace
 from random import Random
 from typing import Optional
 
-from model import (
-    ALL_BITS,
-    DEFAULT_LIMIT,
-    NO_BITS,
-    Advance,
-    Call,
-    Collect,
-    Command,
-    Configure,
-    DeletePipe,
-    DeleteQueue,
-    FiveTuple,
-    Limit,
-    Packet,
-    Pipe,
-    Queue,
-    Row,
-    Show,
-    Submit,
-    Target,
-)
+from model import ALL_BITS, DEFAULT_LIMIT, NO_BITS, FiveTuple, Limit, Packet, Pipe, Queue, Target
+from model import Advance, Call, Collect, Command, Configure, Delete, Show, Submit
 
 TX = 1_000_000  # 1,000 bytes at 8 Mbit/s
 
@@ -112,27 +93,14 @@ STYLES = (
 
 
 def random_pipe(rng: Random, style: Style, number: int) -> Pipe:
-    return Pipe(
-        number,
-        rng.choice(style.bws),
-        rng.choice(style.delays),
-        rng.choice(style.limits),
-        rng.choice(style.losses),
-        rng.choice((None, None, None, 64)),
-        rng.choice(style.masks),
-    )
+    bw, delay, limit, loss = (rng.choice(values) for values in (style.bws, style.delays, style.limits, style.losses))
+    return Pipe(number, bw, delay, limit, loss, rng.choice((None, None, None, 64)), rng.choice(style.masks))
 
 
 def random_queue(rng: Random, style: Style, number: int) -> Queue:
-    return Queue(
-        number,
-        rng.randint(1, style.pipes),
-        rng.choice(style.weights),
-        rng.choice(style.limits),
-        rng.choice(style.losses),
-        None,
-        rng.choice(style.masks),
-    )
+    pipe = rng.randint(1, style.pipes)
+    weight, limit, loss, mask = (rng.choice(values) for values in (style.weights, style.limits, style.losses, style.masks))
+    return Queue(number, pipe, weight, limit, loss, None, mask)
 
 
 def first_commands(rng: Random, style: Style) -> list[Command]:
@@ -221,14 +189,13 @@ def random_calls(rng: Random, style: Style, count: int, callers: int, deletes: b
         else:
             number = rng.randint(1, max(style.pipes, style.queues))
             if rng.random() < 0.7:
-                calls.append(Configure(DeleteQueue(number)))
+                calls.append(Configure(Delete(Target("queue", number))))
                 back = commands.get((Queue, number))
             else:
                 if rng.random() < 0.5:  # free the pipe of its queues first
-                    calls += [
-                        Configure(DeleteQueue(q.number)) for q in commands.values() if isinstance(q, Queue) and q.pipe == number
-                    ]
-                calls.append(Configure(DeletePipe(number)))
+                    queues = [q.number for q in commands.values() if isinstance(q, Queue) and q.pipe == number]
+                    calls += [Configure(Delete(Target("queue", queue))) for queue in queues]
+                calls.append(Configure(Delete(Target("pipe", number))))
                 back = commands.get((Pipe, number))
             if rng.random() < 0.3:
                 calls.append(Show())
@@ -247,11 +214,11 @@ def random_calls(rng: Random, style: Style, count: int, callers: int, deletes: b
     return [(rng.randrange(callers), c) for c in calls]
 
 
-def random_rows(rng: Random, style: Style, count: int) -> list[Row]:
+def random_rows(rng: Random, style: Style, count: int) -> list[Submit]:
     moments = Moments(rng, style)
     rows = []
     while len(rows) < count:
         target = random_target(rng, style)
         for _ in range(rng.choice((1, 1, 1, 2, 3, 5))):  # a burst to one target
-            rows.append(Row(moments.next(), target, random_packet(rng, style)))
+            rows.append(Submit(moment=moments.next(), target=target, packet=random_packet(rng, style)))
     return rows[:count]

@@ -8,7 +8,7 @@ from __future__ import annotations
 from random import Random
 
 from config_lines import parse_line
-from model import ALL_BITS, DEFAULT_LIMIT, NO_BITS, Command, DeletePipe, DeleteQueue, FiveTuple, Limit, Pipe, Queue
+from model import ALL_BITS, DEFAULT_LIMIT, NO_BITS, Command, Delete, FiveTuple, Limit, Pipe, Queue
 
 
 def either_case(rng: Random, text: str) -> str:
@@ -86,12 +86,12 @@ def spelled_options(rng: Random, c: Pipe | Queue) -> list[str]:
 
 def spell(rng: Random, c: Command) -> str:
     """A line that reads as this command."""
-    kind = "pipe" if isinstance(c, (Pipe, DeletePipe)) else "queue"
     words = ["ipfw"] if rng.random() < 0.1 else []
-    if isinstance(c, (DeletePipe, DeleteQueue)):
-        words += [kind, "delete", str(c.number)] if rng.random() < 0.5 else [kind, str(c.number), "delete"]
+    if isinstance(c, Delete):
+        kind, number = c.target.kind, str(c.target.number)
+        words += [kind, "delete", number] if rng.random() < 0.5 else [kind, number, "delete"]
     else:
-        words += [kind, str(c.number), "config"] + " ".join(spelled_options(rng, c)).split()
+        words += ["pipe" if isinstance(c, Pipe) else "queue", str(c.number), "config"] + " ".join(spelled_options(rng, c)).split()
     text = "".join(w + rng.choice((" ", " ", " ", "  ", "\t", " \r ")) for w in words[:-1]) + words[-1]
     text = rng.choice(("", "", "", " ", "\t")) + text + rng.choice(("", "", "", " ", "\r", "# note", ' # a, "b" #c'))
     assert parse_line(text) == c, (text, c)
