@@ -77,7 +77,9 @@ class Ran(NamedTuple):
         """Returns what a single run would warn of: servers that ended early beside a program that ended well, and no sure repetition."""
         servers = {} if self.failed else {"the server": self.record.get("server"), **(self.record.get("hosts") or {})}
         ends = [
-            f"{name} ended with {one['status']} by itself" for name, one in servers.items() if one and one["by"] == "itself" and one["status"]
+            f"{name} ended with {one['status']} by itself"
+            for name, one in servers.items()
+            if one and one["by"] == "itself" and one["status"]
         ]
         return [*ends, *["a second run may differ"] * (self.has_run and self.record.get("repeatable") is False)]
 
@@ -101,10 +103,6 @@ def words_of(settings: Asked, what: "Sequence[str]", seed: int, pauses: Optional
 Look = Callable[[Machine], None]  # at one that is over, before its folder goes
 
 
-def pass_by(machine: Machine) -> None:
-    """Looks at nothing."""
-
-
 def options_of(words: "Sequence[str]") -> SimulatedOptions:
     """Returns the options in a `hinge` command line."""
     return run.command_line(words[1:]) if words[0] == "run" else net.command_line(words[1:])
@@ -116,7 +114,9 @@ class Runner:
     def __init__(self, options: Asked) -> None:
         self.asked, self.kernel, self.running, self.is_over = options, found(), set[Machine](), False
 
-    def run(self, what: "Sequence[str]", seed: int, pauses: Optional[str], watch: Watch = PLAIN, look: Look = pass_by) -> Ran:
+    def run(
+        self, what: "Sequence[str]", seed: int, pauses: Optional[str], watch: Watch = PLAIN, look: Optional[Look] = None
+    ) -> Ran:
         name, *words = words_of(self.asked, what, seed, pauses)
         options = options_of([name, "--quiet", *words])
         options = options.but(limit=options.limit or LONGEST, transcript=watch.transcript)
@@ -133,7 +133,8 @@ class Runner:
                 machine.wait(real_limit_of(options))
                 output = (machine.folder / "out").read_text(errors="replace")
                 result = reported(machine, plan, self.kernel, files=True, is_told=False)
-                look(machine)
+                if look:
+                    look(machine)
             finally:
                 self.running.discard(machine)
                 machine.remove()
@@ -145,7 +146,7 @@ class Runner:
         for machine in list(self.running):
             machine.end(SIGNALLED)
 
-    def case(self, case: Case, watch: Watch = PLAIN, look: Look = pass_by) -> Ran:
+    def case(self, case: Case, watch: Watch = PLAIN, look: Optional[Look] = None) -> Ran:
         if self.asked.net is None:
             return self.run(["run", *case.options()], case.seed, case.pauses(), watch, look)
         with file_beside(self.asked.net, case.net()) as file:

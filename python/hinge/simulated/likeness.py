@@ -34,21 +34,18 @@ def what_differs(one: "dict[str, Any]", other: "dict[str, Any]") -> "list[str]":
     ]
 
 
-def files_that_differ(one: "dict[str, Any]", other: "dict[str, Any]") -> "list[str]":
-    """Returns the files that differ, in the order in which the earlier run opened them, followed by the other run's."""
-    return [name for name in {**one, **other} if one.get(name) != other.get(name)]
-
-
 def of_files(before: "dict[str, Any]", present: "dict[str, Any]") -> str:
-    if not isinstance(before.get("files"), dict):
+    """Tells the first file that differs, in the order in which the earlier run opened them, followed by the other run's."""
+    one, other = before.get("files"), present["files"]
+    if not isinstance(one, dict):
         return ""
-    names = files_that_differ(before["files"], present["files"])
+    names = [name for name in {**one, **other} if one.get(name) != other.get(name)]
     if not names:
-        return f"; the same {len(before['files'])} files"
+        return f"; the same {len(one)} files"
     first = names[0]
     why = (
         "other"
-        if first in before["files"] and first in present["files"]
+        if first in one and first in other
         else "new:"
         if first in before.get("absent", ())
         else "gone:"

@@ -4,7 +4,7 @@ from __future__ import annotations
 
 import struct
 from pathlib import Path
-from typing import Callable, Iterable, NamedTuple, Optional, Protocol
+from typing import Callable, Iterable, NamedTuple, Optional
 
 from hinge.run.interfaces import NAME, all_dropped
 from hinge.run.order import Order, report
@@ -22,19 +22,6 @@ from hinge.simulated.verdict import Verdict, of_wait
 LINK = "/run/hinge/link"  # a copy in the machine's folder, whose name is the same wherever hinge is installed
 TERMINATED = SIGNALLED + 15
 Tell = Callable[[str], None]
-
-
-class InRooms(Protocol):
-    """A run without Python inside."""
-
-    def texts(self) -> "list[str]":
-        """What the machine's first process reads."""
-
-    def ended(self, folder: Path) -> Optional[Verdict]:
-        """Returns how the program ended, or None if it didn't end."""
-
-    def report(self, folder: Path, summary: Path, verdict: Optional[Verdict], tell: Tell) -> int:
-        """Tells how the links went, and writes the summary; the status."""
 
 
 class KeptPage(NamedTuple):
@@ -73,22 +60,25 @@ def told(folder: Path) -> "list[str]":
 
 
 class LinkRun(NamedTuple):
-    """A run of `hinge run`."""
+    """A run of `hinge run` without Python inside."""
 
     options: RunOptions
     order: Order
 
     def texts(self) -> "list[str]":
+        """Returns what the machine's first process reads."""
         with Steps(root_of(self.options) or "") as steps:
             rooms = Rooms(self.options.mtu, False, ends_of(self.options.net))
         texts = rooms_texts("run", steps, rooms.interfaces, self.order.plan, 1)
         return [*texts, self.options.server or "", *map(nanoseconds, (self.order.server_wait, self.order.server_end))]
 
     def ended(self, folder: Path) -> Optional[Verdict]:
+        """Returns how the program ended, or None if it didn't end."""
         words = "".join(told(folder)).split()
         return of_wait(int(words[1])) if words and int(words[0]) else None
 
     def report(self, folder: Path, summary: Path, verdict: Optional[Verdict], tell: Tell) -> int:
+        """Tells how the links went, and writes the summary; the status."""
         _, _, by, server, after = "".join(told(folder)).split()
         endings = None if by == "none" else Ended(of_wait(int(server)).status, round(int(after) / 1e9, 3), by)
         drops = [all_dropped(counts_of(folder, network)).get(NAME, 0) for network in (0, 1)]

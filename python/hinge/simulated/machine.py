@@ -20,7 +20,7 @@ from hinge.simulated.job import Job
 from hinge.simulated.kernel import Kernel
 from hinge.simulated.not_begun import raise_limits, too_few, why
 from hinge.simulated.one_processor import OneProcessor
-from hinge.simulated.pauses import Pauses, PausesMade, pauses_made
+from hinge.simulated.pauses import Pauses
 from hinge.simulated.room import Room
 from hinge.simulated.stood import Stood, make_place, stood
 from hinge.simulated.streams import MOST_AHEAD, Copier
@@ -204,9 +204,6 @@ class Machine:
             return MachineEnded(*map(int, (self.folder / "status").read_text().split()))
         except (OSError, TypeError, ValueError):
             return None
-
-    def pauses_made(self) -> Optional[PausesMade]:
-        return pauses_made(self.folder / "paused")
 
     def stood(self) -> Optional[Stood]:
         """Returns the machine's state when it was killed, if any."""

@@ -31,7 +31,7 @@ class Told(NamedTuple):
 
 
 class NetRun(NamedTuple):
-    """A run of `hinge net`."""
+    """A run of `hinge net` without Python inside, as LinkRun."""
 
     order: NetOrder
 

@@ -42,9 +42,11 @@ def place(lines: "list[str]") -> str:
     return " < ".join(f"{name} ({basename(file)})" if file else name for name, file, _ in (own or frames)[:FRAMES])
 
 
-def backtraces(core: Path, root: Optional[str]) -> "Iterator[tuple[int, str]]":
-    """Yields each thread's number in its machine and its place, beginning with the thread that ended the process."""
-    program = PROGRAM.search(debugger(root, core, "info auxv"))
+def backtraces(folder: Path, process: int, root: Optional[str]) -> "Iterator[tuple[int, str]]":
+    """Yields each thread's number in its machine and its place, beginning with the thread that ended the process; nothing without
+    a core."""
+    core = folder / f"core.{process}"
+    program = PROGRAM.search(debugger(root, core, "info auxv")) if core.exists() else None
     if program is None:
         return
     path = f"{root or ''}{program[1]}" if program[1].startswith("/") else program[1]
@@ -54,22 +56,15 @@ def backtraces(core: Path, root: Optional[str]) -> "Iterator[tuple[int, str]]":
         yield int(number), place(lines.splitlines())
 
 
-def places_in(folder: Path, process: int, root: Optional[str]) -> "list[str]":
-    """Returns the places of a process's threads, from the oldest; empty without a core."""
-    core = folder / f"core.{process}"
-    return [text for _, text in sorted(backtraces(core, root))] if core.exists() else []
-
-
 def innermost(folder: Path, process: int, root: Optional[str]) -> str:
     """Returns the place of the thread that ended a process."""
-    core = folder / f"core.{process}"
-    return next((text for _, text in backtraces(core, root)), "") if core.exists() else ""
+    return next((text for _, text in backtraces(folder, process, root)), "")
 
 
 def with_places(threads: "tuple[Waiting, ...]", folder: Path, root: Optional[str]) -> "tuple[Waiting, ...]":
     """Returns the threads with their places, where known. Another namespace has other numbers, in the same order."""
     result = list[Waiting]()
     for process, group in groupby(sorted(threads, key=Waiting.numbers), lambda one: one.process):
-        places = iter(places_in(folder, process, root))
+        places = (text for _, text in sorted(backtraces(folder, process, root)))
         result += [one._replace(place=next(places, "")) for one in group]
     return tuple(result)

@@ -9,7 +9,7 @@ import signal
 import threading
 from contextlib import contextmanager
 from pathlib import Path
-from typing import Any, Iterator, NamedTuple, Optional
+from typing import TYPE_CHECKING, Any, Iterator, NamedTuple, Optional, Union
 
 from hinge.border.scratch import scratch
 from hinge.command import say
@@ -24,7 +24,7 @@ from hinge.run.transcripts import KEPT, parts_of, told
 from hinge.simulated.job import Job, environment, limit_of, real_limit_of, refuse_outside, root_of, words_of
 from hinge.simulated.kernel import Kernel, found
 from hinge.simulated.likeness import earlier, remarks
-from hinge.simulated.link_rooms import InRooms, link_run
+from hinge.simulated.link_rooms import LinkRun, link_run
 from hinge.simulated.machine import BOOTED, NO_LIFE, NONE, OF_DEADLOCKS, TIMED_OUT, Machine, MachineEnded, Settings
 from hinge.simulated.pauses import pauses_of
 from hinge.simulated.opened_files import files_record
@@ -47,8 +47,12 @@ from hinge.simulated.verdict import (
     waits,
 )
 
+if TYPE_CHECKING:
+    from hinge.simulated.net_machine import NetRun
+
 HISTORY, SUMMARY = "history", "summary"  # names in the folder that outlives a machine
 MEMORY = "1G"
+InRooms = Union[LinkRun, "NetRun"]
 
 
 def settings_of(options: SimulatedOptions, seed: int) -> Settings:

@@ -4,7 +4,7 @@ from __future__ import annotations
 
 from itertools import zip_longest
 from pathlib import Path
-from typing import NamedTuple, Optional
+from typing import Optional
 
 from hinge.command import say
 from hinge.replays.parting import parting
@@ -16,34 +16,22 @@ COMPARED = (("out", "standard output"), ("err", "standard error"), ("kept/histor
 SHOWN = 200  # bytes of a line
 
 
-class Differing(NamedTuple):
-    """The first line at which two files differ, and both lines."""
-
-    line: int
-    texts: "tuple[str, str]"
-
-
 def shown(line: Optional[bytes]) -> str:
     return "the end" if line is None else repr(line[:SHOWN].decode(errors="replace").rstrip("\n"))
 
 
-def differing(one: Path, other: Path) -> Optional[Differing]:
-    with open(one, "rb") as first, open(other, "rb") as second:
-        for number, (line, beside) in enumerate(zip_longest(first, second), 1):
-            if line != beside:
-                return Differing(number, (shown(line), shown(beside)))
-    return None
-
-
 def difference(one: Path, other: Path, what: str) -> Optional[str]:
     """Returns the first difference of two files; transcripts are compared call by call, unless only remarks differ."""
-    line = differing(one, other)
-    if line is None:
+    with open(one, "rb") as first, open(other, "rb") as second:
+        pairs = enumerate(zip_longest(first, second), 1)
+        parted = next(((number, line, beside) for number, (line, beside) in pairs if line != beside), None)
+    if parted is None:
         return None
+    number, line, beside = parted
     whole = what == TRANSCRIPT and one.stat().st_size and other.stat().st_size
     part = parting(one, other) if whole else None
     if part is None:
-        return f"{what} parts in line {line.line:,}: {line.texts[0]} and {line.texts[1]}"
+        return f"{what} parts in line {number:,}: {shown(line)} and {shown(beside)}"
     return f"{what} parts in call {part.number:,}{part.at()}: {part.reason()}\n{part.text()}"
 
 
