@@ -2,6 +2,7 @@
 
 from __future__ import annotations
 
+import ctypes
 import os
 import resource
 import signal
@@ -9,14 +10,16 @@ import struct
 import subprocess
 import tempfile
 import time
+from functools import partial
 from pathlib import Path
 from unittest import mock
 
+from hinge.run.system import libc
 from hinge.simulated.build import NEEDED
 from hinge.simulated.interrupts import children
 from hinge.simulated.not_begun import too_few
 from hinge.simulated.one_processor import OneProcessor
-from machines import COMPILED, HINGE, SIMULATED, Simulated, environment, left
+from machines import HINGE, SIMULATED, Simulated, environment, left
 
 CLIENT = """
 import socket
@@ -25,23 +28,11 @@ print(socket.create_connection(("server", 7000)).getpeername()[1])
 """
 GOES_ON = "echo begun; while :; do sleep 1; done"
 TAR = "#!/bin/bash\nfor i in {1..8}; do (for ((n = 0; n < 9999; n++)); do echo >$BASHPID-$n || exit; done) & done; wait\n"
-# Starts a command that may not call ptrace, as a container of an old kernel does.
-UNTRACED = """
-#include <errno.h>
-#include <linux/filter.h>
-#include <linux/seccomp.h>
-#include <stddef.h>
-#include <sys/prctl.h>
-#include <sys/syscall.h>
-#include <unistd.h>
-int main(int count, char **words) {
-    struct sock_filter lines[] = {BPF_STMT(BPF_LD | BPF_W | BPF_ABS, offsetof(struct seccomp_data, nr)), BPF_JUMP(BPF_JMP | BPF_JEQ | BPF_K, SYS_ptrace, 0, 1),
-                                  BPF_STMT(BPF_RET | BPF_K, SECCOMP_RET_ERRNO | EPERM), BPF_STMT(BPF_RET | BPF_K, SECCOMP_RET_ALLOW)};
-    struct sock_fprog filter = {4, lines};
-    prctl(PR_SET_NO_NEW_PRIVS, 1, 0, 0, 0), prctl(PR_SET_SECCOMP, 2, &filter);
-    return count > 1 ? execvp(words[1], words + 1) : 1;
-}
-"""
+# For a command that may not call ptrace, as in a container of an old kernel: struct sock_filter and sock_fprog of seccomp(2).
+UNTRACED = b"".join(
+    struct.pack("HBBI", *row) for row in ((32, 0, 0, 0), (21, 0, 1, 101), (6, 0, 0, 0x50001), (6, 0, 0, 0x7FFF0000))
+)
+NO_NEW_PRIVILEGES, SECCOMP, FILTER = 38, 22, 2  # of prctl(2)
 PIPE, NONE = subprocess.PIPE, subprocess.DEVNULL
 
 
@@ -205,67 +196,45 @@ class OfRefusals(Simulated):
         done = self.started("--up", "1ms", *words, **more)
         self.assertEqual((done.returncode, done.stdout, done.stderr), (status, "", f"hinge run: {sentence}\n"))
 
-    def test_the_network_outside(self) -> None:
-        self.refused(
-            2,
-            "--outside, --to: simulated time has no way to the rest of the network, whose time is real",
-            "--outside",
-            "--",
-            "true",
-        )
-
-    def test_a_folder_of_its_own(self) -> None:
-        self.refused(
-            6, "--simulated: /dev/shm isn't in the machine, whose /dev, /proc, /run, /sys are its own", "--", "true", cwd="/dev/shm"
-        )
+    def test_options_and_folders(self) -> None:
+        outside = "--outside, --to: simulated time has no way to the rest of the network, whose time is real"
+        self.refused(2, outside, "--outside", "--", "true")
+        self.refused(2, "--map => pipe 3: pipe 3 isn't configured", "--map", "=> pipe 3", "--", "true")
+        own = "--simulated: /dev/shm isn't in the machine, whose /dev, /proc, /run, /sys are its own"
+        self.refused(6, own, "--", "true", cwd="/dev/shm")
+        no_kernel = f"HINGE_KERNEL: {self.folder} has no kernel and first process of this version of hinge"
+        self.refused(6, no_kernel, "--", "true", env=environment(HINGE_KERNEL=str(self.folder)))
 
     def test_too_much_memory(self) -> None:
         self.assertIn("'1T' isn't a size from 64M to 64G", self.started("--memory", "1T", "--", "true").stderr)
 
     def test_a_shell_on_a_terminal(self) -> None:
         main, second = os.openpty()
-        try:
-            self.refused(
-                2,
-                "--simulated: there is no terminal in simulated time; give bash its commands by -c or on " "standard input",
-                "--",
-                "bash",
-                stdin=second,
-            )
-        finally:
-            os.close(main)
-            os.close(second)
+        self.addCleanup(os.close, main)
+        self.addCleanup(os.close, second)
+        told = "--simulated: there is no terminal in simulated time; give bash its commands by -c or on standard input"
+        self.refused(2, told, "--", "bash", stdin=second)
 
     def test_a_machine_that_cannot_begin_tells_the_cause(self) -> None:
         """The limits of this process, and a container that keeps a process from tracing another one."""
-        (self.folder / "untraced.c").write_text(UNTRACED)
-        subprocess.run([*COMPILED, str(self.folder / "untraced"), str(self.folder / "untraced.c")], check=True)
-        words = [*SIMULATED, "--quiet", "--", "true"]
-        for kind, most, cure in (
-            (resource.RLIMIT_AS, 1 << 30, "ulimit -v unlimited"),
-            (resource.RLIMIT_FSIZE, 1 << 20, "ulimit -f unlimited"),
-            (resource.RLIMIT_NOFILE, 20, "ulimit -Hn 1024"),
-            (None, 0, "docker run --cap-add SYS_PTRACE"),
+        rules = ctypes.create_string_buffer(UNTRACED)
+
+        def keep_from_tracing() -> None:
+            libc.prctl(NO_NEW_PRIVILEGES, 1, 0, 0, 0)
+            libc.prctl(SECCOMP, FILTER, struct.pack("HxxxxxxP", 4, ctypes.addressof(rules)))
+
+        for limit, cure in (
+            (partial(resource.setrlimit, resource.RLIMIT_AS, (1 << 30, 1 << 30)), "ulimit -v unlimited"),
+            (partial(resource.setrlimit, resource.RLIMIT_FSIZE, (1 << 20, 1 << 20)), "ulimit -f unlimited"),
+            (partial(resource.setrlimit, resource.RLIMIT_NOFILE, (20, 20)), "ulimit -Hn 1024"),
+            (keep_from_tracing, "docker run --cap-add SYS_PTRACE"),
         ):
-            limits = [] if kind is None else [(kind, (most, most))]
-            begin = [str(self.folder / "untraced")] if kind is None else []
-            done = subprocess.run(
-                [*begin, *words], text=True, capture_output=True, preexec_fn=lambda: [resource.setrlimit(*one) for one in limits]
-            )
+            done = self.started("--quiet", "--", "true", preexec_fn=limit)
             self.assertEqual((done.returncode, done.stderr.count("\n")), (6, 1), done.stderr)
             self.assertIn(cure, done.stderr)
         with mock.patch("os.geteuid", return_value=1):  # as root has no limit of processes
             with mock.patch("resource.getrlimit", lambda kind: (9, 64 - (kind == resource.RLIMIT_NPROC))):
                 self.assertIn("the limit of processes is 63", too_few() or "")
-
-    def test_a_folder_without_a_kernel(self) -> None:
-        self.refused(
-            6,
-            f"HINGE_KERNEL: {self.folder} has no kernel and first process of this version of hinge",
-            "--",
-            "true",
-            env=environment(HINGE_KERNEL=str(self.folder)),
-        )
 
     def test_a_build_of_a_kernel_names_all_that_it_lacks(self) -> None:
         done = subprocess.run([*HINGE, "kernel", "--again"], env=environment(PATH=str(self.folder)), capture_output=True, text=True)
@@ -285,9 +254,6 @@ class OfRefusals(Simulated):
                 time.sleep(0.01)
             build.terminate()
         self.assertEqual((build.returncode, list(self.folder.rglob(".*"))), (-signal.SIGTERM, []))
-
-    def test_a_wrong_word_before_the_machine_is_made(self) -> None:
-        self.refused(2, "--map => pipe 3: pipe 3 isn't configured", "--map", "=> pipe 3", "--", "true")
 
     def test_options_of_simulated_time_alone(self) -> None:
         done = subprocess.run([*HINGE, "run", "--at", "2026-01-01", "--", "true"], capture_output=True, text=True)
