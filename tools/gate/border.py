@@ -160,7 +160,6 @@ ALLOWED = {
         "shutil.rmtree": "an old kernel of its own",
         "read_text": OWN,
         "write_text": OWN,
-        "open": OWN,
     },
     "simulated/calls_kept.py": {"read_text": OWN},
     "simulated/failures.py": {"open": "a file of its own, which is none that is there"},

@@ -19,7 +19,7 @@ from tally import TOP, Tally, judge
 
 from edits.kept import folder
 from hinge.command import MISSING
-from hinge.simulated.build import sha256_of
+from hinge.simulated.opened_files import sha256_of
 from hinge.simulated.kernel import Kernel, cache, kept
 
 

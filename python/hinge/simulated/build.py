@@ -2,13 +2,11 @@
 
 from __future__ import annotations
 
-import hashlib
 import os
 import re
 import shutil
 import signal
 from contextlib import ExitStack
-from functools import partial
 from pathlib import Path
 from typing import Any, Iterator, Optional
 
@@ -18,6 +16,7 @@ from hinge.border.terminal import tell
 from hinge.command import MISSING, Bar, Fault, say
 from hinge.run.system import Missing, die_with_parent, exchange
 from hinge.simulated.kernel import CONFIG, INIT, PATCH, VERSION, Kernel, cache, folder_of
+from hinge.simulated.opened_files import sha256_of
 
 PACKAGES = Path("/usr/src")
 PROGRAMS = "cc=gcc make flex bison bc tar xz=xz-utils patch strip=binutils"
@@ -142,14 +141,6 @@ def end_group(process: "Process[str]") -> None:
     os.killpg(process.pid, signal.SIGKILL)
     assert process.stdout
     process.stdout.read()  # to its end, which comes when the last of them is gone
-
-
-def sha256_of(path: Path) -> str:
-    digest = hashlib.sha256()
-    with open(path, "rb") as file:
-        for part in iter(partial(file.read, 1 << 20), b""):
-            digest.update(part)
-    return digest.hexdigest()
 
 
 def add_init(kernel: Kernel) -> None:

@@ -17,14 +17,18 @@ ABSENT = "-"  # before a name that was looked for in vain
 known: "dict[tuple[int, int, int, int], str]" = {}  # what many runs of one process read is summed once
 
 
+def sha256_of(path: "str | Path") -> str:
+    digest = hashlib.sha256()
+    with open(path, "rb") as file:
+        while piece := file.read(PIECE):
+            digest.update(piece)
+    return digest.hexdigest()
+
+
 def checksum(path: str, status: os.stat_result) -> str:
     key = (status.st_dev, status.st_ino, status.st_size, status.st_mtime_ns)
     if key not in known:
-        digest = hashlib.sha256()
-        with open(path, "rb") as file:
-            while piece := file.read(PIECE):
-                digest.update(piece)
-        known[key] = digest.hexdigest()[:16]
+        known[key] = sha256_of(path)[:16]
     return known[key]
 
 
