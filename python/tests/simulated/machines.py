@@ -9,6 +9,7 @@ import shutil
 import subprocess
 import sys
 import tempfile
+import time
 import unittest
 from functools import lru_cache
 from pathlib import Path
@@ -57,6 +58,12 @@ def probe() -> str:
 
 
 class Simulated(WithFolder):
+    def compiled(self, text: str, *options: str) -> str:
+        """The path of a program in C, in the test's folder."""
+        (self.folder / "it.c").write_text(text)
+        subprocess.run([*COMPILED, self.folder / "it", *options, self.folder / "it.c"], check=True)
+        return "./it"
+
     def hinge(self, *words: Word, **more: Any) -> "subprocess.CompletedProcess[str]":
         """A command of `hinge` in the test's folder."""
         streams = {"stdin": subprocess.DEVNULL, "stdout": subprocess.PIPE, "stderr": subprocess.PIPE}
@@ -116,6 +123,21 @@ def left(temporary: Path) -> "list[Path]":
     """What machines whose TMPDIR this is have there and in memory, where each has a link to its folder there."""
     links = Path("/dev/shm").glob(".hinge-*/kept")
     return [*temporary.iterdir(), *(link for link in links if temporary in link.readlink().parents)]
+
+
+def below_of(process: int) -> "list[int]":
+    """The processes that it and its threads have started, and theirs."""
+    texts = [path.read_text() for path in Path(f"/proc/{process}/task").glob("*/children")]
+    children = [int(word) for text in texts for word in text.split()]
+    return children + [below for child in children for below in below_of(child)]
+
+
+def running(processes: "list[int]") -> "list[int]":
+    """Those that still run after a minute: one that was killed ends when it has a processor."""
+    until = time.monotonic() + 60
+    while (found := [one for one in processes if Path(f"/proc/{one}").exists()]) and time.monotonic() < until:
+        time.sleep(0.05)
+    return found
 
 
 def probed(text: str) -> "list[int]":

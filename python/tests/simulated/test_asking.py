@@ -7,7 +7,6 @@ import sys
 
 from machines import HERE, Simulated, needs
 
-LIMIT = "300s"
 POLLS = """
 import subprocess
 process = subprocess.Popen(["sleep", "1"])
@@ -52,7 +51,7 @@ class OfAsking(Simulated):
         scripts = [(sys.executable, "-c", text) for text in (POLLS, STATS, KILLS, YIELDS)]
         for words in (*scripts, ("sh", "-c", STARTS), ("bash", "-c", TESTS)):
             with self.subTest(words[2]):
-                ran = self.run_by(1, "--real-limit", LIMIT, "--", *words)
+                ran = self.run_by(1, "--", *words)
                 self.assertEqual(ran.status, 0, ran.err)
                 self.assertAlmostEqual(ran.summary["simulated"], 1, delta=0.3)
                 self.assertIs(ran.summary["repeatable"], True)
@@ -60,16 +59,15 @@ class OfAsking(Simulated):
     @needs("cc")
     def test_by_any_call(self) -> None:
         """Twenty ways to ask again and again, each of them for a second."""
-        made = str(self.folder / "spins")
-        subprocess.run(["cc", "-O1", "-o", made, HERE / "spins.c"], check=True)
-        count = int(subprocess.run([made], stdout=subprocess.PIPE, check=True).stdout)
-        loop = f"for way in $(seq 0 {count - 1}); do {made} $way || exit; done"
-        ran = self.run_by(1, "--real-limit", LIMIT, "--", "sh", "-c", loop)
+        made = self.compiled((HERE / "spins.c").read_text())
+        count = int(subprocess.check_output([made], cwd=self.folder))
+        loop = f"for way in $(seq 0 {count - 1}); do ../{made} $way || exit; done"
+        ran = self.run_by(1, "--", "sh", "-c", loop)
         self.assertEqual(ran.status, 0, ran.err)
         self.assertAlmostEqual(ran.summary["simulated"] / count, 1, delta=0.1)
 
     def test_a_process_that_stays_behind(self) -> None:
         """It ends with the run, which doesn't wait for it."""
-        ran = self.run_by(1, "--real-limit", LIMIT, "--", "sh", "-c", "setsid sleep 1000 & sleep 1; echo end")
+        ran = self.run_by(1, "--", "sh", "-c", "setsid sleep 1000 & sleep 1; echo end")
         self.assertEqual((ran.status, ran.out), (0, "end\n"), ran.err)
         self.assertLess(ran.summary["simulated"], 2)

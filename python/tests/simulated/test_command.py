@@ -16,10 +16,9 @@ from unittest import mock
 
 from hinge.run.system import libc
 from hinge.simulated.build import NEEDED
-from hinge.simulated.interrupts import children
 from hinge.simulated.not_begun import too_few
 from hinge.simulated.one_processor import OneProcessor
-from machines import HINGE, SIMULATED, Simulated, environment, left
+from machines import HINGE, SIMULATED, Simulated, below_of, environment, left, running
 
 CLIENT = """
 import socket
@@ -138,40 +137,29 @@ class OfEnds(Simulated):
         self.assertEqual(process.stdout.readline(), "begun\n")
         return process
 
-    def below(self, process: "subprocess.Popen[str]") -> "list[str]":
-        """The paths of the processes below a run: its machine."""
-        found = subprocess.run(["pgrep", "-P", str(process.pid)], stdout=PIPE, text=True).stdout.split()
-        self.assertNotEqual(found, [])
-        return [f"/proc/{number}" for number in found]
-
     def test_signals_end_it_at_once_with_nothing_left(self) -> None:
         # A folder of its own for what is temporary, since other tests run at the same time.
         with tempfile.TemporaryDirectory() as temporary:
             for number in (signal.SIGINT, signal.SIGTERM, signal.SIGHUP):
                 with self.begun(TMPDIR=temporary) as process:
-                    below = self.below(process)
+                    [kernel, *_] = below_of(process.pid)
                     self.assertGreater(len(left(Path(temporary))), 1)
                     process.send_signal(number)
                     self.assertEqual(process.wait(), 128 + number)
-                self.assertEqual([path for path in below if os.path.exists(path)], [])
+                self.assertFalse(os.path.exists(f"/proc/{kernel}"))
             self.assertEqual(left(Path(temporary)), [])
 
     def test_a_launcher_that_is_killed_takes_its_machine_along(self) -> None:
         with self.begun() as process:
-            below = self.below(process)
+            self.assertTrue(below := below_of(process.pid))
             process.kill()
-            process.wait()
-        until = time.monotonic() + 60
-        while any(map(os.path.exists, below)) and time.monotonic() < until:
-            time.sleep(0.01)
-        self.assertEqual([path for path in below if os.path.exists(path)], [])
+        self.assertEqual(running(below), [])
 
     def test_a_machine_is_on_one_processor(self) -> None:
         """So are its kernel and the kernel's processes, which are children of it."""
         with self.begun() as process:
-            [kernel] = [path.rpartition("/")[2] for path in self.below(process)]
-            found = [kernel, *(str(child) for child in children(int(kernel)))]
-            places = {frozenset(os.sched_getaffinity(int(one))) for one in found if os.path.exists(f"/proc/{one}")}
+            found = [one for one in below_of(process.pid) if os.path.exists(f"/proc/{one}")]
+            places = {frozenset(os.sched_getaffinity(one)) for one in found}
             process.terminate()
         self.assertEqual([len(place) for place in places], [1])
 

@@ -4,11 +4,9 @@ from __future__ import annotations
 
 import json
 import shutil
-import subprocess
-from pathlib import Path
 
 from hinge.simulated.own_random import taken
-from machines import COMPILED, Simulated, environment
+from machines import Simulated, environment
 
 READS = """
 #include <stdio.h>
@@ -51,7 +49,9 @@ class OfWhatWasGiven(Simulated):
         shutil.copy(copy, self.folder)
         words = ("--seed", "1", "--json", str(self.folder / "one"), "--", "./it")
         self.started(*words, env=environment(HOME=str(self.folder)))
-        told = self.started("--like", str(self.folder / "one"), *words, env=environment(HOME=str(copy.parent)), cwd=copy.parent).stderr
+        told = self.started(
+            "--like", str(self.folder / "one"), *words, env=environment(HOME=str(copy.parent)), cwd=copy.parent
+        ).stderr
         self.assertRegex(told, "other environment, folder; the same .* files; the simulated time is the same\n")
 
     def test_few_variables(self) -> None:
@@ -62,12 +62,6 @@ class OfWhatWasGiven(Simulated):
         given = [json.loads((self.folder / name).read_text())["given"] for name in ("one", "other")]
         self.assertEqual(given[0], given[1])
 
-    def compiled(self, name: str, text: str, *options: str) -> Path:
-        source = self.folder / "source.c"
-        source.write_text(text)
-        subprocess.run([*COMPILED, str(self.folder / name), *options, str(source)], check=True)
-        return self.folder / name
-
     def test_another_root(self) -> None:
         """The program and what it reads are below it, and nothing of it is written, nor anything of the present folder."""
         own = self.folder / "root"
@@ -75,7 +69,7 @@ class OfWhatWasGiven(Simulated):
         place.mkdir(parents=True)
         (place / "data").write_text("frozen\n")
         (self.folder / "data").write_text("changed\n")
-        self.compiled("reads", READS, "-static").rename(own / "reads")
+        (self.folder / self.compiled(READS, "-static")).rename(own / "reads")
         done = self.started("--seed", "1", "--root", str(own), "--link", "20ms", "--json", "one", "--", "/reads")
         self.assertEqual((done.returncode, done.stdout), (0, "frozen\n"), done.stderr)
         self.assertEqual(sorted(path.name for path in own.rglob("*") if path.is_file()), ["data", "reads"])
@@ -88,15 +82,16 @@ class OfWhatWasGiven(Simulated):
 
     def test_numbers_of_the_processors_own(self) -> None:
         """A program that uses the instruction without asking gets a warning; a program that asks learns that it is missing."""
-        done = self.started("--seed", "1", "--", str(self.compiled("draws", DRAWS)))
-        self.assertIn(f"may differ: {self.folder}/draws takes random numbers from the processor", done.stderr)
-        self.assertEqual([taken(str(self.compiled("asks", ASKS))), taken("/bin/sh"), taken(__file__)], [""] * 3)
-        self.assertEqual(taken(str(self.compiled("object", ASKS, "-c"))), "")  # without a table of segments
+        done = self.started("--seed", "1", "--", self.compiled(DRAWS))
+        self.assertIn(f"may differ: {self.folder}/it takes random numbers from the processor", done.stderr)
+        for options in ((), ("-c",)):  # an object has no table of segments
+            self.assertEqual(taken(str(self.folder / self.compiled(ASKS, *options))), "")
+        self.assertEqual([taken("/bin/sh"), taken(__file__)], ["", ""])
 
     def test_the_number_of_the_processor(self) -> None:
         """Which no call of the system tells, so that the kernel doesn't see that it is asked for."""
-        done = self.started("--seed", "1", "--", str(self.compiled("numbered", NUMBERED)))
-        self.assertIn(f"may differ: {self.folder}/numbered takes the number of its processor (lsl)", done.stderr)
+        done = self.started("--seed", "1", "--", self.compiled(NUMBERED))
+        self.assertIn(f"may differ: {self.folder}/it takes the number of its processor (lsl)", done.stderr)
 
     def test_no_summary(self) -> None:
         done = self.started("--like", "never", "--", "true")

@@ -3,7 +3,6 @@
 from __future__ import annotations
 
 import argparse
-import subprocess
 import sys
 import unittest
 from collections.abc import Iterable
@@ -130,8 +129,7 @@ class OfPauses(Simulated):
     @needs("cc")
     def test_a_signal_that_comes_before_a_wait(self) -> None:
         """A pause before a call lets a signal's handler run before the call, as on a processor that another took."""
-        made = str(self.folder / "wakes")
-        subprocess.run(["cc", "-o", made, HERE / "wakes.c"], check=True)
+        made = str(self.folder / self.compiled((HERE / "wakes.c").read_text()))
         statuses = (self.run_by(seed, "--pauses", "1/20", "--", made).status for seed in SEEDS)
         self.assertEqual(first_two(statuses), {0, 1})
         self.assertEqual(self.run_by(1, "--", made).status, 0)

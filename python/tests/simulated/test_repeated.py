@@ -23,7 +23,7 @@ SAME = (
 )
 LOOKS = "ls -l /proc/self/fd | wc -l; date +%N; head -c 9 /dev/urandom | od"
 PINGS_OF_DRAWN_LENGTHS = """exec 2>&1 >/dev/null
-                            for packet in 1 2 3; do ping -c 1 -s $((0x$(./draw) & 1023)) server; done"""
+                            for packet in 1 2 3; do ping -c 1 -s $((0x$(./it) & 1023)) server; done"""
 DRAWS = """
 #include <immintrin.h>
 #include <stdio.h>
@@ -78,9 +78,7 @@ class OfTwice(Repeated):
     @needs("cc")
     def test_two_that_part(self) -> None:
         """A program that draws from the processor itself, which nothing hides with --cpu host."""
-        (self.folder / "draw.c").write_text(DRAWS)
-        subprocess.run(["cc", "-o", "draw", "draw.c"], cwd=self.folder, check=True)
-        done = self.two_of("echo first; ./draw", "--cpu", "host")
+        done = self.two_of(f"echo first; {self.compiled(DRAWS)}", "--cpu", "host")
         self.assertEqual(done.returncode, 76, done.stdout + done.stderr)
         self.assertIn("two runs by seed 7 differ: standard output parts in line 2: '", done.stderr)
 
@@ -91,8 +89,7 @@ class OfTwice(Repeated):
         Three lengths of 10 bits are equal in both runs once in 2^30. A word keeps 60 bits, since a shell's numbers
         have a sign: those above 2^63 would all be read as the greatest.
         """
-        (self.folder / "draw.c").write_text(DRAWS)
-        subprocess.run(["cc", "-o", "draw", "draw.c"], cwd=self.folder, check=True)
+        self.compiled(DRAWS)
         done = self.two_of(PINGS_OF_DRAWN_LENGTHS, "--cpu", "host")
         self.assertEqual(done.returncode, 76, done.stdout + done.stderr)
         self.assertRegex(

@@ -23,7 +23,7 @@ from hinge.searches.shrinking import least
 from hinge.simulated.calls_kept import GOES_ON, PAUSES, Row, around
 from hinge.simulated.failures import file_beside
 from hinge.simulated.places import place
-from machines import HINGE, Simulated, environment, left
+from machines import HINGE, Simulated, below_of, environment, left, running
 
 # The check fails where c was killed: it begins a second time.
 THREE = """
@@ -41,13 +41,6 @@ nemesis isolate-one every 4s for 1s until 10s of a b c
 
 
 NET = "host a true\nhost b true\nhost c\nlink a b\nlink c a 1ms\ndisk a data\n"
-
-
-def below_of(process: int) -> "list[int]":
-    """The processes that it and its threads have started, and theirs."""
-    texts = [path.read_text() for path in Path(f"/proc/{process}/task").glob("*/children")]
-    children = [int(word) for text in texts for word in text.split()]
-    return children + [below for child in children for below in below_of(child)]
 
 
 SIGNALLED = """\
@@ -243,10 +236,7 @@ class OfSearches(Simulated):
             out, err = process.communicate()
         self.assertEqual(out, "seed 1: status 1: it fails\n1 of 1 runs failed, 5 more are left\n", err)
         self.assertEqual(process.returncode, 128 + signal.SIGINT)
-        end = time.monotonic() + 60
-        while any(Path(f"/proc/{one}").exists() for one in below) and time.monotonic() < end:
-            time.sleep(0.05)  # those that were killed end when they have a processor
-        self.assertEqual((left(temporary), [one for one in below if Path(f"/proc/{one}").exists()]), ([], []))
+        self.assertEqual((left(temporary), running(below)), ([], []))
 
     def test_a_terminal_that_is_closed_leaves_nothing(self) -> None:
         words = [*HINGE, "search", "run", "--seeds", "1-2", "--", "sh", "-c", "while :; do :; done"]
@@ -257,11 +247,7 @@ class OfSearches(Simulated):
                 time.sleep(0.05)
             process.send_signal(signal.SIGHUP)
             process.communicate()
-        self.assertEqual((process.returncode, left(self.folder)), (-signal.SIGHUP, []))
-        end = time.monotonic() + 60
-        while any(Path(f"/proc/{one}").exists() for one in below):
-            self.assertLess(time.monotonic(), end)
-            time.sleep(0.05)
+        self.assertEqual((process.returncode, left(self.folder), running(below)), (-signal.SIGHUP, [], []))
 
     def test_none_that_fails(self) -> None:
         (self.folder / "two.net").write_text("main a true\nhost b\nlink a b 1ms\n")

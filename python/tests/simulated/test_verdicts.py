@@ -4,12 +4,11 @@ from __future__ import annotations
 
 import json
 import shutil
-import subprocess
 import sys
 from typing import Any
 
 from hinge.simulated.verdict import DEADLOCKED, LIMITED, of_wait
-from machines import COMPILED, Simulated, needs
+from machines import Simulated, needs
 
 LOCKS = """
 #include <pthread.h>
@@ -46,11 +45,6 @@ class OfVerdicts(Simulated):
         done = self.started("--seed", "1", "--json", "summary", *words)
         self.assertNotIn("the server ended", done.stderr)
         return done.returncode, json.loads((self.folder / "summary").read_text())["ended"]
-
-    def compiled(self, text: str) -> str:
-        (self.folder / "it.c").write_text(text)
-        subprocess.run([*COMPILED, str(self.folder / "it"), str(self.folder / "it.c")], check=True)
-        return "./it"
 
     def test_a_status_of_wait(self) -> None:
         self.assertEqual(
