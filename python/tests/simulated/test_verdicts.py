@@ -137,22 +137,20 @@ class OfVerdicts(Simulated):
         self.assertEqual(done.returncode, 0, done.stderr)
         self.assertEqual([path.read_bytes()[:4] for path in self.folder.glob("core*")], [b"\x7fELF"])
 
-    def test_another_file_is_named(self) -> None:
-        (self.folder / "data").write_text("a")
-        self.ended("--", "cat", "data")
-        (self.folder / "summary").rename(self.folder / "one")
-        self.assertIn("files; the simulated time", self.started("--seed", "1", "--like", "one", "--", "cat", "data").stderr)
-        (self.folder / "data").write_text("b")
-        self.assertIn("; other ./data; ", self.started("--seed", "1", "--like", "one", "--", "cat", "data").stderr)
-        (self.folder / "data").unlink()
-        self.assertIn("; gone: ./data", self.started("--seed", "1", "--like", "one", "--", "cat", "data").stderr)
-
-    def test_a_file_that_was_looked_for_is_named(self) -> None:
+    def test_a_file_that_differs_is_named(self) -> None:
+        """One that was read, one that was looked for in vain, and a folder whose names were."""
         words = ("--", "sh", "-c", "cat data; cat more; ls other; true")
         (self.folder / "other").mkdir()
+        data = self.folder / "data"
+        data.write_text("a")
         self.ended(*words)
         (self.folder / "summary").rename(self.folder / "one")
-        for name, told in (("other/new", "; other ./other; "), ("data", "; new: ./data; ")):
-            (self.folder / name).touch()
+        for change, told in (
+            (data.exists, "files; the simulated time"),
+            ((self.folder / "more").touch, "; new: ./more"),
+            ((self.folder / "other" / "new").touch, "; other ./other"),
+            (data.unlink, "; gone: ./data"),
+            (lambda: data.write_text("b"), "; other ./data"),
+        ):
+            change()
             self.assertIn(told, self.started("--seed", "1", "--like", "one", *words).stderr)
-            (self.folder / name).unlink()
