@@ -75,6 +75,14 @@ class Simulated(WithFolder):
         limit = [] if "--real-limit" in words else ["--real-limit", LIMIT]
         return self.hinge("run", "--simulated", *limit, *words, **more)
 
+    def begun(self, line: str, *words: str, **more: str) -> "subprocess.Popen[str]":
+        """A run in the test's folder, with these variables more, that has printed this line and goes on."""
+        streams = {"stdin": subprocess.DEVNULL, "stdout": subprocess.PIPE, "stderr": subprocess.DEVNULL}
+        process = subprocess.Popen([*SIMULATED, "--", *words], cwd=self.folder, env=environment(**more), text=True, **streams)
+        assert process.stdout
+        self.assertEqual(process.stdout.readline(), f"{line}\n")
+        return process
+
     def net(self, text: str, seed: int, *words: Word) -> "subprocess.CompletedProcess[str]":
         """`hinge net --simulated` of a net that ends well, with its history and its summary in `session`."""
         (self.folder / "x.net").write_text(text)

@@ -25,7 +25,7 @@ import socket
 print(socket.gethostbyname("server"))
 print(socket.create_connection(("server", 7000)).getpeername()[1])
 """
-GOES_ON = "echo begun; while :; do sleep 1; done"
+GOES_ON = "sh", "-c", "echo begun; while :; do sleep 1; done"
 TAR = "#!/bin/bash\nfor i in {1..8}; do (for ((n = 0; n < 9999; n++)); do echo >$BASHPID-$n || exit; done) & done; wait\n"
 # For a command that may not call ptrace, as in a container of an old kernel: struct sock_filter and sock_fprog of seccomp(2).
 UNTRACED = b"".join(
@@ -63,10 +63,7 @@ class OfStreams(Simulated):
     def test_output_comes_as_it_is_written(self) -> None:
         """The first line comes while the command still waits for a file that the test makes after it."""
         asked = "echo first; until [ -e go ]; do head -c 100000 /dev/zero >/dev/null; done; echo last"
-        words = [*SIMULATED, "--", "sh", "-c", asked]
-        with subprocess.Popen(words, cwd=self.folder, stdin=NONE, stdout=PIPE, stderr=NONE, text=True) as process:
-            assert process.stdout
-            self.assertEqual(process.stdout.readline(), "first\n")
+        with self.begun("first", "sh", "-c", asked) as process:
             (self.folder / "go").touch()
             self.assertEqual(process.stdout.read(), "last\n")
 
@@ -85,10 +82,7 @@ class OfStreams(Simulated):
         self.assertEqual(len(done.stdout), 200 << 20)
 
     def test_a_reader_that_goes_away_ends_it(self) -> None:
-        words = [*SIMULATED, "--quiet", "--", "yes"]
-        with subprocess.Popen(words, cwd=self.folder, stdin=NONE, stdout=PIPE, stderr=NONE) as process:
-            assert process.stdout
-            self.assertEqual(process.stdout.readline(), b"y\n")
+        with self.begun("y", "yes") as process:
             process.stdout.close()
             self.assertEqual(process.wait(), 128 + signal.SIGPIPE)
 
@@ -129,19 +123,11 @@ class OfSurroundings(Simulated):
 
 
 class OfEnds(Simulated):
-    def begun(self, **more: str) -> "subprocess.Popen[str]":
-        """A run that goes on, and has said so, with these variables more."""
-        words, env = [*SIMULATED, "--", "sh", "-c", GOES_ON], {**os.environ, **more}
-        process = subprocess.Popen(words, cwd=self.folder, env=env, stdin=NONE, stdout=PIPE, stderr=NONE, text=True)
-        assert process.stdout
-        self.assertEqual(process.stdout.readline(), "begun\n")
-        return process
-
     def test_signals_end_it_at_once_with_nothing_left(self) -> None:
         # A folder of its own for what is temporary, since other tests run at the same time.
         with tempfile.TemporaryDirectory() as temporary:
             for number in (signal.SIGINT, signal.SIGTERM, signal.SIGHUP):
-                with self.begun(TMPDIR=temporary) as process:
+                with self.begun("begun", *GOES_ON, TMPDIR=temporary) as process:
                     [kernel, *_] = below_of(process.pid)
                     self.assertGreater(len(left(Path(temporary))), 1)
                     process.send_signal(number)
@@ -150,14 +136,14 @@ class OfEnds(Simulated):
             self.assertEqual(left(Path(temporary)), [])
 
     def test_a_launcher_that_is_killed_takes_its_machine_along(self) -> None:
-        with self.begun() as process:
+        with self.begun("begun", *GOES_ON) as process:
             self.assertTrue(below := below_of(process.pid))
             process.kill()
         self.assertEqual(running(below), [])
 
     def test_a_machine_is_on_one_processor(self) -> None:
         """So are its kernel and the kernel's processes, which are children of it."""
-        with self.begun() as process:
+        with self.begun("begun", *GOES_ON) as process:
             found = [one for one in below_of(process.pid) if os.path.exists(f"/proc/{one}")]
             places = {frozenset(os.sched_getaffinity(one)) for one in found}
             process.terminate()
@@ -173,7 +159,7 @@ class OfEnds(Simulated):
         self.assertFalse(place.is_left(3.0, 1.4))
 
     def test_the_limit_of_real_time(self) -> None:
-        done = self.started("--up", "1ms", "--real-limit", "500ms", "--", "sh", "-c", GOES_ON)
+        done = self.started("--up", "1ms", "--real-limit", "500ms", "--", *GOES_ON)
         self.assertEqual(done.returncode, 124)
         self.assertTrue(done.stderr.startswith("hinge run: it was ended after 0.5 s of real time, by --real-limit\n"))
         self.assertRegex(done.stderr, r"simulated time was at \d+\.\d{6} s; (nothing has waited .*)?the last was \w+ by ")
