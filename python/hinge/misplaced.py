@@ -164,5 +164,6 @@ def advised(command: str, words: Sequence[str], refusal: str) -> str:
         is_alone = len(kinds) == 1 and (command, kind) == ("why", "config")
         if kind and wanted and (kind not in wanted or is_alone):
             line = line_for(command, kind, path)
-            return refusal if line.partition(";")[0] in refusal else f"{refusal}; {path} is {line}"
+            is_known = line.partition(";")[0] in refusal or kind == "folder" and "--transcripts" in refusal
+            return refusal if is_known else f"{refusal}; {path} is {line}"
     return refusal

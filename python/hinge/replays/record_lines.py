@@ -46,9 +46,12 @@ def without_quotes(path: str) -> Iterator[bytes]:
         text = line + file.read(MOST_TEXT + 1)
     if len(text) > MOST_TEXT:
         raise Exceeded(MOST_TEXT, "bytes behind a quote")
-    rows = csv.reader(io.TextIOWrapper(io.BytesIO(text), "utf-8", "replace", newline=""))
-    plain = b"".join(",".join(row).replace('"', "'").encode() + b"\n" for row in rows)
-    yield plain if text.endswith((b"\n", b"\r")) else plain[:-1]
+    plain = bytearray()  # in place of an object for each row
+    for row in csv.reader(io.TextIOWrapper(io.BytesIO(text), "utf-8", "replace", newline="")):
+        plain += ",".join(row).replace('"', "'").encode() + b"\n"
+    if not text.endswith((b"\n", b"\r")):
+        del plain[-1:]
+    yield bytes(plain)
 
 
 def is_history_file(path: str) -> bool:

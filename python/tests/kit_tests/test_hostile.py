@@ -60,6 +60,10 @@ TEXTS = {
     "milliseconds of a trace": b"".join(b"%d\n" % n for n in range(LINES)),
     "addresses without packets": b"stand-in,address\n" + b"".join(b"%x,::\n" % n for n in range(LINES)),
 }
+OF_READER = {  # texts whose lines differ and say something, by a word of the command that reads such lines into little memory
+    **dict.fromkeys(("rates of a trace", "milliseconds of a trace"), "--up-trace"),
+    "addresses without packets": "look",
+}
 OF_TWO = "host a\nhost b\nlink a b 1Mbit/s\n"
 SAYING = {  # a command, and what its text begins with and says again and again
     "acts of a net": (["net", "x", "--dry-run"], OF_TWO, "at {}ms a b 1Mbit/s\n"),
@@ -151,6 +155,8 @@ class OfFiles(WithFolder):
         for words in (words for commands in READERS.values() for words in commands):
             start = self.of_text(words, b"#\n").memory
             for name, data in TEXTS.items():
+                if name in OF_READER and OF_READER[name] not in words:
+                    continue
                 with self.subTest(name, command=words):
                     done = self.of_text(words, data)
                     self.assertIn(done.status, {0, 2, 3, 4}, done.told[-500:])

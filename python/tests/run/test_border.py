@@ -20,7 +20,7 @@ from linked import found, hinge, needs_rooms, until
 from test_control import InAFolder
 
 from hinge.border.serving import PATIENCE
-from hinge.run.cgroups import NAME, own_folder, remove_left
+from hinge.run.cgroups import name_of, own_folder, remove_left
 from hinge.run.control import Control
 from hinge.run.host_lines import UNTAKEN, Answer
 from hinge.run.page import Page
@@ -61,11 +61,12 @@ print(flush=True), signal.pause()
 
 class OfCgroups(unittest.TestCase):
     def test_those_of_a_killed_run_go_and_no_others(self) -> None:
-        """What holds a process or has no mark stays, by whatever name."""
+        """What holds a process stays, and so does what has a name without the right checksum."""
         above = own_folder()
         if above is None or not os.access(above, os.W_OK):
             self.skipTest("this user may make no cgroup")
-        names = [above / f"{NAME}test-{os.getpid()}-{kind}" for kind in ("left", "used", "unmarked")]
+        number = f"{os.getpid():012x}"
+        names = [above / name_of(number, kind) for kind in ("left", "used")] + [above / f"hinge-{number}00000000-other"]
         names[2].mkdir()
         self.addCleanup(lambda: [one.rmdir() for one in names if one.exists()])
         with subprocess.Popen([sys.executable, "-c", MAKES_CGROUPS, *names[:2]], stdout=subprocess.PIPE, cwd=PYTHON) as run:

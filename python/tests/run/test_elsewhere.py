@@ -112,7 +112,7 @@ PROGRAMS = {  # of a folder in which answers are typed
 FILES = {
     **dict.fromkeys("up.trace down.trace up down 12Mbps.up 12Mbps.down a b u d".split(), "1\n2\n"),
     "FILE": "host a true\nhost b true\nlink a b 1ms\n",
-    "NAME.net": "host HOST\nhost h1\nhost s1\nlink HOST h1 1ms\nlink h1 s1 1ms\n",
+    "NAME.net": "host HOST exec sleep 600\nhost h1\nhost s1\nlink HOST h1 1ms\nlink h1 s1 1ms\n",
 }
 
 

@@ -55,7 +55,7 @@ class OfCommands(unittest.TestCase):
                 ["--loss", "1%"],
                 2,
                 "hinge run: --loss 1%: none of gilbert:P,R[,B[,G]] and list:N,N-M; "
-                "a rate of loss is a word of a link, as in --up 'loss 1%'\n",
+                "a rate of loss is a word of a link; write loss 1% behind the others of --link\n",
             ),
             (["--line", "queue 1 config pipe 9"], 3, "hinge: queue 1 config pipe 9: no-such-pipe\n"),
             (["--late", "soon"], 2, "hinge run: --late soon: not a duration (example: 600ms)\n"),
