@@ -27,7 +27,10 @@ class Lost(NamedTuple):
     def text(self, name: str) -> str:
         source, target, protocol, port, to, length, _, moment = self.row.split(",")
         what = PROTOCOLS.get(int(protocol), f"protocol {protocol}")
-        ends = (f"{source} > {target}", f"[{source}]:{port} > [{target}]:{to}" if ":" in source else f"{source}:{port} > {target}:{to}")
+        ends = (
+            f"{source} > {target}",
+            f"[{source}]:{port} > [{target}]:{to}" if ":" in source else f"{source}:{port} > {target}:{to}",
+        )
         return f"lost: {name} packet {self.packet} at {int(moment) / 1e9:.9f} s, {what} {ends[port + to != '00']}, {length} bytes"
 
 

@@ -92,7 +92,9 @@ def tell_least(runner: Runner, name: str, case: Case, count: int, file: Path) ->
     for line in told(runner, case, look):
         show(line)
     show(f"seed {case.seed} fails by {name} with {case.told()}, found in {several(count, 'run')}")
-    sure = "repeats it, here and elsewhere" if look.ran.record.get("repeatable") else "may repeat it: the run says why it may differ"
+    sure = (
+        "repeats it, here and elsewhere" if look.ran.record.get("repeatable") else "may repeat it: the run says why it may differ"
+    )
     show(f"hinge {what[0]} --like {shlex.quote(str(file))} {sure}")
 
 
