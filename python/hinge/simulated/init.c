@@ -238,8 +238,6 @@ static bool is_of_32_bits(const char *name) {
     return result;
 }
 
-static int unbegun = -1; /* a file of the launcher's, for the name of a command that can't be executed */
-
 _Noreturn void become(const struct user *user, char **words) {
     static const int rights[] = {CAP_NET_BIND_SERVICE, CAP_NET_ADMIN, CAP_NET_RAW};
     struct __user_cap_header_struct head = {.version = _LINUX_CAPABILITY_VERSION_3};
@@ -258,7 +256,7 @@ _Noreturn void become(const struct user *user, char **words) {
     environ = user->names;
     if (pauses >= 0 && write(pauses, "1", 1) < 0) {} /* the last call before the user's own */
     int error = execute(words);
-    if (write(unbegun, words[0], strlen(words[0])) < 0) {}
+    if (write(user->unbegun, words[0], strlen(words[0])) < 0) {}
     bool is_old = error == ENOEXEC && is_of_32_bits(words[0]);
     dprintf(2, "hinge%s: %s: %s\n", user->in_rooms ? " run" : "", words[0],
             is_old ? "it is a 32-bit program, and the simulated machine runs 64-bit programs only" : strerror(error));
@@ -329,7 +327,7 @@ int main(void) {
     next_command(&job, &user);
     const char *kind = must_next(&job);
     user.in_rooms = strcmp(kind, "command") != 0;
-    unbegun = stream(FOLDER "/unbegun", O_WRONLY);
+    user.unbegun = stream(FOLDER "/unbegun", O_WRONLY);
     /* iputils' ping takes a clock below 1 s for one that it hasn't read, and then sends all its packets at once. */
     struct timespec begin = {1000, 0};
     clock_nanosleep(CLOCK_MONOTONIC, TIMER_ABSTIME, &begin, NULL);

@@ -18,6 +18,7 @@ struct user {
     mode_t mask;
     char *place, **words, **names;
     bool in_rooms;
+    int unbegun; /* a file of the launcher's, for the name of a command that can't be executed */
 };
 
 /* What the launcher planned: strings that end in 0. */
