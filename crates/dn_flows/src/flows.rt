@@ -209,6 +209,7 @@ impl Flows {
         ensures keys { self.new.keys ≡ self.old.keys }
         ensures err { OnErr result ((self.new.keys ≡ self.old.keys) × (self.new.flows ≡ self.old.flows)) }
         ensures succeeds { (flow_at self.old.flows flow).reserved ≡ true → IsOk result }
+        ensures spare { self.new.spare ≡ self.old.spare }
     {
         let queue = &mut self.queues[flow];
         if queue.reserved {
@@ -228,6 +229,7 @@ impl Flows {
         requires bytes { sum (lengths (flow_at self.old.flows flow).backlog) + waiting.len < 2 ^ 32 }
         ensures flows { self.new.flows ≡ slice_set self.old.flows flow (pushed waiting (flow_at self.old.flows flow)) }
         ensures keys { self.new.keys ≡ self.old.keys }
+        ensures spare { self.new.spare ≡ self.old.spare }
     {
         let queue = &mut self.queues[flow];
         queue.push_back(&mut self.packets, waiting);
@@ -241,6 +243,7 @@ impl Flows {
         ensures front { result ≡ slice_get (flow_at self.old.flows flow).backlog 0 }
         ensures flows { self.new.flows ≡ slice_set self.old.flows flow (popped (flow_at self.old.flows flow)) }
         ensures keys { self.new.keys ≡ self.old.keys }
+        ensures spare { self.new.spare ≡ self.old.spare }
     {
         let queue = &mut self.queues[flow];
         let first = queue.pop_front(&mut self.packets)?;
@@ -254,6 +257,7 @@ impl Flows {
         requires count { (flow_at self.old.flows flow).lost < 2 ^ 62 }
         ensures flows { self.new.flows ≡ slice_set self.old.flows flow (one_lost (flow_at self.old.flows flow)) }
         ensures keys { self.new.keys ≡ self.old.keys }
+        ensures spare { self.new.spare ≡ self.old.spare }
     {
         let unsent = &mut self.unsent[flow];
         unsent.lost += 1;
@@ -265,6 +269,7 @@ impl Flows {
         requires count { (flow_at self.old.flows flow).full < 2 ^ 62 }
         ensures flows { self.new.flows ≡ slice_set self.old.flows flow (one_full (flow_at self.old.flows flow)) }
         ensures keys { self.new.keys ≡ self.old.keys }
+        ensures spare { self.new.spare ≡ self.old.spare }
     {
         let unsent = &mut self.unsent[flow];
         unsent.full += 1;
@@ -276,6 +281,7 @@ impl Flows {
         requires count { (flow_at self.old.flows flow).discarded + length (flow_at self.old.flows flow).backlog ≤ 2 ^ 62 }
         ensures flows { self.new.flows ≡ slice_set self.old.flows flow (emptied (flow_at self.old.flows flow)) }
         ensures keys { self.new.keys ≡ self.old.keys }
+        ensures spare { self.new.spare ≡ self.old.spare }
     {
         let queue = &mut self.queues[flow];
         let count = queue.len as u64;

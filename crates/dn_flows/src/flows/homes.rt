@@ -19,6 +19,7 @@ impl Flows {
         requires { flow < length self.old.flows }
         ensures flows { self.new.flows ≡ slice_set self.old.flows flow (with_home home (flow_at self.old.flows flow)) }
         ensures keys { self.new.keys ≡ self.old.keys }
+        ensures spare { self.new.spare ≡ self.old.spare }
     {
         let queue = &mut self.queues[flow];
         queue.home = home;

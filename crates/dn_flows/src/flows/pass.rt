@@ -15,6 +15,7 @@ impl Flows {
         requires count { (flow_at self.old.flows flow).started < 2 ^ 62 }
         ensures flows { (waiting : Waiting) → self.new.flows ≡ slice_set self.old.flows flow (popped (pushed waiting (flow_at self.old.flows flow))) }
         ensures keys { self.new.keys ≡ self.old.keys }
+        ensures spare { self.new.spare ≡ self.old.spare }
     {
         let queue = &mut self.queues[flow];
         queue.reserved = false;
