@@ -18,7 +18,9 @@ from edits import prover  # noqa: E402
 
 NAMED = re.compile(r"\bRattle\.(\w+)\.specs\.([\w.]+)")
 PARTS = {"specs": (".antt", "Lib", "pub mod %s\n"), "src": (".rt", "lib", "pub mod %s;\n")}
-TYPE = re.compile(r"(?ms)^pub(?:\(crate\))? (?:enum|struct) \w+ \{.*?^\}\n")
+DERIVED = ("", "#[derive(Clone, Copy)]\n")
+NOTES = re.compile(r"(?m)^\s*(?:///.*|#\[.*\])\n")
+TYPE = re.compile(r"(?ms)^(#\[derive\([^)]*\)\]\n)?(pub(?:\(crate\))? (?:enum|struct) \w+ \{.*?^\}\n)")
 
 
 @dataclass(frozen=True)
@@ -45,7 +47,7 @@ def in_one_crate(text: str, base: Base) -> str:
 
 def types_of(text: str) -> str:
     """Returns the types of a source, and what they use."""
-    types = "\n".join("#[derive(Clone, Copy)]\n" + re.sub(r"(?m)^\s*(?:///.*|#\[.*\])\n", "", one) for one in TYPE.findall(text))
+    types = "\n".join(DERIVED[" Copy" in derived] + NOTES.sub("", one) for derived, one in TYPE.findall(text))
     words = set(re.findall(r"\w+", types))
     uses = [line for line in re.findall(r"(?m)^use .*;$", text) if words & set(re.findall(r"\w+", line.rpartition("::")[2]))]
     return "\n".join([*uses, "", types])

@@ -2,6 +2,7 @@ pub mod Acceptance
 pub mod Advances
 pub mod Ahead
 pub mod AloneReplies
+pub mod AskedHold
 pub mod AtHome
 pub mod Begun
 pub mod BoundedCounts
@@ -45,6 +46,7 @@ pub mod LineValues
 mod LineWitnesses
 pub mod LineWordsHold
 pub mod Masks
+pub mod Members
 pub mod Obeyed
 pub mod Obeying
 pub mod OnPipes
@@ -73,6 +75,8 @@ pub mod ReadingsObey
 pub mod RecordLawsHold
 mod RecordWitnesses
 mod ReplyWitnesses
+pub mod ReportLawsHold
+mod ReportWitnesses
 pub mod ReservationLawsHold
 mod ReservationWitnesses
 pub mod Resets
@@ -84,8 +88,11 @@ pub mod Seen
 pub mod ServiceHeadline
 pub mod ServiceLawsHold
 mod ServiceWitnesses
+pub mod SessionLawsHold
+mod SessionWitnesses
 pub mod SettlingHolds
 pub mod Shares
+pub mod SortedLines
 pub mod Spares
 pub mod StartLaws
 pub mod StatesHold
@@ -100,5 +107,6 @@ pub mod ToldDeliveries
 pub mod WaitBounds
 mod WaitWitnesses
 pub mod Waits
+pub mod WakesHold
 mod Witnesses
 pub mod Words

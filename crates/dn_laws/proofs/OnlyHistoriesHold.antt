@@ -32,7 +32,7 @@ use Rattle.dn_laws.specs.RecordLaws.{tuple, rules}
 use Rattle.dn_laws.specs.HistoryRefusals.{IsAsked, IsRemark, OnlyHistoriesAreRead, Tell}
 use Rattle.dn_laws.proofs.FieldsRead.{bound, cond-ok, form-read, from, name-read, number-read, ok-is, packet-read, target-read, tuple-read}
 
-in-record-is : {A : Type 0} (number : ℕ) (read : Result A ℕ) (a : A) → in_record number read ≡ Ok a → read ≡ Ok a
+pub in-record-is : {A : Type 0} (number : ℕ) (read : Result A ℕ) (a : A) → in_record number read ≡ Ok a → read ≡ Ok a
 in-record-is number (Ok b) a e = ap Ok (ok-is b a e)
 in-record-is number (Err place) a e = cc e
 
@@ -50,10 +50,10 @@ next-read rest p e = by-records rest.records e
 
 -- ---- Calls
 
-abbrev IsCallRead : Texts → Call → Type 0
+abbrev pub IsCallRead : Texts → Call → Type 0
 IsCallRead fields call = (told : Texts) × IsAsked call told × ((caller : ℕ) → column 2 fields ≡ decimal caller → fields ≡ codes "c" ∷ decimal caller ∷ told)
 
-call-form : (name : List ℕ) (count : ℕ) (fields : Texts) → is_call name count fields ≡ true → (column 1 fields ≡ codes "c") × (column 3 fields ≡ name) × (fields ≡ from count 1 fields)
+pub call-form : (name : List ℕ) (count : ℕ) (fields : Texts) → is_call name count fields ≡ true → (column 1 fields ≡ codes "c") × (column 3 fields ≡ name) × (fields ≡ from count 1 fields)
 call-form name count fields e =
     let both = and_parts (is_name 1 fields (codes "c")) (is_form 3 name count fields) e in
     let form = form-read 3 name count fields both.1 in
@@ -90,7 +90,7 @@ module _ (fields : Texts) (call : Call) where
       subst (IsCallRead fields) (ok-is (made m) call e1)
       (name ∷ decimal m ∷ [], asks m, λ caller is-c. form.2 ∙ λ i. form.0 i ∷ is-c i ∷ form.1 i ∷ moment.0 i ∷ [])) e
 
-  plain-read : plain_call fields ≡ Ok call → IsCallRead fields call
+  pub plain-read : plain_call fields ≡ Ok call → IsCallRead fields call
   unfolding plain_call
   plain-read e =
       ⊎_elim (λ h. submit-read fields call h.0 h.1)

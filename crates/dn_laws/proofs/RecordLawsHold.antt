@@ -157,7 +157,7 @@ rows-have-ten-fields text rows fields more h is other =
 
 -- ---- Histories
 
-call-is : (c : Call) → call_fields c ≡ asked c
+pub call-is : (c : Call) → call_fields c ≡ asked c
 call-is (Submit (Pipe n) packet moment) = refl
 call-is (Submit (Queue n) packet moment) = refl
 call-is _ = refl
@@ -183,7 +183,7 @@ items-are (r.Delivered at list) = refl
 items-are (r.Status list) = states-are list
 items-are _ = refl
 
-entry-is : (e : Entry) → entry_records e ≡ entry e
+pub entry-is : (e : Entry) → entry_records e ≡ entry e
 entry-is e = λ i. (codes "c" ∷ decimal e.caller ∷ call-is e.call i) ∷ (codes "r" ∷ reply-is e.reply i) ∷ items-are e.reply i
 
 entries-are : (entries : List Entry) → flat_map entry_records entries ≡ flat_map entry entries

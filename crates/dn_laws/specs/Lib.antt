@@ -18,8 +18,10 @@ pub mod RecordLaws
 pub mod Replays
 pub mod ReplyLaws
 pub mod ReplyParts
+pub mod ReportLaws
 pub mod ReservationLaws
 pub mod ServiceLaws
+pub mod SessionLaws
 pub mod SharingLaws
 pub mod TimeLaws
 pub mod Told

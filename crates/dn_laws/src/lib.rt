@@ -5,5 +5,7 @@ pub mod determined;
 pub mod laws;
 pub mod lines;
 pub mod records;
+pub mod reports;
 pub mod reservations;
 pub mod services;
+pub mod sessions;

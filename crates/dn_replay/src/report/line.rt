@@ -5,7 +5,7 @@ ghost use Rattle.dn_replay.specs.Report.{due_of, is_out, packet_of, row_number};
 ///
 /// `at` is the effective moment of its Submit; moments are in nanoseconds.
 #[derive(Clone, Copy, Debug)]
-pub(crate) enum ReportLine {
+pub enum ReportLine {
     /// The packet was delivered.
     Out {
         row: u128,
