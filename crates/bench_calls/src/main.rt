@@ -1,11 +1,10 @@
-//! Measures calls of the library, and checks the histories that many callers leave.
+//! Measures calls of the library.
 //!
 //! Results go to standard output and times to standard error, so that two runs write the same output.
 #![tactic(auto)]
 
 mod callers;
 mod calls;
-mod check;
 mod kind;
 mod lines;
 mod load;
@@ -15,7 +14,6 @@ mod run;
 mod shaper;
 
 use callers::measure_callers;
-use check::check_all;
 use lines::measure_lines;
 use shaper::measure_shaper;
 use std::{env, io};
@@ -29,8 +27,6 @@ enum Task {
     Shaper(u64, Option<usize>),
     /// So many calls of each kind through a service.
     Callers(u64),
-    /// So many runs of many callers, whose histories are checked.
-    Check(u64),
     /// A little of each.
     Each,
 }
@@ -54,7 +50,6 @@ fn task_of(rt: &HostRuntime) -> io::Result<Task> {
         "lines" => Task::Lines(count.unwrap_or(1_000)),
         "shaper" => Task::Shaper(count.unwrap_or(2), load),
         "callers" => Task::Callers(count.unwrap_or(1_600)),
-        "check" => Task::Check(count.unwrap_or(1)),
         _ => Task::Each,
     })
 }
@@ -64,12 +59,10 @@ fn main(rt: HostRuntime) -> io::Result<()> {
         Task::Lines(lines) => measure_lines(&rt, lines),
         Task::Shaper(rounds, load) => measure_shaper(&rt, rounds, load),
         Task::Callers(calls) => measure_callers(&rt, calls),
-        Task::Check(runs) => check_all(&rt, runs),
         Task::Each => {
             measure_lines(&rt, 1_000)?;
             measure_shaper(&rt, 2, None)?;
-            measure_callers(&rt, 1_600)?;
-            check_all(&rt, 1)
+            measure_callers(&rt, 1_600)
         }
     }
 }
