@@ -26,7 +26,7 @@ fn call(kind: Kind, moment: u64) -> Call {
 
 fn configured() -> Shaper {
     let mut shaper = Shaper::new();
-    if let Ok(Some(command)) = parse_line("pipe 1 config") {
+    if let Some(command) = parse_line("pipe 1 config") {
         shaper.configure(&command);
     }
     shaper
