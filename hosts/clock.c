@@ -1,7 +1,8 @@
 /* hinge-clock.so: what C code asks of the system while hingetulip.aio simulates time in its thread.
  *
  * hingetulip.aio loads it, and `hinge_border` gives each library of the process these functions in the place of the C library's: the entries
- * of their tables of relocations are written anew, once and for all. Between runs, and in other threads, they do what the C library's do.
+ * of their tables of relocations are written anew, once and for all, and a look-up by name, as that of ctypes, finds these, too. Between runs,
+ * and in other threads, they do what the C library's do.
  *  - In the thread of a run random numbers are those of its seed, and the clock of OpenSSL is the simulated one. Where this library is
  *    preloaded, as `hinge kernel --clock` says, the clock of all C code is.
  *  - While a run lasts, calls that reach the real network, and waits of its thread, are counted by the library that makes them.
@@ -9,6 +10,7 @@
 #define _GNU_SOURCE
 #include <dlfcn.h>
 #include <errno.h>
+#include <ifaddrs.h>
 #include <link.h>
 #include <netdb.h>
 #include <poll.h>
@@ -41,17 +43,11 @@ static struct timespec of_ns(int64_t ns) { return (struct timespec){.tv_sec = ns
 
 /* The functions of the clock. Those that a preloaded library gives everybody call them, and a library that is loaded later has others by these names. */
 static int now_of(clockid_t clock, struct timespec *time) {
-    if (!moment) return (int)syscall(SYS_clock_gettime, clock, time);
-    switch (clock) {
-    case CLOCK_REALTIME:
-    case CLOCK_REALTIME_COARSE:
-    case CLOCK_TAI: *time = of_ns(began + *moment); return 0;
-    case CLOCK_MONOTONIC:
-    case CLOCK_MONOTONIC_COARSE:
-    case CLOCK_MONOTONIC_RAW:
-    case CLOCK_BOOTTIME: *time = of_ns(*moment); return 0;
-    default: return (int)syscall(SYS_clock_gettime, clock, time);
-    }
+    bool is_of_day = clock == CLOCK_REALTIME || clock == CLOCK_REALTIME_COARSE || clock == CLOCK_TAI;
+    bool is_steady = clock == CLOCK_MONOTONIC || clock == CLOCK_MONOTONIC_COARSE || clock == CLOCK_MONOTONIC_RAW || clock == CLOCK_BOOTTIME;
+    if (!moment || (!is_of_day && !is_steady)) return (int)syscall(SYS_clock_gettime, clock, time);
+    *time = of_ns(is_of_day ? began + *moment : *moment);
+    return 0;
 }
 
 static int now_of_day(struct timeval *restrict time, void *restrict zone) {
@@ -67,10 +63,9 @@ int clock_gettime(clockid_t clock, struct timespec *time) { return now_of(clock,
 int gettimeofday(struct timeval *restrict time, void *restrict zone) { return now_of_day(time, zone); }
 
 time_t time(time_t *place) {
-    struct timespec now;
-    now_of(CLOCK_REALTIME, &now);
-    if (place) *place = now.tv_sec;
-    return now.tv_sec;
+    struct timeval now;
+    now_of_day(&now, NULL);
+    return place ? *place = now.tv_sec : now.tv_sec;
 }
 
 #define STEP UINT64_C(0x9E3779B97F4A7C15)
@@ -98,19 +93,15 @@ static int drawn_entropy(void *to, size_t count) {
 }
 
 /* clang-format off */
-#define WATCHED(X)                                                                                                                                   \
-    X(connect)                                                                                                                                       \
-    X(bind)                                                                                                                                          \
-    X(listen)                                                                                                                                        \
-    X(accept) X(accept4) X(send) X(sendto) X(sendmsg) X(sendmmsg) X(recv) X(recvfrom) X(recvmsg) X(recvmmsg) X(getaddrinfo) X(gethostbyname) X(poll) \
-        X(ppoll) X(select) X(pselect) X(epoll_wait) X(epoll_pwait) X(nanosleep) X(clock_nanosleep) X(usleep) X(sleep) X(sem_wait) X(sem_timedwait)   \
-            X(sem_clockwait)
+#define WATCHED(X) \
+    X(connect) X(bind) X(listen) X(accept) X(accept4) X(send) X(sendto) X(sendmsg) X(sendmmsg) X(recv) X(recvfrom) X(recvmsg) X(recvmmsg) \
+    X(getaddrinfo) X(getnameinfo) X(gethostbyname) X(gethostbyname_r) X(getifaddrs) X(poll) X(ppoll) X(select) X(pselect) X(epoll_wait) \
+    X(epoll_pwait) X(nanosleep) X(clock_nanosleep) X(usleep) X(sleep) X(sem_wait) X(sem_timedwait) X(sem_clockwait)
 /* clang-format on */
 #define NUMBER(name) OF_##name,
 #define NAME(name) #name,
 #define OWN(name) {#name, (void *)own_##name},
-enum { WATCHED(NUMBER) COUNT };
-enum { MOST = 64, MOST_LOADED = 4096 }; /* libraries that are counted, and that are remembered */
+enum { WATCHED(NUMBER) COUNT, MOST = 64, MOST_LOADED = 4096 }; /* of libraries that are counted, and that are remembered */
 
 /* NOLINTBEGIN(cppcoreguidelines-avoid-non-const-global-variables): the counts of the whole process */
 static atomic_bool counting;
@@ -172,7 +163,11 @@ OF_SOCKET(recvfrom, ssize_t, (int s, void *data, size_t n, int flags, struct soc
 OF_SOCKET(recvmsg, ssize_t, (int s, struct msghdr *it, int flags), (s, it, flags))
 OF_SOCKET(recvmmsg, int, (int s, struct mmsghdr *them, unsigned n, int flags, struct timespec *t), (s, them, n, flags, t))
 CALL(getaddrinfo, n, int, (const char *n, const char *s, const struct addrinfo *h, struct addrinfo **to), (n, s, h, to))
+CALL(getnameinfo, !(f & NI_NUMERICHOST), int, (const struct sockaddr *a, socklen_t n, char *h, socklen_t m, char *s, socklen_t o, int f),
+     (a, n, h, m, s, o, f))
 CALL(gethostbyname, true, struct hostent *, (const char *name), (name))
+CALL(gethostbyname_r, true, int, (const char *s, struct hostent *h, char *to, size_t n, struct hostent **it, int *e), (s, h, to, n, it, e))
+CALL(getifaddrs, true, int, (struct ifaddrs * *to), (to))
 WAIT(poll, t, (struct pollfd * them, nfds_t n, int t), (them, n, t))
 WAIT(ppoll, !t || t->tv_sec || t->tv_nsec, (struct pollfd * them, nfds_t n, const struct timespec *t, const sigset_t *m), (them, n, t, m))
 WAIT(select, !t || t->tv_sec || t->tv_usec, (int n, fd_set *r, fd_set *w, fd_set *e, struct timeval *t), (n, r, w, e, t))
@@ -188,17 +183,25 @@ WAIT(sem_wait, sem_trywait(it) || sem_post(it), (sem_t * it), (it))
 WAIT(sem_timedwait, true, (sem_t * it, const struct timespec *until), (it, until))
 WAIT(sem_clockwait, true, (sem_t * it, clockid_t clock, const struct timespec *until), (it, clock, until))
 
+static void *named(void *restrict library, const char *restrict name);
+
 struct function {
     const char *name;
     void *own;
 };
-static const struct function OF_ALL[] = {{"getrandom", (void *)drawn_random}, {"getentropy", (void *)drawn_entropy}, WATCHED(OWN){NULL, NULL}};
+static const struct function OF_ALL[] = {
+    {"getrandom", (void *)drawn_random}, {"getentropy", (void *)drawn_entropy}, {"dlsym", (void *)named}, WATCHED(OWN){NULL, NULL}};
 static const struct function OF_OPENSSL[] = {{"clock_gettime", (void *)now_of}, {"gettimeofday", (void *)now_of_day}, {NULL, NULL}};
 
 static void *own_of(const struct function *them, const char *name) {
-    for (; them->name; them++)
-        if (!strcmp(them->name, name)) return them->own;
-    return NULL;
+    while (them->name && strcmp(them->name, name) != 0) them++;
+    return them->own;
+}
+
+static void *named(void *restrict library, const char *restrict name) {
+    void *own = own_of(OF_ALL, name);
+    bool is_of_c = own && dlsym(library, name) == dlsym(RTLD_DEFAULT, name);
+    return is_of_c ? own : dlsym(library, name);
 }
 
 /* The tables of relocations of a library that is new: its entries for functions that have others here. The loader tells places as numbers.

@@ -15,10 +15,10 @@
 struct place {
     char *name;
     int freeze, kill, events; /* descriptors */
-    bool was_empty;           /* when the last stop or kill came */
     uint64_t *stops;          /* the numbers of those that go on */
     size_t count;
-    uint64_t done;
+    struct done *done;
+    size_t done_count, told;
 };
 
 struct acts {
@@ -106,7 +106,6 @@ static bool is_empty(const struct place *place) {
 /* What is killed stands still first, so that none of it sees the end of another. */
 static bool do_act(const struct act *act) {
     struct place *place = act->place;
-    place->was_empty = *act->words != 'c' && is_empty(place);
     if (*act->words == 's') begin_stop(place, act->number);
     if (*act->words != 'k') return put(place->freeze, *act->words == 's' ? '1' : '0');
     bool is_done = put(place->freeze, '1') && put(place->kill, '1');
@@ -118,18 +117,17 @@ const char *make_change(struct host *host, const char *line, uint64_t due) {
     if (!is_act(line)) return follow(host->cuts, line);
     if (!read_act(host->acts, line, &act)) return "no line";
     if (*act.words == 'c' && !ends_stop(act.place, act.number)) return NULL;
+    struct done done = {.met_nothing = *act.words != 'c' && is_empty(act.place)};
     const char *wrong = do_act(&act) ? NULL : strerror(errno);
-    act.place->done = present(&host->clock);
-    if (!wrong) remark(host->transcript, "#,late-act,%" PRIu64 "\n#,act,%.*s\n", act.place->done - due, act.len, act.words);
+    done.moment = present(&host->clock);
+    act.place->done = grown(act.place->done, (act.place->done_count + 1) * sizeof done);
+    act.place->done[act.place->done_count++] = done;
+    if (!wrong) remark(host->transcript, "#,late-act,%" PRIu64 "\n#,act,%.*s\n", done.moment - due, act.len, act.words);
     return wrong;
 }
 
-uint64_t last_act(const struct acts *acts, const char *name) {
-    const struct place *place = named(acts, name, strlen(name));
-    return place ? place->done : 0;
-}
-
-bool met_nothing(const struct acts *acts, const char *name) {
-    const struct place *place = named(acts, name, strlen(name));
-    return place && place->was_empty;
+const struct done *next_done(struct acts *acts, const char *name) {
+    struct place *place = named(acts, name, strlen(name));
+    if (!place || !place->done_count) return NULL;
+    return &place->done[place->told < place->done_count ? place->told++ : place->told - 1];
 }

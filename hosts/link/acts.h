@@ -23,8 +23,11 @@ const char *wrong_with_change(struct host *host, const char *line);
 /* Does what a line says that is due at a moment, and returns NULL or why it is refused. */
 const char *make_change(struct host *host, const char *line, uint64_t due);
 
-/* When the last act on a host was done; 0 where none was. */
-uint64_t last_act(const struct acts *acts, const char *name);
+/* An act that was done. */
+struct done {
+    uint64_t moment;
+    bool met_nothing; /* a stop or a kill, when nothing ran there */
+};
 
-/* Whether nothing ran on a host when the last stop or kill came. */
-bool met_nothing(const struct acts *acts, const char *name);
+/* The first act on a host of which this function hasn't told yet, or else the last one; NULL where none was. */
+const struct done *next_done(struct acts *acts, const char *name);

@@ -61,8 +61,9 @@ static const char *taken_line(struct host *host, const char *text, uint64_t mome
     }
     if (strncmp(text, "at ", strlen("at ")) == 0) return obey_later(host, text + strlen("at "), moment, answer);
     if (strncmp(text, "acted ", strlen("acted ")) == 0) {
-        const char *name = text + strlen("acted ");
-        snprintf(answer->both, sizeof answer->both, "%" PRIu64 "%s", last_act(host->acts, name), met_nothing(host->acts, name) ? " nothing" : "");
+        const struct done *done = next_done(host->acts, text + strlen("acted "));
+        if (!done) return "no line";
+        snprintf(answer->both, sizeof answer->both, "%" PRIu64 "%s", done->moment, done->met_nothing ? " nothing" : "");
         answer->line = answer->both;
         return NULL;
     }

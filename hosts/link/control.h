@@ -5,6 +5,7 @@
      at NS LINE     one that is followed so many ns later
      outage NS cut PIPE N
                     a cut is followed at once, and so many ns later its end; a third line has what the pipe has behind it
+     acted HOST     when the host's next act was done, and whether it met nothing: one answer for each act (acts.h)
      main           the main command begins now, and with it what the plan says behind `main`
      moment         nothing but the moment */
 #pragma once

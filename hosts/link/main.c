@@ -42,7 +42,7 @@ static int signal_descriptor(void) {
 
 /* One turn at the links, behind a wait that has ended. What is due at a moment leaves between the ways. */
 static void turn(struct host *host, const struct wait *wait, uint64_t due) {
-    uint64_t moment = now(&host->clock);
+    uint64_t moment = wait->punctual ? host->clock.last : now(&host->clock);
     host->page->turns++;
     host->page->wakes += wait->slept;
     note_wait(host->unread, moment, wait);

@@ -107,14 +107,23 @@ static uint64_t before(struct waits *waits, uint64_t moment) {
     return moment - waits->early;
 }
 
+/* Where time stands, the timer alone tells that its moment has come, and the clock needn't be read. */
+static bool is_punctual(struct waits *waits, const struct wait *wait, int count) {
+    bool is = waits->clock->stands && wait->slept && count == 1 && (int)waits->told->data.u32 == waits->ways + THE_TIMER;
+    if (is) waits->clock->last = waits->set;
+    return is;
+}
+
+/* Time that stands passes in no call but a sleep, so that it needn't look for what is there before it sleeps. */
 struct wait wait_until(struct waits *waits, uint64_t moment) {
     struct wait wait = {.ready = waits->ready};
     bool may_sleep = moment > waits->clock->last;
     moment = before(waits, moment);
     if (may_sleep) set_timer(waits, moment);
-    int count = polled(waits, 0);
+    int count = may_sleep && waits->clock->stands ? 0 : polled(waits, 0);
     wait.slept = may_sleep && count == 0;
     if (wait.slept) count = slept_poll(waits, &wait, moment);
+    wait.punctual = is_punctual(waits, &wait, count);
     for (int i = 0; i < count; i++) {
         int number = (int)waits->told[i].data.u32, other = number - waits->ways;
         if (other < 0 && waits->told[i].events & (EPOLLERR | EPOLLHUP)) wait.end = INTERFACE_GONE;

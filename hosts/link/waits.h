@@ -7,7 +7,8 @@
 
 struct wait {
     enum { PACKETS_OR_MOMENT, SIGNAL, INTERFACE_GONE } end;
-    bool slept;       /* whether it was a wait at all: when it began, nothing was there */
+    bool slept;       /* whether it was a wait at all: when it began, nothing was there; where time stands, whether it may have been one */
+    bool punctual;    /* whether only its moment came, at which the clock is now without a reading */
     bool paused;      /* whether this program was stopped meanwhile, as by SIGSTOP, a freezer or a debugger */
     uint64_t nothing; /* the last moment of the wait at which nothing was there, where it slept */
     uint64_t timer;   /* the moment of the first timer behind that, which would have ended it */

@@ -109,12 +109,14 @@ void begin_ways(struct host *host) {
         while (carries_frames(host->switches, way) && carrier->polled[way] >= 0 && carrier->receive(carrier->state, way, &bytes) >= 0) {}
 }
 
+/* Where time stands, what is left there is of the same moment, and the next wait tells of it: one read more would be a call of the system
+   for each packet, and mostly find nothing. */
 void come(struct host *host, int way) {
     const struct carrier *carrier = &host->carrier;
     unsigned char *bytes;
     bool goes_on = false;
     note_unemptied(host->unread, way);
-    for (int i = 0; i < AT_ONCE || goes_on; i++) {
+    for (int i = 0; i < (host->clock.stands ? 1 : AT_ONCE) || goes_on; i++) {
         ssize_t len = carrier->receive(carrier->state, way, &bytes);
         if (len < 0) {
             note_empty(host->unread, way, host->clock.last);
@@ -124,6 +126,7 @@ void come(struct host *host, int way) {
         goes_on = carrier->goes_on && carrier->goes_on(carrier->state);
         if (len > 0) take(host, way, bytes, (size_t)len, host->clock.last);
     }
+    if (host->clock.stands) note_empty(host->unread, way, host->clock.last);
 }
 
 /* What leaves at a moment: packets of one way that the carrier sends in one write, and those that have left at switches, in their order. */

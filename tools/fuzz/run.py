@@ -13,6 +13,7 @@ from __future__ import annotations
 
 import argparse
 import os
+import re
 import shutil
 import subprocess
 import sys
@@ -32,7 +33,10 @@ OF_EXIT = {
     **dict.fromkeys(("capture_rows", "plan"), ["-Dexit=leave_the_host"]),  # a refusal goes back to the target
     "columns": ["-Dexit=leave_the_host", "-DREAD_TOGETHER=97"],  # so that lines are read in parts, and little is kept of an input
 }
-MORE = {"plan": [f"-dict={HERE}/plan.words"]}
+VALUES = """pipe 1 config bw 8Mbit/s|pipe 2 config delay 5|queue 1 config pipe 1 weight 2|pipe 1 delete| 1 | 1000000000|\\x0a|\
+00000000000000000000ffff0a080001""".split(
+    "|"
+)  # of a plan's lines
 MOST = {"columns": 100_000, "plan": 200_000}  # inputs, since what an input asks for is kept to the end of the program
 WITHOUT_LEAKS = {**os.environ, "ASAN_OPTIONS": "detect_leaks=0"}  # of a line whose reader was left by its refusal
 
@@ -57,13 +61,20 @@ def built(name: str, folder: Path) -> Path:
     return target
 
 
+def dictionary(name: str, folder: Path) -> list[str]:
+    """Returns the option that names a plan's words, whose first ones plan.c lists."""
+    words = re.findall(r'\{"(\w+ ?)", read_\w+\}', (TOP / "hosts" / "link" / "plan.c").read_text())
+    (folder / "plan.words").write_text("".join(f'"{word}"\n' for word in (*words, *VALUES)))
+    return [f"-dict={folder}/plan.words"] if name == "plan" else []
+
+
 def faults(name: str, count: int, seed: int, folder: Path) -> str:
     """Returns the fuzzer's report on an input that fails, or an empty text."""
     found, kept = folder / f"{name}-found", HERE / "corpus" / name
     shutil.rmtree(found, ignore_errors=True)  # of another run
     for path in (found, kept):
         path.mkdir(parents=True, exist_ok=True)
-    limits = [*LIMITS, *MORE.get(name, []), f"-runs={min(count, MOST.get(name, count))}", f"-seed={seed}"]
+    limits = [*LIMITS, *dictionary(name, folder), f"-runs={min(count, MOST.get(name, count))}", f"-seed={seed}"]
     words = [built(name, folder), *limits, f"-artifact_prefix={folder}/{name}-", found, kept]
     done = subprocess.run(words, stdout=subprocess.PIPE, stderr=subprocess.STDOUT, text=True, errors="replace", env=WITHOUT_LEAKS)
     figures = dict(line.split(":")[-2:] for line in done.stdout.splitlines() if line.startswith("stat::"))
