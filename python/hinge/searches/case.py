@@ -10,7 +10,7 @@ from hinge.events.kinds import TimedEvent, fault_ends
 from hinge.net.description import read_description
 from hinge.net.net_plan import NetPlan
 from hinge.net.statements import statements
-from hinge.simulated.pauses import MOST_GIVEN, Given
+from hinge.simulated.pauses import Paused
 
 LONGEST_PACKET = 1500
 LOSS = re.compile(r"\s(?:loss|plr) \S+")
@@ -36,7 +36,6 @@ class Case:
     seed: int
     lines: "tuple[str, ...]"  # of a net, or an option with its word each
     parts: "tuple[Part, ...]"
-    drawn: Optional[str] = None  # the word of --pauses, where there are more than can be given one by one
 
     def with_parts(self, parts: "tuple[Part, ...]") -> Case:
         return replace(self, parts=parts)
@@ -65,7 +64,7 @@ class Case:
 
     def pauses(self) -> Optional[str]:
         """Returns the word of --pauses, if there are pauses."""
-        return ",".join(word for part in self.of_kind("pauses") for word in part.what) or self.drawn
+        return ",".join(word for part in self.of_kind("pauses") for word in part.what) or None
 
     def told(self) -> str:
         counts = {kind: len(self.of_kind(kind)) for kind in KINDS}
@@ -120,8 +119,5 @@ def case_of(what: "list[str]", seed: int, record: "dict[str, Any]", lost: "Optio
     faults = faults_of(NetPlan(read_description(what[1]), LONGEST_PACKET, seed).events) if is_net else ()
     words = [line for line in lines if lossless(line) != line]
     losses = [Part("losses", (line,)) for line in (words if lost is None else lost)]
-    pauses, parts = record.get("pauses", {"count": 0}), list[Part]()
-    if pauses["count"] <= MOST_GIVEN:
-        inputs = [Given(one["number"], one["where"], one["length"], one["steps"]) for one in pauses.get("first", [])]
-        parts = [Part("pauses", (one.word(),)) for one in inputs]
-    return Case(seed, lines, (*faults, *parts, *losses), None if parts else pauses.get("asked"))
+    pauses = (Paused(**one).given().word() for one in record.get("pauses", {}).get("first", ()))
+    return Case(seed, lines, (*faults, *(Part("pauses", (word,)) for word in pauses), *losses))

@@ -121,7 +121,7 @@ class Runner:
         options = options_of([name, "--quiet", *words])
         options = options.but(limit=options.limit or LONGEST, transcript=watch.transcript)
         refuse_outside(options, False)
-        plan = planned(name, options)
+        plan = planned(options)
         plan = plan._replace(settings=plan.settings._replace(more=watch.more, cores=watch.cores))
         with scratch() as place:
             (place / "in").touch()

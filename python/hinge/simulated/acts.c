@@ -91,14 +91,18 @@ static void do_act(struct net *net, const struct act *act, struct host *host) {
 static void carry_out(struct net *net, struct act *act) {
     char text[200];
     struct host *host = net->hosts + act->host;
+    bool is_fault = ending_of(act->word) && !goes_on(net, host, "restart");
     act->is_pending = false;
     if (is_held(net, act)) return;
+    bool met_nothing = is_fault && send_to(net, host, 0) == 0;
+    reap(&net->run);
+    if (is_fault && strcmp(act->word, "stop") != 0) host->has_ended = host->child.is_over;
     do_act(net, act, host);
     reap(&net->run);
     snprintf(text, sizeof text, "line remark act,%s %s", act->word, host->name);
     net->done = realloc(net->done, (net->done_count + 1) * sizeof *net->done);
     if (!net->done) stop("memory");
-    net->done[net->done_count++] = (struct done){(size_t)(act - net->acts), ask_link(&net->run, text)};
+    net->done[net->done_count++] = (struct done){(size_t)(act - net->acts), ask_link(&net->run, text), met_nothing};
 }
 
 void begin_acts(struct net *net, bool of_main, uint64_t moment) {

@@ -10,7 +10,7 @@ from pathlib import Path
 from typing import NamedTuple, Optional, Sequence
 
 from hinge.run.rooms import may_ping
-from hinge.run.settings import SimulatedOptions
+from hinge.run.settings import NetOptions, SimulatedOptions
 from hinge.run.system import Missing
 from hinge.run.words import Wrong, duration
 
@@ -26,7 +26,7 @@ OF_SESSIONS = set(
 SHELLS = {"bash", "dash", "fish", "ksh", "sh", "zsh"}
 CLEAN = {"HOME", "LANG", "LOGNAME", "USER"}  # of the user's own, where few are wanted
 PATH = "/usr/local/sbin:/usr/local/bin:/usr/sbin:/usr/bin:/sbin:/bin"  # and this one
-BEGIN = "import sys; sys.path.insert(0, sys.argv.pop(1)); from hinge.simulated.in_machine import main; main()"
+BEGIN = "import sys; sys.path.insert(0, sys.argv.pop(1)); from hinge.net.begun import begin_inside; begin_inside()"
 
 
 class Job(NamedTuple):
@@ -81,10 +81,9 @@ def folder() -> str:
     return place
 
 
-def words_of(command: str, options: SimulatedOptions) -> list[str]:
-    """Returns the words that run a `hinge` command inside with these options. They don't depend on Python's variables, and write no
-    byte code."""
-    return [sys.executable, "-I", "-S", "-B", "-c", BEGIN, PACKAGES, command, json.dumps(vars(options))]
+def words_of(options: NetOptions) -> list[str]:
+    """Returns the words that run a net inside with these options. They don't depend on Python's variables, and write no byte code."""
+    return [sys.executable, "-I", "-S", "-B", "-c", BEGIN, PACKAGES, json.dumps(vars(options))]
 
 
 def refuse_outside(options: SimulatedOptions, has_terminal: bool) -> None:

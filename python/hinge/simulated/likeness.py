@@ -35,14 +35,17 @@ def what_differs(one: "dict[str, Any]", other: "dict[str, Any]") -> "list[str]":
 
 
 def of_files(before: "dict[str, Any]", present: "dict[str, Any]") -> str:
-    """Tells the first file that differs, in the order in which the earlier run opened them, followed by the other run's."""
+    """Tells the first file that differs, in the order in which the earlier run opened them, followed by the other run's. What a run
+    changed has no checksum of what the run read."""
     one, other = before.get("files"), present["files"]
     if not isinstance(one, dict):
         return ""
-    names = [name for name in {**one, **other} if one.get(name) != other.get(name)]
+    unsure = [name for name in {**one, **other} if [] in (one.get(name), other.get(name))]
+    names = [name for name in {**one, **other} if one.get(name) != other.get(name) and name not in unsure]
+    first, *more = [*names, *unsure] or [""]
+    others = f" and {len(more)} more files" * bool(more)
     if not names:
-        return f"; the same {len(one)} files"
-    first = names[0]
+        return f"; the same {len(one) - len(unsure)} files" + f", beside {first}{others} that a run changed" * bool(unsure)
     why = (
         "other"
         if first in one and first in other
@@ -52,7 +55,7 @@ def of_files(before: "dict[str, Any]", present: "dict[str, Any]") -> str:
         if first in present["absent"]
         else "not read by both:"
     )
-    return f"; {why} {first}" + f" and {len(names) - 1} more files" * (len(names) > 1)
+    return f"; {why} {first}{others}"
 
 
 def remarks(path: str, before: "dict[str, Any]", present: "dict[str, Any]") -> Iterator[str]:

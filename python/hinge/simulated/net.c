@@ -178,7 +178,7 @@ static void end_hosts(struct net *net) {
     if (!run->came) reap(run);
     for (struct host *host = net->hosts; host < net->hosts + net->host_count; host++) {
         bool was_over = host->child.is_over;
-        host->by = !was_over ? "SIGTERM" : goes_on(net, host, "restart") ? "kill" : "itself";
+        host->by = !was_over ? "SIGTERM" : goes_on(net, host, "restart") && !host->has_ended ? "kill" : "itself";
         if (host->has_begun && !was_over) signal_all(host->child.process, SIGTERM);
     }
     uint64_t until = now() + net->patience;
@@ -204,7 +204,8 @@ static char *told(const struct net *net) {
                     (unsigned long long)((host->child.at ? host->child.at : now()) - net->run.begun), host->by);
     for (size_t i = 0; i < net->wait_count; i++)
         if (net->waits[i].is_silent) fprintf(file, "silent %zu %d\n", i, net->waits[i].status);
-    for (size_t i = 0; i < net->done_count; i++) fprintf(file, "act %zu %llu\n", net->done[i].act, (unsigned long long)net->done[i].moment);
+    for (const struct done *done = net->done; done < net->done + net->done_count; done++)
+        fprintf(file, "act %zu %llu %d\n", done->act, (unsigned long long)done->moment, done->met_nothing);
     fclose(file);
     return text;
 }

@@ -5,8 +5,8 @@
 struct host {
     char *name, *command, *clock, *log; /* clock: its number for the kernel */
     size_t network;
-    const char *by; /* how it ended */
-    bool has_begun;
+    const char *by;            /* how it ended */
+    bool has_begun, has_ended; /* has_ended: by itself, before the last kill */
     struct child child;
 };
 
@@ -31,7 +31,8 @@ struct act {
 
 struct done {
     size_t act;
-    uint64_t moment; /* of the links */
+    uint64_t moment;  /* of the links */
+    bool met_nothing; /* a fault, when nothing ran there */
 };
 
 struct net {

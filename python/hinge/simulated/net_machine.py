@@ -79,7 +79,7 @@ class NetRun(NamedTuple):
             {name: verdict for name, verdict, _, by in hosts if by == "itself"},
             next((line for line, (wait, _) in zip(lines, waits) if not wait.is_optional), ""),
             lines,
-            [Done(int(row[2]), self.order.made.acts[int(row[1])]) for row in rows if row[0] == "act"],
+            [Done(int(row[2]), self.order.made.acts[int(row[1])], row[3] == "1") for row in rows if row[0] == "act"],
         )
 
     def ended(self, folder: Path) -> Optional[Verdict]:
@@ -108,8 +108,8 @@ class NetRun(NamedTuple):
 
 
 def net_run(options: NetOptions, seed: int, transcript: Optional[str]) -> Optional[NetRun]:
-    """Returns None if the net needs Python inside, for disks or a shell."""
+    """Returns None if the net needs Python inside, for disks."""
     net = net_of(options)
-    if options.shell or any(host.disks for host in net.hosts.values()):
+    if any(host.disks for host in net.hosts.values()):
         return None
     return NetRun(net_order(options.but(seed=seed, transcript=transcript), net, set(), True))

@@ -32,10 +32,13 @@ def checksum(path: str, status: os.stat_result) -> str:
     return known[key]
 
 
-def file_record(path: str) -> "Optional[list[Any]]":
-    """Returns the length and checksum of a file, or the number and checksum of a folder's names; None if neither exists any more."""
+def file_record(path: str, start: int) -> "Optional[list[Any]]":
+    """Returns the length and checksum of a file, or the number and checksum of a folder's names, or an empty list if the file or folder
+    was changed after the moment `start`, in ns of the system's files; None if neither exists any more."""
     try:
         status = os.stat(path)
+        if status.st_ctime_ns > start:
+            return []
         if stat.S_ISREG(status.st_mode):
             return [status.st_size, checksum(path, status)]
         names = sorted(os.fsencode(name) for name in os.listdir(path))
@@ -65,6 +68,7 @@ def name_of(path: str) -> str:
 
 def files_record(folder: Path, root: Optional[str] = None) -> "dict[str, Any]":
     """Returns the summary's `files`, in the order of opening, and `absent`."""
-    paths = dict.fromkeys(paths_told(folder, root))
-    files = {name_of(path): record for path, is_there in paths if is_there and (record := file_record(f"{root or ''}{path}"))}
+    paths, start = dict.fromkeys(paths_told(folder, root)), os.stat(folder / "job").st_ctime_ns
+    records = ((path, file_record(f"{root or ''}{path}", start)) for path, is_there in paths if is_there)
+    files = {name_of(path): record for path, record in records if record is not None}
     return {"files": files, "absent": [name_of(path) for path, is_there in paths if not is_there]}

@@ -69,7 +69,7 @@ class Outcome(NamedTuple):
             return {}
         asked, first = self.settings.pauses, [one._asdict() for one in self.pauses.first]
         counts = {"calls": self.pauses.calls, "count": self.pauses.amount, "time": self.pauses.time / 1e9}
-        return {"pauses": {"asked": asked.asked, "seed": asked.seed, **counts, "first": first}}
+        return {"pauses": {"asked": asked.asked, **counts, "first": first}}
 
     def record(self, kernel: Kernel) -> Record:
         """Returns the record for JSON, with times in seconds."""

@@ -15,15 +15,13 @@ from hinge.simulated.calls_of_linux import name_of
 
 DRAWN = "drawn"
 RAREST, OFTENEST = 14, 4  # powers of two: of calls between two pauses at most, where the seed draws them
-LONGEST = 22  # the longest pause is 2^22 us and as much again: the kernel's PAUSE_LONGEST
+LONGEST = 22  # the longest pause is 2^22 us and as much again
 GENTLE = 10  # the longest one of some seeds
 STEPS = 11  # a pause between two calls is 2^11 instructions behind the first one at most, and as many again
-BUDGET = 13  # and 2^13 us for each call between two pauses
 LONG = 3  # by half of the seeds that draw pauses, all are of an eighth of the longest at least
-MOST = 10**12
 MOST_GIVEN = 256  # the kernel's PAUSES_KEPT
 SHOWN = 10  # pauses that are told in words
-FORM = "neither pauses of calls, as 3/10000 or 1/20, nor pauses one by one, as 1034-16ms,2200+0.5s,2304+5us@250, nor `drawn`"
+FORM = "neither pauses one by one, as 1034-16ms,2200+0.5s,2304+5us@250, nor `drawn`"
 
 
 class Given(NamedTuple):
@@ -39,17 +37,12 @@ class Given(NamedTuple):
 
 
 class Pauses(NamedTuple):
-    """Pauses drawn from a separate seed, as a number of pauses per number of calls, or listed pauses."""
-
     asked: str  # as the option has it
-    seed: int
-    amount: int = 0
-    calls: int = 1
-    given: "tuple[Given, ...]" = ()
+    given: "tuple[Given, ...]"
 
     def lines(self) -> Iterator[str]:
-        """Yields the lines for the kernel."""
-        yield f"{self.amount} {self.calls} {self.seed} {longest_of(self.amount, self.calls)}"
+        """Yields the lines for the kernel, which itself draws none: 0 in 1 call, by the seed 0."""
+        yield "0 1 0"
         for one in self.given:
             yield f"{one.call} {one.where} {one.ns}" + f" {one.steps}" * bool(one.steps)
 
@@ -103,11 +96,6 @@ def number_of(text: str) -> int:
     return int.from_bytes(hashlib.sha256(text.encode()).digest()[:8], "big")
 
 
-def longest_of(amount: int, calls: int) -> int:
-    """Returns the maximum length: rarer pauses may be longer, so that all take a similar time."""
-    return min((calls // max(amount, 1)).bit_length() - 1 + BUDGET, LONGEST)
-
-
 def drawn(seed: int) -> Iterator[Given]:
     """Pauses that get rarer, so that few calls have some, until they are as rare as the seed says."""
     rare, longest, are_long = (number_of(f"{what} {seed}") for what in ("how often", "longest", "how long"))
@@ -128,9 +116,7 @@ def pauses_of(word: Optional[str], seed: int) -> Optional[Pauses]:
     """Returns the pauses for an option and a seed."""
     if word is None:
         return None
-    one_by_one = tuple(drawn(seed)) if word == DRAWN else given(word)
-    amount, calls = (0, 1) if one_by_one else map(int, word.split("/"))
-    return Pauses(word, number_of(f"pauses {seed}"), amount, calls, one_by_one)
+    return Pauses(word, tuple(drawn(seed)) if word == DRAWN else given(word))
 
 
 def paused(line: str) -> Paused:

@@ -12,7 +12,8 @@ from pathlib import Path
 from typing import TYPE_CHECKING, Any, Iterator, NamedTuple, Optional, Union
 
 from hinge.border.scratch import scratch
-from hinge.command import say
+from hinge.border.programs import CANNOT_EXECUTE
+from hinge.command import NOT_FOUND, say
 from hinge.outputs import writing, written
 from hinge.run.plan_of_options import drawn_seed
 from hinge.run.settings import NetOptions, RunOptions, SimulatedOptions
@@ -63,10 +64,10 @@ def settings_of(options: SimulatedOptions, seed: int) -> Settings:
     return Settings(seed, at, memory, cpu, scratch, pauses, limit_of(options), root_of(options), cores=cores)
 
 
-def inside(options: SimulatedOptions, seed: int) -> SimulatedOptions:
-    """Returns the options for the command inside. There any user may use a link, and a transcript is always a new file, copied at
-    the end, since an existing one would show in the run. The launcher's own options are left out: the words are in the programs'
-    memory, and mustn't change the run."""
+def inside(options: NetOptions, seed: int) -> NetOptions:
+    """Returns the options inside for a net with disks, whose rooms Python creates there. There any user may use a link, and a
+    transcript is always a new file, copied at the end, since an existing one would show in the run. The launcher's own options are
+    left out: the words are in the programs' memory, and mustn't change the run."""
     ours = dict.fromkeys(("kept", "pauses", "real_limit", "limit", "like", "root"))
     files = {"transcript": transcript_of(options), "json": f"{KEPT}/{SUMMARY}"}
     return options.but(seed=seed, realtime=True, twice=False, clean_env=False, **files, **ours)
@@ -78,9 +79,8 @@ def transcript_of(options: SimulatedOptions) -> Optional[str]:
 
 
 class Planned(NamedTuple):
-    """A planned run in a machine: a `hinge` command, or a link's rooms without Python inside."""
+    """A planned run in a machine. Only a net with disks lacks rooms, since Python creates these in the machine."""
 
-    name: str
     options: SimulatedOptions
     seed: int
     settings: Settings
@@ -90,21 +90,22 @@ class Planned(NamedTuple):
         names = environment(self.options.clean_env)
         if self.rooms:
             return Job(self.options.command, inputs, is_one_stream, names, self.rooms.texts())
-        return Job(words_of(self.name, inside(self.options, self.seed)), inputs, is_one_stream, names)
+        assert isinstance(self.options, NetOptions)
+        return Job(words_of(inside(self.options, self.seed)), inputs, is_one_stream, names)
 
 
-def planned(name: str, options: SimulatedOptions) -> Planned:
+def planned(options: SimulatedOptions) -> Planned:
     seed = drawn_seed(options.seed)
     rooms: Optional[InRooms] = None
-    if isinstance(options, RunOptions) and not options.watch:
+    if isinstance(options, RunOptions):
         rooms = link_run(options, seed, transcript_of(options))
     elif isinstance(options, NetOptions):
         from hinge.simulated.net_machine import net_run  # which `hinge run` needs not
 
         rooms = net_run(options, seed, transcript_of(options))
     if options.root and rooms is None:
-        raise Wrong("--root: disks, --shell and --watch need Python and the kit in the machine")
-    return Planned(name, options, seed, settings_of(options, seed), rooms)
+        raise Wrong("--root: disks need Python and the kit in the machine")
+    return Planned(options, seed, settings_of(options, seed), rooms)
 
 
 @contextmanager
@@ -176,6 +177,12 @@ class Reported(NamedTuple):
     record: Record
 
 
+def has_begun(machine: Machine, options: SimulatedOptions, verdict: Verdict) -> bool:
+    """Returns whether the command could be executed. A shell executes a net's commands, and reports a failure by its status."""
+    is_of_shell = isinstance(options, NetOptions) and verdict.by == ITSELF
+    return machine.has_begun and not (is_of_shell and verdict.status in (CANNOT_EXECUTE, NOT_FOUND))
+
+
 def summary_of(machine: Machine) -> "dict[str, Any]":
     path = machine.room.kept / SUMMARY
     result = json.loads(path.read_text()) if path.exists() else {}
@@ -199,7 +206,8 @@ def reported(machine: Machine, plan: Planned, kernel: Kernel, files: bool, is_to
             say(line)
     record: Record = {"format": FORMAT, "seed": plan.seed, **summary_of(machine)}
     if verdict:
-        record = {**record, **({"status": status} if is_cut else {}), **({"ended": verdict.record()} if machine.has_begun else {})}
+        own = {"ended": verdict.record()} if has_begun(machine, options, verdict) else {}
+        record = {**record, **({"status": status} if is_cut else {}), **own}
     if endings:
         outcome = Outcome.of(machine, told_simulated(endings, verdict), settings)
         if settings.pauses and not outcome.pauses:
@@ -230,12 +238,12 @@ def report_of_machine(machine: Machine, plan: Planned, kernel: Kernel) -> int:
     return result.status
 
 
-def run_simulated(name: str, options: SimulatedOptions) -> int:
-    """Runs a `hinge` command with these options; returns its status."""
+def run_simulated(options: SimulatedOptions) -> int:
+    """Runs a link or a net with these options; returns its status."""
     refuse_outside(options, has_terminal())
     if options.like:
         earlier(options.like)  # so that a wrong one is told before a machine is made
-    limit, kernel, plan = real_limit_of(options), found(), planned(name, options)
+    limit, kernel, plan = real_limit_of(options), found(), planned(options)
     machines = list[Machine]()
     with scratch() as place, ending(machines) as came:
         read_input(place / "in")

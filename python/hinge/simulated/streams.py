@@ -11,7 +11,7 @@ from pathlib import Path
 from typing import Optional
 
 from hinge.border.files import opened
-from hinge.command import say
+from hinge.command import CLOSED, say
 from hinge.run.system import libc
 
 PAUSE = 0.02  # s between looks at a file
@@ -81,9 +81,9 @@ def has_terminal() -> bool:
 
 
 def read_input(into: Path) -> None:
-    """Saves the whole standard input, since simulated time can't wait for it. A terminal counts as empty."""
+    """Saves the whole standard input, since simulated time can't wait for it. A terminal or closed input counts as empty."""
     with open(into, "wb") as file:
-        if has_terminal():
+        if 0 in CLOSED or has_terminal():
             return
         waiting = threading.Timer(PATIENCE, say, ["--simulated begins when standard input has ended"])
         waiting.daemon = True

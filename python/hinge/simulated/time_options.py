@@ -42,14 +42,13 @@ def size(text: str) -> int:
 def pauses_word(text: str) -> str:
     """Returns the word of the option. ArgumentTypeError: the text is no such word."""
     from hinge.run.words import Wrong
-    from hinge.simulated.pauses import DRAWN, FORM, MOST, given
+    from hinge.simulated.pauses import DRAWN, FORM, given
 
-    match = re.fullmatch(r"(\d{1,12})/(\d{1,12})", text, re.ASCII)
     try:
-        one_by_one = bool(given(text))
+        is_word = text == DRAWN or bool(given(text))
     except Wrong as wrong:
         raise argparse.ArgumentTypeError(str(wrong)) from None
-    if text != DRAWN and not one_by_one and not (match and int(match[1]) <= int(match[2]) <= MOST and int(match[2])):
+    if not is_word:
         raise argparse.ArgumentTypeError(f"{text!r} is {FORM}")
     return text
 
@@ -69,10 +68,9 @@ def add_simulated(parser: Parser) -> None:
     group.add_argument("--cpu", choices=CPUS, help="what programs learn of the processor (stable); v3: one for all")
     group.add_argument(
         "--pauses",
-        metavar="N/CALLS",
+        metavar="PAUSES",
         type=pauses_word,
-        help="N processes in so many calls pause for a "
-        "drawn time, so that seeds try other schedules; `drawn`: as often as the seed says",
+        help="`drawn`: processes pause at calls that the seed draws, so that seeds try other schedules; or pauses one by one",
     )
     group.add_argument("--clean-env", action="store_true", help="no variables but HOME, LANG, PATH and USER")
     group.add_argument("--like", metavar="SUMMARY", help="says what of this run isn't as in an earlier one's --json")
@@ -81,4 +79,4 @@ def add_simulated(parser: Parser) -> None:
     group.add_argument("--real-limit", metavar="TIME", help="status 124 after so much real time")
     parser.needs("--twice --scratch --root --at --memory --cpu --pauses --clean-env --like --limit --real-limit", "--simulated")
     parser.yields("--scratch", "--twice")
-    parser.yields("--late --realtime", "--simulated")  # whose packets are never late
+    parser.yields("--late --realtime --watch --shell", "--simulated")  # whose packets are never late, and which nobody watches

@@ -12,12 +12,6 @@ import subprocess
 process = subprocess.Popen(["sleep", "1"])
 while process.poll() is None: pass
 """
-STATS = """
-import os
-if os.fork() == 0:
-    os.execlp("sh", "sh", "-c", "sleep 1; echo > there")
-while not os.path.exists("there"): pass
-"""
 KILLS = """
 import os, subprocess
 process = subprocess.Popen(["sh", "-c", "sleep 1 & echo $!"], stdout=subprocess.PIPE, text=True)
@@ -27,7 +21,6 @@ try:
 except ProcessLookupError:
     pass
 """
-TESTS = "(sleep 1; echo > there) & while [ ! -e there ]; do :; done"
 STARTS = "(sleep 1; echo > there) & while ! /bin/ls there 2>/dev/null; do :; done"
 YIELDS = """
 import mmap, os, time
@@ -45,11 +38,10 @@ for one in range(4): os.wait()
 
 
 class OfAsking(Simulated):
-    @needs("bash")
     def test_each_takes_a_second(self) -> None:
-        """They ask of a child, a file, a process, or shared memory, by programs that they start, and in a shell by itself."""
-        scripts = [(sys.executable, "-c", text) for text in (POLLS, STATS, KILLS, YIELDS)]
-        for words in (*scripts, ("sh", "-c", STARTS), ("bash", "-c", TESTS)):
+        """They ask of a child, a process, or shared memory, and by programs that they start."""
+        scripts = [(sys.executable, "-c", text) for text in (POLLS, KILLS, YIELDS)]
+        for words in (*scripts, ("sh", "-c", STARTS)):
             with self.subTest(words[2]):
                 ran = self.run_by(1, "--", *words)
                 self.assertEqual(ran.status, 0, ran.err)

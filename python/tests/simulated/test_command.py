@@ -179,8 +179,12 @@ class OfRefusals(Simulated):
         no_kernel = f"HINGE_KERNEL: {self.folder} has no kernel and first process of this version of hinge"
         self.refused(6, no_kernel, "--", "true", env=environment(HINGE_KERNEL=str(self.folder)))
 
-    def test_too_much_memory(self) -> None:
-        self.assertIn("'1T' isn't a size from 64M to 64G", self.started("--memory", "1T", "--", "true").stderr)
+    def test_wrong_options(self) -> None:
+        for words, told in (
+            (["--memory", "1T"], "'1T' isn't a size from 64M to 64G"),
+            (["--watch"], "--watch does nothing beside --simulated"),
+        ):
+            self.assertIn(told, self.started(*words, "--", "true").stderr)
 
     def test_a_shell_on_a_terminal(self) -> None:
         main, second = os.openpty()

@@ -182,6 +182,18 @@ class OfFaults(Simulated):
         )
         self.assertEqual(len(pings), 60)
 
+    def test_a_fault_of_a_host_on_which_nothing_runs(self) -> None:
+        """Its command had ended by itself, also where another one is killed and a stop lasts longer."""
+        done = self.net(
+            "host a true\nhost b exec sleep 99\nmain c sleep 2\nlink a c 5ms\nlink b c 5ms\nat 1s kill a\nat 1s kill b\n"
+            "at 1200ms stop b 300ms\n",
+            3,
+        )
+        told = [line for line in done.stderr.splitlines() if "by itself" in line]
+        self.assertEqual(told, ["hinge net: CAUTION, changed nothing, as the host's command had ended by itself: `kill a`"])
+        hosts = json.loads((self.folder / "session" / "net.json").read_text())["hosts"]
+        self.assertEqual({name: one["by"] for name, one in hosts.items()}, {"a": "itself", "b": "kill", "c": "itself"})
+
 
 @needs("iperf3", "ping")
 class OfTheLinks(Simulated):

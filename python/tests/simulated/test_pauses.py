@@ -7,32 +7,28 @@ import sys
 import unittest
 from collections.abc import Iterable
 
-from hinge.simulated.pauses import MOST_GIVEN, Paused, drawn, given, longest_of, pauses_of
+from hinge.simulated.pauses import MOST_GIVEN, Paused, drawn, given, pauses_of
 from hinge.simulated.time_options import pauses_word
 from machines import HERE, LINK, Simulated, needs
 from packets import packets_of
 
 ONCE = """take() { if [ ! -e lock ]; then echo > lock; echo $1 >> took; fi; }
-          rm -f lock took; take a & take b & wait; wc -l < took"""
+          rm -f lock took; take a & take b & wait; test $(wc -l < took) = 1"""
 SEEDS = range(1, 21)
 
 
 class OfWords(unittest.TestCase):
     def test_words(self) -> None:
-        for word in ("1/20", "3/10000", "0/1", "drawn", "1034-16ms", "9+1ns,1034-16.5ms"):
+        for word in ("drawn", "1034-16ms", "9+1ns,1034-16.5ms"):
             self.assertEqual(pauses_word(word), word)
         many = ",".join(f"{call}+1s" for call in range(257))
-        for word in ("", "3", "2/1", "1/0", "0/0", "-1/2", "1/20s", "9*1s", "9+1s,", "9+1s,8", "9+1s,9-2s", "9+9999999h", many):
+        for word in ("", "3", "1/20", "9*1s", "9+1s,", "9+1s,8", "9+1s,9-2s", "9+9999999h", many):
             self.assertRaises(argparse.ArgumentTypeError, pauses_word, word)
 
     def test_pauses_one_by_one(self) -> None:
         pauses = pauses_of("20+1ms,9-5ns", 1)
         assert pauses
         self.assertEqual(list(pauses.lines())[1:], ["9 before 5", "20 behind 1000000"])
-
-    def test_rare_pauses_may_be_long(self) -> None:
-        calls = [(1, 1), (1, 20), (1, 200), (1, 2000), (3, 10000)]
-        self.assertEqual([longest_of(*one) for one in calls], [13, 17, 20, 22, 22])
 
     def test_what_is_drawn_is_the_seeds(self) -> None:
         self.assertIsNone(pauses_of(None, 1))
@@ -79,22 +75,19 @@ def first_two(outcomes: "Iterable[object]") -> "set[object]":
 
 
 class OfPauses(Simulated):
-    def took(self, seed: int, *options: str) -> str:
-        return self.run_by(seed, *options, "--", "bash", "-c", ONCE).out.strip()
-
-    @needs("bash")
-    def test_a_file_that_two_make(self) -> None:
-        self.assertEqual({self.took(seed) for seed in SEEDS[:3]}, {"1"})
-        self.assertEqual(first_two(self.took(seed, "--pauses", "1/5") for seed in SEEDS), {"1", "2"})
-
-    def test_drawn_pauses_find_a_lock_that_is_missing(self) -> None:
-        words = ("--", sys.executable, "-c", JOBS)
-        self.assertEqual(self.run_by(1, *words).status, 0)
-        self.assertEqual(first_two(self.run_by(seed, "--pauses", "drawn", *words).status for seed in SEEDS), {0, 1})
+    @needs("bash", "cc")
+    def test_drawn_pauses_find_faults(self) -> None:
+        """A file that two make, jobs without a lock, and a signal whose handler runs before the call that waits for it."""
+        wakes = str(self.folder / self.compiled((HERE / "wakes.c").read_text()))
+        for words in (["bash", "-c", ONCE], [sys.executable, "-c", JOBS], [wakes]):
+            self.assertEqual(self.run_by(1, "--", *words).status, 0, words)
+            self.assertEqual(
+                first_two(self.run_by(seed, "--pauses", "drawn", "--", *words).status for seed in SEEDS), {0, 1}, words
+            )
 
     def calls_of(self, program: str) -> int:
         """How many calls of a program of Python may pause."""
-        return int(self.run_by(1, "--pauses", "0/1", "--", sys.executable, "-c", program).summary["pauses"]["calls"])
+        return int(self.run_by(1, "--pauses", "1000000-1ns", "--", sys.executable, "-c", program).summary["pauses"]["calls"])
 
     def test_calls_whose_order_nobody_can_tell(self) -> None:
         """Calls at the start, and calls on a process that shares its memory with no other process."""
@@ -106,7 +99,7 @@ class OfPauses(Simulated):
     @needs("bash")
     def test_pauses_that_are_named_again(self) -> None:
         """A run by the pauses of another one, one by one, is that run."""
-        one = self.run_by(1, "--pauses", "1/20", *LINK, "--", "bash", "-c", ONCE)
+        one = self.run_by(1, "--pauses", "drawn", *LINK, "--", "bash", "-c", ONCE)
         word = ",".join(Paused(**pause).given().word() for pause in one.summary["pauses"]["first"])
         other = self.run_by(1, "--pauses", word, *LINK, "--", "bash", "-c", ONCE)
         self.assertEqual(other.summary["pauses"]["first"], one.summary["pauses"]["first"])
@@ -117,7 +110,7 @@ class OfPauses(Simulated):
     def test_the_link_does_not_pause(self) -> None:
         """So each packet is on its way for the same time as without pauses, whenever its program sends the packet."""
         links = ["--up", "10Mbit/s 20ms", "--down", "10Mbit/s 20ms"]
-        ran = self.run_by(1, "--pauses", "1/5", *links, "--", "ping", "-c", "20", "server")
+        ran = self.run_by(1, "--pauses", "drawn", *links, "--", "ping", "-c", "20", "server")
         self.assertEqual(ran.status, 0, ran.err)
         packets = packets_of(ran.history)
         self.assertEqual({packet.due - packet.came for packet in packets if packet.size == 84}, {20_067_200})
@@ -125,11 +118,3 @@ class OfPauses(Simulated):
         pauses = ran.summary["pauses"]
         self.assertGreater(pauses["count"], 0)
         self.assertEqual(pauses["count"], len(pauses["first"]))
-
-    @needs("cc")
-    def test_a_signal_that_comes_before_a_wait(self) -> None:
-        """A pause before a call lets a signal's handler run before the call, as on a processor that another took."""
-        made = str(self.folder / self.compiled((HERE / "wakes.c").read_text()))
-        statuses = (self.run_by(seed, "--pauses", "1/20", "--", made).status for seed in SEEDS)
-        self.assertEqual(first_two(statuses), {0, 1})
-        self.assertEqual(self.run_by(1, "--", made).status, 0)

@@ -76,8 +76,7 @@ class OfServers(Repeated):
 
     @needs("java", "javac")
     def test_java(self) -> None:
-        """Without the files below /tmp in which a Java program looks for others that ended, since the first run changes
-        what the second finds there."""
+        """Java looks below /tmp for files of ended programs, which the first run would change for the second."""
         subprocess.run(["javac", "-d", self.folder, PROGRAMS / "Web.java"], check=True)
         java = f"java -XX:-UsePerfData -cp {self.folder} Web"
         self.twice("--server-wait", "60s", "--server", f"exec {java} serve", "--", "sh", "-c", java)

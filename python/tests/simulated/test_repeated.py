@@ -22,8 +22,8 @@ SAME = (
     r"\d+ bytes of the transcript\n$"
 )
 LOOKS = "ls -l /proc/self/fd | wc -l; date +%N; head -c 9 /dev/urandom | od"
-PINGS_OF_DRAWN_LENGTHS = """exec 2>&1 >/dev/null
-                            for packet in 1 2 3; do ping -c 1 -s $((0x$(./it) & 1023)) server; done"""
+PINGS_OF_DRAWN_LENGTHS = """echo first; ./it
+                            for packet in 1 2 3; do ping -c 1 -s $((0x$(./it) & 1023)) server >/dev/null; done"""
 DRAWS = """
 #include <immintrin.h>
 #include <stdio.h>
@@ -75,23 +75,15 @@ class OfTwice(Repeated):
         self.assertRegex(done.stderr, SAME)
         self.assertFalse((self.folder / "there").exists())
 
-    @needs("cc")
-    def test_two_that_part(self) -> None:
-        """A program that draws from the processor itself, which nothing hides with --cpu host."""
-        done = self.two_of(f"echo first; {self.compiled(DRAWS)}", "--cpu", "host")
-        self.assertEqual(done.returncode, 76, done.stdout + done.stderr)
-        self.assertIn("two runs by seed 7 differ: standard output parts in line 2: '", done.stderr)
-
     @needs("cc", "ping")
-    def test_two_whose_calls_part(self) -> None:
-        """The lengths of three packets come from the processor itself: the transcripts part where one is submitted.
-
-        Three lengths of 10 bits are equal in both runs once in 2^30. A word keeps 60 bits, since a shell's numbers
-        have a sign: those above 2^63 would all be read as the greatest.
-        """
+    def test_two_that_part(self) -> None:
+        """A program that draws from the processor itself, which nothing hides with --cpu host, prints one word and makes three packets
+        of drawn lengths, all equal in both runs once in 2^30: the transcripts part where one is submitted. A word keeps 60 bits, since
+        a shell's numbers have a sign: those above 2^63 would all be read as the greatest."""
         self.compiled(DRAWS)
         done = self.two_of(PINGS_OF_DRAWN_LENGTHS, "--cpu", "host")
         self.assertEqual(done.returncode, 76, done.stdout + done.stderr)
+        self.assertIn("two runs by seed 7 differ: standard output parts in line 2: '", done.stderr)
         self.assertRegex(
             done.stderr,
             r"the transcript parts in call \d+, at \d+\.\d{9} s: the calls differ\n"

@@ -180,7 +180,7 @@ class OfSearches(Simulated):
 
     def test_a_kill_among_many(self) -> None:
         (self.folder / "three.net").write_text(THREE)
-        words = ["three.net", "--seeds", "1-3", "--pauses", "1/20", "-P", "2", "--runs", "runs"]
+        words = ["three.net", "--seeds", "1-3", "--pauses", "drawn", "-P", "2", "--runs", "runs"]
         done = self.searched(*words)
         self.assertEqual(done.returncode, 1, done.stdout + done.stderr)
         failure = json.loads((self.folder / "failure.hinge").read_text())
@@ -201,7 +201,7 @@ class OfSearches(Simulated):
 
     def test_a_command(self) -> None:
         """It fails where its first packet is lost, which no pause and no option but the link's loss has to do with."""
-        words = "run --seeds 1-6 --pauses 1/2 --link '1ms loss 50%' --memory 256M -- ping -q -c 1 -W 1 server"
+        words = "run --seeds 1-6 --pauses drawn --link '1ms loss 50%' --memory 256M -- ping -q -c 1 -W 1 server"
         done = self.searched(*shlex.split(words))
         self.assertEqual(done.returncode, 1, done.stdout + done.stderr)
         command = next(line for line in done.stdout.splitlines() if line.startswith("hinge run --link "))

@@ -104,9 +104,14 @@ class OfVerdicts(Simulated):
             self.assertEqual(done.returncode, 1, done.stderr)
             self.assertIn(f"seed 2: {name}", done.stdout)
             self.assertIn(f"seed 1 fails by {name} with 0 faults", done.stdout)
-        done = self.hinge("search", "run", "--seeds", "1", "--", "./never")
-        self.assertEqual((done.returncode, done.stdout), (127, ""))
-        self.assertEqual(done.stderr, "hinge search: seed 1: ./never: No such file or directory\n")
+        (self.folder / "never.net").write_text("main a ./never\nhost b\nlink a b\n")
+        for what, end, told in (
+            ("run", ["--", "./never"], "./never: No such file or directory"),
+            ("never.net", [], "sh: 1: ./never: not found"),
+        ):
+            done = self.hinge("search", what, "--seeds", "1", *end)
+            self.assertEqual((done.returncode, done.stdout), (127, ""))
+            self.assertEqual(done.stderr, f"hinge search: seed 1: {told}\n")
         done = self.hinge("search", "run", "--seeds", "1,2", "--server", "exit 3", "--", "true")
         self.assertEqual((done.returncode, done.stdout), (0, "0 of 2 runs failed\n"))
         self.assertEqual(done.stderr, "hinge search: the server ended with 3 by itself in 2 of 2 runs, first by seed 1\n")
@@ -138,15 +143,16 @@ class OfVerdicts(Simulated):
         self.assertEqual([path.read_bytes()[:4] for path in self.folder.glob("core*")], [b"\x7fELF"])
 
     def test_a_file_that_differs_is_named(self) -> None:
-        """One that was read, one that was looked for in vain, and a folder whose names were."""
-        words = ("--", "sh", "-c", "cat data; cat more; ls other; true")
+        """One that was read, one that was looked for in vain, a folder whose names were, and one that the run changed behind that."""
+        words = ("--", "sh", "-c", "cat data; cat more; ls other; cat log; echo >> log")
+        (self.folder / "log").touch()
         (self.folder / "other").mkdir()
         data = self.folder / "data"
         data.write_text("a")
         self.ended(*words)
         (self.folder / "summary").rename(self.folder / "one")
         for change, told in (
-            (data.exists, "files; the simulated time"),
+            (data.exists, " files, beside ./log that a run changed; the simulated time"),
             ((self.folder / "more").touch, "; new: ./more"),
             ((self.folder / "other" / "new").touch, "; other ./other"),
             (data.unlink, "; gone: ./data"),
