@@ -1,29 +1,4 @@
-"""pytest fixtures: emulated links for tests, with a report when a test fails.
-
-    def test_sync(udp_path):                       # real time, real sockets on the loopback
-        path = udp_path(server_port, "8Mbit/s 20ms plr 0.05")
-        client.connect(path.address)
-
-    @pytest.mark.link("40ms plr 0.1")              # the links of the test, where it names no others
-    async def test_handshake(sim_net):             # simulated time: hingetulip.aio
-        client, server = sim_net.host("10.0.0.1"), sim_net.host("10.0.0.2")
-        sim_net.path(client, server)
-
-    def test_store(net):                           # real time, any programs on hosts of their own: hinge net
-        net.host("store", "exec redis-server --save ''", port=6379)
-        net.link("client", "store", "10Mbit/s 20ms")
-        net.run("client", "redis-cli -h store ping")
-
-    def test_again(simulated_net): ..              # the same in simulated time, in a machine of its own: one seed gives
-                                                   # one run
-
-    @pytest.mark.simulated                         # any programs, in a machine of their own: hinge run --simulated
-    @pytest.mark.link("8Mbit/s 20ms")
-    def test_programs(): ..
-
-Tests that aren't coroutines run one with `sim_net.run(main())`. The fixture `link_seed` contains the seed: --link-seed N (default
-1), or a test's parameter.
-"""
+"""pytest fixtures: emulated links for tests in real and in simulated time, with a report when a test fails."""
 
 from __future__ import annotations
 
@@ -33,7 +8,7 @@ import inspect
 import os
 from datetime import datetime, timezone
 from pathlib import Path
-from typing import TYPE_CHECKING, Callable, Coroutine, Generator, Optional, Protocol, Union
+from typing import TYPE_CHECKING, Callable, Coroutine, Generator, Optional, Union
 
 import pytest
 
@@ -59,19 +34,7 @@ MARKS = (
 INSIDE = "HINGE_TEST_REPORTS"  # in a simulated machine: the file that the reports of its test go to
 
 
-class MakeUdpPath(Protocol):
-    """Makes a path to a server: a port of the loopback, or HOST:PORT."""
-
-    def __call__(
-        self,
-        server: Union[int, str],
-        there: Optional[str] = None,
-        back: Optional[str] = None,
-        *,
-        preset: Optional[str] = None,
-        seed: Optional[int] = None,
-    ) -> UdpPath:
-        ...
+MakeUdpPath = Callable[..., "UdpPath"]  # (server, there, back, preset=name, seed=number)
 
 
 def faults_file(path: str) -> str:

@@ -3,7 +3,8 @@
 from __future__ import annotations
 
 import os
-from ctypes import PyDLL, Structure, byref, c_bool, c_char, c_size_t, c_uint32, c_uint64, c_void_p
+import sys
+from ctypes import Structure, byref, c_bool, c_char, c_size_t, c_uint32, c_uint64, c_void_p
 from pathlib import Path
 from typing import Iterator
 
@@ -17,6 +18,11 @@ from hingetulip.errors import (
     RefusedError,
 )
 from hingetulip.layout import FAULT
+
+try:
+    from ctypes import PyDLL
+except ImportError:
+    raise ImportError(f"hingetulip needs CPython, and this is {sys.implementation.name}") from None
 
 NAMES = ("libhingetulip.so.1", "libhingetulip.so")
 MAJOR = 2  # of the library's version; later minor ones only add

@@ -5,54 +5,56 @@ from __future__ import annotations
 import re
 from typing import Sequence
 
-from hingetulip_words.values import FIELD_BITS, FORMS, Advice, fault_of, mask, mask_bits, wrong_form
+from hingetulip_words.values import EXAMPLES, EXTRAS, FACTOR, FIELD_BITS, FORMS, PER_SECOND
+from hingetulip_words.values import Advice, fault_of, mask, mask_bits, wrong_form
 
 OPTIONS = {
     "pipe": ["bw", "delay", "queue", "plr", "buckets", "mask"],
     "queue": ["pipe", "weight", "queue", "plr", "buckets", "mask"],
 }
 OTHER_NAMES = {
-    "loss": "plr",
-    "drop": "plr",
-    "bandwidth": "bw",
-    "rate": "bw",
-    "speed": "bw",
-    "latency": "delay",
-    "lat": "delay",
-    "limit": "queue",
-    "qlen": "queue",
-    "slots": "queue",
-    "buffer": "queue",
-    "backlog": "queue",
-    "prio": "weight",
-    "netmask": "mask",
+    **dict.fromkeys(("loss", "drop"), "plr"),
+    **dict.fromkeys(("bandwidth", "rate", "speed"), "bw"),
+    **dict.fromkeys(("latency", "lat"), "delay"),
+    **dict.fromkeys(("limit", "qlen", "slots", "buffer", "backlog"), "queue"),
+    **{"prio": "weight", "netmask": "mask"},
 }
-UNIT = r"[KMGkmg]?(bit|bits|[Bb]yte|[Bb]ytes)/s|ms|K|KB|Kbytes?|[KMG]"
-UNKNOWN_ELSEWHERE = ("jitter", "duplicate", "reorder", "corrupt")
-ACT = "cut|heal|kill|stop|cont|restart|crash|skew"
+UNIT = rf"(?i:{FACTOR}{PER_SECOND}|{FACTOR})|ms|KB|Kbytes?"
+ALONE = "kill|stop|cont|restart|crash"
+ACT = f"cut|heal|skew|{ALONE}"
 NET_LINES = (  # what people write of a net, and the line that says it
     (r"((?!nemesis).*) for (\d\S*)", r"\1 \2"),
     (r"(?:node|machine|vertex|container|service|server|client) (.+)", r"host \1"),
     (r"(?:edge|connect|cable|wire|path) (.+)", r"link \1"),
+    (r"(\w+) ?<?-+>? ?([A-Za-z]\w*)( .*)?", r"link \1 \2\3"),
     (r"link (\w[\w-]*?) ?(?:<?-+>?|,| and | to ) ?([A-Za-z][\w-]*)( .*)?", r"link \1 \2\3"),
     (rf"(\d\S*) ((?:{ACT}|partition|disconnect|isolate|link) .*)", r"at \1 \2"),
     (rf"((?:{ACT}|partition|disconnect|isolate) .*)", r"at 5s \1"),
+    (rf"at \S+ ((?:{ACT}) .*) at (\d\S*)", r"at \2 \1"),
     (r"at (\S+) link (.*) down", r"at \1 cut \2"),
     (r"at (\S+) link (.*) up", r"at \1 heal \2"),
     (r"at (\S+) (?:partition|disconnect|isolate) (.*)", r"at \1 cut \2"),
     (r"at (\S+) (cut|heal) ([A-Za-z][\w-]*?) ?(?:<?-+>?|,| and | ) ?(?!from )([A-Za-z][\w-]*)( \d\S*)?", r"at \1 \2 \3 from \4\5"),
     (r"at (\S+) (?:set|change|delay|rate|bandwidth|link) ([A-Za-z][\w-]*) ([A-Za-z][\w-]*) (\d.*)", r"at \1 \2 \3 \4"),
+    (rf"(at \S+ (?:{ALONE})) ([\w-]+)(?: and |, ?| )([A-Za-z][\w-]*)( \d\S*)?", r"\1 \2\4, and \1 \3\4 in a line of its own"),
     (r"at (\S+) loss ([A-Za-z][\w-]*) ([A-Za-z][\w-]*) (\d.*)", r"at \1 \2 \3 loss \4"),
     (r"\w+:.*", "host NAME, and `link A B 20ms`, each in a line of its own, as a net isn't YAML"),
+)
+CHANGES = (  # the same of a timeline
+    (r"at (.*)", r"\1"),
+    (r"(\S+) (?:link|change|set|to) (.*)", r"\1 \2"),
+    (r"(\S+) ((?:up |down )?outage) for (.*)", r"\1 \2 \3"),
+    (r"(\S+) ((?:up |down )?)(?:down|off|cut|disconnect|outage)", r"\1 \2outage 5s lossy"),
+    (r"(\S+) ((?:up |down )?)(?:off|cut|disconnect) (?:for )?(\d\S*)", r"\1 \2outage \3 lossy"),
 )
 NEAR = 0.65  # of a word that may be meant
 SHOWS_NOTHING = Advice("it shows nothing here", "leave this line out")
 
 
-def net_line(text: str) -> str:
-    """Returns a net's line that means the same, or an empty text."""
+def line_meant(text: str, forms: Sequence[tuple[str, str]] = NET_LINES) -> str:
+    """Returns a line of a net or timeline that means the same, or an empty text."""
     line = text
-    for pattern, form in NET_LINES:
+    for pattern, form in forms:
         match = re.fullmatch(pattern, line)
         line = match.expand(form) if match else line
     return line if line != text else ""
@@ -123,9 +125,12 @@ def option_word(kind: str, before: str, text: str, more: Sequence[str] = ()) -> 
     options, other = OPTIONS.get(kind, []), "queue" if kind == "pipe" else "pipe"
     takes = f"a {kind} takes {', '.join(options)}"
     if "jitter" in more:
-        takes = "write 10Mbit/s, 20ms, queue 100, loss 1%, jitter 5ms, duplicate 1% or corrupt 1%"
+        takes = f"write {', '.join(EXAMPLES[:-1])} or {EXAMPLES[-1]}"
     typed, equals, value = text.partition("=")
     own = typed if typed in (*options, *more) else OTHER_NAMES.get(typed.lower(), typed)
+    if equals and own in ("bw", "loss") and re.fullmatch(r"[\d.]+", value):
+        right = f"{own} {value}{'Mbit/s' if own == 'bw' else '%'}"
+        return Advice("a blank parts an option from its value, which has a unit", f"write {right}", right)
     if equals and own in (*options, *more):
         return Advice("a blank parts an option from its value", f"write {own} {value}", f"{own} {value}")
     if text in (";", ","):
@@ -139,7 +144,7 @@ def option_word(kind: str, before: str, text: str, more: Sequence[str] = ()) -> 
         return Advice(f"an option of {other}s, and this line is of a {kind}", f"write it in the line of the {other}; {takes}")
     if text.lower() in options:
         return Advice("keywords are lower case", f"write {text.lower()}", text.lower())
-    if text in UNKNOWN_ELSEWHERE:
+    if text in (*EXTRAS, "reorder"):
         return Advice("dummynet has no such option", "leave it and its value out")
     names = [*options, *more]
     import difflib  # which a wrong word alone needs
@@ -156,7 +161,7 @@ def advice(words: list[str], number: int, cause: str) -> Advice:
     place, start = number - 1, int(words[0] == "ipfw")
     at, text, before = place - start, words[place], words[place - 1] if place else ""
     kind = words[start] if len(words) > start else ""
-    if cause == "needs a pipe":
+    if (at, text) == (0, "queue") and words[place + 1 :]:
         return Advice("the queue's line names no pipe", f"write {text} {words[place + 1]} config pipe 1 ..")
     if cause == "missing value":
         return missing_value(text, words[place + 1] if place + 1 < len(words) else "")

@@ -7,7 +7,7 @@ import re
 from fractions import Fraction
 from typing import Mapping, Optional, Sequence, Union
 
-from hingetulip_words.values import plain
+from hingetulip_words.values import SCALE, SHARES, plain, scaled
 
 # Tools, each with the way that it slows, and its words, which stand before `=` and their values in their order: PROPERTY:UNIT, `!NAME`
 # for one that no link has, a lone `!` for all values of a word that none has, `-` for one of no concern; `>WAY` turns to another way.
@@ -44,7 +44,7 @@ for row in TABLE.replace("\n ", " ").strip().splitlines():
 LISTS, WRAPPERS, STRICT = ("toxiproxy", "mn"), ("mahimahi", "trickle"), ("netem", "tbf", "htb")
 
 NUMBER = r"(?a)(\d{0,99}\.?\d{1,99})([a-z%/]*)"  # of few digits, as Python refuses thousands
-SCALES = {"": 1, "k": 10**3, "m": 10**6, "g": 10**9, "t": 10**12, "ki": 2**10, "mi": 2**20, "gi": 2**30}
+SCALES = SCALE | {"t": 10**12, "ki": 2**10, "mi": 2**20, "gi": 2**30}
 
 
 def rates(endings: Sequence[str], times: int = 1) -> dict[str, Fraction]:
@@ -68,16 +68,13 @@ def number(text: str, unit: str) -> Optional[Fraction]:
     """Returns the number in a text in ms, bit/s, bytes or percent; None without a number."""
     found = re.fullmatch(NUMBER, text.lower())
     scale = UNITS[unit].get(found[2]) if found else None
+    scale = scale * 8 if scale and unit == "bits" and re.search("B(/s|ps)$", text) else scale
     return None if found is None or scale is None else Fraction(found[1]) * scale
 
 
 def in_units(bits: Fraction) -> str:
     """A bandwidth in bit/s, in the largest unit that leaves a whole number."""
-    whole = max(1, round(bits))
-    for letter, scale in (("G", 10**9), ("M", 10**6), ("K", 10**3)):
-        if whole % scale == 0:
-            return f"{whole // scale}{letter}bit/s"
-    return f"{whole}bit/s"
+    return f"{scaled(max(1, round(bits)))}bit/s"
 
 
 class Meant:
@@ -174,7 +171,7 @@ class Meant:
             link.append(f"queue {of['queue']}")
         elif size:
             link.append(f"queue {min(1024, max(1, math.ceil(size / 1024)))}Kbytes")
-        return " ".join([*link, *(f"{name} {plain(of[name])}%" for name in ("loss", "duplicate", "corrupt") if name in of)])
+        return " ".join([*link, *(f"{name} {plain(of[name])}%" for name in ("loss", *SHARES) if name in of)])
 
     def options(self) -> list[str]:
         """Returns the options for `hinge run`; only a single way if the tool slows only that way."""

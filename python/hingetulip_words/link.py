@@ -8,17 +8,18 @@ from enum import Enum
 from fractions import Fraction
 from typing import NamedTuple, Optional
 
-from hingetulip_words.advice import OPTIONS, left_out, missing_value, option_word
+from hingetulip_words.advice import OPTIONS, OTHER_NAMES, left_out, missing_value, option_word
 from hingetulip_words.foreign import Meant
 from hingetulip_words.presets import NEAREST, PRESETS
-from hingetulip_words.values import FIELD_BITS, LONGEST_WORD, PERCENT, Advice, bandwidth, delay, fault_of, plain, room
+from hingetulip_words.values import EXTRAS, FACTOR, FIELD_BITS, LONGEST_WORD, PER_SECOND, PERCENT, SHARES
+from hingetulip_words.values import Advice, bandwidth, delay, fault_of, plain, room
 
-RATE = re.compile(r"\d+[kmg]?(bits?|bytes?)/s", re.ASCII | re.IGNORECASE)
+RATE = re.compile(rf"\d+{FACTOR}{PER_SECOND}", re.ASCII | re.IGNORECASE)
 DELAY = re.compile(r"\d+ms", re.ASCII)
 LIKE_A_DELAY = r"(?ai)-?\d+(\.\d+)?(ns|us|µs|usec|ms|msec|s|sec)"
 LIKE_ROOM = r"(?ai)\d+(pkts?|packets?|p|slots?|[km]?bytes?|kb|kib|mib)"
 AROUND = r"(\d+)ms(?: ?(?:±|\+/?-) ?| )(\d+)ms"  # as netem's `20ms 5ms`
-UNIT = r"(?ai)[kmg]?(bits?|bytes?|bps|b)(/s|ps)?|[munµ]?s|m?sec|usec|%"
+UNIT = rf"(?ai){FACTOR}(bits?|bytes?|bps|b)(/s|ps)?|[munµ]?s|m?sec|usec|%"
 LINE = ("ipfw", "pipe", "config")
 NETEMS = {"rate", "limit", "netem"}  # words that netem has, and no link
 LEFT_OUT = ("red", "gred", "ecn", "codel", "pie", "fq_codel", "fq_pie", "sched", "burst", "profile", "noerror", "droptail")
@@ -29,23 +30,14 @@ NO_WORDS = "no words of a link (example: 10Mbit/s 20ms)"
 MOST_JITTER = 1000  # ms: each has a pipe of its own
 CERTAIN = 2**31
 JITTER = "write jitter 5ms, a whole number from 1ms to 1000ms"
-SHARES = ("duplicate", "corrupt")  # the words of a run with a percentage
 ENDED = {
     "bw": "bw 0",
     "delay": "delay 0",
     "queue": "queue 50",
     "plr": "loss 0%",
 }  # how a change says that a link has no such option
-MISSING = {"loss": "write loss 1%", "jitter": JITTER, **{word: f"write {word} 1%" for word in SHARES}}
-NAMES = {
-    "bw": "bandwidth",
-    "delay": "delay",
-    "queue": "queue limit",
-    "plr": "loss rate",
-    "weight": "weight",
-    "buckets": "number of buckets",
-    "mask": "mask",
-}
+MISSING = {"loss": "write loss 1%"} | {word: f"write {word} {example}" for word, example in EXTRAS.items()} | {"jitter": JITTER}
+NAMES = {"bw": "bandwidth", "queue": "queue limit", "plr": "loss rate", "buckets": "number of buckets"}
 
 
 class Place(Enum):
@@ -149,7 +141,7 @@ class Words:
         """Refuses a second word of a kind."""
         if name in self.typed:
             spread = re.fullmatch(AROUND, f"{self.typed[name]} {typed}")
-            right = "write one of them" + (f", or {around(spread)}" if spread else "")
+            right = "write one of them" + (f", or {around(spread)}" if spread and "jitter" in around(spread) else "")
             raise WordError(typed, Advice(f"a second {NAMES.get(name, name)} beside '{self.typed[name]}'", right))
         self.typed[name], self.before = typed, typed.split()[-1]
 
@@ -183,7 +175,7 @@ class Words:
         elif word == "loss":
             text = self.value_of(word)
             self.put("plr", self.part_of_one(text), f"{word} {text}")
-        elif word in ("jitter", "reorder", *SHARES) and self.place is not Place.DUMMYNET:
+        elif word in (*EXTRAS, "reorder") and self.place is not Place.DUMMYNET:
             self.read_extra(word)
         else:
             raise self.refused(word)
@@ -237,7 +229,10 @@ class Words:
             return WordError(word, LIKE_A_LINE)
         if word in LEFT_OUT:
             return WordError(word, left_out("", word))
-        if word in ("up", "down", "/"):
+        name = OTHER_NAMES.get(word.lower(), "")
+        if name and self.typed.get(name) == self.before:
+            return WordError(f"{self.before} {word}", Advice("the unit says this already", f"write {self.before}"))
+        if word.partition("=")[0] in ("up", "down", "/"):
             return WordError(word, Advice("one way of a link", "write --up LINK --down LINK, or LINK / LINK in a net's line"))
         if self.before.isdigit() and re.fullmatch(UNIT, word):
             return WordError(f"{self.before} {word}", Advice("a number and its unit are one word", f"write {self.before}{word}"))

@@ -23,6 +23,10 @@ DELAY = r"(-?)(\d+(?:\.\d+)?)(us|µs|usec|ns|s|sec|ms|msec|)"
 ROOM = r"(\d+)(kib|mb|mbyte|mbytes|m|mib|b|byte|bytes|pkt|pkts|packet|packets|p|slots?|k|kb|kbytes?)"
 MOST_KBYTES = 1024
 SCALE = {"": 1, "k": 10**3, "m": 10**6, "g": 10**9}
+FACTOR, PER_SECOND = f"[{''.join(SCALE)}]?", "(?:bits?|bytes?)/s"  # of a bandwidth
+EXTRAS = {"jitter": "5ms", "duplicate": "1%", "corrupt": "1%"}  # a link's words that dummynet doesn't have, each with an example
+SHARES = tuple(word for word, example in EXTRAS.items() if example.endswith("%"))
+EXAMPLES = ("10Mbit/s", "20ms", "queue 100", "loss 1%", *map(" ".join, EXTRAS.items()))  # of each word of a link
 
 
 class Form(NamedTuple):
@@ -34,15 +38,14 @@ class Form(NamedTuple):
     range: str
 
 
+ANY_CASE = re.ASCII | re.IGNORECASE
 NUMBER = r"(0|[1-9]\d*)"
 PERCENT = re.compile(r"(\d+(?:\.\d+)?)%", re.ASCII)
 TAKEN = {
-    "bw": Form(
-        re.compile(NUMBER + "([kmg]?)(bits?/s|bytes?/s)?", re.ASCII | re.IGNORECASE), 0, 10**12, "a bandwidth is 0 to 1000Gbit/s"
-    ),
+    "bw": Form(re.compile(f"{NUMBER}({FACTOR})({PER_SECOND})?", ANY_CASE), 0, 10**12, "a bandwidth is 0 to 1000Gbit/s"),
     "delay": Form(re.compile(NUMBER + "(ms)?", re.ASCII), 0, 3_600_000, "a delay is 0 to 3600000ms"),
     "queue": Form(
-        re.compile(NUMBER + "(kbytes?|kb|k)?", re.ASCII | re.IGNORECASE),
+        re.compile(NUMBER + "(kbytes?|kb|k)?", ANY_CASE),
         1,
         10_000,
         "a queue has room for 1 to 10000 packets, or for 1 to 1024Kbytes",
@@ -74,18 +77,23 @@ def plain(value: Fraction) -> str:
     return f"{text[:-18]}.{text[-18:]}".rstrip("0").rstrip(".")
 
 
+def scaled(number: int) -> str:
+    """Returns a number above 0 with the letter of the greatest factor that leaves a whole number, such as 10M."""
+    letter, scale = next((letter, scale) for letter, scale in reversed(SCALE.items()) if number % scale == 0)
+    return f"{number // scale}{letter.upper()}"
+
+
 def bandwidth(text: str) -> Advice:
     found = re.fullmatch(BANDWIDTH, text.lower())
     if not found:
         return Advice("not a bandwidth", FORMS["bw"])
     is_bytes = "byte" in found[3] or "B" in text[len(found[1]) + len(found[2]) :]
     value = Fraction(found[1]) * 1000 ** "_kmgt".index(found[2] or "_")
-    for scale, letter in ((10**9, "G"), (10**6, "M"), (1000, "K"), (1, "")):
-        if value and value % scale == 0:
-            word = f"{value // scale}{letter}{'Byte/s' if is_bytes else 'bit/s'}"
-            bits = f" ({word.replace('Byte', 'bit')} if bits are meant)" if is_bytes else ""
-            return Advice("not a bandwidth", f"write {word}{bits}", word)
-    return Advice("not a bandwidth", FORMS["bw"])
+    if not value or value.denominator > 1:
+        return Advice("not a bandwidth", FORMS["bw"])
+    word = f"{scaled(int(value))}{'Byte/s' if is_bytes else 'bit/s'}"
+    bits = f" ({word.replace('Byte', 'bit')} if bits are meant)" if is_bytes else ""
+    return Advice("not a bandwidth", f"write {word}{bits}", word)
 
 
 def delay(text: str) -> Advice:

@@ -75,22 +75,6 @@ class Moments(unittest.TestCase):
             self.assertIsNone(net.routes.next(ring[0], alone))
             self.assertIsNone(net.routes.next(alone, ring[0]))
 
-    def test_a_route_of_choice(self) -> None:
-        with aio.Network() as net:
-            one, middle, far = (net.host(f"10.0.{n}.1") for n in range(3))
-            for near, other, delay in ((one, far, 50), (one, middle, 1), (middle, far, 1)):
-                net.path(near, other, f"{delay}ms")
-            net.route(one, far, via=middle)
-            net.host("10.0.0.1")
-
-            async def main() -> Ends:
-                there = await far.create_task(opened(True, ("0.0.0.0", 7)))
-                (await one.create_task(opened(remote=("10.0.2.1", 7)))).transport.sendto(b"x")
-                await asyncio.sleep(1)
-                return there
-
-            self.assertEqual([it[2] for it in net.run(main()).got], [2 * MS])
-
     def test_a_route_and_a_link_under_way(self) -> None:
         """Earlier packets keep their way, and later packets use the new way: 1 ms + 1 ms, and then 50 ms."""
         with aio.Network() as net:

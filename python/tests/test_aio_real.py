@@ -9,7 +9,6 @@ import select
 import socket
 import subprocess
 import sys
-import tempfile
 import threading
 import time
 import unittest
@@ -24,11 +23,6 @@ from hingetulip import aio
 from hingetulip.aio import simulated
 
 TOP = Path(__file__).resolve().parents[2]
-LATER = """
-from os import urandom
-from socket import getaddrinfo, gethostname
-from time import monotonic, sleep, time
-"""
 
 
 def run_alone(text: str) -> subprocess.CompletedProcess[str]:
@@ -37,47 +31,7 @@ def run_alone(text: str) -> subprocess.CompletedProcess[str]:
     return subprocess.run([sys.executable, "-c", dedent(text)], env=names, capture_output=True, text=True, timeout=60)
 
 
-class ModulesImportedInARun(unittest.TestCase):
-    """A module that binds functions of the clock, of random numbers and of names while a run is under way."""
-
-    def setUp(self) -> None:
-        folder = tempfile.TemporaryDirectory()
-        self.addCleanup(folder.cleanup)
-        (Path(folder.name) / "imported_in_a_run.py").write_text(LATER)
-        sys.path.insert(0, folder.name)
-        self.addCleanup(sys.path.remove, folder.name)
-        self.addCleanup(sys.modules.pop, "imported_in_a_run", None)
-        importlib.invalidate_caches()
-
-    @staticmethod
-    async def main() -> tuple[str, float, float]:
-        host = aio.network().host("10.0.0.1", name="near")
-
-        async def task() -> tuple[str, float, float]:
-            later: Any = importlib.import_module("imported_in_a_run")
-            await asyncio.sleep(7)
-            assert later.gethostname() == "near" and later.getaddrinfo("near", 9)[0][4][0] == "10.0.0.1"
-            return later.urandom(8).hex(), later.monotonic(), later.time()
-
-        return await host.create_task(task())
-
-    def test_three_runs_by_a_seed_are_one(self) -> None:
-        runs = {aio.run(self.main(), seed=5) for _ in range(3)}
-        assert 1 == len(runs), runs
-        ((_, monotonic, moment),) = runs
-        assert (7.0, 1_700_000_007.0) == (monotonic, moment)
-        assert runs != {aio.run(self.main(), seed=6)}
-
-    def test_behind_the_run_they_are_the_systems(self) -> None:
-        aio.run(self.main())
-        later: Any = sys.modules["imported_in_a_run"]
-        before = time.monotonic()
-        assert before <= later.monotonic() <= time.monotonic()
-        assert later.urandom(16) != later.urandom(16)
-        assert socket.gethostname() == later.gethostname()
-        later.sleep(0)
-        assert later.getaddrinfo("127.0.0.1", 9)
-
+class Real(unittest.TestCase):
     def test_queues_of_the_loops_own_thread_are_refused(self) -> None:
         done = run_alone(
             """
@@ -100,8 +54,6 @@ class ModulesImportedInARun(unittest.TestCase):
         )
         assert ("refused in the run\nempty behind the run\n", "") == (done.stdout, done.stderr)
 
-
-class Real(unittest.TestCase):
     def refused(self, call: Callable[[], object], text: str, fault: type[Exception] = aio.RealTimeError) -> None:
         async def main() -> None:
             call()
@@ -209,22 +161,34 @@ class OfOneThread(unittest.TestCase):
         time.sleep(0)
         assert time.time() > 1_700_000_100
 
-    def test_a_copy_of_a_module(self) -> None:
-        """As eventlet has one of `time`, by which it waits."""
-        with mock.patch.dict(sys.modules):
-            del sys.modules["time"]
-            other: Any = __import__("time")
+    def test_copies_of_modules(self) -> None:
+        """As eventlet makes them, before the run and within it."""
 
-        async def main() -> tuple[float, float]:
+        def copy(name: str) -> Any:
+            with mock.patch.dict(sys.modules):
+                del sys.modules[name]
+                return importlib.import_module(name)
+
+        def waits(other: Any) -> list[object]:
+            lock, found = copy("_thread").allocate_lock(), [other.time() - time.time(), other.monotonic()]
+            other.sleep(2)
+            found += [lock.acquire(), lock.acquire(timeout=1), copy("select").epoll().poll(1)]
+            queues = copy("_queue")
+            with pytest.raises(queues.Empty):
+                queues.SimpleQueue().get(timeout=1)
+            return [*found, time.monotonic(), other.monotonic()]
+
+        async def main() -> list[object]:
             await asyncio.sleep(5)
-            with pytest.raises(aio.RealTimeError):
-                other.sleep(9)
-            await asyncio.to_thread(other.sleep, 2)
-            return other.time() - time.time(), other.monotonic()
+            later.append(copy("time"))
+            return [await asyncio.to_thread(waits, it) for it in (earlier, *later)]
 
-        assert other.time is not time.time
-        assert (0, 7) == aio.run(main())
-        assert other.time() > 1_700_000_100
+        earlier, later = copy("time"), list[Any]()
+        with aio.Network() as net:
+            told = net.run(main())
+            assert not net.real_uses.all()
+        assert [[0, 5, True, False, [], 10, 10], [0, 10, True, False, [], 15, 15]] == told
+        assert earlier.time() > 1_700_000_100 and later[0].time() > 1_700_000_100
 
     def test_a_loop_in_another_thread_goes_on(self) -> None:
         beats, is_over = [0.0], threading.Event()

@@ -264,4 +264,4 @@ class Repeats(unittest.TestCase):
                 net.run(main())
         self.assertEqual(b"hi", aio.run(pairs()))
         self.assertIs(before, time.sleep)
-        self.assertNotIn("connect", vars(socket.socket))
+        self.assertNotIn("__new__", vars(socket.socket))

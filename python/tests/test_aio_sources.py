@@ -48,7 +48,7 @@ WALL = """time.time() | time.time_ns() / 1e9 | early_time() | time.clock_gettime
 GROWING = """time.monotonic() | time.monotonic_ns() / 1e9 | time.perf_counter() | time.perf_counter_ns() / 1e9 | early_monotonic()
     | time.process_time() | time.process_time_ns() / 1e9 | time.thread_time() | time.thread_time_ns() / 1e9
     | time.clock_gettime(time.CLOCK_MONOTONIC) | time.clock_gettime(time.CLOCK_BOOTTIME) | asyncio.get_running_loop().time()
-    | time.clock_gettime(time.CLOCK_PROCESS_CPUTIME_ID)"""
+    | time.clock_gettime(time.CLOCK_PROCESS_CPUTIME_ID) | os.times().elapsed | os.times().user"""
 SEED = """random.getstate()[1][:9] | early_random() | random.Random().random() | random.SystemRandom().random() | SYSTEM.random()
     | secrets.choice(range(9**9)) | secrets.randbelow(9**9) | secrets.randbits(64) | secrets.token_bytes(8) | secrets.token_hex(8)
     | secrets.token_urlsafe(8) | secrets.SystemRandom().random() | uuid.uuid1().node | uuid.uuid4() | os.urandom(8) | urandom(8)
@@ -57,7 +57,7 @@ OF_NUMPY = "numpy.random.random() | numpy.random.default_rng().random() | numpy.
 PURE = """time.mktime time.strptime time.struct_time time.sleep time.tzset time.get_clock_info time.clock_getres time.clock_settime
     time.clock_settime_ns time.pthread_getcpuclockid random.Random secrets.compare_digest uuid.uuid3 uuid.uuid5 uuid.UUID
     uuid.SafeUUID uuid.Enum uuid.main uuid.bytes_ uuid.int_ os.utime os.times_result"""
-LIMITS = {"os.times": "os.times", "uuid.getnode": "uuid.getnode", "hash": "`hash` of texts"}  # and how TESTING names each
+LIMITS = {"uuid.getnode": "uuid.getnode", "hash": "`hash` of texts"}  # and how TESTING names each
 
 
 def listed(text: str) -> list[str]:

@@ -4,6 +4,7 @@ from __future__ import annotations
 
 import _socket
 import asyncio
+import ctypes
 import re
 import select
 import selectors
@@ -120,6 +121,11 @@ class Threads(unittest.TestCase):
 
         assert [(1, 1.5), (False, True, 1.5), (True, 2.5), (2, 2.5), 5.5] == self.log_of(one, two, three)
 
+    def test_a_wait_for_less_than_a_nanosecond(self) -> None:
+        """As trio's for what floats leave of its deadline: time has to pass, or it waits for ever."""
+        waits = lambda log: (select.select([], [], [], 1e-11), log.append(time.monotonic()))  # noqa: E731
+        assert [1e-9, 1e-9] == self.log_of(waits)
+
     def test_sockets_selectors_and_another_event_loop(self) -> None:
         class Upper(socketserver.BaseRequestHandler):
             def handle(self) -> None:
@@ -181,8 +187,8 @@ class Threads(unittest.TestCase):
         assert 3 == aio.run(asyncio.to_thread(lambda: 3))
 
     def test_an_interpreter_that_is_not_known_is_refused(self) -> None:
-        done = run_alone("import ctypes; del ctypes.pythonapi; import hingetulip.aio")
-        assert "ImportError: hingetulip.aio changes functions of CPython, and this is cpython" in done.stderr
+        done = run_alone("import ctypes; del ctypes.PyDLL; import hingetulip")  # as with PyPy
+        assert "ImportError: hingetulip needs CPython, and this is cpython" in done.stderr
 
     def test_the_threads_of_python_3_13_are_refused(self) -> None:
         done = run_alone(
@@ -248,6 +254,17 @@ class Told(unittest.TestCase):
             net.run(asyncio.to_thread(wait))
             (called,) = net.real_uses.all()
         assert "sqlite3" in called and "sleep" in called
+
+    @unittest.skipIf(LIBRARY is None, "no hinge-clock.so")
+    def test_names_that_the_systems_resolver_is_asked_for(self) -> None:
+        async def main() -> None:
+            ctypes.CDLL(None).gethostbyname(b"localhost")
+            with socket.socket() as own, pytest.raises(aio.RealTimeError):
+                own.connect(("localhost", 9))
+
+        with aio.Network() as net:
+            net.run(main())
+            assert {"gethostbyname", "getaddrinfo"} == {name.split()[-1] for name in net.real_uses.all()}
 
     def test_other_families_and_subclasses_are_refused(self) -> None:
         class Own(socket.socket):

@@ -11,6 +11,7 @@ from hingetulip import LineError, Shaper, aio
 from hingetulip_words.foreign import number
 from hingetulip_words.link import WordError, in_full, read_link
 from hingetulip_words.presets import PRESETS, preset, table
+from hingetulip_words.values import EXTRAS
 from simulated_hosts import TOP
 
 WORDS = (
@@ -21,20 +22,8 @@ WORDS = (
 
 
 class Words(unittest.TestCase):
-    def test_short_words_and_those_in_full(self) -> None:
-        wanted = "bw 5Mbit/s delay 20ms queue 100 plr 0.01"
-        for text in (
-            "5Mbit/s 20ms queue 100 loss 1%",
-            "bw 5Mbit/s delay 20ms queue 100 plr 0.01",
-            "bw 5Mbit/s  20ms queue 100 loss 1.0% # slow",
-        ):
-            self.assertEqual(in_full(read_link(text)), wanted)
-        self.assertEqual(
-            in_full(read_link("20 queue 64Kbytes".replace("20", "delay 20") + " mask src-ip 0xff all")),
-            "delay 20 queue 64Kbytes mask src-ip 0xff all",
-        )
+    def test_words_of_a_queue(self) -> None:
         self.assertEqual(read_link("weight 3 loss 0.5%", "queue"), {"weight": "3", "plr": "0.005"})
-        self.assertEqual(read_link(" "), {})
 
     def test_no_number_of_another_tool_has_thousands_of_digits(self) -> None:
         """Python converts at most 4,300."""
@@ -60,20 +49,22 @@ class Words(unittest.TestCase):
                     shaper.configure(f"{line} {in_full(options)}")
         self.assertGreater(taken, 500)
 
-    def test_a_simulated_link_says_the_same(self) -> None:
+    def test_refused_words_change_no_simulated_link(self) -> None:
         with aio.Network() as net:
             one, other = net.host("10.0.0.1"), net.host("10.0.0.2")
-            with self.assertRaises(LineError) as raised:
-                net.link(one, other, "8Mbit/s jitter 5")
-            self.assertEqual(str(raised.exception), "'jitter 5': not a jitter; write jitter 5ms, a whole number from 1ms to 1000ms")
+            self.assertRaises(LineError, net.link, one, other, "8Mbit/s jitter 5")
             self.assertEqual(net.links, {})
             link = net.link(one, other, "bw 8Mbit/s delay 20")
-            with self.assertRaisesRegex(LineError, "'jitter': of a whole run"):
-                link.change("20ms jitter 5ms")
-            with self.assertRaises(LineError) as raised:
-                link.change("queue 0")
-            self.assertIn("'queue 0': out of range; ", str(raised.exception))
+            self.assertRaises(LineError, link.change, "queue 0")
             self.assertEqual(link.line, f"pipe {link.pipe} config bw 8Mbit/s delay 20")
+
+
+class Pages(unittest.TestCase):
+    def test_they_name_each_word(self) -> None:
+        """Those that dummynet doesn't have."""
+        for name in ("LINKS.md", "hinge.1"):
+            page = (TOP / "docs" / name).read_text(encoding="utf-8")
+            self.assertEqual([word for word in EXTRAS if not re.search(rf"(`|Ql ){word} ", page)], [], name)
 
 
 class Presets(unittest.TestCase):

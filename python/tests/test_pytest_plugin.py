@@ -132,17 +132,6 @@ class Plugin(Runs):
         self.assertIn(f"  and {lost - 20} more\n", section)
         self.assertRegex(section, r"simulated time 100\.0\d+ s\nseed 1, lawful \d+: hinge look /.*/link\.history\n")
 
-    def test_a_stuck_test_names_who_waits(self) -> None:
-        done = self.run_pytest(
-            """
-            async def test_stuck(sim_net):
-                await sim_net.host("10.0.0.1").create_task(asyncio.Event().wait(), name="reader")
-            """
-        )
-        self.assertEqual(done.counts, {"failed": 1}, done.text)
-        self.assertRegex(done.text, r"Stuck: at 0\.0+ s nothing can happen any more")
-        self.assertIn("reader on 10.0.0.1 waits", done.text)
-
     def test_a_history_that_is_not_lawful_is_an_error(self) -> None:
         done = self.run_pytest(
             """

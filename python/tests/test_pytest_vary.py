@@ -172,13 +172,17 @@ class OfTests(Runs):
             """
             @pytest.mark.vary(delay="1..9ms")
             @pytest.mark.parametrize("link_seed", range(1, 21))
+            @pytest.mark.parametrize("of", [session])
             @pytest.mark.link("20ms plr 0.01")
-            async def test_swept(sim_net):
-                assert await session(sim_net) == 60 and sim_net.links[sim_net.host("10.0.0.1"), sim_net.host("10.0.0.2")].delay < 10**7
+            async def test_swept(sim_net, of):
+                assert await of(sim_net) == 60 and sim_net.links[sim_net.host("10.0.0.1"), sim_net.host("10.0.0.2")].delay < 10**7
             """,
             "--strict-markers",
         )
-        self.assertRegex(done.text, r"\n\S+::test_swept: (\d+) of 20 seeds failed: [\d, ]+( and \d more)? \(delay 1\.\.9ms\)\n")
+        self.assertRegex(
+            done.text,
+            r"\n\S+::test_swept with of <function session>: (\d+) of 20 seeds failed: [\d, ]+( and \d more)? \(delay 1\.\.9ms\)\n",
+        )
         self.assertNotIn("in no test was a packet", done.text)
 
     def test_a_part_of_a_network_that_no_packet_meets_is_told(self) -> None:

@@ -153,13 +153,6 @@ class Calls(unittest.TestCase):
         with both() as net:
             on(net, ONE, main(net))
 
-    def test_outside_a_run_sockets_are_the_systems(self) -> None:
-        aio.run(asyncio.sleep(1))
-        with socket.socket(socket.AF_INET, socket.SOCK_DGRAM) as made:
-            assert socket.socket is type(made)
-            made.bind(("127.0.0.1", 0))
-        assert "__new__" not in vars(socket.socket)
-
     def test_a_pipe_of_the_system_has_readers(self) -> None:
         async def main() -> bytes:
             loop, come = asyncio.get_running_loop(), asyncio.Event()

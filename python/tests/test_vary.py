@@ -149,6 +149,7 @@ class Unmet(unittest.TestCase):
             (lambda net: net.hold(7, 1), "no host 7"),
             (lambda net: net.cut("alone", 1), "alone has no links"),
             (lambda net: net.cut("one", -1), "a cut lasts for more than 0 s"),
+            (lambda net: net.cut("one", "3"), "a cut lasts for more than 0 s"),
             (lambda net: net.hold("one", float("nan")), "a hold lasts for more than 0 s"),
             (lambda net: next(iter(net.links.values())).cut(0), "a cut lasts for more than 0 s"),
         ):

@@ -23,7 +23,6 @@ There is no TCP. `hinge run --simulated` runs real programs with the kernel's TC
 from __future__ import annotations
 
 from hingetulip.aio import private_names
-from hingetulip.aio.border import ClockWarning
 from hingetulip.aio.clock import Stuck
 from hingetulip.aio.datagram import Address, Datagram, Dropped, Refusal
 from hingetulip.aio.datagram_socket import DatagramSocket
@@ -40,7 +39,6 @@ private_names.check()
 
 __all__ = [
     "Address",
-    "ClockWarning",
     "Datagram",
     "DatagramSocket",
     "Disturbance",

@@ -37,7 +37,6 @@ Lock: Any = _thread.LockType
 LockAgain: Any = type(threading.RLock())
 own_start = own_of(_thread, "start_new_thread")
 own_process_time = own_of(time, "process_time")
-own_acquire, own_acquire_again = Lock.acquire, LockAgain.acquire
 
 
 class Ended(SystemExit):
@@ -123,7 +122,9 @@ class Baton:
         return result
 
     def _given_way(self, member: Member, ready: Ready, seconds: Optional[float]) -> bool:
-        member.ready, member.until = ready, NEVER if seconds is None else self.loop.clock.now + round(seconds * NS)
+        member.ready, member.until = ready, NEVER
+        if seconds is not None:
+            member.until = self.loop.clock.now + (round(seconds * NS) or 1)  # the rest of a wait in floats may be less than a ns
         if not self.is_closing:
             os.write(self.back[1], b".")
             os.read(member.turn[0], 1)
@@ -181,7 +182,7 @@ class Baton:
             for end in member.turn:
                 os.close(end)
             if member.sentinel is not None:
-                while not own_acquire(member.sentinel, False):
+                while not member.sentinel.acquire(False):
                     os.stat("/")  # which lets the other thread go on and, unlike a wait for the lock, isn't counted as real
                 member.sentinel.release()
         return True
@@ -237,12 +238,12 @@ class Baton:
                 if _thread._count() <= len(self.members):
                     return None  # and no thread of the system could release the lock
                 is_bounded = 0 <= timeout < LONGEST
-                return own_acquire(lock, True, timeout if is_bounded else LONGEST) or (False if is_bounded else None)
+                return own(lock, True, timeout if is_bounded else LONGEST) or (False if is_bounded else None)
 
             return (
-                bool(own_acquire(lock, False))
+                bool(own(lock, False))
                 or blocking
-                and self.wait(lambda: bool(own_acquire(lock, False)), None if timeout == -1 else timeout, really)
+                and self.wait(lambda: bool(own(lock, False)), None if timeout == -1 else timeout, really)
             )
 
         return acquire
@@ -251,23 +252,19 @@ class Baton:
         """Returns the `acquire` of a reentrant lock, which the thread itself must call."""
 
         def is_free(lock: Any) -> bool:
-            return own_acquire_again(lock, False) and not lock.release()
+            return own(lock, False) and not lock.release()
 
         def acquire(lock: Any, blocking: bool = True, timeout: float = -1) -> bool:
             until = math.inf if timeout == -1 else self.loop.clock.seconds + timeout
-            while not own_acquire_again(lock, False):
+            while not own(lock, False):
                 left = until - self.loop.clock.seconds
                 if not self.gives_way():
-                    return bool(own_acquire_again(lock, blocking, *[timeout] * blocking))  # of a thread of the system
+                    return bool(own(lock, blocking, *[timeout] * blocking))  # of a thread of the system
                 if not blocking or not self.wait(lambda: is_free(lock), None if left == math.inf else left):
                     return False
             return True
 
         return acquire
-
-    def acquire_restore(self, own: Function) -> Function:
-        again = self.acquire_again(own)
-        return lambda lock, state: [again(lock) for _ in range(state[0])] and None
 
     def get(self, own: Function) -> Function:
         def get(queue: Any, block: bool = True, timeout: Optional[float] = None) -> Any:
@@ -280,10 +277,12 @@ class Baton:
     @contextmanager
     def held(self) -> Iterator[None]:
         """Makes threads of the run yield within the context."""
+        acquired: Either = lambda own: lambda *words, **named: getattr(own, "__objclass__").acquire(*words, **named)
         methods: dict[tuple[type, str], Either] = {
-            **{(Lock, name): self.acquire for name in ("acquire", "acquire_lock", "__enter__")},
-            **{(LockAgain, name): self.acquire_again for name in ("acquire", "__enter__")},
-            (LockAgain, "_acquire_restore"): self.acquire_restore,
+            (Lock, "acquire"): self.acquire,
+            (LockAgain, "acquire"): self.acquire_again,
+            **dict.fromkeys(((Lock, "acquire_lock"), (Lock, "__enter__"), (LockAgain, "__enter__")), acquired),
+            (LockAgain, "_acquire_restore"): lambda own: lambda lock, state: [lock.acquire() for _ in range(state[0])] and None,
             (SimpleQueue, "get"): self.get,
         }
         functions: dict[Any, Either] = {

@@ -13,7 +13,7 @@ from random import Random
 from typing import Any, Callable, Iterator, Optional
 
 from hingetulip.aio.clock import Clock
-from hingetulip.aio.switched import switched
+from hingetulip.aio.switched import switch_copy, switched
 
 PYTHON = Path(__file__).resolve().parents[2]
 PLACES = ("../built", "../release", "hinge")  # of a clone, and of what is installed
@@ -25,11 +25,6 @@ FUNCTIONS = {
     "hinge_run": (None, c_void_p, c_int64, c_uint64),
     "hinge_called": (c_uint, c_size_t, POINTER(c_char_p), POINTER(c_char_p)),
 }
-
-
-class ClockWarning(UserWarning):
-    """A warning of earlier versions for OpenSSL's use of the real clock. OpenSSL uses the simulated clock now, so the module never
-    raises this warning."""
 
 
 def loaded() -> Optional[Any]:
@@ -64,13 +59,15 @@ def calls() -> Counter[str]:
 
 
 def bound_anew(own: Callable[..., Any]) -> Callable[..., Any]:
-    """Returns a loader of libraries that gives each one the run's functions."""
+    """Returns a loader of libraries and modules in C that gives each one the run's functions."""
 
     def load(*words: Any, **named: Any) -> Any:
         try:
             return own(*words, **named)
         finally:
-            LIBRARY.hinge_border()  # type: ignore[union-attr]
+            if LIBRARY is not None:
+                LIBRARY.hinge_border()
+            switch_copy(getattr(words[0], "__name__", ""))
 
     return load
 
@@ -79,21 +76,20 @@ def bound_anew(own: Callable[..., Any]) -> Callable[..., Any]:
 def border(clock: Clock, epoch: int, source: Random) -> Iterator[None]:
     """Gives the C code of this thread, and of those that join the run, the run's clock and random numbers within the context, and
     counts its calls."""
-    if LIBRARY is None:
-        yield
-        return
     import _ctypes
     import _imp
 
-    loads = {(_imp, "create_dynamic"): bound_anew, (_ctypes, "dlopen"): bound_anew}
-    LIBRARY.hinge_border()
-    calls()
-    run = LIBRARY.hinge_run
-    joining.append(lambda: run(clock.place, epoch, source.getrandbits(64)))
-    joining[-1]()
+    loads = (_imp, "create_dynamic"), (_imp, "exec_dynamic"), (_imp, "exec_builtin"), (_ctypes, "dlopen")
+    if LIBRARY is not None:
+        LIBRARY.hinge_border()
+        calls()
+        run = LIBRARY.hinge_run
+        joining.append(lambda: run(clock.place, epoch, source.getrandbits(64)))
+        joining[-1]()
     try:
-        with switched(loads):
+        with switched(dict.fromkeys(loads, bound_anew)):
             yield
     finally:
-        joining.pop()
-        run(None, 0, 0)
+        if LIBRARY is not None:
+            joining.pop()
+            run(None, 0, 0)

@@ -24,7 +24,7 @@ class Disturbance:
     a seed may have no effect."""
 
     def __init__(self, net: Disturbed, kind: str, of: str, seconds: float) -> None:
-        if not (abs(seconds) < math.inf if kind == SKEW else 0 < seconds < math.inf):
+        if not hasattr(seconds, "__float__") or not (abs(seconds) < math.inf if kind == SKEW else 0 < seconds < math.inf):
             raise ValueError(f"a {kind} lasts for more than 0 s and no longer than a number says, and not {seconds!r}")
         self.kind, self.of, self.seconds, self.began = kind, of, seconds, net.loop.time()
         self.met, self.is_drawn = 0, False

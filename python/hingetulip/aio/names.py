@@ -65,5 +65,6 @@ class Names:
             **dict.fromkeys(("gethostbyname_ex", "gethostbyaddr"), lambda own: self.found),
             "getnameinfo": lambda own: lambda address, flags: (str(address[0]), str(address[1])),
             "gethostname": lambda own: lambda: current_host().name if here.get(None) else own(),
+            "if_nameindex": lambda own: lambda: [(1, current_host().name)] if here.get(None) else own(),
         }
         return {(_socket, name): answer for name, answer in answers.items()}

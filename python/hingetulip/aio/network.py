@@ -12,7 +12,6 @@ from random import Random
 from typing import Any, Callable, Coroutine, Mapping, Optional, TypeVar, Union
 
 from hingetulip.aio.addresses import number
-from hingetulip.aio.border import LIBRARY
 from hingetulip.aio.datagram import MOST_BYTES, Datagram
 from hingetulip.aio.disturbances import Disturbed
 from hingetulip.aio.extra import DelayOf, IsTwice, LateOf, of_words
@@ -185,15 +184,13 @@ class Network(Disturbed, Traffic):
         self.changed = True
         self._emulator.configure(self.loop.clock.now, line)
 
-    def run(self, main: Coroutine[Any, Any, T], *, timeout: Optional[float] = None, patch: bool = True) -> T:
+    def run(self, main: Coroutine[Any, Any, T], *, timeout: Optional[float] = None) -> T:
         """Runs a coroutine to its end, and returns its result.
 
         asyncio's TimeoutError: it takes more than `timeout` simulated seconds. Stuck: no event can happen any more.
-        RealTimeError: code slept or used a system socket, without `real`. With `patch`, the modules `time` and `random`, and
-        `os.urandom`, are simulated during the run.
+        RealTimeError: code slept or used a system socket, without `real`.
         """
-        self.real_uses.is_unwatched |= not patch or LIBRARY is None
-        with simulated(self.loop, self.random) if patch else nullcontext(), nullcontext() if self.real else simulated_system(self):
+        with simulated(self.loop, self.random), nullcontext() if self.real else simulated_system(self):
             if timeout is None:
                 return self.loop.run_until_complete(main)
             return self.loop.run_until_complete(self._limited(main, timeout))
@@ -274,12 +271,11 @@ def run(
     seed: int = 1,
     history: Union[str, Path, None] = None,
     timeout: Optional[float] = None,
-    patch: bool = True,
     start: float = START,
 ) -> T:
     """Runs a coroutine in a new network, available as `network()`; returns its result. Raises the errors of `Network.run`, and
     Unmet if a cut or hold met no packet."""
     with Network(seed=seed, history=history, start=start) as net:
-        found = net.run(main, timeout=timeout, patch=patch)
+        found = net.run(main, timeout=timeout)
         net.check()
         return found

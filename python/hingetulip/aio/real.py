@@ -16,14 +16,14 @@ from typing import TYPE_CHECKING, Any, Callable, Iterator, Optional
 
 from hingetulip.aio.addresses import FLAGS
 from hingetulip.aio.baton import LONGEST
-from hingetulip.aio.border import calls
+from hingetulip.aio.border import LIBRARY, calls
 from hingetulip.aio.refusals import ALLOWED, NO_TCP, SOCKET, RealTimeError
 from hingetulip.aio.switched import Either, Function, note_all, of_run, switched, switched_methods
 
 if TYPE_CHECKING:
     from hingetulip.aio.descriptors import Descriptors
 
-UNWATCHED = "what C code did wasn't watched, without hinge-clock.so or by patch=False"
+UNWATCHED = ["what C code did wasn't watched, without hinge-clock.so"] * (LIBRARY is None)
 REACHING = ("socket.connect", "socket.bind", "socket.sendto", "socket.sendmsg")
 OF_PROCESSES = ("subprocess.Popen", "os.system", "os.fork", "os.forkpty", "os.posix_spawn", "os.exec", "pty.spawn")
 
@@ -36,7 +36,6 @@ class RealUses:
         self.threads: dict[str, None] = {}
         self.descriptors: dict[int, None] = {}
         self.calls, self.refused = Counter[str](), Counter[str]()
-        self.is_unwatched = False
         installed()
 
     def saw(self, event: str, words: Any) -> None:
@@ -70,21 +69,18 @@ class RealUses:
     def lines(self) -> list[str]:
         """Returns the report's lines; refusals are among them, since libraries may swallow these."""
         lines = [f"real: {name}{f', {count} calls' if count > 1 else ''}" for name, count in self.all().items()]
-        lines += [f"real: {it}" for it in self.unwatched()]
+        lines += [f"real: {it}" for it in UNWATCHED]
         return lines + [f"refused, {count} calls: {why}" for why, count in self.refused.items()]
-
-    def unwatched(self) -> list[str]:
-        return [UNWATCHED] * self.is_unwatched
 
 
 class Sum:
     """The real calls in all of the process's runs since the last reset, for reports on several runs."""
 
     def __init__(self) -> None:
-        self.runs, self.calls, self.unwatched = 0, Counter[str](), list[str]()
+        self.runs, self.calls = 0, Counter[str]()
 
-    def add(self, calls: Counter[str], unwatched: list[str]) -> None:
-        self.runs, self.calls, self.unwatched = self.runs + 1, self.calls + calls, unwatched
+    def add(self, calls: Counter[str]) -> None:
+        self.runs, self.calls = self.runs + 1, self.calls + calls
 
     def taken(self) -> Sum:
         """The sum, which begins anew."""
@@ -202,4 +198,4 @@ def real_refused(uses: RealUses, descriptors: Descriptors) -> Iterator[None]:
     finally:
         uses.gather()
         watches.pop()
-        OF_PROCESS.add(uses.all() - before, uses.unwatched())
+        OF_PROCESS.add(uses.all() - before)

@@ -172,6 +172,7 @@ def _patched(loop: Loop, source: random.Random) -> Iterator[None]:
             stack.enter_context(state_of_numpy(of_c))
             stack.enter_context(border(loop.clock, round(loop.net.start * NS), of_c))
             functions = {**told.functions(), **dict.fromkeys(((posix, "urandom"), (posix, "getrandom")), drawn_from(source))}
+            functions[posix, "times"] = lambda own: lambda: posix.times_result((told.growing(), 0.0, 0.0, 0.0, told.growing()))
             functions.update({} if UUIDS is None else {(UUIDS, "generate_time_safe"): uuid_of(told, of_c)})
             stack.enter_context(switched(functions))
             stack.enter_context(switched_methods(told.methods()))

@@ -12,14 +12,9 @@ import gc
 import sys
 import threading
 from contextlib import contextmanager
-from ctypes import Structure, addressof, c_char_p, c_int, c_void_p, cast, py_object, sizeof
+from ctypes import Structure, addressof, c_char_p, c_int, c_void_p, cast, py_object, pythonapi, sizeof
 from types import BuiltinFunctionType, ClassMethodDescriptorType, MethodDescriptorType, ModuleType
 from typing import Any, Callable, Iterator, Mapping, Optional
-
-try:
-    from ctypes import pythonapi
-except ImportError:
-    raise ImportError(f"hingetulip.aio changes functions of CPython, and this is {sys.implementation.name}") from None
 
 Function = Callable[..., Any]
 Either = Callable[[Function], Function]  # of the system's own function the run's
@@ -27,6 +22,7 @@ WORDS, NAMED, OF_CLASS = 1, 2, 0x200  # METH_VARARGS, METH_KEYWORDS, METH_METHOD
 HEAD, FIELDS = object.__basicsize__, 5  # of a function in C: its method, its object, its module, its weak references, its fast call
 METHOD, OBJECT, MODULE, FAST = 0, 1, 2, 4
 IN_C = ClassMethodDescriptorType, MethodDescriptorType
+WITH_TYPES = "_thread", "_queue", "select"  # modules with types whose methods change, and of which each copy has its own
 
 new_function = pythonapi.PyCFunction_NewEx
 new_function.restype, new_function.argtypes = py_object, [c_void_p] * 3
@@ -70,21 +66,34 @@ class Changed:
 
 
 known: dict[tuple[str, str], dict[int, Any]] = {}  # functions in C, by the names of module and function, of each module
+kinds: dict[tuple[str, str], set[type]] = {}  # types in C, by the names of module and type
 changes: dict[int, Changed] = {}  # by the functions' identities
+changing: list[Callable[[], None]] = []  # what changes the copies that a run loads, if a run is under way
 
 
-def note(function: Any) -> None:
-    """Adds a function to the known ones. One that a run has changed belongs to no module meanwhile, and is known already."""
-    if type(function) is BuiltinFunctionType and isinstance(function.__self__, ModuleType):
-        known.setdefault((function.__self__.__name__, function.__name__), {}).setdefault(id(function.__self__), function)
+def note(it: Any) -> None:
+    """Adds a function or type to the known ones. A function that a run has changed belongs to no module meanwhile, and is known
+    already."""
+    if type(it) is BuiltinFunctionType and isinstance(it.__self__, ModuleType):
+        known.setdefault((it.__self__.__name__, it.__name__), {}).setdefault(id(it.__self__), it)
+    elif type(it) is type and it.__module__ in WITH_TYPES:
+        kinds.setdefault((it.__module__, it.__name__), set()).add(it)
 
 
 @functools.lru_cache(1)
 def note_all() -> None:
-    """Notes all functions, again after each import. Libraries such as eventlet load a module a second time, for functions that
-    nobody replaces."""
+    """Notes all functions and types, again after each import. Libraries such as eventlet load a module a second time, for functions
+    that nobody replaces."""
     for it in gc.get_objects():
         note(it)
+
+
+def switch_copy(name: str) -> None:
+    """Gives the run's functions to a module that the run has loaded, if it is a copy of a known one."""
+    if any(name == module for module, _ in (*known, *kinds)):
+        note_all.cache_clear()
+        for change in changing:
+            change()
 
 
 def changed(module: ModuleType, name: str) -> list[Changed]:
@@ -115,19 +124,35 @@ def of_thread(own: Function, in_run: Either) -> Function:
 
 
 @contextmanager
-def switched(functions: Mapping[tuple[ModuleType, str], Either]) -> Iterator[None]:
-    """Replaces modules' C functions by the run's in this thread, within the context."""
-    kept = []
-    for (module, name), in_run in functions.items():
-        for it in changed(module, name):
-            made = it.made = of_thread(it.own, in_run)
-            pythonapi.Py_IncRef(made)  # what the function refers to from now on, as to the object of a method
-            it.fields[METHOD], it.fields[OBJECT], it.fields[FAST] = addressof(it.method), id(made), None
-            kept.append((it, made))
+def applied(change: Callable[[], None]) -> Iterator[None]:
+    """Makes a change now, and again when the run has loaded a copy of a module, within the context."""
+    changing.append(change)
     try:
+        change()
         yield
     finally:
-        for it, made in kept:
+        changing.remove(change)
+
+
+@contextmanager
+def switched(functions: Mapping[tuple[ModuleType, str], Either]) -> Iterator[None]:
+    """Replaces modules' C functions by the run's in this thread, within the context."""
+    kept: dict[int, tuple[Changed, Function]] = {}
+
+    def change() -> None:
+        for (module, name), in_run in functions.items():
+            for it in changed(module, name):
+                if id(it) not in kept:
+                    made = it.made = of_thread(it.own, in_run)
+                    pythonapi.Py_IncRef(made)  # what the function refers to from now on, as to the object of a method
+                    it.fields[METHOD], it.fields[OBJECT], it.fields[FAST] = addressof(it.method), id(made), None
+                    kept[id(it)] = it, made
+
+    try:
+        with applied(change):
+            yield
+    finally:
+        for it, made in kept.values():
             it.fields[METHOD], it.fields[OBJECT], it.fields[FAST] = it.before[METHOD], it.before[OBJECT], it.before[FAST]
             pythonapi.Py_DecRef(made)
 
@@ -140,21 +165,29 @@ def bound(own: ClassMethodDescriptorType, kind: type, *words: Any, **named: Any)
 @contextmanager
 def switched_methods(methods: Mapping[tuple[type, str], Either]) -> Iterator[None]:
     """Replaces methods of C types likewise."""
-    kept = []
-    for (kind, name), in_run in methods.items():
-        kind = next(it for it in kind.__mro__ if isinstance(vars(it).get(name), IN_C))  # and not a subclass in its place
-        (names,) = gc.get_referents(kind.__dict__)
-        own = names[name]
-        if isinstance(own, ClassMethodDescriptorType):
-            made: Any = classmethod(of_thread(functools.partial(bound, own), in_run))
-        else:
-            made = of_thread(own, in_run)
-        kept.append((kind, names, name, own))
-        names[name] = made
-        pythonapi.PyType_Modified(kind)
+    kept: dict[tuple[type, str], tuple[dict[str, Any], Any]] = {}
+    wanted = [  # of the type in C, and not of a subclass in its place
+        (next(it for it in kind.__mro__ if isinstance(vars(it).get(name), IN_C)), name, in_run)
+        for (kind, name), in_run in methods.items()
+    ]
+
+    def change() -> None:
+        note_all()
+        for kind, name, in_run in wanted:
+            for it in {kind, *kinds.get((kind.__module__, kind.__name__), ())}:
+                if (it, name) not in kept:
+                    (names,) = gc.get_referents(it.__dict__)
+                    own = names[name]
+                    kept[it, name] = names, own
+                    of_class = isinstance(own, ClassMethodDescriptorType)
+                    made = of_thread(functools.partial(bound, own) if of_class else own, in_run)
+                    names[name] = classmethod(made) if of_class else made
+                    pythonapi.PyType_Modified(it)
+
     try:
-        yield
+        with applied(change):
+            yield
     finally:
-        for kind, names, name, own in kept:
+        for (kind, name), (names, own) in kept.items():
             names[name] = own
             pythonapi.PyType_Modified(kind)
