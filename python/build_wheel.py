@@ -135,7 +135,7 @@ def beside() -> Iterator[File]:
 
 
 def information() -> Iterator[File]:
-    """What pip reads of a wheel."""
+    """The metadata that pip reads in a wheel."""
     page = (HERE / "README.md").read_text(encoding="utf-8")
     for name, data in (
         ("LICENSE", (TOP / "LICENSE").read_bytes()),

@@ -6,6 +6,7 @@ import argparse
 from typing import Any, Callable, NoReturn
 
 NEAR, OUTPUT = 0.82, ("--out", "--output")  # of what was typed, and of what is meant
+VALUE = "--option=-1 if the value begins with a hyphen"
 
 
 class Joined(argparse.Action):
@@ -72,15 +73,26 @@ class Parser(argparse.ArgumentParser):
     def error(self, message: str) -> NoReturn:
         import difflib  # which takes longer to load than a help may
 
-        option = message.partition("unrecognized arguments: ")[2].partition(" ")[0].partition("=")[0]
+        words = message.partition("unrecognized arguments: ")[2]
+        option, command = words.partition(" ")[0].partition("=")[0], self.prog.removeprefix("hinge ")
         names = [name for name, action in self._option_string_actions.items() if action.help is not argparse.SUPPRESS]
-        near = ["-o"] if option in OUTPUT and "-o" in names else difflib.get_close_matches(option, names, 1, NEAR)
+        starts = [name for name in names if name.startswith(option)] if option.startswith("--") else []
+        near = ["-o"] if option in OUTPUT and "-o" in names else starts or difflib.get_close_matches(option, names, 1, NEAR)
         from hinge.command import advised
 
+        message = message.replace("expected one argument", f"a value is missing ({VALUE})")
         refusal = advised(message)
-        if option and refusal == message:
+        lacks = message.partition("arguments are required: ")[2]
+        if lacks:
+            examples = [line.strip() for line in (self.epilog or "").splitlines() if line.strip().startswith(self.prog)]
+            refusal = refusal.replace(message, f"{lacks} is missing, as in `{examples[0]}`")
+            if lacks.startswith("SOCKET"):
+                from hinge.run.names import running
+
+                refusal += running()
+        elif option and refusal == message and not option.startswith("-") and "[-- COMMAND" in (self.usage or ""):
+            refusal += f"; a command comes after --: write -- {words}"
+        elif option and refusal == message:
             is_near = near and option.startswith("--")
-            refusal += (
-                f"; did you mean {near[0]}?" if is_near else f"; `hinge help {self.prog.removeprefix('hinge ')}` lists the options"
-            )
+            refusal += f"; did you mean {' or '.join(near[:3])}?" if is_near else f"; `hinge help {command}` lists the options"
         super().error(refusal)

@@ -10,7 +10,7 @@ from hinge.foreign_options import OF_LINK, OPTIONS
 from hingetulip_words.foreign import Meant, number
 from hingetulip_words.link import LEFT_OUT, corrected
 from hingetulip_words.presets import PRESETS
-from hingetulip_words.values import plain
+from hingetulip_words.values import SHARES, plain
 
 ONE_WAY = "it is one way, as in the original; --link is both"
 EXAMPLE = "an example, as nothing in this line is of a link"
@@ -25,7 +25,7 @@ sudo hinge run --container NAME --up 100ms | LIVE | pumba
 hinge udp 5000 HOST:PORT 'pipe 1 config delay 20' | LIVE | udp-proxy
 hinge net FILE | NET | mn mininet containernet topo topology create host hosts pingall cluster nodes
 hinge up FILE | NET | start launch daemon
-hinge down NAME; a run ends with its COMMAND | NET | stop kill end quit delete remove rm flush toggle
+hinge down NAME; a run ends with its COMMAND | NET | stop kill end quit delete remove rm flush toggle clean
 hinge status NAME | NET | list ls ps info inspect
 hinge change NAME cut HOST 5s | NET | cut heal partition isolate restart set outage
 hinge exec NAME HOST -- COMMAND | NET | sh bash shell enter attach ssh xterm h1 h2
@@ -46,6 +46,7 @@ hinge look HISTORY -o picture.png | CAPTURE | stats picture plot graph mm-throug
 hinge why ROW HISTORY | CAPTURE | explain
 hinge packets CAPTURE -o packets.csv | CAPTURE | capture pcap tcpdump wireshark import convert mm-webrecord
 hinge run --simulated --seed 1 --link '10Mbit/s 20ms' -- COMMAND | SIMULATED | simulate sim simulation --simulated deterministic
+hinge run --link 20ms --server SERVER -- COMMAND | LIVE | server client serve
 hinge run --preset lte -- COMMAND | LIVE | emulate emulator exec-link throttle slow shape limit-rate with wrap ping curl wget iperf iperf3
 hinge status NAME | | monitor watch top stat metrics mm-meter
 hinge check FILE | | validate lint verify
@@ -132,7 +133,7 @@ def of_ipfw(words: Sequence[str]) -> Optional[Answer]:
 
 def of_pumba(words: Sequence[str]) -> Optional[Answer]:
     """Answers pumba: netem's kinds become a link, and acts on a container become acts on a net's host."""
-    kind = next((kind for kind in ("loss-gemodel", "loss", "duplicate", "corrupt", "delay", "rate") if kind in words), None)
+    kind = next((kind for kind in ("loss-gemodel", "loss", *SHARES, "delay", "rate") if kind in words), None)
     options = [f"--{kind}-percent" if word == "--percent" else word for word in words[1:] if word not in ("netem", kind)]
     if kind is not None:
         name = words[-1] if ":" not in words[-1] else "NAME"
@@ -165,6 +166,20 @@ def of_shaper(words: Sequence[str]) -> Optional[Answer]:
     return of_link("wondershaper", ["-d", figures[0], "-u", figures[1]] if len(figures) == 2 and "-d" not in words else words[1:])
 
 
+def of_run(words: Sequence[str]) -> Optional[Answer]:
+    """Answers link words, or options and a command for `hinge run`, after another word."""
+    if words[1:2] and (link := corrected(words[1])):
+        return Answer(shlex.join(["hinge", "run", "--link", link, "--", *(words[2:] or ["COMMAND"])]), "LINKS")
+    if "simul" in words[0] and words[1:] and words[1].endswith(".net"):
+        return Answer(f"hinge net {words[1]} --simulated --seed 1", "SIMULATED")
+    own = words[1 : words.index("--")] if "--" in words else []
+    pairs = [place for place, word in enumerate(own[:-1]) if word in OF_LINK]
+    meant = Meant("ours", [word for place in pairs for word in own[place : place + 2]])
+    rest = [word for place, word in enumerate(own) if not {place, place - 1} & {*pairs}]
+    time = ["--simulated", "--seed", "1"] * ("--simulated" in WORDS[words[0]].write)
+    return Answer(shlex.join(["hinge", "run", *time, *rest, *meant.options(), *words[len(own) + 1 :]]), "LIVE") if own else None
+
+
 def of_command(words: Sequence[str]) -> Optional[Answer]:
     """Answers a program that needs a link and a server, in the place of a command of hinge."""
     server = " --server 'iperf3 -s -1'" * ("server" in words and words[0] == "iperf3")
@@ -182,6 +197,10 @@ TOOLS: dict[str, Callable[[Sequence[str]], Optional[Answer]]] = {
     **dict.fromkeys("trickle tcset".split(), lambda words: of_link(words[0], words[1:])),
     "wondershaper": of_shaper,
     **dict.fromkeys("ping curl wget iperf3".split(), of_command),
+    **dict.fromkeys(
+        "start launch emulate emulator throttle slow limit delay latency bandwidth shape with wrap simulate sim simulation".split(),
+        of_run,
+    ),
     **dict.fromkeys(PRESETS, lambda words: Answer(f"hinge run --preset {words[0]} -- COMMAND", "LINKS")),
 }
 
@@ -199,9 +218,13 @@ def answer_of(words: Sequence[str]) -> Optional[Answer]:
 
 def of_options(typed: Sequence[tuple[str, str]], given: Mapping[str, Sequence[str]]) -> str:
     """Returns the replacement for all of these options and their values, with the link's existing words."""
-    meant = Meant("ours", [word for option, value in typed if option in OF_LINK for word in (option, value)])
-    more, before = meant.options()[1:], " ".join(given.get("--link", ()))
+    meant = Meant("ours", [word for option, value in typed if option not in OPTIONS for word in (option, value)])
+    links = [words for words in map(corrected, meant.rest) if words]
+    meant.rest = [words for words in meant.rest if not corrected(words)]
+    more, before = [*meant.options()[1:], *links], " ".join(given.get("--link", ()))
     link = " ".join([before, *more]).strip()
+    if before and corrected(before) and not corrected(link):
+        return f"{', '.join(dict(typed))}: leave this out, as --link says {before!r}"
     is_idle = "queue" in link.split() and not re.search(r"/s\b|\bbw\b", link)
     link = f"10Mbit/s {link}" if is_idle else link
     parts = [f"--link {shlex.quote(corrected(link) or link)}"] * bool(more)
@@ -210,5 +233,5 @@ def of_options(typed: Sequence[tuple[str, str]], given: Mapping[str, Sequence[st
         parts.append(form.format(*[shlex.quote(words)] * 2))
     notes = [f"write {' '.join(parts)}"] * bool(parts)
     notes += ["10Mbit/s is an example, as no packet waits without a bandwidth"] * is_idle
-    notes += [f"no link does: {what}" for what in (*meant.left, *meant.rest)]
+    notes += [f"no link does: {what}" for what in meant.left] + [f"{what!r} isn't such a value" for what in meant.rest]
     return f"{', '.join(dict(typed))}: {'; '.join(notes)}"

@@ -12,18 +12,25 @@ OPTIONS = {
     ),
     "--simulate": ("--simulated", False),
     "-l": ("--link {}", True),
-    "-o": ("--transcript {}, which `hinge look` draws", True),
+    **dict.fromkeys(("-o", "--output"), ("--transcript FILE, and hinge look FILE -o {}", True)),
     "--graph": ("--transcript FILE, and hinge look FILE -o FILE.png", False),
     "--plot": ("--transcript FILE, and hinge look FILE -o FILE.png", False),
     **dict.fromkeys(("--docker", "--podman"), ("--container {}", True)),
     "--pid": ("--netns {}", True),
-    "--port": ("--map 'port {0} => pipe 1' for its packets alone, or --to {0} for this system's port", True),
+    "--port": (
+        "--map 'port {0} => pipe 3' and --line 'pipe 3 config delay 20' for its packets alone, or --to {0} for this system's port",
+        True,
+    ),
+    **dict.fromkeys(
+        ("--filter", "--match"), ("--map 'RULE => pipe 3', where RULE is {0}, and --line 'pipe 3 config delay 20'", True)
+    ),
+    "--presets": ("--list-presets", False),
     **dict.fromkeys(
         ("--iface", "--interface", "--dev", "-i"),
         ("no interface: COMMAND runs behind the link, or --container NAME names one", True),
     ),
 }
-SAME = """both=link uplink=up upload=up downlink=down download=down profile=preset conditions=preset log=transcript output=transcript
+SAME = """both=link uplink=up upload=up downlink=down download=down profile=preset conditions=preset log=transcript record=transcript
 report=json"""
 OPTIONS.update({f"--{word}": (f"--{own} {{}}", True) for word, _, own in (entry.partition("=") for entry in SAME.split())})
 OPTIONS.update(dict.fromkeys(("--meter-all", "--verbose", "-v"), ("--watch", False)))

@@ -97,7 +97,8 @@ MEANT = {
     "look --why": "hinge why ROW SOURCE",
     "look --audit": "dummynet audit HISTORY",
     "look --ladder": "hinge look SOURCE -o FILE.html, or for Wireshark's flow graph --capture CAPTURE --index INDEX -o FILE.pcapng",
-    "look --html": "-o FILE.html",
+    **{f"look --{ending}": f"-o FILE.{ending}" for ending in ("html", "png", "svg", "pdf")},
+    "try --link": "hinge run --link 20ms -- COMMAND, as hinge try takes presets alone",
     "net exec": "hinge exec NAME HOST -- COMMAND",
     "packets --filter": "--map 'tcp port 80 => pipe 1'",
     "packets -i": "tcpdump -i INTERFACE -w FILE.pcap, and hinge packets FILE.pcap",
@@ -161,7 +162,7 @@ def advised(command: str, words: Sequence[str], refusal: str) -> str:
     except (OSError, Fault):
         return refusal
     for path, kind, wanted in kinds:
-        is_alone = len(kinds) == 1 and (command, kind) == ("why", "config")
+        is_alone = len(kinds) < 3 and (command, kind) == ("why", "config")
         if kind and wanted and (kind not in wanted or is_alone):
             line = line_for(command, kind, path)
             is_known = line.partition(";")[0] in refusal or kind == "folder" and "--transcripts" in refusal

@@ -88,7 +88,7 @@ class Sender(Socket):
 
 
 class Adder(Socket):
-    """A server that adds what each question says, once."""
+    """A server that adds each request's number a single time."""
 
     def __init__(self, bug: str = "") -> None:
         super().__init__(bug)

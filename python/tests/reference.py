@@ -13,13 +13,14 @@ sys.path.insert(0, str(TOOLS / "oracle"))
 import hingetulip  # noqa: E402
 import model  # noqa: E402
 from broken import bad_line  # noqa: E402
-from config_lines import LineFault, parse_line  # noqa: E402
+from config_lines import NAME_OF, LineFault, parse_line  # noqa: E402
 from fast import FastDummynet  # noqa: E402
 from printing import command_text  # noqa: E402
 from scenarios import STYLES  # noqa: E402
 from shaper_cases import histories  # noqa: E402
 
 __all__ = [
+    "NAME_OF",
     "STYLES",
     "FastDummynet",
     "LineFault",

@@ -9,6 +9,7 @@ from pathlib import Path
 
 import hingetulip
 from hingetulip import audits, errors, layout, library
+from reference import NAME_OF
 
 TOP = Path(__file__).resolve().parents[2]
 INCLUDE = TOP / "crates" / "hingetulip_c" / "include"
@@ -38,15 +39,6 @@ RAISED = {
     errors.HistoryError: "TOO_LONG BAD_RECORD",
 }
 EXCEPTIONS = {f"DN_{name}": kind for kind, names in RAISED.items() for name in names.split()}
-FAULTS = {
-    "DN_NOT_UTF8": "not UTF-8",
-    "DN_UNKNOWN_WORD": "unknown word",
-    "DN_MISSING_VALUE": "missing value",
-    "DN_NOT_A_NUMBER": "bad number",
-    "DN_OUT_OF_RANGE": "out of range",
-    "DN_LEFT_OUT": "left out",
-    "DN_NEEDS_PIPE": "needs a pipe",
-}
 
 
 def numbers(name: str, header: str = HEADER) -> dict[str, int]:
@@ -140,7 +132,10 @@ class Header(unittest.TestCase):
         self.assertEqual({"DN_PIPE": 0, "DN_QUEUE": 1}, numbers("dn_kind"))
         self.assertEqual({"DN_LAWFUL": 0, "DN_DIFFERS": 1}, numbers("dn_finding"))
         self.assertIn(f"#define DN_HISTORY_LIMIT ((size_t){library.HISTORY_LIMIT})\n", HEADER)
-        self.assertEqual({name: library.reason(library.LINE, kind) for name, kind in numbers("dn_fault_kind").items()}, FAULTS)
+        faults = {name: library.reason(library.LINE, kind) for name, kind in numbers("dn_fault_kind").items()}
+        in_c = {text: re.sub("(?<=[a-z])(?=[A-Z])", "_", name).upper() for text, name in NAME_OF.items()}
+        wanted = {f"DN_{name}": text for text, name in {**in_c, "not UTF-8": "NOT_UTF8", "bad number": "NOT_A_NUMBER"}.items()}
+        self.assertEqual(faults, wanted)
         self.assertIn(f"#define DN_REASON_ROOM ((size_t){library.REASON_ROOM})\n", HEADER)
         self.assertIn(f"pub const REASON_ROOM: usize = {library.REASON_ROOM};\n", RUST)
         self.assertIn(f"#define DN_VERSION {library.MAJOR}0", HEADER)

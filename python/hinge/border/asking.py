@@ -11,7 +11,7 @@ from typing import Iterator
 
 from hinge.border.messages import Lines, Order, Reply, Strange, line_of, read_message
 from hinge.border.peers import is_own, process_and_user, within
-from hinge.run.names import socket_of
+from hinge.run.names import running, socket_of
 from hinge.run.words import Wrong
 
 PATIENCE = 20.0  # s: more than a run takes for an order, so that its refusal comes before
@@ -34,7 +34,7 @@ def connected(path: str, patience: float = PATIENCE) -> Iterator[socket.socket]:
                 raise Wrong(f"{path}: another user's process answers there")
             yield line
         except FileNotFoundError:
-            raise Wrong(f"{path}: no run has this name, from `hinge up` or --control") from None
+            raise Wrong(f"{path}: no run has this name{running()}") from None
         except OSError as error:
             raise Wrong(f"{path}: {error.strerror or error}") from None
 

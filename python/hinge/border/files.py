@@ -1,4 +1,4 @@
-"""Files written by others. Any failure while reading becomes a one-line fault with the file's name."""
+"""Untrusted files. Any failure while reading becomes a one-line fault with the file's name."""
 
 from __future__ import annotations
 

@@ -6,6 +6,7 @@ from __future__ import annotations
 import errno
 import fcntl
 import os
+import resource
 import select
 import socket
 import stat
@@ -27,6 +28,7 @@ from hinge.run.words import Wrong
 PATIENCE = 10.0  # s for which a client may be idle, and an order may take
 LONGEST_ORDER = 1 << 16  # bytes
 MOST_CLIENTS = 32
+LEFT = 12  # descriptors that clients leave to the run, or a quarter of a low limit
 SHORT = (errno.EMFILE, errno.ENFILE, errno.ENOMEM, errno.ENOBUFS)  # for which a client that is idle makes room
 PAUSE = 0.05  # s, where none is
 
@@ -263,7 +265,9 @@ class Server:
             if error.errno in SHORT:
                 self.make_room()
             return
-        if not is_own(line) or len(self.clients) >= MOST_CLIENTS and not self.shed():
+        most, _ = resource.getrlimit(resource.RLIMIT_NOFILE)
+        is_crowded = len(self.clients) >= MOST_CLIENTS or line.fileno() >= most - min(LEFT, most // 4)
+        if not is_own(line) or is_crowded and not self.shed():
             line.close()
             return
         line.setblocking(False)

@@ -131,6 +131,8 @@ class RuleReader:
                 else number_of(text, 63, "no DSCP from 0 to 63, and no " "name of one, as ef or af41")
             )
         elif word in NETS:
+            if self.rest[:1] == ["port"] and word != "host":  # as tcpdump has it
+                raise BadRule(f"'{word} port': not a word of a rule; write {word[0]}port")
             self.once(word, word)
             self.short.nets[word] = address_net(self.value(word))
         elif word in PORTS:

@@ -72,13 +72,6 @@ def judged_lines(lines: Iterable[bytes]) -> Iterator[Verdict]:
         record = next(records, "")
 
 
-class Placed(NamedTuple):
-    """A line, and the file and number, or the option, that it is from."""
-
-    place: str
-    text: str
-
-
 def corrected(line: str) -> Optional[str]:
     """Returns the line with its wrong words replaced as their errors advise, if the program then accepts the line."""
     for _ in range(MOST_CORRECTIONS):
@@ -92,26 +85,34 @@ def corrected(line: str) -> Optional[str]:
     return None
 
 
-def refuse_wrong(lines: Sequence[Placed]) -> None:
-    """Fault: a line is no command; the message says the right words. Without the program the host refuses such a line later."""
-    texts = list(dict.fromkeys(line.text for line in lines))  # long files say the same again and again
-    for line in lines:
-        with untrusted(line.place, CONFIGURATION):
-            judged_part(os.fsencode(line.text))
+def refuse_wrong(texts: Sequence[str], numbers: Sequence[int], file: str, option: str = "") -> None:
+    """Fault: a line is no command; the message says the right words. `numbers` are line numbers in the file, or 0 for lines from the
+    option. Without the program the host refuses such a line later."""
+
+    def wrong(at: int, why: str) -> Fault:
+        return Fault(f"{place(at)}: {why}", CONFIGURATION)
+
+    def place(at: int) -> str:
+        return f"{file}:{numbers[at]}" if numbers[at] else option
+
+    first = ""
+    for at, text in enumerate(texts):
+        with untrusted(place(at), CONFIGURATION):
+            judged_part(os.fsencode(text))
     try:
         # the whole answer, as a program that was ended says nothing of the lines
-        wrong = [record for record in session_of(map(os.fsencode, texts)) if record[0] == "#"][:1] if texts else []
+        for record in session_of(map(os.fsencode, texts)) if texts else ():
+            first = first or record * (record[0] == "#")
     except Fault as fault:
         if fault.status != MISSING:
             raise
         return
-    for _, _, number, _, why in (record.split(",", 4) for record in wrong):
-        text = texts[int(number) - 1]
-        place = next(line.place for line in lines if line.text == text)
-        raise Fault(f"{place}: {LineCheck.wrong(words_of(text), why)}", CONFIGURATION)
-    for place, text in lines:
-        if option := twice(words_of(text)):
-            raise Fault(f"{place}: {option} stands twice; write one of them", CONFIGURATION)
+    if first:
+        _, _, number, _, why = first.split(",", 4)
+        raise wrong(int(number) - 1, LineCheck.wrong(words_of(texts[int(number) - 1]), why))
+    for at, text in enumerate(texts):
+        if name := twice(words_of(text)):
+            raise wrong(at, f"{name} stands twice; write one of them")
 
 
 def twice(words: list[str]) -> str:

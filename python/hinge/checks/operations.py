@@ -179,13 +179,6 @@ class Queue(Model):
     makers = ("put",)
     start = ()
 
-    def __init__(self, operations: list[Operation]) -> None:
-        gets = [one for one in operations if one.op == "get" and not self.is_pure(one)]
-        self.gets = {one.result: one for one in gets}
-        self.is_known = all(one.is_over for one in gets)  # whether nobody else got a value
-        super().__init__(operations)
-        self.is_ordered = self.is_unique and len({one.line for one in self.gets.values()}) == len(gets)
-
     def shown(self, operation: Operation) -> Iterator[str]:
         if operation.op == "get" and operation.result != NULL:
             yield operation.result
@@ -193,16 +186,9 @@ class Queue(Model):
     def is_pure(self, operation: Operation) -> bool:
         return operation.op == "get" and operation.result == NULL
 
-    def comes_first(self, one: str, other: str) -> bool:
-        """Returns whether a value must leave before another. This is exact, since each value is put once."""
-        if one not in self.gets or (other == UNSEEN and not self.is_known):
-            return False
-        return other == UNSEEN or self.gets[one].end < self.gets[other].begin
-
     def after(self, operation: Operation, state: Any) -> Optional[Hashable]:
         if operation.op == "put":
-            value = operation.value if operation.value in self.sights else UNSEEN
-            return None if self.is_ordered and any(self.comes_first(value, one) for one in state) else (*state, value)
+            return (*state, operation.value if operation.value in self.sights else UNSEEN)
         if self.is_pure(operation):
             return state if not state else None
         return state[1:] if state and operation.result in ("", state[0]) else None

@@ -8,7 +8,8 @@ from typing import Hashable, Iterator, Optional
 
 from hinge.border.terminal import several, show, tell
 from hinge.checks.findings import MOST_FAULTS, Findings
-from hinge.checks.operations import MODELS, Model, Operation, Places, operations_of
+from hinge.checks.operations import MODELS, Model, Operation, Places, Queue, operations_of
+from hinge.checks.queues import first_breach
 from hinge.command import ROWS
 
 NO_ORDER = 1  # the status
@@ -44,7 +45,10 @@ class Search:
         """Keeps the configurations in which the operation took effect; returns False without such configurations."""
         self.frontier = [(mask & ~bit, state) for mask, state in self.reached(bit)]
         if not self.pure.pop(bit, None):
-            self.places[self.begun.pop(bit).value].remove(bit)
+            value = self.begun.pop(bit).value
+            self.places[value].remove(bit)
+            if not self.places[value]:
+                del self.places[value]  # else each step would walk through all values of the past
         self.spare.append(bit)
         return bool(self.frontier)
 
@@ -78,6 +82,10 @@ class Search:
 def first_impossible(operations: list[Operation], kind: type[Model], most: int = MOST) -> Optional[Operation]:
     """Returns the operation at whose end no order remains, or None. TooMany: the search is too large."""
     model = kind(operations)
+    if isinstance(model, Queue) and model.is_unique:
+        decides, breach = first_breach(model.operations)
+        if decides:
+            return breach
     moments = [(one.begin, False, place) for place, one in enumerate(model.operations)]
     moments += [(one.end, True, place) for place, one in enumerate(model.operations) if one.is_over]
     search, bits = Search(model, most), dict[int, int]()

@@ -6,7 +6,7 @@ import io
 import re
 from dataclasses import dataclass
 from fractions import Fraction
-from itertools import chain, islice
+from itertools import islice
 from typing import Iterator, Optional
 
 from hinge.arguments import is_number
@@ -31,7 +31,7 @@ LOSS_PARTS = 2**31
 LONGEST_FRAME = 9216  # bytes of a packet that a card sends in one
 FAR = 10**14  # ns at which a first packet is hardly sent
 NS_PER_DAY = 86_400 * 10**9
-STRETCH = 10_000  # rows that are judged at once behind a bad one
+STRETCH, STRETCH_LETTERS = 10_000, 2**20  # rows that are judged at once behind a bad one, and their letters
 
 
 def of_moment(text: str) -> Optional[str]:
@@ -113,6 +113,14 @@ def verdict(text: bytes) -> tuple[int, str]:
     return answer.status, answer.told
 
 
+def look_ahead(ahead: list[Row], rows: Iterator[Row]) -> None:
+    """Adds the next rows, fewer if they are long, since each holds its fields."""
+    letters = sum(len(row.text) for row in ahead)
+    while len(ahead) < STRETCH and letters <= STRETCH_LETTERS and (row := next(rows, None)):
+        ahead.append(row)
+        letters += len(row.text)
+
+
 @dataclass
 class RowCheck:
     """Checks one packet file, which begins in line `line` of the file `name`."""
@@ -149,22 +157,26 @@ class RowCheck:
 
     def judge(self) -> bool:
         """Returns whether the program accepts all rows; reports the others."""
-        text, rows, stretch, reports = self.data, self.rows(), list[Row](), 0
+        text, rows, ahead, reports = self.data, self.rows(), list[Row](), 0
         while reports < MOST_FAULTS:
             status, fault = verdict(text)
             if place := re.fullmatch(r"packet row (\d+), field (\d+): bad", fault):
-                rows = chain(stretch, rows)
-                bad = next(islice(rows, int(place[1]) - 1, None))
+                number = int(place[1])
+                bad = ahead[number - 1] if ahead else next(islice(rows, number - 1, None))
                 self.found.fault(f"{self.name}:{bad.line}", wrong(bad, int(place[2])), ROWS)
                 reports += 1
+                del ahead[:number], bad
             elif status:
                 more = "; `dummynet replay --most-packets BYTES` replays longer ones" if "too long" in fault else ""
                 self.found.fault(self.name, fault + more, status)
                 return False
-            stretch = list(islice(rows, STRETCH)) if reports else []
-            if not stretch:
+            else:
+                ahead.clear()
+            if reports:
+                look_ahead(ahead, rows)
+            if not ahead:
                 return not reports
-            text = b"\n".join([HEAD, "".join(row.text for row in stretch).encode()])
+            text = b"\n".join([HEAD, "".join(row.text for row in ahead).encode()])
         self.found.warn(self.name, f"{MOST_FAULTS} faults; the rows behind them weren't looked at")
         return False
 

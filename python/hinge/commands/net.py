@@ -5,7 +5,7 @@ from __future__ import annotations
 import argparse
 import os
 import sys
-from typing import Any, NoReturn, Sequence
+from typing import Sequence
 
 from hinge.command import parser
 from hinge.command_line import Parser
@@ -129,10 +129,3 @@ def main() -> None:
         from hinge.net.begun import run  # behind the command line, since a help has to come at once
 
         run(arguments)
-
-
-def begin_inside(options: dict[str, Any]) -> NoReturn:
-    """Runs the command in the machine that the launcher started."""
-    from hinge.net.begun import begin
-
-    begin(NetOptions(**options))

@@ -5,7 +5,7 @@ from __future__ import annotations
 import argparse
 import signal
 import sys
-from typing import Any, NoReturn, Optional, Sequence
+from typing import NoReturn, Optional, Sequence
 
 from hinge.arguments import bounded
 from hinge.command import NOT_FOUND, Fault, parser, say
@@ -114,7 +114,7 @@ def main() -> None:
 
     ends_of(run.net), plan_of(run, run.mtu)  # so that a wrong word is told before a machine is made
     tell_hints(run)
-    sys.exit(start.run_simulated("run", run))
+    sys.exit(start.run_simulated(run))
 
 
 def tell_hints(run: RunOptions) -> None:
@@ -122,11 +122,6 @@ def tell_hints(run: RunOptions) -> None:
 
     for hint in hints(run):
         say(hint)
-
-
-def begin_inside(options: dict[str, Any]) -> NoReturn:
-    """Runs the command in the machine that the launcher started."""
-    begin(RunOptions(**options))
 
 
 def begin(run: RunOptions) -> NoReturn:

@@ -8,7 +8,7 @@ import sys
 from pathlib import Path
 
 from hinge.arguments import bounded, seeds
-from hinge.command import FILES, Fault, parser
+from hinge.command import FILES, Fault, parser, say
 from hinge.outputs import refuse_inputs
 from hinge.simulated.time_options import pauses_word
 
@@ -36,7 +36,7 @@ def command_line() -> argparse.Namespace:
     )
     line.add_argument("file", metavar="FILE", type=Path, help="the net; or `run`, with options of `hinge run`")
     line.add_argument("--seeds", type=seeds, default=list(range(1, 21)), help="as 1-5 or 1,7 (1-20)")
-    line.add_argument("--pauses", metavar="N/CALLS", type=pauses_word, help="as of `hinge run --simulated`: `drawn`")
+    line.add_argument("--pauses", metavar="PAUSES", type=pauses_word, help="as of `hinge run --simulated`: `drawn`")
     line.add_argument("--limit", metavar="TIME", help="a run that goes on after so much simulated time has failed (a day)")
     line.add_argument("--real-limit", metavar="TIME", help="the same by real time, which depends on how busy the system is")
     line.add_argument("--runs", metavar="FOLDER", type=Path, help="keeps the runs; one that is there isn't made again")
@@ -47,6 +47,8 @@ def command_line() -> argparse.Namespace:
     arguments, options = line.parse_known_args(words[:at])
     if options and str(arguments.file) != "run":
         line.error(f"unrecognized arguments: {' '.join(options)}")
+    if arguments.runs and str(arguments.runs).isdecimal():
+        line.error(f"--runs names a folder; write --seeds 1-{arguments.runs} for as many runs, or ./{arguments.runs} for a folder")
     arguments.what = ["run", *options] if str(arguments.file) == "run" else ["net", str(arguments.file.absolute())]
     arguments.command = words[at + 1 :]
     if arguments.what[0] == "run":
@@ -76,6 +78,8 @@ def main() -> None:
     from hinge.searches.search import search
     from hinge.simulated.kernel import found
 
+    if len(line.seeds) == 1 and line.seeds[0] > 1:
+        say(f"--seeds {line.seeds[0]} tries only this seed; write --seeds 1-{line.seeds[0]} for {line.seeds[0]:,} seeds")
     file = failure_file(line)
     with scratch() as place:
         found()  # a kernel, before anything starts

@@ -15,7 +15,7 @@ from hinge.arguments import is_number
 from hinge.border.terminal import show
 from hinge.command import FILES, parser
 from hinge.command_line import Parser
-from hinge.checks.lines import Placed, refuse_wrong
+from hinge.checks.lines import refuse_wrong
 from hinge.run.host import Link, program
 from hinge.run.options import add_link, add_options_of_run, add_run
 from hinge.run.order import Order, note_realtime, order_of, report
@@ -73,16 +73,18 @@ def found_address(address: SocketAddress, family: int) -> tuple[int, tuple[str, 
 
 def links_in_order(words: list[str]) -> list[str]:
     """Returns the configuration lines. A LINK with a space is a line, otherwise a file. Wrong: it is a link's words."""
-    lines = list[Placed]()
+    lines = list[str]()
     for word in words:
         if " " in word:
-            lines += [Placed("LINK", line) for line in word.splitlines()]
+            new = word.splitlines()
+            refuse_wrong(new, [0] * len(new), "", "LINK")
         elif link := None if os.path.exists(word) else corrected(word):
             raise Wrong(f"LINK: {word!r} isn't a line or a file of lines; write --link {shlex.quote(link)}")
         else:
-            lines += [Placed(f"{word}:{number}", line) for number, line in enumerate(read_lines(word), 1)]
-    refuse_wrong(lines)
-    return [line.text for line in lines]
+            new = [*read_lines(word)]
+            refuse_wrong(new, range(1, len(new) + 1), word)
+        lines += new
+    return lines
 
 
 def options() -> Parser:

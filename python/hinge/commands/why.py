@@ -31,8 +31,13 @@ def main() -> None:
     numbers = list(takewhile(str.isdecimal, arguments.source))
     files, config = arguments.source[len(numbers) :], arguments.config
     if not numbers:
-        right = " ".join(sorted(files, key=os.path.exists)) if any(map(str.isdecimal, files)) else f"1 {' '.join(files)}"
-        line.error(f"{files[0]!r} isn't the number of a row; write hinge why {right}")
+        from hinge.replays.record_lines import is_history_file
+
+        right = (
+            " ".join(sorted(files, key=str.isdecimal, reverse=True)) if any(map(str.isdecimal, files)) else f"1 {' '.join(files)}"
+        )
+        is_source = os.path.isdir(files[0]) or len(files) > 1 or not os.path.exists(files[0]) or is_history_file(files[0])
+        line.error(f"{files[0]!r} isn't the number of a row" + f"; write hinge why {right}" * is_source)
     if not files:
         line.error("behind the rows comes a history, or a packet file and its report")
     if len(files) == 3 and config is None:

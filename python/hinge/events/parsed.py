@@ -92,6 +92,6 @@ def read_cut(statement: Statement, net: Description) -> Event:
         raise statement.wrong(statement.peek(), f"write `from {statement.peek()}`: {form}")
     with placed(statement.place):
         port = port_of([statement.take(form) for _ in range(3)] if statement.peek() in {*PROTOCOLS} - {*net.hosts} else [])
-    length = read_length(statement, form) if word == "cut" else LAST_MOMENT
+    length = read_length(statement, form) if WORDS[word].ending else LAST_MOMENT
     statement.done(form)
-    return Cut(ways, typed, port, length) if word == "cut" else Heal(ways, typed, port)
+    return Cut(ways, typed, port, length) if WORDS[word].ending else Heal(ways, typed, port)

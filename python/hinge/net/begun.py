@@ -3,6 +3,7 @@
 from __future__ import annotations
 
 import fcntl
+import json
 import os
 import resource
 import select
@@ -13,7 +14,8 @@ from typing import NoReturn
 
 from hinge.border.terminal import show
 from hinge.checks.lines import twice
-from hinge.command import say
+from hinge.command import NAME, say
+from hinge.command import run as run_command
 from hinge.net.description import Description, read_description
 from hinge.net.net_inside import NetInside
 from hinge.net.net_plan import NetPlan
@@ -120,7 +122,7 @@ def run(arguments: NetOptions) -> None:
     arguments = with_files(arguments)
     if arguments.simulated:
         refuse_staying(arguments)
-        sys.exit(start.run_simulated("net", arguments))
+        sys.exit(start.run_simulated(arguments))
     begin(arguments)
 
 
@@ -147,6 +149,12 @@ def begin(options: NetOptions) -> NoReturn:
     if options.while_open is not None:
         look_at(options.while_open)
     sys.exit(status_of(first, options.while_open))
+
+
+def begin_inside() -> NoReturn:
+    """Runs a net with disks in a simulated machine. The launcher's word contains the options."""
+    NAME[0] = "hinge net"
+    run_command(lambda: begin(NetOptions(**json.loads(sys.argv[1]))))
 
 
 def look_at(pipe: int) -> None:

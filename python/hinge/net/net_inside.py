@@ -4,10 +4,12 @@ from __future__ import annotations
 
 import math
 import os
+import select
 import signal
 import time
 from contextlib import suppress
 from functools import partial
+from itertools import chain
 from typing import Callable, Optional
 
 from hinge.border.files import opened_log
@@ -66,22 +68,19 @@ class NetInside:
         self.cgroups, self.waits = Cgroups(), Waits()
         hosts = [*self.rooms.network] if self.options.control else list(dict.fromkeys(act.host for act in order.made.acts))
         self.linked = {name: cgroup for name in hosts for cgroup in [self.cgroups.of(name)] if cgroup}  # whose acts are the links'
-        descriptors = {name: [cgroup.descriptors[file] for file in OF_LINKS] for name, cgroup in self.linked.items()}
-        self.links_plan = LinksPlan(order, self.rooms.ends, descriptors)
+        self.descriptors = {name: [cgroup.descriptors[file] for file in OF_LINKS] for name, cgroup in self.linked.items()}
+        self.links_plan = LinksPlan(order, self.rooms.ends, self.descriptors)
         self.is_of_links = self.links_plan.is_of_links
         ticker = None if is_simulated() else Ticker(self.look_at_waits)
         self.acts = Acts(order.made.acts, self.lines, self.act, self.is_of_links, self.has_nothing, ticker)
         self.main_moment: Optional[int] = None  # ns, of the links
 
-    def started_links(self) -> tuple[Link, Optional[int]]:
-        """Starts the process that hosts all links. Acts on hosts don't affect it. Returns the links' status too, if they ended at
-        once."""
+    def started_links(self) -> Link:
+        """Starts and returns the process that hosts all links, which acts on hosts don't affect."""
         enter(self.network)
-        of_hosts = [cgroup.descriptors[file] for cgroup in self.linked.values() for file in OF_LINKS]
-        descriptors, words = [*self.rooms.descriptors(), *of_hosts], ["tun", *map(str, self.rooms.interfaces)]
+        descriptors = [*self.rooms.descriptors(), *chain(*self.descriptors.values())]
         more = descriptors, self.links_plan.text(), self.order.mask, opened_control(self), self.lines
-        link = Link(self.processes, self.page, words, *more)
-        return link, link.failed()
+        return Link(self.processes, self.page, ["tun", *map(str, self.rooms.interfaces)], *more)
 
     def look_at_waits(self, _: float) -> None:
         running = {name: process for name, process in self.started.items() if process not in self.processes.ended}
@@ -109,13 +108,16 @@ class NetInside:
         return self.begun_again(act.host) if act.word == "restart" else nothing
 
     def begun_again(self, host: str) -> Callable[[], None]:
-        """Starts a host's command again. Returns the wait for its entry into the host, before which no kill finds it."""
+        """Starts a host's command again. Returns the wait until the command is on the host, where kills find it. A stopped host's cgroup
+        freezes a command that enters."""
         there, entry = os.pipe()
         self.begin(host, entry)
         os.close(entry)
+        cgroup = self.linked.get(host) if self.acts.goes_on(host, "cont") else None
 
         def see_there() -> None:
-            os.read(there, 1)
+            while not (cgroup and not cgroup.has_nothing()) and not select.select([there], [], [], LISTEN_POLL)[0]:
+                pass
             os.close(there)
             self.acts.note_later(host, self.lines.ask("moment").moment)
 
@@ -130,10 +132,8 @@ class NetInside:
         self.processes.reap()
 
     def on_host(self, name: str) -> HostProcesses:
-        process = self.started.get(name)
-        return (
-            GroupProcesses(process) if process is not None and not sees_own_processes() else HostProcesses(self.rooms.network[name])
-        )
+        is_hidden = name in self.started and not sees_own_processes()
+        return GroupProcesses(self.started[name]) if is_hidden else HostProcesses(self.rooms.network[name])
 
     def variables(self, name: str) -> dict[str, str]:
         return {"HINGE_HOST": name, "HINGE_NET": self.order.folder}
@@ -201,12 +201,10 @@ class NetInside:
                 return something_listens(wait.port) or self.has_ended(wait.host)
 
             came = self.processes.poll(is_over, wait.lasting, LISTEN_POLL)
-            if came:
-                return came
-            if not something_listens(wait.port):
+            if not came and not something_listens(wait.port):
                 self.note_silent(wait)
-            if self.missing:
-                return None
+            if came or self.missing:
+                return came
         return None
 
     def note_silent(self, wait: Wait) -> None:
@@ -221,12 +219,6 @@ class NetInside:
         """Returns whether a host's command has ended for good."""
         is_awaited = any(act.host == host and act.word == "restart" for _, act in self.acts.pending)
         return self.started.get(host) in self.processes.ended and not is_awaited
-
-    @staticmethod
-    def serve(link: Link) -> None:
-        """Starts the control thread. Don't start processes after this call."""
-        if link.control:
-            link.control.serve()
 
     def begin_main(self) -> Optional[int]:
         """Starts the main command, if any; returns its process."""
@@ -247,7 +239,8 @@ class NetInside:
         if self.missing:
             return status_without(self.missing)
         main = self.begin_main()
-        self.serve(link)
+        if link.control:
+            link.control.serve()  # a thread, behind which this one starts no process
         while not came and link.process not in self.processes.ended and (rest := self.waited_for(main)):
             try_to_write(WAITS, "1" if self.acts.pending else "0")  # what waits for an act isn't for ever without life
             came = self.processes.wait(rest[0], self.acts.left(), self.acts, link.process)
@@ -268,17 +261,17 @@ class NetInside:
         return rest or [NOBODY] * (main is None and self.acts.awaited())
 
     def was_killed(self, name: str) -> bool:
-        """Whether a host's command is one that an act has ended, and hadn't ended long before."""
+        """Returns whether an act ended a host's command, which hadn't ended long before."""
         ended = self.processes.ended_at.get(self.started.get(name, NOBODY), math.inf)
         return self.acts.goes_on(name, "restart") and ended > self.acts.killed_at.get(name, 0.0) - BEFORE
 
     def run(self) -> int:
-        link, fault = self.started_links()
-        if fault is not None:
+        link = self.started_links()
+        if (fault := link.failed()) is not None:
             return fault
-        if self.page.head("realtime") == NOT_ALLOWED:
+        if (realtime := self.page.head("realtime")) == NOT_ALLOWED:
             say(NO_PRIORITY)
-        if self.page.head("realtime") == HAS_IT and not is_simulated():
+        if realtime == HAS_IT and not is_simulated():
             with suppress(OSError):  # so that acts aren't late
                 os.sched_setscheduler(0, os.SCHED_FIFO | os.SCHED_RESET_ON_FORK, os.sched_param(PRIORITY))
         self.acts.begin(False, self.lines.ask("moment").moment)
@@ -295,14 +288,12 @@ class NetInside:
             self.look_at_waits(0.0)
         self.acts.pending.clear()
         self.acts.tick()
-        names = list(self.acts.stopped())
-        if names:
+        if names := list(self.acts.stopped()):
             self.lines.ask("line remark ending")
         for name in names:
             act = Act(self.order.made.moment("0s"), "cont", name)
             self.lines.ask(f"line {line_of(act)}") if self.is_of_links(act) else self.act(act)
         endings = self.processes.endings(self.started, self.begun, self.order.end_wait)
         self.cgroups.remove()
-        return {
-            name: one._replace(by="kill") if one.by == "itself" and self.was_killed(name) else one for name, one in endings.items()
-        }
+        victims = [name for name, one in endings.items() if one.by == "itself" and self.was_killed(name)]
+        return endings | {name: endings[name]._replace(by="kill") for name in victims}

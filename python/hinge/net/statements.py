@@ -8,7 +8,7 @@ from typing import Iterable, Iterator, Sequence
 
 from hinge.command import CONFIGURATION
 from hinge.run.words import LONGEST, Wrong, bare, first_word, length_of, placed, read_lines
-from hingetulip_words.advice import net_line
+from hingetulip_words.advice import line_meant
 from hingetulip_words.presets import preset
 
 
@@ -44,8 +44,7 @@ class Statement:
 
     def meant(self) -> str:
         """Returns the likely intended line if this isn't a net's line; lines for `hinge change` contain no moment."""
-        line = net_line(self.text)
-        return line if self.number else line.removeprefix("at ").partition(" ")[2]
+        return line_meant(self.text) if self.number else line_meant(f"at 0s {self.text[3:]}").replace("at 0s ", "")
 
     def refuse_twice(self, names: Sequence[str]) -> None:
         """Wrong: the line names a host twice."""
@@ -69,10 +68,13 @@ class Statement:
     def take_time(self, form: str) -> int:
         """Reads a time in ns. Wrong: the next word is no time."""
         word = self.take(form)
-        if word == "for" and (line := self.meant()):
-            raise self.wrong(word, f"no word before a length; write {line}")
-        with placed(self.place):
-            return length_of(word)
+        try:
+            with placed(self.place):
+                return length_of(word)
+        except Wrong:
+            if line := self.meant():
+                raise self.wrong(word, f"not a duration; write {line}") from None
+            raise
 
     def both_ways(self, text: str) -> tuple[str, str]:
         """Returns the words of a link's two ways, from `LINK`, `LINK / LINK` or `preset NAME`."""

@@ -19,7 +19,7 @@ TITLE_WIDTH, TITLE_LINES = 110, 3
 BELOW_WIDTH, BELOW_LINES = 165, 6
 BEHIND = 1.5  # matplotlib's order of a line that those of flows cover
 DASHES = {SOLID: "-", DASHED: "--", DOTTED: ":", MIXED: "-.", DENSE: (0, (8, 2))}
-NAME_ROOM = 0.078  # of a panel's height that a row of names takes
+NAME_ROOM, MOST_ROOM = 0.078, 0.7  # of a panel's height: what a row of names takes, and what all take at most
 LINE_INCHES, KEY_COLUMNS = 0.19, 2
 SHADE = {"color": "#d55e00", "alpha": 0.12, "lw": 0, "zorder": 0}  # of a time in which a link lost or held all packets
 LABEL_BOX = {"boxstyle": "round,pad=0.15", "facecolor": "#ffffff", "edgecolor": "none", "alpha": 0.75}
@@ -133,7 +133,7 @@ def make_room(axes: Axes, rows: int) -> None:
     """Room above the lines for so many rows of names."""
     if rows:
         low, high = axes.get_ylim()
-        axes.set_ylim(low, low + (high - low) / (1 - NAME_ROOM * rows - 0.03))
+        axes.set_ylim(low, low + (high - low) / (1 - min(NAME_ROOM * rows + 0.03, MOST_ROOM)))
 
 
 def name_flows(fig: Figure, column: Sequence[Axes], drawing: Drawing, several: bool, top: float) -> float:

@@ -26,7 +26,10 @@ def series_of(sources: list[Source], by: str, top: Optional[int], step_ms: Optio
     most = min(top or MOST_FLOWS, MOST_FLOWS)
     flows = [group(replay, by).largest(replay.packets.length, most) for replay in (replays if by == "flow" else replays[:1])]
     each = zip(sources, flows * (len(sources) // len(flows)))
-    return [series(one.replay, groups, step_ns, span, one.changes, one.lateness, one.bounds or ()) for one, groups in each]
+    return [
+        series(one.replay, groups, step_ns, span, one.changes, one.lateness, () if one.whole else one.bounds or ())
+        for one, groups in each
+    ]
 
 
 def provenance_of(sources: list[Source]) -> list[str]:
@@ -43,7 +46,8 @@ def of_run(source: Source) -> str:
     first = [next((text for _, text in source.changes if text.startswith(f"pipe {number} config")), None) for number in (1, 2)]
     if source.seed is None or None in first or {kind for kind, _ in source.replay.packets.targets} != {"pipe"}:
         return ""
-    up, down = (as_link(str(text).partition(" config")[2].strip()) or "no limit" for text in first)
+    configured = (as_link(str(text).partition(" config")[2].strip()) or "no limit" for text in first)
+    up, down = (source.words.get(option, text) for option, text in zip(("--up", "--down"), configured))
     return up if up == down else f"up {up}, down {down}"
 
 
@@ -52,12 +56,13 @@ def draw_sources(sources: list[Source], path: str, options: LookOptions) -> None
     result = series_of(sources, options.by, options.top, options.step)
     drawings = [drawing(one, provenance_of(sources)) for one in result]
     is_page, title = format_of(path) is Format.PAGE, options.title or of_run(sources[0])
-    explainer = Explainer(sources[0].parts) if sources[0].parts and (is_page or sources[0].seed) else None
+    parts = (sources[0].whole or sources[0]).parts
+    explainer = Explainer(parts) if parts and (is_page or sources[0].seed) else None
     if explainer is not None:
         spans = explainer.shades(result[0].steps.span)
         drawings[0] = replace(drawings[0], shades=tuple(sorted((begin / NS_PER_S, end / NS_PER_S) for begin, end in spans)))
     with written(path) as place:
         if is_page:
-            save_page(HtmlPage(drawings[0], teller(result[0], explainer), result[0]), str(place), title)
+            save_page(HtmlPage(drawings[0], teller(result[0], explainer, sources[0].rows), result[0]), str(place), title)
         else:
             save(drawings, str(place), format_of(path).kind, title)

@@ -27,12 +27,13 @@ TITLE_WIDTH, BELOW_WIDTH = 140, 200
 Part = dict[str, Any]  # what the page draws by one path
 
 
-def teller(flows_in_time: Series, explainer: Explainer | None) -> Callable[[int], str]:
-    """Returns the function for a packet's text: the paragraph of `why`, or without a configuration the report's values."""
+def teller(flows_in_time: Series, explainer: Explainer | None, rows: Optional[Integers] = None) -> Callable[[int], str]:
+    """Returns the function for a packet's text: the paragraph of `why`, or without a configuration the report's values. `rows`
+    contains the places of the packets among those that the explainer knows."""
     replay = flows_in_time.replay
     if explainer is not None:
         paragraph = explainer.paragraph
-        return lambda place: " ".join(paragraph(place + 1).split())
+        return lambda place: " ".join(paragraph((place if rows is None else int(rows[place])) + 1).split())
 
     def parts(place: int) -> str:
         at, start, due = int(replay.at[place]), int(replay.start[place]), int(replay.due[place])

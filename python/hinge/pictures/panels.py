@@ -161,19 +161,19 @@ class Panels:
         items, notes = list[Item](), list[str]()
         for name, (moments, lengths) in self.found.waiting.items():
             places, most = spread(np.arange(len(moments)), MOST_COUNTS), int(lengths.max(initial=0))
+            if not most:
+                continue
             color, _ = self.pipes[name]
             items.append(Line(f"{name}, at most {most:,}", moments[places], lengths[places], color, width=0.8))
             limit = self.found.limits.get(name)
-            if limit is None or not most:
+            if limit is None:
                 continue
             if limit.numbers is not None and np.nanmax(limit.numbers) <= MOST_ABOVE * most:
                 text, numbers = f"limit of {name}: {limit.told}", limit.numbers.astype(float)
                 items.append(Line(text, limit.moments, numbers, color, width=1.2, dash=DASHED, is_behind=True))
             else:
                 notes.append(f"limit of {name}: {limit.told}" + (", above this panel" if limit.numbers is not None else ""))
-        if not any(lengths.any() for _, lengths in self.found.waiting.values()):
-            return None
-        return Panel("Packets that wait", "s", "packets", items, notes, is_whole=True)
+        return Panel("Packets that wait", "s", "packets", items, notes, is_whole=True) if items else None
 
     def bars(self, name: str, counts: Integers, color: str, flow: Optional[int] = None) -> Bars:
         steps = self.found.steps

@@ -20,11 +20,11 @@ class Course:
         self.lines: list[Event] = []
         self.cuts: list[Event] = []  # and heals
         self.holds: list[Event] = []
-        self.turns: set[int] = set()  # the moments at which it may become another
+        self.turns: set[int] = set()  # the moments of cuts and heals
 
     def add(self, event: Event) -> None:
         insort({"line": self.lines, "hold": self.holds}.get(event.kind, self.cuts), event)
-        self.turns |= {event.moment, event.end}
+        self.turns |= {event.moment, event.end} if event.kind in ("cut", "heal") else set()
 
     def latest(self, moment: int) -> Optional[Event]:
         """The last line up to a moment."""

@@ -220,7 +220,7 @@ class Judge(OfHosts):
         if fields[0] in self.leaving and (place := (draws := self.leaving.pop(fields[0])).flipped()):
             self.flips[fields[0]] = draws, place
         hold, delay = self.held.pop(fields[0], (None, 0))
-        if hold and hold.target[1] not in self.shared() and int(fields[3]) < hold.end + min(delay, self.delay(hold.target)):
+        if hold and int(fields[3]) < hold.end + min(delay, self.delay(hold.target)):
             self.fault(int(fields[3]), f"{hold.where} didn't hold: a packet left before its end")
 
     def flipped(self, number: str, bit: int, bits: int) -> None:
@@ -233,15 +233,8 @@ class Judge(OfHosts):
 
     def no_flips(self) -> None:
         """All flipped bits have been told of the packets that have left."""
-        for number in self.flips:
-            self.fault(self.now, f"packet {number} left whole: the seed flips one of its bits")
-        self.flips.clear()
-
-    def shared(self) -> set[int]:
-        """Returns the pipes with queues or masks, which an outage that holds slows down."""
-        lines = [options_of(one.line) for one in self.meaning.events if one.kind == "line"]
-        queues = {int(options["pipe"]) for _, options in lines if options and "pipe" in options}
-        return queues | {target[1] for target, options in lines if options and "mask" in options}
+        while self.flips:
+            self.fault(self.now, f"packet {self.flips.popitem()[0]} left whole: the seed flips one of its bits")
 
     def remark(self, text: str) -> None:
         kind, _, rest = text.partition(",")
@@ -253,7 +246,6 @@ class Judge(OfHosts):
             self.middles.update({end: int(number)} if "~" in end else {})
             self.way_of.update({int(number): self.middles[start]} if start in self.middles else {})
         elif kind == "change":
-            self.remarks.append(f"at {seconds(self.now)} by the control socket: {rest}")
             self.add(rest)
         elif kind == "act" and rest.split()[0] not in ("cut", "heal"):
             self.note_act(self.now + self.late_act, *rest.split()[:2])
@@ -275,7 +267,6 @@ class Judge(OfHosts):
             if self.tells_changes:
                 self.fault(self.now, f"`{rest}` at {seconds(self.now)} isn't the file's, nor was the control socket asked for it")
             else:
-                self.remarks.append(f"at {seconds(self.now)} by the control socket: {rest}")
                 self.add(rest)
         self.asked = {rest} if kind == "change" else self.asked
         self.tells_changes |= kind == "format"
@@ -284,6 +275,7 @@ class Judge(OfHosts):
 
     def add(self, words: str) -> None:
         """Adds a request of the control socket. It means the same as in a file."""
+        self.remarks.append(f"at {seconds(self.now)} by the control socket: {words}")
         first = len(self.meaning.events)
         self.meaning.at(f"`{words}` by the control socket", f"start+{self.now}ns", words, DOUBT)
         self.meaning.spell()

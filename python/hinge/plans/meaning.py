@@ -25,7 +25,7 @@ NEMESES = {"kill-one": "kill", "crash-one": "crash", "stop-one": "stop"}  # the 
 
 
 def ns_of(text: str) -> int:
-    match = re.fullmatch(r"(\d+(?:\.\d+)?)(ns|us|ms|s|min|h|)", text)
+    match = re.fullmatch(rf"(\d+(?:\.\d+)?)({'|'.join(UNITS)})", text)
     if not match:
         raise Unread(f"{text!r} isn't a duration")
     return round(Fraction(match[1]) * UNITS[match[2]])

@@ -13,10 +13,11 @@ from hinge.plans.asked import OfRun, asked_of
 from hinge.plans.judged import Judge
 from hinge.plans.meaning import Meaning
 from hinge.plans.of_hosts import MS
+from hinge.plans.spelling import Unread
 from hinge.run.transcripts import files_of
 
 FRONT = 1 << 16  # bytes in which a run repeats its words, behind the seeds of its ways
-FIRST = ("#,main,", "#,drawn,", "#,asked,")  # remarks that a meaning is of
+FIRST = ("#,main,", "#,drawn,", "#,asked,", "#,format,")  # remarks that a meaning is of
 Remarks = dict[str, list[str]]
 
 
@@ -50,12 +51,16 @@ def judged_run(path: str) -> Optional[Judge]:
 
 
 def meaning_of_net(path: str, main: Optional[int], remarks: Remarks) -> Meaning:
-    return Meaning(path, next(map(int, remarks["main"]), main), remarks["drawn"]).read()
+    """Returns a net file's meaning. Unread: neither the transcript nor a summary contains the main command's moment."""
+    meaning = Meaning(path, next(map(int, remarks["main"]), main), remarks["drawn"])
+    if meaning.main is None and not remarks["format"] and any(words[0] == "main" for _, words in meaning.statements()):
+        raise Unread("neither the transcript nor a summary says when the main command began")
+    return meaning.read()
 
 
 def judged_by(path: str, files: list[str], read: Callable[[Remarks], Meaning], limit: int) -> Judge:
     try:
-        remarks: Remarks = {"main": [], "drawn": [], "asked": []}
+        remarks: Remarks = {"main": [], "drawn": [], "asked": [], "format": []}
         for kind, text in (line.rstrip("\r\n").split(",", 2)[1:] for line in transcript(files[0]) if line.startswith(FIRST)):
             remarks[kind].append(text)
         judge = Judge(read(remarks), limit)

@@ -3,7 +3,6 @@
 from __future__ import annotations
 
 from dataclasses import dataclass
-from functools import cached_property
 from itertools import takewhile
 from typing import Callable, Optional
 
@@ -21,7 +20,6 @@ LAST_MOMENT = 2**62  # at which a replay takes what has left
 LOSS_PARTS = 2**31
 LOW_31_BITS = LOSS_PARTS - 1
 BYTES_PER_KBYTE = 1024
-WORDS_OF_NOBODY = 0, 255 << 48  # the words of the five-tuple by which a host keeps a link busy in an outage
 
 
 @dataclass
@@ -73,10 +71,10 @@ class Explainer:
 
         def is_same(place: int) -> bool:
             setting = spells[place].setting
-            return place in self.of_outages or setting is not None and value(setting) == wanted
+            return place in self.parts.of_outages or setting is not None and value(setting) == wanted
 
         first = at - sum(1 for _ in takewhile(is_same, reversed(places[:at])))
-        first += sum(1 for _ in takewhile(self.of_outages.__contains__, places[first:at]))
+        first += sum(1 for _ in takewhile(self.parts.of_outages.__contains__, places[first:at]))
         end = at + 1 + sum(1 for _ in takewhile(is_same, places[at + 1 :]))
         return spells[places[first]].moment if first else None, spells[places[end]].moment if end < len(places) else None
 
@@ -87,18 +85,8 @@ class Explainer:
             return "" if end is None else f"in force until {seconds(end)}"
         return f"in force from {seconds(begin)} {'on' if end is None else f'to {seconds(end)}'}"
 
-    @cached_property
-    def of_nobody(self) -> int:
-        """Returns the number of the five-tuple for packets without a sender."""
-        return self.packets.words.number_of(*WORDS_OF_NOBODY) if self.is_history and self.packets.words else UNKNOWN
-
-    @cached_property
-    def of_outages(self) -> set[int]:
-        """Returns the spells whose bandwidth only made an outage's packet take so long."""
-        return {*self.parts.carrier[self.packets.five_tuple == self.of_nobody].tolist()} - {UNKNOWN}
-
     def is_outage(self, place: int) -> bool:
-        return bool(self.packets.five_tuple[place] == self.of_nobody and self.packets.word[place] == KEPT)
+        return bool(self.packets.five_tuple[place] == self.parts.of_nobody and self.packets.word[place] == KEPT)
 
     def shades(self, end: int) -> set[tuple[int, int]]:
         """From when to when a pipe lost all packets, which it didn't from the beginning, or held all."""
@@ -107,7 +95,7 @@ class Explainer:
             for number, spell in enumerate(self.parts.configuration.spells)
             if spell.setting is not None and spell.setting.loss == LOSS_PARTS
         ]
-        held = np.flatnonzero((self.packets.five_tuple == self.of_nobody) & self.replay.is_out)
+        held = np.flatnonzero((self.packets.five_tuple == self.parts.of_nobody) & self.replay.is_out)
         begins, ends = self.replay.start[held], (self.replay.start + self.parts.transmission)[held]
         return {*zip(begins.tolist(), ends.tolist()), *((since, until or end) for since, until in lossy if since is not None)}
 
@@ -198,7 +186,7 @@ class Explainer:
                 f"{ms(int(wait.costs[0]))} until {f'the end of {self.outage(first)}' if self.is_outage(first) else before}"
             )
         places, costs = wait.places[int(wait.first_was_sending) :], wait.costs[int(wait.first_was_sending) :]
-        is_outage = (self.packets.five_tuple[places] == self.of_nobody) & (self.packets.word[places] == KEPT)
+        is_outage = (self.packets.five_tuple[places] == self.parts.of_nobody) & (self.packets.word[places] == KEPT)
         lines += [f"{ms(cost)} for {self.outage(one)}" for one, cost in zip(places[is_outage].tolist(), costs[is_outage].tolist())]
         places, costs = places[~is_outage], costs[~is_outage]
         flows = self.replay.flow[places]

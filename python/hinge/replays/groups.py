@@ -33,7 +33,9 @@ class Groups:
         least = np.partition(sums, [len(sums) - most])[len(sums) - most] if len(sums) > most else 0
         candidates = np.flatnonzero(sums >= least)  # which are few, so that no million of flows is sorted
         part = candidates[np.argsort(-sums[candidates], kind="stable")][:most]
-        number, rest = np.full(len(self.names), len(part)), len(self.names) - len(part)
+        is_there = np.bincount(self.of, minlength=len(self.names)) > 0
+        part = part[is_there[part]]
+        number, rest = np.full(len(self.names), len(part)), int(np.count_nonzero(is_there)) - len(part)
         number[part] = np.arange(len(part))
         names = [self.names[i] for i in part]
         return Groups(number[self.of], names + ([f"{rest:,} others"] if rest else []), rest > 0, self.of)

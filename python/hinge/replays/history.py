@@ -2,9 +2,10 @@
 
 from __future__ import annotations
 
+import os
 from typing import Optional, Sequence
 
-from hinge.border.files import untrusted
+from hinge.border.files import read_front, untrusted
 from hinge.captures.addresses import addresses_file
 from hinge.checks.lines import judged_lines
 from hinge.command import ROWS, USAGE, Fault, say
@@ -12,9 +13,11 @@ from hinge.outputs import refuse_inputs
 from hinge.replays.columns import HISTORY_COLUMNS, REPORT_COLUMNS, Change, read_told
 from hinge.replays.links import Configuration
 from hinge.replays.record_lines import is_history_file
-from hinge.replays.remarks import addresses_in, flips_in, lateness_in, seed_in
+from hinge.replays.remarks import addresses_in, flips_in, lateness_in, seed_in, words_in
 from hinge.replays.replay import Replay, packets_of
 from hinge.replays.source import Source, of_reports
+
+FRONT = 1 << 16  # bytes, in which the words of a run stand
 
 
 def spelled_by_program(path: str, changes: list[Change]) -> list[Change]:
@@ -40,7 +43,8 @@ def read_history(path: str) -> Source:
         own = {name: columns[name] for name in (*REPORT_COLUMNS, "submitted", "handed")}
         replay = Replay(path, packets, **own, flips=flips_in(history.remarks))
         known = seed_in(history.remarks), lateness_in(history.remarks)
-        return Source(replay, (path,), Configuration(path, changes), is_steady, True, cut, *known)
+        words = words_in(read_front(path, FRONT)) if os.path.isfile(path) else {}
+        return Source(replay, (path,), Configuration(path, changes), is_steady, True, cut, *known, words)
 
 
 def read_sources(

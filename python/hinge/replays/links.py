@@ -19,6 +19,7 @@ from hinge.replays.replay import NONE, Replay
 
 NS_PER_MS, BITS_NS = 10**6, 8 * 10**9
 RECORD, MOMENT, UNKNOWN = 0, 1, -1
+WORDS_OF_NOBODY = 0, 255 << 48
 BEFORE_ALL = -1  # the record of a command that came before each call
 
 
@@ -128,6 +129,17 @@ class Parts:
             later = self.configuration.places(target, replay.start[rows], MOMENT)
             found[rows] = np.where(replay.start[rows] > replay.at[rows], later, on_coming)
         return found
+
+    @cached_property
+    def of_nobody(self) -> int:
+        """The five-tuple's number for packets with which a host keeps a link busy in an outage."""
+        words = self.replay.packets.words if self.configuration.path == self.replay.path else None
+        return words.number_of(*WORDS_OF_NOBODY) if words else UNKNOWN
+
+    @cached_property
+    def of_outages(self) -> set[int]:
+        """The spells that only slow an outage's packet."""
+        return {*self.carrier[self.replay.packets.five_tuple == self.of_nobody].tolist()} - {UNKNOWN}
 
     @cached_property
     def bandwidth(self) -> Integers:

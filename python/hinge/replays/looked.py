@@ -15,7 +15,7 @@ from hinge.pictures.text_table import write_bounds, write_text
 from hinge.replays.history import read_sources
 from hinge.replays.parting import parting
 from hinge.replays.remarks import KINDS
-from hinge.replays.source import Source
+from hinge.replays.source import Source, seen
 from hinge.run.summary import FORMAT
 
 DIFFERENT = 1  # the exit status
@@ -71,7 +71,7 @@ def judge_run(path: str) -> None:
 def look(options: LookOptions, most_reports: int) -> None:
     """Prints the tables and writes the files. Modules for nets and pictures are loaded only when needed."""
     inputs = [options.capture, options.index] if options.capture else []
-    sources = read_sources(options.source, options.config, options.outputs, most_reports, inputs)
+    sources = [*map(seen, read_sources(options.source, options.config, options.outputs, most_reports, inputs))]
     for name in options.files(*PICTURES, Format.PAGE):
         from hinge.pictures.drawn import draw_sources
 

@@ -41,6 +41,11 @@ def seed_in(data: bytes) -> Optional[str]:
     return next((fields[0] for fields in remarks_of(data, b"seed") if fields[0].isdecimal()), None)
 
 
+def words_in(data: bytes) -> dict[str, str]:
+    """Returns the words of --up and --down, from the remarks `#,asked,OPTION,0,WORDS`."""
+    return {fields[0]: ",".join(fields[2:]) for fields in remarks_of(data, b"asked") if fields[0] in ("--up", "--down")}
+
+
 def flips_in(data: bytes) -> dict[int, tuple[int, int]]:
     """Returns each flipped bit by its packet, with the number of bits, from the remarks `#,corrupt,PACKET,BIT,BITS,CONTENT`."""
     flips = (fields[:3] for fields in remarks_of(data, b"corrupt") if all(map(is_number, fields[:3])) and len(fields) == 4)

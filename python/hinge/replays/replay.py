@@ -17,7 +17,6 @@ from hinge.replays.units import socket_address
 
 __all__ = ["EVENTS", "EVENT_NAMES", "FULL", "HELD", "LOST", "NONE", "OUT", "Packets", "Replay", "read_packets", "read_report"]
 PROTOCOLS = {1: "icmp", 6: "tcp", 17: "udp", 58: "icmpv6", 132: "sctp"}
-OF_NOBODY = ("0.0.0.0", "0.0.0.0", 255, 0, 0)  # by which a host keeps a link busy in an outage
 
 
 @dataclass(frozen=True)
@@ -40,8 +39,6 @@ class Packets:
     def tuple_name(self, number: int) -> str:
         """Returns a five-tuple in the usual notation."""
         src, dst, proto, sport, dport = self.tuples[number]
-        if (src, dst, proto, sport, dport) == OF_NOBODY:
-            return "an outage's packets, which nobody sent"
         name = PROTOCOLS.get(proto, f"proto {proto}")
         if not (sport or dport):
             return f"{name} {src} > {dst}"

@@ -2,14 +2,16 @@
 
 from __future__ import annotations
 
-from dataclasses import dataclass, field
+from dataclasses import dataclass, field, replace
 from functools import cached_property
 from typing import Iterator, Optional
 
 from hinge.border.terminal import several
 from hinge.command import USAGE, Fault
-from hinge.lazy import few as np
+from hinge.lazy import Integers, few as np
 from hinge.replays.bounds import Bounded, bounds
+from hinge.replays.columns import REPORT_COLUMNS
+from hinge.replays.link_order import LAST_OF_LINKS, LinkOrder
 from hinge.replays.links import Configuration, Parts, read_configuration
 from hinge.replays.remarks import Lateness, late_remark
 from hinge.replays.replay import NONE, Replay, read_packets, read_report
@@ -27,6 +29,9 @@ class Source:
     cut: Optional[int] = None  # the last line of a history that has no end
     seed: Optional[str] = None  # of what a live host drew, if it told
     lateness: Lateness = field(default_factory=dict)  # of a live host, if it told
+    words: dict[str, str] = field(default_factory=dict)  # of a run's --up and --down
+    whole: Optional[Source] = None  # with the rows that are left out here, and the places there of all others
+    rows: Optional[Integers] = None
 
     @property
     def changes(self) -> list[tuple[int, str]]:
@@ -84,3 +89,53 @@ def of_reports(packets_path: str, reports: list[str], config: Optional[str]) -> 
     configuration = read_configuration(config) if config else None
     files = [(packets_path, report, *([config] if config else [])) for report in reports]
     return [Source(read_report(report, packets), names, configuration) for report, names in zip(reports, files)]
+
+
+def seen(source: Source) -> Source:
+    """Returns a run's packets as its programs send them: a packet with jitter once, though two pipes pass it, and no outage's packet."""
+    parts = source.parts if source.is_history else None
+    if parts is None:
+        return source
+    again, five_tuple = LinkOrder(parts).further, source.replay.packets.five_tuple
+    is_own = five_tuple != parts.of_nobody
+    for place in again.values():
+        is_own[place] = False
+    if is_own.all():
+        return source
+    rows, bounds = np.flatnonzero(is_own), source.bounds
+    replay = chosen(joined(source.replay, again), rows)
+    configuration = without_help(parts, bool(again))
+    result = replace(source, replay=replay, configuration=configuration, whole=source, rows=rows)
+    # The whole source was checked, and the proved bounds are on the delay of a pipe, not of several.
+    bounds = bounds and [one for one in bounds if not again or one.bound.pipe <= LAST_OF_LINKS]
+    result.__dict__.update(parts=Parts(replay, configuration), bounds=bounds)
+    return result
+
+
+def joined(replay: Replay, again: dict[int, int]) -> Replay:
+    """Returns a replay in which each packet leaves at the end of its last pass."""
+    event, due = replay.event.copy(), replay.due.copy()
+    for first, last in sorted(again.items(), reverse=True):  # so that the later passes of a packet are joined before
+        event[first], due[first] = event[last], due[last]
+    return replace(replay, event=event, due=due)
+
+
+def chosen(replay: Replay, rows: Integers) -> Replay:
+    """Returns a replay with only these rows."""
+    packets = replay.packets
+    numbers, target = np.unique(packets.target[rows], return_inverse=True)
+    columns = {name: getattr(packets, name)[rows] for name in ("moment", "five_tuple", "length", "word")}
+    own = replace(packets, **columns, target=target, targets=[packets.targets[number] for number in numbers.tolist()])
+    results = {name: getattr(replay, name)[rows] for name in (*REPORT_COLUMNS, "submitted", "handed")}
+    return Replay(replay.path, own, **results, flips=replay.flips)
+
+
+def without_help(parts: Parts, has_passes: bool) -> Configuration:
+    """Returns the configuration without second passes, and without lines that slow a pipe down in an outage."""
+    lines = parts.configuration
+    changes = [
+        change
+        for place, (change, spell) in enumerate(zip(lines.changes, lines.spells))
+        if place not in parts.of_outages and not (has_passes and spell.target[1] > LAST_OF_LINKS)
+    ]
+    return Configuration(lines.path, changes)

@@ -2,15 +2,13 @@
 
 from __future__ import annotations
 
-from bisect import bisect_right
 from heapq import merge
-from itertools import chain
+from itertools import chain, islice
 from operator import itemgetter
 from typing import Iterable, Iterator, NamedTuple, Sequence, Union
 
-from hinge.arguments import is_number
-from hinge.run.traces import Rates, outage_rate
-from hinge.run.words import LAST_MOMENT, Target, Wrong, around_bandwidth, configures, target_of, with_bandwidth
+from hinge.run.traces import Rates
+from hinge.run.words import LAST_MOMENT, Target, Wrong, around_bandwidth, configures, target_of
 
 
 class Change(NamedTuple):
@@ -39,24 +37,44 @@ Happening = Union[Change, Outage]
 
 
 class Bandwidths(NamedTuple):
-    """The changes of a pipe's bandwidth by a trace, with the pipe's line; each is made when it is read."""
+    """The changes of a pipe's bandwidth by a trace, with the pipe's line; each is made when it is read. A rate of 0 is an outage until
+    the next rate."""
 
+    pipe: int
     text: str
     rates: Rates
 
     def changes(self) -> Iterator[Change]:
         front, back = around_bandwidth(self.text)
         for moment, rate in self.rates:
-            yield Change(moment, f"{front} bw {rate}bit/s{back}")
+            if rate:
+                yield Change(moment, f"{front} bw {rate}bit/s{back}")
+
+    def outages(self) -> Iterator[Outage]:
+        for (moment, rate), end in zip(self.rates, chain(islice(self.rates.moments, 1, None), [LAST_MOMENT])):
+            if not rate and end > moment:
+                yield Outage(moment, end - moment, self.pipe)
+
+
+def joined(outages: Iterable[Outage]) -> Iterator[tuple[int, int]]:
+    """Yields the start and end of a pipe's outages, which are sorted. Overlapping outages are merged."""
+    begin = end = -1
+    for moment, length, _ in outages:
+        if moment > end:
+            if end >= 0:
+                yield begin, end
+            begin, end = moment, moment + length
+        end = max(end, moment + length)
+    if end >= 0:
+        yield begin, end
 
 
 class Changes:
     """All changes of a run, each kind in the order of the command line."""
 
-    def __init__(self, table: dict[Target, str], longest: int, first: int = 1) -> None:
-        """`table` contains the lines at the start, and `longest` the length of the longest packet in bytes. `first` is the
-        number of the first cut; a number must be unique within a run."""
-        self.begun, self.longest, self.latest = table, longest, first - 1
+    def __init__(self, longest: int, first: int = 1) -> None:
+        """The longest packet has `longest` bytes. `first` is the number of the first cut; a number must be unique within a run."""
+        self.longest, self.latest = longest, first - 1
         self.lines: list[Change] = []
         self.traces: list[tuple[int, Bandwidths]] = []  # each behind so many lines
         self.outages: list[Outage] = []
@@ -87,63 +105,34 @@ class Changes:
         end = [Change(moment + length, f"open {pipe} {self.latest}")] * (moment + length < LAST_MOMENT)
         return [Change(moment, f"cut {pipe} {self.latest}{port}"), *end]
 
-    def lines_of(self, pipe: int) -> list[Change]:
-        """Returns a pipe's lines, sorted by moment, without its outages. The first line applies from the start."""
-        target = Target("pipe", pipe)
-        first = [Change(0, self.begun[target])] if target in self.begun else []
-        return first + sorted((one for one in self.every() if target_of(one.line) == target), key=lambda one: one.moment)
+    def outages_by_pipe(self) -> dict[int, tuple[list[Outage], list[Bandwidths]]]:
+        """Returns each pipe's outages from lines, and its traces with outages."""
+        result: dict[int, tuple[list[Outage], list[Bandwidths]]] = {}
+        for one in self.outages:
+            result.setdefault(one.pipe, ([], []))[0].append(one)
+        for _, trace in self.traces:
+            if 0 in trace.rates.rates:
+                result.setdefault(trace.pipe, ([], []))[1].append(trace)
+        return result
 
-    def shared(self) -> set[int]:
-        """Returns the pipes with queues or masks. Their packets may start in a different order than they arrived."""
-        members = set()
-        for line in [*self.begun.values(), *(change.line for change in self.lines), *(trace.text for _, trace in self.traces)]:
-            if "mask" not in line and "queue" not in line[: len("ipfw queue")]:
-                continue
-            words, target = line.split(), target_of(line)
-            if target.kind == "queue" and "pipe" in words[:-1]:
-                number = words[words.index("pipe") + 1]
-                members |= {int(number)} if is_number(number) else set()
-            elif target.kind == "pipe" and "mask" in words:
-                members.add(target.number)
-        return members
+    def held(self) -> dict[int, Iterator[tuple[int, int]]]:
+        """Returns the starts and ends of each pipe's outages."""
+        return {
+            pipe: joined(merge(sorted(own), *(trace.outages() for trace in traces)))
+            for pipe, (own, traces) in sorted(self.outages_by_pipe().items(), key=itemgetter(0))
+        }
 
-    def holds(self) -> list[tuple[int, int, int]]:
-        """Returns the outages of pipes with a single queue, as pipe, start and end. Overlapping outages are merged."""
-        items: list[tuple[int, int, int]] = []
-        common = self.shared() if self.outages else ()
-        for hold in sorted((one.pipe, one.moment, one.moment + one.length) for one in self.outages if one.pipe not in common):
-            pipe, begin, end = hold
-            if items and items[-1][0] == pipe and begin <= items[-1][2]:
-                items[-1] = (pipe, items[-1][1], max(end, items[-1][2]))
-            else:
-                items.append(hold)
-        return items
+    def holds(self) -> Iterator[tuple[int, int, int]]:
+        """Yields the outages as pipe, start and end."""
+        return ((pipe, begin, end) for pipe, holds in self.held().items() for begin, end in holds)
 
-    def of_outage(self, outage: Outage, lines: list[Change], moments: list[int]) -> list[Change]:
-        """Returns the changes that an outage makes to a pipe with these lines and moments."""
-        before, after = (lines[bisect_right(moments, moment) - 1].line for moment in (outage.moment, outage.moment + outage.length))
-        if not configures(before):
-            return []  # it was deleted before
-        end = [Change(outage.moment + outage.length, after)] * configures(after)
-        slow = with_bandwidth(before, outage_rate(outage.length, self.longest))
-        return [Change(outage.moment, slow), Change(outage.moment, f"outage {outage.pipe} {self.longest}"), *end]
-
-    def of_outages(self) -> Iterator[Change]:
-        if not self.outages:
-            return
-        common = self.shared()
-        texts = {one.pipe: f"outage {one.pipe} {self.longest}" for one in self.outages}
-        for pipe, begin, _ in self.holds():
-            yield Change(begin, texts[pipe])
-        for pipe in sorted({outage.pipe for outage in self.outages} & common):
-            lines = self.lines_of(pipe)
-            moments = [line.moment for line in lines]
-            for outage in self.outages:
-                if outage.pipe == pipe:
-                    yield from self.of_outage(outage, lines, moments)
+    def of_held(self, pipe: int, holds: Iterable[tuple[int, int]]) -> Iterator[Change]:
+        text = f"outage {pipe} {self.longest}"
+        return (Change(begin, text) for begin, _ in holds)
 
     def all(self) -> Iterable[Change]:
         """Returns all changes, sorted by moment. At the same moment, an outage comes after other changes."""
         by_moment = itemgetter(0)
         parts = (sorted(part, key=by_moment) if isinstance(part, list) else part for part in self.in_order())
-        return merge(*parts, sorted(self.of_outages(), key=by_moment), key=by_moment)
+        outages = (self.of_held(pipe, holds) for pipe, holds in self.held().items())
+        return merge(*parts, *outages, key=by_moment)

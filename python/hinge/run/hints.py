@@ -9,6 +9,7 @@ import shutil
 from itertools import takewhile
 from typing import Iterator, Optional, Sequence
 
+from hinge.misplaced import kind_of, line_for
 from hinge.run.settings import RunOptions
 from hingetulip_words.link import corrected
 
@@ -19,6 +20,8 @@ SERVERS = {"babeld": "babeld", "bird": "bird2", "etcd": "etcd-server", "keepaliv
 HOSTS = "/etc/hosts"
 URL = re.compile(r"[a-z][a-z0-9+.-]*://(?:[^@/]*@)?(\[[^]]*\]|[^/:]*)(?::(\d+))?.*", re.IGNORECASE)
 HOST = re.compile(r"(?=.*[.:])[\w.:-]+\.?|localhost", re.ASCII)
+AT_SERVER = re.compile(r"(?:^|[/@])server(?:$|[:/])")
+WITHOUT_SERVER = ("ping", "mtr", "traceroute")  # which the system itself answers
 LOCAL = re.compile(r"localhost|127\..*|::1", re.IGNORECASE)
 OWN = re.compile(r"(server|client|localhost|127\..*|::1|10\.8\..*|fd08:.*)", re.IGNORECASE)
 
@@ -37,6 +40,8 @@ def link_as_command(command: Sequence[str]) -> Optional[str]:
 def lacking(command: Sequence[str]) -> Optional[str]:
     """Returns advice if the system lacks the command's program, or /etc/hosts, which is needed for the name `server`."""
     names, ways = list[str](), list[str]()
+    if command and os.path.isfile(command[0]) and not os.access(command[0], os.X_OK) and (kind := kind_of(command[0])):
+        return f"{command[0]} is {line_for('run', kind, command[0])}"
     if command and "/" not in command[0] and shutil.which(command[0], os.F_OK) is None:
         package = (PACKAGES | SERVERS).get(command[0])
         names.append(command[0] if package else f"{command[0]} on the path")
@@ -77,6 +82,10 @@ def hints(run: RunOptions) -> Iterator[str]:
     far = None if run.quiet else far_host(run.command)
     if far is not None and not (run.outside or run.outside_loopback) and run.netns is None and run.net is None:
         yield f"{far}: behind the link is the host `server` alone; --outside leads to the rest of the network"
+    first = os.path.basename(run.command[0]) if run.command else ""
+    is_client = first in PACKAGES and first not in WITHOUT_SERVER and any(map(AT_SERVER.search, run.command[1:]))
+    if is_client and not (run.quiet or run.server or run.to or run.netns):
+        yield "`server` runs no program: write --server COMMAND, for example --server 'iperf3 -s -1'"
     for name, port in asked_hosts(run.command):
         if LOCAL.fullmatch(name) and run.netns is None and port not in map(str, run.to):
             to = (

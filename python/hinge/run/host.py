@@ -21,6 +21,7 @@ if TYPE_CHECKING:
 NAME = "hinge-link"
 HERE = Path(__file__).resolve().parent
 POLL = 0.0005  # s between looks at the page
+PIECE = 1 << 16  # letters of a plan
 
 
 def program() -> str:
@@ -46,7 +47,8 @@ def plan_file(text: str) -> int:
     with os.fdopen(
         os.dup(descriptor), "w", encoding="utf-8", errors="surrogateescape"
     ) as file:  # which may name files of any bytes
-        file.write(text)
+        for at in range(0, len(text), PIECE):  # since as much of a text as is written at once is copied
+            file.write(text[at : at + PIECE])
     os.lseek(descriptor, 0, os.SEEK_SET)
     return descriptor
 

@@ -25,13 +25,10 @@ def listed(text: str) -> str:
 MODELS = {"gilbert": gilbert, "list": listed}
 
 
-def remedy(text: str) -> str:
-    """Returns advice if the text is a loss rate, which belongs into the link."""
+def rate_of(text: str) -> str:
+    """Returns the percentage if the text is a loss rate, which belongs into the link."""
     rate = re.fullmatch(r"(\d+(?:\.\d+)?|\.\d+)(%?)", text)
-    if rate is None:
-        return ""
-    percent = Fraction(rate[1]) * (1 if rate[2] or Fraction(rate[1]) > 1 else 100)
-    return f"; a rate of loss is a word of a link; write loss {plain(percent)}% behind the others of --link"
+    return plain(Fraction(rate[1]) * (1 if rate[2] or Fraction(rate[1]) > 1 else 100)) + "%" if rate else ""
 
 
 def loss_lines(text: str, link: int = 0) -> dict[int, str]:
@@ -47,7 +44,11 @@ def loss_lines(text: str, link: int = 0) -> dict[int, str]:
             raise ValueError
         return {way: f"{kind} {way} {MODELS[kind](value)}" for way in (2 * link + way for way in ways)}
     except ValueError as wrong:
-        why = str(wrong) if "twice" in str(wrong) else f"none of gilbert:P,R[,B[,G]] and list:N,N-M{remedy(text)}"
+        why = (
+            str(wrong)
+            if "twice" in str(wrong)
+            else f"none of gilbert:P,R[,B[,G]] and list:N,N-M{f'; write a rate in the link: 20ms loss {rate_of(text)}' * bool(rate_of(text))}"
+        )
         raise Wrong(f"--loss {text}: {why}") from None
 
 

@@ -27,6 +27,12 @@ def socket_of(text: str) -> str:
     return path if os.path.exists(path) else text
 
 
+def running() -> str:
+    """Returns the names of this user's runs, for a refusal."""
+    names = sorted(os.listdir(own_folder())) if os.path.isdir(folder_of_names()) else []
+    return f"; these run: {', '.join(names)}" if names else ", from `hinge up` or --control"
+
+
 def own_folder() -> str:
     """Creates the folder for names, and returns it. Wrong: other users may write there, and could answer in the run's place."""
     place = folder_of_names()

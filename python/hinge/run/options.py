@@ -9,6 +9,7 @@ from hinge.arguments import RULE, is_number
 from hinge.border.terminal import show
 from hinge.command_line import Joined, Parser
 from hinge.foreign_options import OF_LINK, OPTIONS
+from hingetulip_words.values import EXAMPLES
 
 MOST = 250_000_000  # bytes of a part of a transcript: an audit reads at most 268,435,456
 
@@ -26,6 +27,18 @@ def seed(text: str) -> int:
     if not (is_number(text) and int(text) < 2**62):
         raise argparse.ArgumentTypeError(f"{text!r} isn't a number below 2^62")
     return int(text)
+
+
+def preset_name(text: str) -> str:
+    from hingetulip_words.link import corrected
+    from hingetulip_words.presets import preset
+
+    try:
+        preset(text)
+        return text
+    except ValueError as wrong:
+        link = corrected(text)
+        raise argparse.ArgumentTypeError(f"{text!r}: not a preset; write --link {link!r}" if link else str(wrong)) from None
 
 
 class ListPresets(argparse.Action):
@@ -62,6 +75,18 @@ class Foreign(argparse.Action):
             parser.foreign.append((option, values or ""))
 
 
+class Model(argparse._AppendAction):
+    """A loss model, or a rate, which the link takes."""
+
+    def __call__(self, parser: argparse.ArgumentParser, namespace: argparse.Namespace, values: Any, option: Any = None) -> None:
+        from hinge.run.losses import rate_of
+
+        if isinstance(parser, Parser) and rate_of(values):
+            parser.foreign.append(("--loss", rate_of(values)))
+        else:
+            super().__call__(parser, namespace, values, option)
+
+
 def add_foreign(parser: Parser) -> None:
     for option in (*OF_LINK, *OPTIONS):
         action = parser.add_argument(option, action=Foreign, default=argparse.SUPPRESS, help=argparse.SUPPRESS)
@@ -81,12 +106,15 @@ def add_link(parser: Parser) -> None:
         "--up",
         metavar="LINK",
         action=Joined,
-        help="towards the server, as '2Mbit/s 20ms queue 100 loss 1%% jitter 5ms duplicate 1%% corrupt 1%%': pipe 1",
+        help=f"towards the server, as '{' '.join(EXAMPLES)}': pipe 1".replace("%", "%%"),
     )
     link.add_argument("--down", metavar="LINK", action=Joined, help="from the server: pipe 2")
     link.add_argument("--link", metavar="LINK", action=BothWays, default=argparse.SUPPRESS, help="both ways")
     link.add_argument(
-        "--preset", metavar="NAME", help="the link of a name, as lte, in each direction of which nothing else is said"
+        "--preset",
+        metavar="NAME",
+        type=preset_name,
+        help="the link of a name, as lte, in each direction of which nothing else is said",
     )
     link.add_argument(
         "--list-presets", action=ListPresets, nargs=0, default=argparse.SUPPRESS, help="print the presets and their figures"
@@ -123,7 +151,7 @@ def add_changes(changes: argparse._ArgumentGroup) -> None:
     changes.add_argument(
         "--loss",
         metavar="MODEL",
-        action="append",
+        action=Model,
         default=[],
         help="[up:|down:]gilbert:P,R[,B[,G]] (to bad, to good, lost in bad 1, in good 0) or list:3,10-20 (packets, from 1)",
     )

@@ -91,17 +91,17 @@ class Outside:
         os.close(read_end)
 
     def join_what_is_told(self, read_end: int) -> int:
-        """Reads `PROCESS OWN!` from the pipe, the first process of the rooms once that process is in the host's room, and becomes
-        the program that connects the room; returns the status on failure."""
+        """Reads `PROCESS OWN`, of the first process of the rooms, and `!` of that process once it is in the host's room, whichever comes
+        first, and becomes the program that connects the room; returns the status on failure."""
         die_with_parent()
         os.close(self.write_end)
         text = b""
-        while not text.endswith(b"!"):
+        while b"!" not in text or text == b"!":
             more = os.read(read_end, 100)
             if not more:
                 return 0
             text += more
-        process, own_users = text[:-1].decode().split()
+        process, own_users = text.replace(b"!", b"").decode().split()
         words = words_for(process, own_users == "True", self.ipv6, self.loopback, self.outer)
         os.dup2(self.said, 1)
         os.dup2(self.said, 2)

@@ -20,10 +20,9 @@ from hinge.arguments import is_number
 from hinge.border.files import untrusted
 from hinge.run.changes import Bandwidths, Change, Changes, Happening, Outage, refuse_second
 from hinge.run.options import MOST
-from hinge.run.traces import MAHIMAHI_BYTES, MOST_BINS, MS, Moments, Rates, counted, read_trace, spelled
+from hinge.run.traces import MAHIMAHI_BYTES, MOST_BINS, MS, Moments, counted, read_trace, spelled
 from hinge.run.verdict import Awaited
 from hinge.run.words import (
-    LAST_MOMENT,
     SECOND,
     Target,
     Wrong,
@@ -33,10 +32,12 @@ from hinge.run.words import (
     is_line,
     of_link,
     placed,
+    read_as_change,
     read_lines,
     target_of,
     with_bandwidth,
 )
+from hingetulip_words.advice import CHANGES, line_meant
 from hingetulip_words.link import Extra, Link, WordError, read_link, refusal
 
 if TYPE_CHECKING:
@@ -73,12 +74,13 @@ class Plan:
         self.decided: dict[int, str] = {}  # the ways on which a model decides about losses, and its name
         self.current: dict[Target, str] = {}  # the lines at the beginning
         self.longest = longest
-        self.changes = Changes(self.current, longest)
-        self.behind_main = Changes(self.current, longest, FIRST_BEHIND_MAIN)  # by moments of the main command
+        self.changes = Changes(longest)
+        self.behind_main = Changes(longest, FIRST_BEHIND_MAIN)  # by moments of the main command
         self.extras: dict[int, tuple[Extra, list[int]]] = {}  # by ways, with the pipes of the second pass, those of jitter first
         self.copied: set[int] = set()  # the ways that packets may enter twice
         self.losses: dict[int, str] = {}  # of words of ways, at any moment
         self.silent: set[Target] = set()  # queues of which a line says nothing of a loss
+        self.masks: set[int] = set()  # pipes of which a line has a mask
         self.mapped: dict[int, set[Target]] = {}  # where rules send packets of each way
         self.rules: list[str] = []  # the words of each line of a rule
         self.events: list[TimedEvent] = []  # of a run, in which they change the link
@@ -111,13 +113,18 @@ class Plan:
         if why := refusal(self.begun(way), words.options, " ".join(filter(None, (event.ends, side, "{}")))):
             raise Wrong(f"'{event.words}': {why}")
 
-    def take_queue(self, line: str) -> None:
-        """Notes a queue's line without `plr`. Wrong: a way whose words lose packets sends some to the queue."""
+    def take(self, line: str) -> None:
+        """Notes a queue's line without `plr`, or a pipe's with a mask. Wrong: a way whose words lose packets sends some to the queue, or
+        an outage holds the pipe."""
         target = target_of(line)
         if target.kind == "queue" and configures(line) and "plr" not in line.split():
             for way, targets in self.mapped.items():
                 self.refuse_unlost(self.losses.get(way, "0"), targets & {target})
             self.silent.add(target)
+        elif target.kind == "pipe" and "mask" in line.split():
+            self.masks.add(target.number)
+            if target.number in {*self.changes.outages_by_pipe(), *self.behind_main.outages_by_pipe()}:
+                self.refuse_unheld(target.number, "write `outage LENGTH lossy`")
 
     @staticmethod
     def refuse_unlost(loss: str, queues: set[Target]) -> None:
@@ -190,8 +197,8 @@ class Plan:
         self.happen(event, round(act.moment * SECOND), str(act))
 
     def faults_of(self, way: int, faults: Sequence[Fault]) -> None:
-        """A way with late packets gives all others a second pass without a delay, so that each takes as many. Wrong: a model decides
-        about the losses of a way with faults."""
+        """Adds a way's faults. If a packet is late, all others get a second pass without a delay, so that each passes as many pipes.
+        Wrong: a model decides about the losses of a way with faults."""
         from hinge.fault_lines import IS_LATE, IS_LOST, IS_TWICE
 
         model = self.decided.get(way, "list")
@@ -249,7 +256,7 @@ class Plan:
         if line:
             self.configured.append(line)
             self.current[target_of(line)] = line
-            self.take_queue(line)
+            self.take(line)
 
     def way_of(self, target: Target) -> Optional[int]:
         """Returns the way through a pipe, or through a queue's pipe."""
@@ -294,24 +301,27 @@ class Plan:
         is_decided = self.decided and configures(line) and self.way_of(target_of(line)) in self.decided
         return f"{line} plr 0.5" if is_decided and "plr" not in line.split() else line
 
-    def refuse_unheld(self, pipe: int) -> None:
-        """Wrong: rules send packets past the pipe that an outage holds."""
-        others = [target for target in self.mapped.get(pipe - 1, ()) if self.way_of(target) != pipe - 1]
+    def refuse_unheld(self, pipe: int, hint: str) -> None:
+        """Wrong: an outage would hold packets that rules send elsewhere than to the way's pipe, or flows that a mask parts."""
+        others = [
+            f"rules send packets to {one.kind} {one.number}" for one in self.mapped.get(pipe - 1, ()) if one != Target("pipe", pipe)
+        ]
+        others += ["a mask parts its packets"] * (pipe in self.masks)
         if others:
-            it = f"{others[0].kind} {others[0].number}"
-            raise Wrong(f"rules send packets to {it}, which aren't held: write `outage LENGTH lossy`")
+            raise Wrong(f"{others[0]}, which an outage doesn't hold: {hint}")
 
     def happenings(self, event: Event, moment: int, changes: Changes) -> list[Happening]:
         """Returns the links' actions for an event; `changes` numbers its cuts. Wrong: the links can't carry it out."""
         from hinge.events.kinds import Heal, NewLine, NewWords
 
         if isinstance(event, NewLine):
-            self.take_queue(line := of_link(event.line, event.ways[0] // 2))
+            self.take(line := of_link(event.line, event.ways[0] // 2))
             return [Change(moment, line)]
         if isinstance(event, NewWords):
             for way, words in zip(event.ways, event.links):
                 self.lose(way, words)
                 self.refuse_left_out(way, words, event)
+                self.take(words.line(way + 1))
             return [Change(moment, words.line(way + 1)) for way, words in sorted(zip(event.ways, event.links))]
         pipes, new = sorted(way + 1 for way in event.ways), list[Happening]()
         port = f" {event.port.protocol} {event.port.number}" if event.port else ""
@@ -323,7 +333,7 @@ class Plan:
             elif event.ending:
                 new += changes.cut(moment, event.length, pipe, port)
             else:
-                self.refuse_unheld(pipe)
+                self.refuse_unheld(pipe, "write `outage LENGTH lossy`")
                 new.append(Outage(moment, event.length, pipe))
         return new
 
@@ -335,7 +345,7 @@ class Plan:
 
     @uncollected()
     def timeline(self, path: str) -> None:
-        from hinge.checks.lines import Placed, refuse_wrong
+        from hinge.checks.lines import refuse_wrong
         from hinge.events.link_words import link_event
 
         if " " in path.strip() and not os.path.exists(path):
@@ -348,7 +358,7 @@ class Plan:
                 count = len(self.changes.lines)
                 if not word:
                     continue
-                with placed(f"{path} line {number}"):
+                with placed(f"{path} line {number}"), read_as_change(bare(line)):
                     is_empty, moment = False, duration(word)
                     if is_line(text):
                         plain.setdefault(text, number)
@@ -356,19 +366,24 @@ class Plan:
                     refuse_second(self.changes.lines[count:], before)
             if is_empty:
                 raise Wrong(f"{path}: no line of a change (example: 5s 1Mbit/s 20ms)")
-            refuse_wrong([Placed(f"{path}:{number}", text) for text, number in plain.items()])
+            refuse_wrong([*plain], [*plain.values()], path)
 
     def as_file(self, text: str) -> str:
         """Returns the command that writes lines into a file, used in place of the file's name. Wrong: the file can't contain them."""
         from hinge.events.link_words import link_event
 
-        parts = [re.sub(r" (down|off|cut)$", " outage 5s lossy", bare(part)) for part in re.split("[,;]", text)]
+        parts = [line_meant(bare(part), CHANGES) or bare(part) for part in re.split("[,;]", text)]
         try:
             for word, _, words in (part.partition(" ") for part in parts):
                 self.happenings(link_event(words, word), duration(word), self.changes)
-        except Wrong as wrong:
-            raise Wrong(f"--timeline is a file of lines as 5s outage 2s (hinge docs LINKS); {wrong}") from None
+        except Wrong:
+            raise Wrong("--timeline is a file of lines as 5s outage 2s (hinge docs LINKS)") from None
         return f"printf '%s\\n' {shlex.join(parts)} >changes"
+
+    def is_shared(self, pipe: int) -> bool:
+        """Returns whether a pipe has queues or a mask, so that its packets may start in another order than they arrived."""
+        lines = chain(self.current.values(), (one.line for one in self.changes.lines))
+        return pipe in self.masks or any(re.match(rf"(ipfw )?queue .*\bpipe {pipe}\b", line) for line in lines)
 
     @uncollected()
     def trace(self, way: int, path: str, bin_ns: Optional[int], lasting: int) -> None:
@@ -383,12 +398,15 @@ class Plan:
         result = read_trace(path, lambda lines: self.noted(f"--{'down' if way else 'up'}-trace", lines))
         self.has_moments |= bool(result.moments)
         self.moments.append((result.moments[0] * MS if result.moments else result.rates.moments[0], f"the first row of {path}"))
-        if result.moments and bin_ns is None and way + 1 not in self.changes.shared():
+        if result.moments and bin_ns is None and not self.is_shared(way + 1):
             self.rest.append(f"slots {way + 1} {spelled(result.moments)}")
         elif result.moments:
             self.bins(line, path, result.moments, min(TRACE_BIN, result.moments[-1] * MS) if bin_ns is None else bin_ns, lasting)
         else:
-            self.rates(way, line, result.rates)
+            if 0 in result.rates.rates:
+                with placed(path):
+                    self.refuse_unheld(way + 1, "write a rate above 0, as 1000")
+            self.changes.traces.append((len(self.changes.lines), Bandwidths(way + 1, line, result.rates)))
 
     def bins(self, line: str, path: str, moments: Moments, bin_ns: int, lasting: int) -> None:
         self.has_bins = True
@@ -400,14 +418,6 @@ class Plan:
             )
         for base in range(0, lasting, period) if len(rates) > 1 else [0]:
             self.changes.lines += [Change(base + moment, with_bandwidth(line, rate)) for moment, rate in rates]
-
-    def rates(self, way: int, line: str, rates: Rates) -> None:
-        """Adds the rates to a way. A rate of 0 is an outage until the next rate."""
-        for (moment, rate), end in zip(rates, chain(rates.moments[1:], [LAST_MOMENT])):
-            if not rate and end > moment:
-                self.changes.outages.append(Outage(moment, end - moment, way + 1))
-        changing = Rates(one for one in rates if one.rate) if 0 in rates.rates else rates
-        self.changes.traces.append((len(self.changes.lines), Bandwidths(line, changing)))
 
     def change_line(self, moment: int, line: str) -> str:
         return f"outage {moment} {line.partition(' ')[2]}" if line.startswith("outage ") else f"at {moment} {self.lossy(line)}"
@@ -427,9 +437,8 @@ class Plan:
     ) -> str:
         front = [f"transcript {most} {transcript}"] if transcript else []
         front += [f"seed {way} {seed}" for way in range(self.ways)]
-        text = StringIO()
-        text.writelines(f"{line}\n" for line in front)
-        text.write(self.asked.getvalue())
-        text.writelines(f"{line}\n" for line in self.lines(seed))
-        text.write("realtime\n" * realtime + "simulated\n" * in_simulated_time)
-        return text.getvalue()
+        text = "".join(f"{line}\n" for line in front) + self.asked.getvalue()
+        for line in self.lines(seed):
+            text += f"{line}\n"  # which grows in its place, where a StringIO is copied at its end
+        text += "realtime\n" * realtime + "simulated\n" * in_simulated_time
+        return text

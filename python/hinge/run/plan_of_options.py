@@ -3,22 +3,21 @@
 from __future__ import annotations
 
 import random
+from array import array
 from itertools import chain
-from typing import TYPE_CHECKING, Iterable, Iterator, Optional
+from typing import Iterable, Iterator, Optional
 
 from hinge.run.idle import refuse_idle, refuse_idle_options
 from hinge.run.plan import Plan
 from hinge.run.settings import LinkOptions, LiveOptions
 from hinge.run.transcripts import refuse_lost
 from hinge.run.words import WAYS, Target, Wrong, bare, duration, link_of, read_lines, target_of
-from hingetulip_words.link import Link, Place
+from hingetulip_words.link import NO_WORDS, Link, Place
 from hingetulip_words.presets import Preset, preset
-
-if TYPE_CHECKING:
-    from hinge.checks.lines import Placed
 
 BIN_LEAST, TRACE_LASTING = 10**6, "1h"  # ns, and how long traces are begun anew
 LINKS = "client > server", "server > client"  # the names of ways 0 and 1 in a file of faults
+Numbered = tuple[int, str]  # a line
 
 
 def preset_of(name: Optional[str]) -> Optional[Preset]:
@@ -31,41 +30,40 @@ def preset_of(name: Optional[str]) -> Optional[Preset]:
 def own_link(text: str, option: str) -> Link:
     """Returns a link of the command line. Wrong: the text is no link, or empty."""
     if not bare(text):
-        raise Wrong(f"{option} {text!r}: no words of a link (example: 10Mbit/s 20ms); an open one is 'bw 0'")
+        raise Wrong(f"{option} {text!r}: {NO_WORDS}; an open one is 'bw 0'")
     return link_of(text, option, Place.KERNELS)
 
 
-def asking(option: str, lines: Iterable[Placed]) -> Iterator[Placed]:
+def asking(option: str, lines: Iterable[Numbered]) -> Iterator[Numbered]:
     """Yields the lines that contain a request. Wrong: no line does."""
-    result = (line for line in lines if bare(line.text))
+    result = (line for line in lines if bare(line[1]))
     first = next(result, None)
     if first is None:
         raise Wrong(f"{option}: no line of a configuration (example: pipe 1 config bw 10Mbit/s)")
     return chain([first], result)
 
 
-def placed_lines(options: LinkOptions) -> Iterator[Placed]:
-    """Yields the lines of --config and --line. Wrong: an option contains no line."""
-    from hinge.checks.lines import Placed  # as in plan.py, what few runs need is loaded where it is needed
-
+def numbered_lines(options: LinkOptions) -> Iterator[Numbered]:
+    """Yields the lines from --config, and with the number 0 from --line. Wrong: an option contains no line."""
     if options.config:
-        lines = enumerate(read_lines(options.config), 1)
-        yield from asking("--config", (Placed(f"{options.config}:{number}", line) for number, line in lines))
+        yield from asking("--config", enumerate(read_lines(options.config), 1))
     for text in options.line:
-        yield from asking("--line", (Placed("--line", part) for part in text.splitlines()))
+        yield from asking("--line", ((0, part) for part in text.splitlines()))
 
 
-def lines_of(options: LinkOptions, placed: Iterable[Placed]) -> list[str]:
+def lines_of(options: LinkOptions, numbered: Iterable[Numbered]) -> list[str]:
     """Returns the configuration lines in order. Lines from --up and --down follow lines that configure the same pipe, or otherwise
     precede all lines, which may configure its queues. A direction without words is the preset's, or open. Wrong: a link or a line
     is wrong, or the preset has no effect."""
     path = preset_of(options.preset)
-    texts: dict[str, Placed] = {}  # with the first place of each, as long files say the same again and again
-    inputs = [texts.setdefault(line.text, line).text for line in placed]
-    if texts:
-        from hinge.checks.lines import refuse_wrong
+    inputs, numbers = list[str](), array("I")
+    for number, line in numbered:
+        inputs.append(line)
+        numbers.append(number)
+    if inputs:
+        from hinge.checks.lines import refuse_wrong  # as in plan.py, what few runs need is loaded where it is needed
 
-        refuse_wrong([*texts.values()])
+        refuse_wrong(inputs, numbers, options.config or "", "--line")
     targets = {target_of(bare(line)) for line in inputs}
     first, last = list[str](), list[str]()
     ways = (("up", options.up, path and path.up), ("down", options.down, path and path.down))
@@ -92,12 +90,11 @@ def limit_of(late: Optional[str]) -> Optional[float]:
     return duration(late, "--late") / 1e6
 
 
-def noted(plan: Plan, lines: Iterable[Placed]) -> Iterator[Placed]:
-    """Yields configuration lines, and notes each for the transcript. Long files are never whole in memory."""
-    for placed in lines:
-        file, _, number = placed.place.rpartition(":")
-        plan.note("--config" if file else "--line", int(number) if file else 0, placed.text)
-        yield placed
+def noted(plan: Plan, lines: Iterable[Numbered]) -> Iterator[Numbered]:
+    """Yields configuration lines, and notes each for the transcript."""
+    for number, text in lines:
+        plan.note("--config" if number else "--line", number, text)
+        yield number, text
 
 
 def plan_of(options: LiveOptions, longest: int) -> Plan:
@@ -111,8 +108,7 @@ def plan_of(options: LiveOptions, longest: int) -> Plan:
         value = getattr(options, option)
         for text in [value] if isinstance(value, str) else value or ():
             plan.note(f"--{option}", 0, text)
-    placed = noted(plan, placed_lines(options)) if options.config or options.line else ()
-    for line in lines_of(options, placed):
+    for line in lines_of(options, noted(plan, numbered_lines(options))):
         plan.link(line)
     preset = preset_of(options.preset)
     texts = (("up", options.up, preset and preset.up), ("down", options.down, preset and preset.down))

@@ -49,14 +49,6 @@ class Trace(NamedTuple):
     moments: Moments
 
 
-def outage_rate(length: int, longest: int) -> int:
-    """Returns the rate at which the longest packet lasts as long as an outage of `length` ns.
-
-    A packet keeps its rate. At a lower rate, the outage's first packet would still be on its way after the outage.
-    """
-    return max(1, longest * 8 * SECOND // max(1, length))
-
-
 def number(text: str) -> Optional[float]:
     try:
         return float(text)
@@ -138,7 +130,11 @@ def counted(path: str, moments: Moments, bin_ns: int, longest: int) -> list[Rate
         while end < len(counts) - 1 and counts[end] == counts[at] and at < len(counts) - 1:
             end += 1
         length = min(end * bin_ns, period) - at * bin_ns
-        rate = counts[at] * (end - at) * MAHIMAHI_BYTES * 8 * SECOND // length if counts[at] else outage_rate(length, longest)
+        rate = (
+            counts[at] * (end - at) * MAHIMAHI_BYTES * 8 * SECOND // length
+            if counts[at]
+            else max(1, longest * 8 * SECOND // length)
+        )
         result.append(Rate(at * bin_ns, rate))
         at = end
     return result

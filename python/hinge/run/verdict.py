@@ -101,7 +101,7 @@ def verdict(
 
 
 class Waits:
-    """How long what runs on hosts waited for a processor, looked at once a second."""
+    """How long the hosts' programs waited for a processor, read once a second."""
 
     def __init__(self) -> None:
         self.begun = self.looked = time.monotonic()

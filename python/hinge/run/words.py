@@ -10,6 +10,7 @@ from typing import Callable, Iterator, NamedTuple, Optional
 from hinge.arguments import is_number
 from hinge.border.files import MOST_LINES, MOST_SAID, lines_in
 from hinge.command import USAGE, Fault
+from hingetulip_words.advice import CHANGES, line_meant
 from hingetulip_words.link import Extra, Link, Place, WordError, corrected, read_words
 
 WAYS = {"up": 0, "down": 1}
@@ -19,8 +20,8 @@ LONGEST = 1 << 16  # letters of a line of a file
 LAST_MOMENT = 2**62  # ns, of the links
 MTU_LEAST, MTU_MOST = 576, 65535  # bytes
 KEPT = 1 << 16  # texts whose meaning is remembered, since long files say the same again and again
-TIME = re.compile(r"(\d+(?:\.\d+)?)(ns|us|ms|s|min|h)?", re.ASCII)
 SCALE = {"ns": 1, "us": 10**3, "ms": 10**6, "s": SECOND, "min": 60 * SECOND, "h": 3600 * SECOND}
+TIME = re.compile(rf"(\d+(?:\.\d+)?)({'|'.join(SCALE)})?", re.ASCII)
 NO_EXTRA = Extra()
 
 
@@ -37,6 +38,17 @@ def placed(place: str) -> Iterator[None]:
         yield
     except Wrong as wrong:
         raise wrong if str(wrong).startswith(f"{place}: ") else Wrong(f"{place}: {wrong}") from None
+
+
+@contextmanager
+def read_as_change(line: str) -> Iterator[None]:
+    """Replaces a timeline's error with the line to write, if known."""
+    try:
+        yield
+    except Wrong:
+        if meant := line_meant(line, CHANGES):
+            raise Wrong(f"{line!r}: not a change; write {meant}") from None
+        raise
 
 
 def duration(text: str, option: str = "") -> int:

@@ -2,6 +2,7 @@
 
 from __future__ import annotations
 
+import re
 import sys
 from collections import Counter
 from dataclasses import dataclass, field
@@ -26,8 +27,9 @@ def told(calls: Mapping[str, int]) -> str:
 def reals() -> list[tuple[str, Any]]:
     """Returns the real calls for the report of a test in simulated time."""
     module = sys.modules.get("hingetulip.aio.real")  # which a suite without links needn't import
-    whole = None if module is None else module.OF_PROCESS.taken()
-    return [(REAL, {"calls": dict(whole.calls), "unwatched": whole.unwatched})] if whole is not None and whole.runs else []
+    if module is None or not (whole := module.OF_PROCESS.taken()).runs:
+        return []
+    return [(REAL, {"calls": dict(whole.calls), "unwatched": module.UNWATCHED})]
 
 
 def refused_reals(item: pytest.Item, calls: Mapping[str, int]) -> str:
@@ -49,7 +51,8 @@ def row_of(item: pytest.Item, seed: int, links: Sequence[Any]) -> list[tuple[str
     parameters = dict(getattr(getattr(item, "callspec", None), "params", {}))
     is_swept = "link_seed" in parameters or bool(str(vary_of(item)))
     parameters.pop("link_seed", None)
-    others = f" with {', '.join(f'{name} {text}' for name, text in parameters.items())}" if parameters else ""
+    texts = [re.sub(" at 0x[0-9a-f]+", "", f"{name} {value}") for name, value in parameters.items()]  # in each process alike
+    others = f" with {', '.join(texts)}" * bool(texts)
     name = f"{item.nodeid.partition('[')[0]}{others}"
     return [(NAME, {"name": name, "seed": seed, "is_swept": is_swept, "is_disturbed": states[0], "varied": str(vary_of(item))})]
 

@@ -106,10 +106,6 @@ class Help(unittest.TestCase):
         self.assertEqual(run("help", "xyz").stderr, "hinge: no command 'xyz'; `hinge help` lists the commands.\n")
         for word in ("stats", "picture", "paths", "through", "with-clock"):
             self.assertRegex(run(word, "x").stderr, rf"^hinge: no command '{word}'; write (hinge look|LD_PRELOAD=)", word)
-        gone = "dummynet replay CONFIG PACKETS --most-packets 1099511627776 > REPORT"
-        for words in (["shard"], ["shard", "c", "p", "-j", "4"], ["help", "shard"], ["shard", "--help"]):
-            done = run(*words)
-            self.assertEqual((2, f"hinge: no command 'shard'; write {gone} (hinge docs FILES)\n"), (done.returncode, done.stderr))
 
     def test_an_option_that_is_none_is_answered_by_the_one_that_is_near(self) -> None:
         for words, near in (

@@ -75,7 +75,7 @@ class Forms(unittest.TestCase):
         self.assertIn("udp [2001:db8::1]:1 > [2001:db8::2]:2 ", run("look", path).stdout)
 
     def test_commands_as_a_host_spells_them(self) -> None:
-        """Any line that asks for a command may stand in its place."""
+        """A history may contain any spelling of a command."""
         whole = live(["pipe 1 config bw 8Mbit/s delay 20 queue 3", f"{SUBMIT}0", "c,0,collect,21000000"])
         canonical, other = "configure,pipe 1 config bw 8000000bit/s delay 20 queue 3", "configure,ipfw pipe 1 config bw 8Mbit/s"
         self.assertIn(canonical, whole)

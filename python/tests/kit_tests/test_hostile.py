@@ -2,16 +2,22 @@
 
 from __future__ import annotations
 
+import os
 import subprocess
 import sys
 from pathlib import Path
 from typing import NamedTuple, Sequence
+from unittest import mock
 
+from simulated_hosts import TOP
 from with_folder import WithFolder
 
-from hinge.border.files import MOST_SAID
+from hinge.border.files import LONGEST_LINE, MOST_LINES, MOST_OBJECT, MOST_SAID, MOST_TABLE, MOST_TEXT, Unpacked
+from hinge.checks.lines import MOST_LINE_BYTES
+from hinge.command import Fault
 from hinge.paths.folder import NET
 from hinge.program import HINGE
+from hinge.replays import parting
 
 SIZE = 3_000_000  # bytes
 TIMES, MORE = 9, 4 << 20  # bytes of memory for each byte of a file, and for what a system gives more
@@ -57,23 +63,35 @@ TEXTS = {
     "doubled variables": b"A=xxxxxxxx\n" + b"A=$A$A\n" * 60 + b"ipfw pipe 1 config bw $A\n",
     "variables without an end": b"ipfw pipe 1 config bw " + b"${a-" * 250_000,
     "rates of a trace": b"".join(b"%d,%d\n" % (n, 1000 + n) for n in range(LINES)),
+    "outages of a trace": b"".join(b"%d,%d\n" % (n, n % 2 * (1000 + n)) for n in range(LINES)),
+    "lines of no command": b"".join(b"x%d\n" % n for n in range(MOST_SAID)),
     "milliseconds of a trace": b"".join(b"%d\n" % n for n in range(LINES)),
     "addresses without packets": b"stand-in,address\n" + b"".join(b"%x,::\n" % n for n in range(LINES)),
 }
 OF_READER = {  # texts whose lines differ and say something, by a word of the command that reads such lines into little memory
-    **dict.fromkeys(("rates of a trace", "milliseconds of a trace"), "--up-trace"),
+    **dict.fromkeys(("rates of a trace", "outages of a trace", "milliseconds of a trace"), "--up-trace"),
+    "lines of no command": "--config",
     "addresses without packets": "look",
 }
 OF_TWO = "host a\nhost b\nlink a b 1Mbit/s\n"
+DRY, CONFIGURED = ["net", "x", "--dry-run"], ["run", "--config", "x", "--", "true"]
 SAYING = {  # a command, and what its text begins with and says again and again
-    "acts of a net": (["net", "x", "--dry-run"], OF_TWO, "at {}ms a b 1Mbit/s\n"),
-    "hosts of a net": (["net", "x", "--dry-run"], "", "host h{}\n"),
-    "links of a net": (["net", "x", "--dry-run"], OF_TWO, "link a b\n"),
+    "acts of a net": (DRY, OF_TWO, "at {}ms a b 1Mbit/s\n"),
+    "hosts of a net": (DRY, "", "host h{}\n"),
+    "links of a net": (DRY, OF_TWO, "link a b\n"),
     "changes": (["run", "--link", "1ms", "--timeline", "x", "--", "true"], "", "{}ms pipe 1 config bw 1Mbit/s\n"),
     "lines of ipfw": (["ipfw", "x"], "", "ipfw pipe {} config\n"),
 }
+BEYOND = {  # one step over a limit of SECURITY.md: the command, its text, and what is more than it may be
+    "lines of a text": (DRY, b"\n" * (MOST_LINES + 1), f"{MOST_LINES:,} lines"),
+    "lines that say something": (CONFIGURED, b"x\n" * (MOST_SAID + 1), f"{MOST_SAID:,} lines that say something"),
+    "a line of rows": (["why", "1", "c", "x", "x"], HEADER + b"x" * LONGEST_LINE + b"x\n", f"{LONGEST_LINE:,} letters in a line"),
+    "a line of a configuration": (["check", "x"], b"pipe 1 config " + b"delay 1 " * 9000, f"{MOST_LINE_BYTES:,} bytes in a line"),
+    "JSON": (["look", "net"], b" " * (MOST_OBJECT + 1), f"{MOST_OBJECT:,} bytes"),
+}
+LIMITS = (MOST_TEXT, MOST_LINES, MOST_SAID, MOST_TABLE, LONGEST_LINE, MOST_LINE_BYTES, MOST_OBJECT, Unpacked.FREE)
 OF_A_LINE = 2048  # bytes of memory for each that says something, of MOST_SAID
-PLACES = ("x", "p.addresses", "net/net.json", f"net/{NET}")  # at which the text stands
+PLACES = ("p.addresses", "net/net.json", f"net/{NET}")  # at which the text stands too
 READERS = {  # by what each module of the kit that reads a text is reached; tools/gate/border.py asks for a row of each
     "run/words.py": (
         ["net", "x", "--dry-run"],
@@ -173,16 +191,24 @@ class OfFiles(WithFolder):
                 self.assertLessEqual(done.told.count("\n"), 2, done.told[-500:])
                 self.assertLess(done.memory, self.start + MORE + TIMES * len(data) + OF_A_LINE * MOST_SAID)
 
-    def test_no_command_is_cut(self) -> None:
-        """Behind what a live session takes of a line."""
-        for text, statuses in ((b"pipe 1 config " + b"delay 1 " * 9000, {3}), (b"pipe 1 config #" + b"x" * 70_000, {0})):
-            done = self.of_text(["check", "x"], text)
-            self.assertEqual({done.status}, statuses, done.told[-200:])
-            self.assertEqual("more than 65,000 bytes in a line" in done.told, done.status == 3)
+    def test_beyond_each_limit(self) -> None:
+        for name, (words, data, what) in BEYOND.items():
+            with self.subTest(name):
+                self.assertIn(f"more than {what}", self.of_text(words, data).told)
+        self.assertEqual(self.of_text(["check", "x"], b"pipe 1 config #" + b"x" * 70_000).status, 0)  # a comment may be longer
+        self.file.write_bytes(HISTORY + b"#\n" * 100)
+        with mock.patch.object(parting, "MOST_TABLE", 100), self.assertRaisesRegex(Fault, "more than 100 bytes"):
+            list(parting.entries(self.file))
+
+    def test_the_limits_are_those_of_the_page(self) -> None:
+        page = (TOP / "SECURITY.md").read_text(encoding="utf-8")
+        self.assertEqual([], [f"{limit:,}" for limit in LIMITS if f"{limit:,} " not in page])
 
     def of_text(self, words: Sequence[str], data: bytes) -> Ended:
         """How a command ends where it reads this text."""
+        self.file.write_bytes(data)
         for place in PLACES:
-            (self.folder / place).write_bytes(data)
+            (self.folder / place).unlink(missing_ok=True)
+            os.link(self.file, self.folder / place)
         is_here = {one.name for one in self.folder.iterdir()}
         return ended([words[0], *(self.folder / word if word in is_here else word for word in words[1:])], self.folder)

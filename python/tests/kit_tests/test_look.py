@@ -9,11 +9,12 @@ import sys
 import unittest
 
 from hinge.pictures.drawn import series_of
+from hinge.pictures.figures import table_of
 from hinge.pictures.panels import Panels
 from hinge.pictures.series import series
 from hinge.replays.groups import group
 from hinge.replays.history import read_history
-from hinge.replays.source import of_reports
+from hinge.replays.source import of_reports, seen
 from hinge.run.page import HEAD, WAY, Counts
 from hinge.run.summary import record
 from kit import TOP, folder, mixed, run
@@ -108,6 +109,23 @@ class Look(unittest.TestCase):
         self.assertEqual([every[f"{part}_ns"] for part in ("queueing", "transmission", "link_delay")], [500_000, 4_500_000, 0])
         capacity = [(at, text) for at, text in read_history(str(folder() / "changed.history")).changes]
         self.assertEqual([at for at, _ in capacity], [0, 0])
+
+    def test_a_jitter_and_an_outage_add_no_packets(self) -> None:
+        """A packet takes 1 ms, and 3 ms of jitter in a second pipe. Then nobody's packet stands for an outage of a second."""
+        kept, row = 2**31 - 1, "c,0,submit,pipe,{},10.0.0.1,10.0.0.2,17,1,2,1000,{},{}"
+        nobody = f"c,0,submit,pipe,1,0.0.0.0,0.0.0.0,255,0,0,1500,{kept},1000000000"
+        lines = ["pipe 1 config bw 8Mbit/s", "pipe 65535 config delay 3", row.format(1, 5, 0), "c,0,collect,1000000"]
+        lines += [row.format(65535, kept, 1000000), "pipe 1 config bw 12000bit/s", nobody, "pipe 1 config bw 8Mbit/s"]
+        head, rest = live([*lines, "c,0,collect,3000000000"]).split("\n", 1)
+        words = "8Mbit/s jitter 5ms, twice"
+        (folder() / "twice.history").write_text(f"{head}\n#,seed,7\n#,asked,--up,0,{words}\n{rest}")
+        source = read_history(str(folder() / "twice.history"))
+        found = seen(source)
+        self.assertEqual((len(found.replay.packets), found.replay.took.tolist(), found.rows.tolist()), (1, [4_000_000], [0]))
+        self.assertEqual([text.split()[-1] for _, text in found.changes], ["8000000bit/s"] * 2)
+        self.assertEqual(table_of(found.replay, found.parts)[-1].value["link_delay_ns"], 3_000_000)
+        self.assertEqual((found.words, seen(found)), ({"--up": words}, found))
+        self.assertRegex(run("look", "twice.history", "-o", "twice.html").stdout, r"(?m)^all  all +1  1,000 ")
 
     def test_the_lateness_and_the_seed_of_a_live_host(self) -> None:
         lines = ["pipe 1 config bw 8Mbit/s", "c,0,submit,pipe,1,10.0.0.1,10.0.0.2,17,1,2,1000,0,0", "c,0,collect,5000000"]

@@ -56,7 +56,24 @@ try wifi  =>  write --preset lossy-wifi
 why FILE.history 5  =>  'FILE.history' isn't the number of a row; write hinge why 5 FILE.history
 check 'link a b 20ms'  =>  it reads files: printf '%s\n' 'link a b 20ms' | hinge check /dev/stdin
 packets FILE.capture --filter tcp  =>  write --map 'tcp port 80 => pipe 1'
-run --loss 5% --link 20ms -- true  =>  a rate of loss is a word of a link; write loss 5% behind the others of --link
+net ./LOSS.net  =>  none of gilbert:P,R[,B[,G]] and list:N,N-M; write a rate in the link: 20ms loss 5%
+net ./KILL.net  =>  write at 1s kill a, and at 1s kill b in a line of its own
+net FILE.net ping b  =>  a command comes after --: write -- ping b
+run --link 20ms --timeline FILE.act -- true  =>  'at 1s up 5ms': not a change; write 1s up 5ms
+why 5 FILE.config FILE.packets  =>  FILE.config is a configuration; write hinge why ROW FILE.config PACKETS REPORT
+run FILE.config FILE.packets  =>  FILE.config is a configuration; write hinge run --config FILE.config -- COMMAND
+run --link bw=10 -- true  =>  which has a unit; write bw 10Mbit/s
+net ./CUT.net  =>  'cut': not a word of a net; write at 5s cut a
+run --link '50ms latency' -- true  =>  '50ms latency': the unit says this already; write 50ms
+run --map 'dst port 443 => pipe 1' -- true  =>  'dst port': not a word of a rule; write dport
+search FILE.net --runs 100  =>  --runs names a folder; write --seeds 1-100 for as many runs, or ./100 for a folder
+why FILE.report  =>  'FILE.report' isn't the number of a row; FILE.report is a replay's report; write hinge why ROW CONFIG PACKETS FILE.report
+run --delay 50ms±10ms --output a.png -- true  =>  write --link '40ms jitter 20ms' --transcript FILE, and hinge look FILE -o a.png
+run --preset list  =>  not a preset; write --list-presets
+run --timeline 'every 2s outage 5ms' -- true  =>  --timeline is a file of lines as 5s outage 2s (hinge docs LINKS)
+run --trans x -- true  =>  did you mean --transcript?
+run --link -5ms -- true  =>  a value is missing (--option=-1 if the value begins with a hyphen)
+search --seeds 5  =>  FILE is missing, as in `hinge search store.net --seeds 1-200 --pauses drawn -o lost.hinge`
 net FILE.net --seeds 1-10  =>  --seeds: write hinge search FILE --seeds 1-10
 net FILE.net --duration 10s  =>  --duration: write timeout 10s before hinge net, or --limit 10s of simulated time
 udp 5000 localhost  =>  argument SERVER: 'localhost' is neither PORT nor HOST:PORT
@@ -80,6 +97,9 @@ class Misplaced(unittest.TestCase):
         for kind, text in FRONT.items():
             (folder() / f"FILE.{kind}").write_bytes(text)
         (folder() / "FILE.program").chmod(0o755)
+        nets = {"LOSS.net": "loss a b 5%", "KILL.net": "at 1s kill a and b", "CUT.net": "cut a at 5s"}
+        for name, line in {**nets, "FILE.act": "at 1s up 5ms"}.items():
+            (folder() / name).write_text("host a sleep 9\nhost b sleep 9\nlink a b 1ms\n" * name.endswith(".net") + line)
         shutil.copy(MIXED, folder() / "FILE.capture")
 
     def test_each_kind_is_known_by_its_front(self) -> None:

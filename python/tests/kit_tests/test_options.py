@@ -34,7 +34,7 @@ BASE = {
     "run": (
         "true",
         "--up --down --config --line --map --timeline --up-trace --down-trace --faults --seed --mtu --net --container --server"
-        " --outside-loopback --to --transcript --most --json --control --watch --quiet --simulated --kept",
+        " --outside-loopback --to --transcript --most --json --control --quiet --simulated --kept",
     ),
     "udp": (
         "1 2",
@@ -43,7 +43,7 @@ BASE = {
     ),
     "net": (
         "F",
-        "--transcript --transcripts --json --logs --seed --mtu --end-wait --control --outside-loopback --shell --while-open"
+        "--transcript --transcripts --json --logs --seed --mtu --end-wait --control --outside-loopback --while-open"
         " --quiet --dry-run --simulated --kept",
     ),
     "search": ("F", "--seeds --pauses --limit --real-limit --runs -o -P"),
@@ -57,8 +57,8 @@ BASE = {
     "doctor": ("", ""),
     "docs": ("", ""),
 }
-TEXTS = """3 5;600 700;1s 2s;1-2 3-4;a.png b.png;a=1 b=2;10.0.0.1 10.0.0.2;1Gbit/s 2Gbit/s;list:1 list:2;1G 2G;1/20 1/30
-2026-01-01 2026-01-02"""
+TEXTS = """list:1 list:2;3 5;600 700;1s 2s;1-2 3-4;a.png b.png;a=1 b=2;10.0.0.1 10.0.0.2;1Gbit/s 2Gbit/s;1G 2G;1+1s 2+1s
+2026-01-01 2026-01-02;lte dsl"""
 GARBAGE = "/nowhere/such\x01thing"
 FREE = {"--server", "--kept", "--transcripts", "--logs"}  # a command of the shell, and folders that are made
 # Commands, the text of FILE, and what is said of it; nothing where it does something.

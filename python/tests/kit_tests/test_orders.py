@@ -235,3 +235,17 @@ class Command(unittest.TestCase):
         puts = [row(f"{client} x put {client % 19} from 0 to 100") for client in range(20)]
         status, out, _ = check([*puts, row("1 x get 77 from 101 to 102")], "queue")
         self.assertEqual((status, "too many orders of 21 operations" in out), (4, True))
+
+    def test_a_long_queue_of_values_that_are_each_put_once(self) -> None:
+        """Eleven values are put or got at any moment, a client never hears which value it got, and one finds nothing."""
+        for count, more, lines in (2000, [], []), (
+            300,
+            ["2 x put 300 from 1100 to 1101", "3 x get 299 from 1200 to 1201"],
+            [300, 601, 603],
+        ):
+            rows = [row(f"{n} x put {n} from {n} to {n + 5}") for n in range(count)]
+            rows += [row(f"{n} x get {n} from {n + 1} to {n + 6}") for n in range(count - 1)]
+            rows += [row("0 x get null from 5 to never"), row(f"1 x get null from {count + 700} to {count + 701}"), *map(row, more)]
+            status, out, _ = check(rows, "queue")
+            told = out.partition("by these alone:\n")[2].splitlines()
+            self.assertEqual((status, [int(text.partition(":")[0]) for text in told]), (int(bool(lines)), lines), out)

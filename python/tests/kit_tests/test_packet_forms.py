@@ -6,22 +6,18 @@ import contextlib
 import gzip
 import io
 import os
-import random
 import struct
 import subprocess
 import unittest
 from pathlib import Path
 
-from captures import BEGAN, ETHERNET, ethernet, ip4, nested, odd_ethernet, other_links, timed_in_ns, udp, without_times, write
+from captures import nested, odd_ethernet, other_links, without_times, write
 from kit import MIXED, folder, needs_tshark, rows_of, run
 from random_frames import Frames
 from tshark_frames import frames_by_kit, frames_by_tshark
 
-from hinge.captures.capture_file import write_frame, write_header
 from hinge.command import Fault
 from packets_told import edited
-
-SEED = 7  # of random frames; tools/fuzz/border.py draws others
 
 
 def every_capture() -> list[Path]:
@@ -47,19 +43,6 @@ def every_capture() -> list[Path]:
     return [MIXED, *others, *several, half, swapped, twice, *cut]
 
 
-def of_every_link(seed: int) -> list[Path]:
-    """A capture of random frames of each link that is known."""
-    made, paths = Frames(seed), []
-    for link_type, frame in made.links.items():
-        paths.append(folder() / f"random-{link_type}.pcap")
-        several = [frame() for _ in range(500 if link_type == ETHERNET else 80)]
-        with open(paths[-1], "wb") as out:
-            write_header(out, link_type)
-            for number, one in enumerate(several):
-                write_frame(out, BEGAN + number, len(one), made.cut(one))
-    return paths
-
-
 @needs_tshark
 class Reader(unittest.TestCase):
     """The frames that the kit reads are those that tshark finds."""
@@ -68,13 +51,6 @@ class Reader(unittest.TestCase):
         for capture in every_capture():
             with self.subTest(capture=capture.name):
                 self.assertEqual(list(frames_by_kit(str(capture))), list(frames_by_tshark(str(capture))))
-
-    def test_random_frames_of_every_link(self) -> None:
-        for capture in of_every_link(SEED):
-            found = list(frames_by_kit(str(capture)))
-            self.assertGreater(sum(frame is not None for _, frame in found), 20)
-            for one, other in zip(found, frames_by_tshark(str(capture))):
-                self.assertEqual(one, other, f"{capture.name} of seed {SEED}")
 
     def test_every_link_that_is_known_is_tried(self) -> None:
         write(folder() / "other.pcap", 147, [(0, bytes(60))])
@@ -155,20 +131,3 @@ class Forms(unittest.TestCase):
             self.assertEqual(done.returncode, status, done.stderr)
             self.assertIn(line, done.stderr.splitlines()[-1])
             self.assertNotIn("Traceback", done.stderr)
-
-    def test_bytes_of_any_kind_are_frames_or_a_fault_of_one_line(self) -> None:
-        """Captures with bytes changed, in each form, so that blocks, lengths and interfaces are none."""
-        draw = random.Random(7)
-        timed_in_ns(folder() / "whole.pcapng", [(BEGAN, ethernet(0x0800, ip4("10.0.0.1", "10.0.0.2", 17, udp(1, 2, 3))))] * 3)
-        odd_ethernet(folder() / "whole.pcap")
-        for name in ("whole.pcapng", "whole.pcap"):
-            whole = (folder() / name).read_bytes()
-            for _ in range(400):
-                changed = bytearray(whole[: draw.randrange(4, len(whole) + 1)])
-                for _ in range(draw.randrange(1, 6)):
-                    changed[draw.randrange(4, len(changed)) if len(changed) > 4 else 0] = draw.choice(
-                        (0, 1, 255, draw.randrange(256))
-                    )
-                (folder() / name).write_bytes(changed)
-                with contextlib.suppress(Fault), contextlib.redirect_stderr(io.StringIO()):
-                    list(frames_by_kit(str(folder() / name)))

@@ -190,13 +190,6 @@ class Endings(unittest.TestCase):
             self.assertTrue(one == other, ending)
         self.assertIn(f"{40 - MOST_FLOWS} others", (folder() / "forty.svg").read_text())
 
-    def test_faults_are_one_line(self) -> None:
-        packets, report = forty()
-        for words, status in (([packets, report, "-o", "x.gif"], 2), ([packets, packets, "-o", "x.png"], 4)):
-            done = run("look", *words)
-            self.assertEqual(done.returncode, status, done.stderr)
-            self.assertNotIn("Traceback", done.stderr)
-
 
 @needs_tshark
 class Thinning(unittest.TestCase):

@@ -8,9 +8,13 @@ from itertools import islice
 from with_folder import WithFolder
 
 from hinge.plans.draws import Draws, word
+from hinge.events.forms import ACTS as ACTS_OF_HOSTS, WORDS
 from hinge.plans.judged import Judge
+from hinge.plans.meaning import Meaning, ns_of
 from hinge.plans.sessions import judged, judged_run
 from hinge.command import Fault
+from hinge.run.words import SCALE, duration
+from hingetulip_words.advice import ACT
 
 NET = """\
 host a exec a
@@ -73,6 +77,15 @@ class OfTranscripts(WithFolder):
         judge = self.judge(HONEST)
         self.assertEqual((judge.faults, judge.remarks, judge.packets), ([], [], 3))
         self.assertRegex([*judge.lines_told()][-1], "^as .*net.net says: 7 lines, 4 acts, 3 packets$")
+
+    def test_each_word_and_unit_is_read(self) -> None:
+        """Each event is of its host or its ways, and each unit of a time is the one that runs read. Advice names each event."""
+        self.assertEqual({*ACT.split("|")}, {*WORDS})
+        for name in WORDS:
+            (self.folder / "net.net").write_text(f"{NET}at 1.5s {name} a\n")
+            *_, event = Meaning(str(self.folder / "net.net"), 0).read().events
+            self.assertEqual((event.moment, bool(event.host)), (3 * S // 2, name in ACTS_OF_HOSTS), name)
+        self.assertEqual([ns_of(f"1.5{unit}") for unit in SCALE], [duration(f"1.5{unit}") for unit in SCALE])
 
     def test_what_isnt_done(self) -> None:
         late = HONEST.replace(at(4 * S + 10000, "#,act,kill"), at(4 * S + S // 20, "#,act,kill"))
@@ -233,6 +246,20 @@ at 1300ms stop a 5s
             (sent(3500, words[6], "53,9"), sent(3500, 0, "53,9"), "has the random word 0: the seed draws"),
         ):
             self.assertIn(wanted, self.broken(honest.replace(old, new), net), (old, new))
+
+    def test_a_hold_holds_what_a_queue_sends(self) -> None:
+        """An outage slowed such packets down in older versions, and they left before its end."""
+        net = NET.replace("cut a from b 2s", "a b up outage 2s")
+        sent = f"c,0,submit,queue,1,10.8.0.1,10.8.0.2,17,1,2,36,7,{S + 200}\nr,queued,{S + 200},0,1\nc,0,collect,{{0}}\nd,1,0,{S + 200},{{0}}\n"
+        for left, wanted in ((2 * S, "line 8: `at 1s a b up outage 2s` didn't hold: a packet left"), (3 * S + 5_000_100, "")):
+            broken = self.broken(BEGUN + at(S + 100) + sent.format(left), net)
+            self.assertEqual(broken[: len(wanted)], wanted) if wanted else self.assertNotIn("didn't hold", broken)
+        cut = at(S + 100, lines("pipe 2 config delay 5 plr 1")) + at(S + 300, lines(FIRST[1]))
+        self.assertIn("isn't what the file has for b > a", self.broken(BEGUN + cut, net.replace("a b up outage", "b a up outage")))
+
+    def test_an_older_transcript_without_the_main_commands_beginning(self) -> None:
+        older = HONEST.replace("#,format,2\n", "").replace("#,main,100\n", "")
+        self.assertRaisesRegex(Fault, "neither the transcript nor a summary says when the main command began", self.judge, older)
 
     def test_the_control_socket(self) -> None:
         now = ("pipe 3 config delay 9", "pipe 4 config delay 7")

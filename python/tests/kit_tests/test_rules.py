@@ -68,7 +68,7 @@ def random_frame(rng: random.Random) -> Frame:
 
 
 def asked(frame: Frame) -> Asked:
-    """A frame as a capture asks rules of it."""
+    """The frame in the form that `hinge packets` compares with rules."""
     ends = [int(it) | (MAPPED if it.version == 4 else 0) for it in map(ipaddress.ip_address, (frame.src, frame.dst))]
     return Asked(ends, [0], [1], [frame.proto], [frame.sport], [frame.dport], [frame.dscp])
 

@@ -54,8 +54,9 @@ class ByHand(unittest.TestCase):
             "flow,packets,bytes,offered_mbit_s,carried_mbit_s,out,lost,full,none,held,min_ns,mean_ns,p50_ns,p95_ns,p99_ns,max_ns,"
         )
         times = "1000000,1666666,2000000,2000000,2000000,2000000,58593,666666,1000000,0"
-        assert ",".join(row) == f"{names}jitter_ns,queueing_ns,transmission_ns,link_delay_ns"
-        assert ",".join(row.values()) == f"udp 10.0.0.1:1 > 10.0.0.2:2,5,5000,20.000000,12.000000,3,0,1,1,0,{times}"
+        figures = f"udp 10.0.0.1:1 > 10.0.0.2:2,5,5000,20.000000,12.000000,3,0,1,1,0,{times}".split(",")
+        wanted = dict(zip(f"{names}jitter_ns,queueing_ns,transmission_ns,link_delay_ns".split(","), figures))
+        assert {name: row[name] for name in wanted} == wanted and len(wanted) == len(figures)
         done = run("look", packets, report, "--by", "target")
         assert "1 row went to pipe 9, which isn't configured" in done.stderr
         lines = done.stdout.splitlines()

@@ -34,7 +34,7 @@ LAST = 2**62
 
 
 def ns(text: str) -> int:
-    """Whole ns of a figure with all its digits."""
+    """A figure in ms with all digits, in ns."""
     return int(text.replace(",", "").replace(".", ""))
 
 

@@ -5,7 +5,6 @@ from __future__ import annotations
 import contextlib
 import json
 import os
-import select
 import shutil
 import signal
 import socket
@@ -19,7 +18,6 @@ from typing import Iterator
 from linked import found, hinge, needs_rooms, until
 from test_control import InAFolder
 
-from hinge.border.serving import PATIENCE
 from hinge.run.cgroups import name_of, own_folder, remove_left
 from hinge.run.control import Control
 from hinge.run.host_lines import UNTAKEN, Answer
@@ -36,6 +34,8 @@ ODD = (
     b'{"enter": 5}\n',
     b'{"x": 1}\n',
     b'{"number": true}\n',
+    b'{"number": 1.5}\n',
+    b'{"number": ' + b"9" * 5000 + b"}\n",
     b"{}\n",
     b"x" * 100_000 + b"\n",
     b"[" * 200_000 + b"\n",
@@ -45,8 +45,6 @@ ODD = (
     b'{"change": "up ' + b"9" * 5000 + b'bit/s"}\n',
 )
 PYTHON = Path(__file__).resolve().parents[2]
-ENDLESS = 600 << 20  # bytes of a line
-MOST_MORE = 8 << 10  # KiB of memory that a run may take for it
 
 
 MAKES_CGROUPS = """
@@ -105,17 +103,6 @@ class OfClients(InAFolder):
                         self.assertIn("refused", answer, text[:40])
             self.assertEqual(self.change("up", "7ms").returncode, 0)
 
-    def test_a_line_without_an_end_takes_no_memory(self) -> None:
-        with self.running("run", "--up", "5ms") as begun:
-            hinge("status", self.socket)  # so that what a reply takes is there
-            before = most_memory(begun.pid)
-            with self.client() as line, contextlib.suppress(BrokenPipeError, ConnectionResetError):
-                piece = b"x" * (1 << 20)
-                for _ in range(ENDLESS // len(piece)):
-                    line.sendall(piece)
-            self.assertEqual(self.change("up", "7ms").returncode, 0)
-            self.assertLess(most_memory(begun.pid), before + MOST_MORE)
-
     def test_an_outage_is_one_line_for_the_host(self) -> None:
         taken, plan = list[str](), plan_of_two()
         control = Control(str(self.socket), plan, Page(), plan.read, dict)
@@ -133,14 +120,6 @@ class OfClients(InAFolder):
             told = control.change("up outage 7ns lossy")
             self.assertEqual(taken, ["line remark change,up outage 7ns", "outage 7 cut 1"])
             self.assertEqual([(one.moment, one.refused) for one in told], [(5, UNTAKEN)] if is_refused else [(5, ""), (12, "")])
-
-    def test_an_idle_client_keeps_nobody_waiting(self) -> None:
-        with self.running("run", "--up", "5ms"), contextlib.ExitStack() as idle:
-            clients = [idle.enter_context(self.client()) for _ in range(5)]
-            begun = time.monotonic()
-            self.assertEqual((self.change("up", "7ms").returncode, hinge("status", self.socket).returncode), (0, 0))
-            is_idle = [not select.select([line], [], [], 0)[0] for line in clients]  # those whose patience ends are sent away
-            self.assertTrue(all(is_idle) or time.monotonic() - begun >= PATIENCE, is_idle)
 
     def test_an_order_has_its_number_again(self) -> None:
         with self.running("run", "--up", "5ms"), self.client() as line:
@@ -168,10 +147,14 @@ class OfClients(InAFolder):
         self.assertEqual(self.obeyed()[2:], ["pipe 1 config delay 21"])
 
     @unittest.skipUnless(shutil.which("setpriv") and os.geteuid() == 0, "only root can be another user")
-    def test_another_user_is_no_run(self) -> None:
+    def test_another_user_is_no_run_and_no_client(self) -> None:
         self.folder.chmod(0o777)
-        other = ["setpriv", "--reuid=65534", "--regid=65534", "--clear-groups", sys.executable, "-c", FALSE_RUN, str(self.socket)]
-        with subprocess.Popen(other) as false:
+        other = ["setpriv", "--reuid=65534", "--regid=65534", "--clear-groups", sys.executable, "-c"]
+        with self.running("run", "--up", "5ms"):
+            self.socket.chmod(0o777)
+            answers = [subprocess.run([*each, ASKS, str(self.socket)], capture_output=True).stdout for each in (other, other[4:])]
+        self.assertEqual([b"moment" in answer for answer in answers], [False, True], answers)
+        with subprocess.Popen([*other, FALSE_RUN, str(self.socket)]) as false:
             try:
                 until(self.socket.exists)
                 for words in (["status"], ["change", "up", "1ms"], ["down"], ["exec", "a", "--", "id"]):
@@ -202,18 +185,12 @@ def hosts_of(process: int) -> list[int]:
     return [int(pid) for pid in named if descends(int(pid), process)]
 
 
-def most_memory(process: int) -> int:
-    """The most KiB that a process and those below it have had, the greatest of them."""
-    processes = [int(name) for name in os.listdir("/proc") if name.isdecimal()]
-    found = [0]
-    for one in processes:
-        with contextlib.suppress(OSError, ProcessLookupError):
-            if descends(one, process):
-                status = Path(f"/proc/{one}/status").read_text()
-                found += [int(line.split()[1]) for line in status.splitlines() if line.startswith("VmHWM:")]
-    return max(found)
-
-
+ASKS = """
+import contextlib, socket, sys
+line = socket.socket(socket.AF_UNIX)
+with contextlib.suppress(BrokenPipeError, ConnectionResetError):
+    line.connect(sys.argv[1]), line.sendall(b'{"status": true}\\n'), print(line.recv(9999))
+"""
 FALSE_RUN = """
 import os, socket, sys
 line = socket.socket(socket.AF_UNIX)

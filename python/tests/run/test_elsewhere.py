@@ -26,7 +26,6 @@ from hinge.foreign import WORDS, answer_of
 from hinge.foreign_options import OF_LINK, OPTIONS
 from hinge.run import hints as hints_of_run
 from hinge.run.hints import far_host, hints, lacking, link_as_command
-from hinge.run.losses import remedy
 from hinge.run.plan_of_options import plan_of
 from hinge.run.settings import RunOptions
 from hinge.run.words import Wrong, link_of
@@ -37,12 +36,6 @@ from with_folder import WithFolder
 PYTHON, DATA = Path(__file__).resolve().parents[2], Path(__file__).resolve().parents[1] / "kit_data"
 FOREIGN = [line.split("  =>  ") for line in (DATA / "foreign.txt").read_text().splitlines()]  # lines, and what is said of each
 CORRECTED = {
-    "10mbit": "10Mbit/s",
-    "10M": "10Mbit/s",
-    "56k": "56Kbit/s",
-    "1Gbps": "1Gbit/s",
-    "0.5s": "500ms",
-    "10Mbps 20ms": "10Mbit/s 20ms",
     "rate 10mbit delay 20ms loss 1% limit 100": "10Mbit/s 20ms queue 100 loss 1%",
     "delay 100ms 10ms": "90ms jitter 20ms",
     "netem delay 50ms loss 0.3%": "50ms loss 0.3%",
@@ -52,11 +45,9 @@ CORRECTED = {
     "20ms limit 30 rate 1mbit": "20ms queue 30 1Mbit/s",
     "2% 20ms": "loss 2% 20ms",
     "30pkts 5Mbit/s": "queue 30 5Mbit/s",
-    "10Mbit/s rtt 40ms": "10Mbit/s 20ms",
     "10Mbit/s 20ms buffer 64KB": "10Mbit/s 20ms queue 64KB",
     "20ms±5ms": "15ms jitter 10ms",
     "20ms +- 5ms 10M": "15ms jitter 10ms 10Mbit/s",
-    "20ms 1% loss": "20ms loss 1%",
 }
 
 
@@ -75,7 +66,7 @@ def refused(words: list[str]) -> str:
 class Lines(unittest.TestCase):
     def test_a_whole_line_gets_a_whole_line_or_why_there_is_none(self) -> None:
         """Each line to type is accepted as it is: the words after `hinge run` by the parser, and the links by their readers."""
-        assert len(FOREIGN) > 120
+        assert len(FOREIGN) > 100
         for line, wanted in FOREIGN:
             with self.subTest(line):
                 answer = answer_of(shlex.split(line))
@@ -190,16 +181,16 @@ class Options(unittest.TestCase):
         for words, wanted in (
             ("--rate 10mbit --delay 100ms", "--rate, --delay: write --link '10Mbit/s 100ms'"),
             ("--link 10Mbit/s --delay 100ms --loss x", "--delay: write --link '10Mbit/s 100ms'"),
+            ("--delay 100ms --loss 5%", "--delay, --loss: write --link '100ms loss 5%'"),
+            *((f"--loss {text}", f"--loss: write --link 'loss {share}%'") for text, share in (("0.05", 5), ("5", 5), (".5%", 0.5))),
+            ("--bw 1MB/s", "--bw: write --link 8Mbit/s"),
+            ("--link 20ms --rtt 50ms", "--rtt: leave this out, as --link says '20ms'"),
             ("--rtt 40ms --pcap f", "--rtt, --pcap: write --link 20ms --transcript f, which `hinge look` draws"),
             ("--rtt 45ms", "--rtt: no link does: delay 22.5ms, as a link has whole milliseconds"),
             ("--duration 10s", "--duration: write timeout 10s before COMMAND, or --real-limit 10s of simulated time"),
             ("--trace f", "--trace: write --up-trace f --down-trace f"),
         ):
             assert f"error: {wanted}\n" in refused([*words.split(), "true"])
-
-    def test_a_rate_of_loss_is_written_as_a_link_takes_it(self) -> None:
-        for text, share in (("0.05", "5"), ("5%", "5"), ("5", "5"), (".5%", "0.5")):
-            self.assertIn(f"write loss {share}% behind", remedy(text))
 
     def test_both_ways(self) -> None:
         assert "5ms" == run_options(["--link", "5ms", "--down", "7ms", "true"]).up

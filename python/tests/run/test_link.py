@@ -225,7 +225,7 @@ class OfTheEnd(unittest.TestCase):
     def test_a_wrong_line_is_told_before_the_first_packet(self) -> None:
         for text, told in (
             ("line pipe 1 config bw 8Mbps\n", "word 5: bad number"),
-            ("at 5 queue 1 config weight 2\n", "needs a pipe"),
+            ("at 5 queue 1 config weight 2\n", "word 1: "),
             ("at 5 pipe delete 7\n", "no-such-pipe"),
             ("nonsense\n", "no line of a plan"),
         ):

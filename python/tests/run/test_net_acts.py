@@ -85,22 +85,30 @@ class OfHosts(InAFolder):
         assert done.returncode == 75 and why in found("void: (.*)", done.stderr), done.stderr
 
     def test_a_stop_lasts_over_a_restart(self) -> None:
-        """What begins on a stopped host waits until the host goes on."""
+        """What begins on a stopped host waits until the host goes on; other hosts' acts don't wait for that."""
         count = f"wc -l < {self.folder}/told"
         done = self.net(
             f"host a echo begun >> {self.folder}/told; exec sleep 1000\nmain c sleep 1.2; {count}; sleep 3; {count}\n{TWO}"
-            "at 200ms kill a 500ms\nat 400ms stop a 2600ms\n"
+            "host b exec sleep 1000\nlink b c 1ms\nat 200ms kill a 500ms\nat 400ms stop a 2600ms\nat 800ms kill b 100ms\n"
         )
         self.assertEqual((done.stdout.split(), self.summary()["hosts"]["a"]["by"]), (["1", "2"], "SIGTERM"), done.stderr)
+        words = ["kill a", "stop a", "restart a", "kill b", "restart b", "cont a"]
+        self.assertEqual([one["words"] for one in self.summary()["acts"]], words)
 
     def test_a_stop_of_the_first_process_ends_nothing(self) -> None:
-        """It is stopped beyond the second at which it looks at the hosts."""
-        self.file.write_text(f"main a echo begun > {self.folder}/told; sleep 2; echo ended\nhost b\n{TWO.replace('c', 'b')}")
-        with subprocess.Popen([*HINGE, "net", self.file, "--quiet"], stdout=subprocess.PIPE, text=True) as net:
+        """It is stopped beyond the second at which it looks at the hosts. The links' acts come meanwhile, and each is told of its moment."""
+        self.file.write_text(
+            f"main a echo begun > {self.folder}/told; sleep 2; echo ended\nhost b exec sleep 99\n{TWO.replace('c', 'b')}"
+            "at 500ms stop b 300ms\n"
+        )
+        words = [*HINGE, "net", self.file, "--quiet", "--transcripts", self.folder / "out"]
+        with subprocess.Popen(words, stdout=subprocess.PIPE, text=True) as net:
             until((self.folder / "told").exists)
             with stopped(int(Path(f"/proc/{net.pid}/task/{net.pid}/children").read_text().split()[0])):
                 time.sleep(1.2)
             self.assertEqual((net.communicate()[0], net.returncode), ("ended\n", 0))
+        begin, end = (one["moment"] for one in self.summary()["acts"])
+        self.assertGreaterEqual(end - begin, 0.2 * 10**9)
 
     def test_the_main_command_begins_behind_all_others(self) -> None:
         """So a kill at the main command's start reaches every host, and no host starts later."""
@@ -111,7 +119,7 @@ class OfHosts(InAFolder):
         self.assertEqual({self.summary()["hosts"][host]["by"] for host in hosts}, {"kill"})
 
     def test_no_program_sees_a_stop(self) -> None:
-        """Where there are cgroups: the shell would be told of a child that a signal has stopped."""
+        """With cgroups, a shell isn't told that its child stopped, as it is after a signal."""
         if own_folder() is None or not os.access(str(own_folder()), os.W_OK):
             self.skipTest("this user may make no cgroup")
         told = f"import os; print(os.waitpid(-1, os.WUNTRACED)[1], file=open('{self.folder}/told', 'w'), flush=True)"

@@ -6,11 +6,13 @@ import os
 import shutil
 import signal
 import subprocess
+import threading
 import unittest
+from unittest import mock
 
 from linked import HINGE, found, hinge, needs, needs_rooms, until, web_server
 
-from hinge.run.outside import GATEWAY
+from hinge.run.outside import GATEWAY, Outside
 from in_a_folder import InAFolder
 
 PING = "ping -c 1 -W 5 -q"
@@ -49,6 +51,27 @@ class OfOutside(InAFolder):
 
 @needs_rooms
 @needs("pgrep")
+class OfTheWayOut(unittest.TestCase):
+    def test_what_is_told_first_does_not_matter(self) -> None:
+        """The launcher and the first process write to one pipe, and nothing orders them."""
+        for parts in ((b"7 True", b"!"), (b"!", b"7 True")):
+            told: "list[tuple[object, ...]]" = []
+            read_end, write_end = os.pipe()
+            outside = mock.Mock(write_end=os.dup(write_end), said=os.open(os.devnull, os.O_WRONLY))
+            self.addCleanup(os.close, read_end)
+            own = {name: mock.Mock() for name in ("die_with_parent", "become")}
+            own["words_for"] = mock.Mock(side_effect=lambda *words: told.append(words))
+            with mock.patch.multiple("hinge.run.outside", **own), mock.patch("os.dup2"), mock.patch("signal.signal"):
+                os.write(write_end, parts[0])
+                later = threading.Timer(0.05, os.write, (write_end, parts[1]))
+                later.start()
+                Outside.join_what_is_told(outside, read_end)
+                later.join()
+            self.assertEqual(told[0][:2], ("7", True))
+            os.close(write_end)
+            os.close(outside.said)
+
+
 class OfTheEnd(InAFolder):
     def left(self, pattern: str) -> int:
         return len(subprocess.run(["pgrep", "-f", pattern], capture_output=True, text=True).stdout.split())

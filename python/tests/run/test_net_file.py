@@ -115,8 +115,16 @@ WRONG = (  # a net's file, and what is said of it
         )
     ),
     (
-        TWO + "link a b\nline a b queue 1 config pipe 2\nmap a b up tcp => queue 1\nat 1s a b up outage 1s\n",
-        "line 6: rules send packets to queue 1, which aren't held: write `outage LENGTH lossy`",
+        TWO + "link a b\nline a b queue 1 config pipe 1\nmap a b up tcp => queue 1\nat 1s a b up outage 1s\n",
+        "line 6: rules send packets to queue 1, which an outage doesn't hold: write `outage LENGTH lossy`",
+    ),
+    *(
+        (TWO + f"link a b{lines}\n", f"line {wrong}: a mask parts its packets, which an outage doesn't hold: write `outage")
+        for lines, wrong in (
+            ("\nline a b pipe 2 config mask src-ip 0xff\nat 1s a b outage 1s", 5),
+            ("\nat 1s a b outage 1s\nat 2s a b pipe 1 config mask src-ip 0xff", 5),
+            (" mask src-ip 0xff\nat 1s a b down outage 1s", 4),
+        )
     ),
     (TWO + "main a true\nmain b true\nlink a b\n", "line 4: 'main': a second one; the first is of a"),
     (TWO + "link a b 10Mbit/s 20sm\n", "line 3: '20sm': "),

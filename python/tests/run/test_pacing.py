@@ -96,7 +96,7 @@ class OfTraces(unittest.TestCase):
             self.close(self.dues(moments, sizes, [rng.choice((0, 0, 0, 0.005)) for _ in sizes]), moments)
 
     def test_a_constant_trace_takes_no_lines(self) -> None:
-        """12 Mbit/s: of packets that wait for each other the rate is always the same."""
+        """At 12 Mbit/s, packets that wait for each other keep a single rate."""
         link = Linked(f"{SEEDS}slots 1 1\nline pipe 1 config queue 1000\n")
         link.near.setsockopt(socket.SOL_SOCKET, socket.SO_SNDBUF, 2**20)
         with stopped(link.process.pid):  # so that it takes them at once

@@ -5,7 +5,7 @@ from __future__ import annotations
 import time
 
 from hinge.run.plan import Plan
-from hinge.run.traces import Rate, outage_rate, read_trace
+from hinge.run.traces import Rate, read_trace
 from hinge.run.words import Wrong, of_link
 from plan_files import OfFiles
 
@@ -55,16 +55,14 @@ class Traces(OfFiles):
         return [line for line in plan.text(1).splitlines() if not line.startswith(("seed", "line"))]
 
     def test_a_rate_of_0_is_an_outage(self) -> None:
-        """Of a pipe with masks it is one longest packet over its length: 1,500 bytes in 2 s are 6,000 bit/s."""
         text = "0,1000000\n10,0\n12,2000000\n"
         first, last = (f"at {moment}000000000 pipe 1 config bw {rate}000000bit/s delay 5" for moment, rate in ((0, 1), (12, 2)))
         self.assertEqual(
             self.plan(text),
-            ["hold 1 10000000000 12000000000", first.replace("0000000000", "0"), last[:0] + "outage 10000000000 1 1500", last],
+            ["hold 1 10000000000 12000000000", first.replace("0000000000", "0"), "outage 10000000000 1 1500", last],
         )
-        slow = "at 10000000000 pipe 1 config bw 6000bit/s delay 5 mask src-port 0xffff"
-        self.assertIn(slow, self.plan(text, more=" mask src-port 0xffff"))
-        self.assertEqual(outage_rate(2 * 10**9, 1500), 6000)
+        why = "a mask parts its packets, which an outage doesn't hold: write a rate above 0, as 1000"
+        self.assertRaisesRegex(Wrong, why, self.plan, text, more=" mask src-port 0xffff")
 
     def test_mahimahi(self) -> None:
         """Each moment as it is; counted over bins where that is asked, of which the last ends with the period."""
@@ -107,14 +105,8 @@ class Timelines(OfFiles):
         plan.timeline(self.file(text))
         return [change.line for change in plan.changes.all()]
 
-    def test_an_outage_ends_with_what_was_asked_meanwhile(self) -> None:
-        self.assertEqual(
-            self.lines("1s up outage 2s\n2s pipe 1 config bw 5Mbit/s\n", "pipe 1 config bw 1Mbit/s", "queue 1 config pipe 1"),
-            ["pipe 1 config bw 6000bit/s", "outage 1 1500", "pipe 1 config bw 5Mbit/s", "pipe 1 config bw 5Mbit/s"],
-        )
-
-    def test_an_outage_of_one_queue_is_held(self) -> None:
-        """Those that meet are one, and each begins with a packet that nobody sent."""
+    def test_an_outage_that_holds(self) -> None:
+        """Outages that meet are one, and each begins with a packet that nobody sent."""
         plan = Plan()
         plan.link("pipe 1 config bw 1Mbit/s"), plan.link("pipe 2 config"), plan.link("queue 1 config pipe 2")
         plan.timeline(self.file("1s up outage 2s\n3s up outage 1s\n2s up outage 1s\n9s outage 1s\n"))
@@ -123,7 +115,7 @@ class Timelines(OfFiles):
             told,
             [
                 "hold 1 1000000000 4000000000",
-                "hold 1 9000000000 10000000000",
+                *(f"hold {pipe} 9000000000 10000000000" for pipe in (1, 2)),
                 *(f"outage {moment}000000000 {pipe} 1500" for moment, pipe in ((1, 1), (9, 1), (9, 2))),
             ],
         )
@@ -135,11 +127,7 @@ class Timelines(OfFiles):
         )
         begun = time.process_time()
         self.assertEqual(len(self.lines(text, "pipe 1 config")), 36000 + 2000)
-        self.assertEqual(len(self.lines(text, "pipe 1 config", "queue 1 config pipe 1")), 36000 + 3 * 2000)
         self.assertLess(time.process_time() - begun, 20)
-
-    def test_an_outage_of_a_pipe_that_is_deleted_meanwhile(self) -> None:
-        self.assertEqual(self.lines("1s up outage 2s\n2s pipe delete 1\n", "pipe 1 config")[-1], "pipe delete 1")
 
     def test_a_lossy_outage(self) -> None:
         self.assertEqual(self.lines("1s down outage 2s lossy\n", "pipe 2 config delay 3"), ["cut 2 1", "open 2 1"])

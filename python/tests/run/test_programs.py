@@ -56,7 +56,7 @@ class OfSsh(Behind):
         return f"{self.folder}/{name}"
 
     def server(self) -> str:
-        """A server on port 2222 for this user only, with separate keys. As root it wants a folder below /run, as in the rooms."""
+        """A server on port 2222 for this user only, with separate keys. As root, sshd needs a folder below /run, as in the rooms."""
         options = {
             "AuthorizedKeysFile": f"{self.key('user')}.pub",
             "StrictModes": "no",

@@ -3,11 +3,13 @@
 from __future__ import annotations
 
 import contextlib
+import errno
 import json
 import os
 import shlex
 import shutil
 import signal
+import socket
 import subprocess
 import sys
 import tempfile
@@ -48,15 +50,28 @@ class OfCommands(unittest.TestCase):
         assert run("--", "/").returncode == 126
         assert run("--", "sh", "-c", "kill -9 $$").returncode == 137
 
+    def test_what_a_command_may_do(self) -> None:
+        """It reaches programs outside by sockets with a name alone, and sees none of their processes."""
+        inside = (
+            "import os, socket, sys\n"
+            "for place in (sys.argv[1], ('127.0.0.1', int(sys.argv[2]))):\n"
+            "    with socket.socket(socket.AF_UNIX if place == sys.argv[1] else socket.AF_INET) as line:\n"
+            "        print(line.connect_ex(place))\n"
+            "print([name for name in os.listdir('/proc') if name.isdecimal() and int(name) > 99])"
+        )
+        with tempfile.TemporaryDirectory() as folder, socket.socket(socket.AF_UNIX) as named, socket.create_server(
+            ("127.0.0.1", 0)
+        ) as port:
+            named.bind(f"{folder}/named"), named.listen()
+            done = run("--quiet", "--", sys.executable, "-c", inside, f"{folder}/named", port.getsockname()[1])
+        assert (done.returncode, done.stdout.split("\n")) == (0, ["0", str(errno.ECONNREFUSED), "[]", ""]), done.stderr
+        done = run("--", "sh", "-c", "kill -9 $(pgrep -x hinge-link); exec sleep 9")
+        assert (done.returncode, "void: the link broke off before the end" in done.stderr) == (75, True), done.stderr
+
     def test_what_is_wrong_is_told_before_anything_starts(self) -> None:
         for words, status, told in (
             (["--up", "10Mbps"], 2, "hinge run: --up: '10Mbps': not a bandwidth; write 10Mbit/s\n"),
-            (
-                ["--loss", "1%"],
-                2,
-                "hinge run: --loss 1%: none of gilbert:P,R[,B[,G]] and list:N,N-M; "
-                "a rate of loss is a word of a link; write loss 1% behind the others of --link\n",
-            ),
+            (["--loss", "ge"], 2, "hinge run: --loss ge: none of gilbert:P,R[,B[,G]] and list:N,N-M\n"),
             (["--line", "queue 1 config pipe 9"], 3, "hinge: queue 1 config pipe 9: no-such-pipe\n"),
             (["--late", "soon"], 2, "hinge run: --late soon: not a duration (example: 600ms)\n"),
             *(
@@ -148,8 +163,7 @@ class OfCommands(unittest.TestCase):
 @needs("chroot", "getent")
 class OfChroots(unittest.TestCase):
     def test_a_root_that_is_no_file_system_s(self) -> None:
-        """The folder is in mounts that are shared, so that one that the run doesn't keep to itself would be seen from
-        outside."""
+        """The folder's mounts are shared, so that a mount outside the run's own room would be visible."""
         with tempfile.TemporaryDirectory() as folder:
             words = ["unshare", "-m", "sh", "-c", CHROOTED, folder, *HINGE, "run", "--quiet", "--", "getent", "ahostsv4", "server"]
             got = subprocess.run(words, capture_output=True, text=True, timeout=60)

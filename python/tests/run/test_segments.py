@@ -45,7 +45,7 @@ def tcp(ends: bytes, sequence: int, flags: int, data: bytes) -> bytes:
 
 
 def ip(ends: bytes, protocol: int, inside: bytes, number: int, options: bytes = b"") -> bytes:
-    """With a right checksum of the header of IPv4."""
+    """A packet with the correct checksum of IPv4's header."""
     if len(ends) > 8:
         return struct.pack("!IHBB", 0x6 << 28, len(inside), protocol, 64) + ends + inside
     length = 20 + len(options) + len(inside)

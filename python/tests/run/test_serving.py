@@ -15,10 +15,9 @@ from with_folder import WithFolder
 
 from hinge.border import serving
 from hinge.border.asking import ask
-from hinge.border.messages import Order, Reply, Strange, line_of, read_message
-from hinge.border.serving import MOST_CLIENTS, SHORT, Answer as Outcome, Server
+from hinge.border.messages import Order, Reply, line_of, read_message
+from hinge.border.serving import LEFT, MOST_CLIENTS, SHORT, Answer as Outcome, Server
 from hinge.run.words import Wrong
-from test_border import ODD
 
 
 class OfMessages(unittest.TestCase):
@@ -27,11 +26,6 @@ class OfMessages(unittest.TestCase):
             self.assertEqual(read_message(type(message), line_of(message)), message)
         told = read_message(Reply, b'{"told": [{"moment": 1, "line": "pipe 1 config"}]}').told
         self.assertEqual([(one.moment, one.line, one.refused) for one in told or []], [(1, "pipe 1 config", "")])
-
-    def test_all_others_are_refused(self) -> None:
-        for text in (*ODD[:9], b'{"number": 1.5}', b'{"number": ' + b"9" * 5000 + b"}", b'{"told": [{"moment": 1}]}'):
-            with self.subTest(text[:40]), self.assertRaises(Strange):
-                read_message(Reply if b"told" in text else Order, text)
 
 
 class OfServers(WithFolder):
@@ -138,6 +132,18 @@ class OfServers(WithFolder):
                 line = idle.enter_context(socket.socket(socket.AF_UNIX))
                 line.connect(self.path)
             self.assertTrue(self.is_answered())
+
+    def test_idle_clients_leave_descriptors_to_the_run(self) -> None:
+        self.assertTrue(self.is_answered())
+        held = [os.dup(0) for _ in range(4 * LEFT)]  # so that a quarter of the limit is no less than what is left
+        self.addCleanup(lambda: [os.close(one) for one in held])
+        os.close(free := held.pop())
+        most = free + 8 + LEFT
+        with contextlib.ExitStack() as idle, mock.patch("resource.getrlimit", return_value=(most, most)):
+            for _ in range(MOST_CLIENTS // 2):
+                idle.enter_context(socket.socket(socket.AF_UNIX)).connect(self.path)
+            self.assertTrue(self.is_answered())
+            self.assertLess(len(self.server.clients), 8)
 
     def test_it_has_two_threads_however_many_clients_there_are(self) -> None:
         count = threading.active_count()

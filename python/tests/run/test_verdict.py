@@ -2,12 +2,14 @@
 
 from __future__ import annotations
 
+import re
 import time
 import unittest
 from unittest import mock
 
 from linked import needs_rooms, run
 
+from hinge.events.forms import WORDS
 from hinge.events.idle import idle_events
 from hinge.events.kinds import Act, Moment
 from hinge.net.acts import Done
@@ -16,6 +18,7 @@ from hinge.net.net_plan import NetPlan
 from hinge.run.verdict import Awaited, Waits, late_acts, verdict, waited_of
 from hinge.run.page import ENDED_WELL, HEAD, WAY, Counts, Page, asleep
 from hinge.run.summary import NAMES, void
+from hinge.run.words import Wrong
 from in_a_folder import InAFolder
 
 MS = 10**6
@@ -110,6 +113,25 @@ class OfIdleEvents(InAFolder):
         ):
             self.assertEqual(self.idle(first, second, third), [wanted] * bool(wanted), (first, second, third))
 
+    def test_no_word_is_silently_without_effect(self) -> None:
+        """Each names a host or a link that isn't there, comes twice at a moment, or ends what another word began: it is refused or told."""
+        self.NET = f"{self.NET}disk a data\n"
+        begun = {"heal": "cut", "restart": "kill", "cont": "stop"}
+        of_hosts = [f"{word} a{' +2s' * (word == 'skew')}" for word in WORDS]
+        self.assertRaisesRegex(Wrong, "'corrupt': of a whole run", self.idle, "1s a c 5ms corrupt 1%")
+        for words in [*of_hosts, "a c outage 1s", "a c outage 1s lossy", "a c 6ms", "a c pipe 1 config delay 6"]:
+            word = words.split()[0]
+            before = [f"1s {begun[word]} a"] if word in begun else []
+            self.assertRaisesRegex(Wrong, "no (host|such|link)", self.idle, *before, "2s " + re.sub(r"\ba\b", "z", words))
+            try:
+                told = self.idle(*before, f"2s {words}", f"2s {words}")
+            except Wrong as wrong:
+                told = re.findall("goes on then|leave one of them out", str(wrong))
+            self.assertTrue(told, words)
+            for end, fault in begun.items():
+                if end != "restart" and fault != word:
+                    self.assertRaisesRegex(Wrong, "goes on then", self.idle, f"1s {words}", f"2s {end} a")
+
     def test_what_ends_earlier_covers_nothing_behind(self) -> None:
         self.assertEqual(self.idle("1s stop a 4s", "2s cont a", "3s stop a 1s"), [])
         self.assertEqual(self.idle("1s kill a 9s", "2s restart a", "3s stop a 1s"), [])
@@ -190,7 +212,7 @@ class OfSleep(unittest.TestCase):
 @needs_rooms
 class OfNets(InAFolder):
     def test_a_program_that_waits(self) -> None:
-        """Twenty that spin beside each other wait for one another, however many processors there are."""
+        """Twenty programs that spin at once wait for each other, on any number of processors."""
         (self.folder / "spin.sh").write_text("for n in $(seq 20); do timeout 3 sh -c 'while :; do :; done' & done; wait\n")
         done = self.net(f"host a taskset 1 sh {self.folder}/spin.sh\nmain b sleep 3\nlink a b 5ms\n", "--late", "50ms")
         self.assertEqual(done.returncode, 75, done.stderr)

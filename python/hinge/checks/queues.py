@@ -1,0 +1,80 @@
+"""The rules that decide a queue into which each value is put once, in the time that a sort takes (Henzinger, Sezgin and Vafeiadis,
+Aspect-Oriented Linearizability Proofs, CONCUR 2013)."""
+
+from __future__ import annotations
+
+from bisect import bisect_left, bisect_right
+from dataclasses import replace
+from itertools import accumulate
+from operator import attrgetter
+from typing import Iterator, Optional
+
+from hinge.checks.operations import ALWAYS, NEVER, NULL, Operation
+
+END = attrgetter("end")
+
+
+class Rules:
+    """The puts by value, the gets that returned one, and the gets without a result, each of which may have got any value."""
+
+    def __init__(self, operations: list[Operation]) -> None:
+        self.puts = {one.value: one for one in operations if one.op == "put"}
+        gets = sorted((one for one in operations if one.op == "get"), key=END)
+        self.silent = sorted((one for one in gets if not one.result), key=lambda one: one.begin)
+        self.empty = [one for one in gets if one.result == NULL]
+        self.gets = [one for one in gets if one.result not in ("", NULL)]
+        self.first = {one.result: one for one in reversed(self.gets)}
+        puts = sorted(self.puts.values(), key=END)
+        self.ends = [one.end for one in puts]
+        self.there = list(accumulate(map(self.surely_there_until, puts), max, initial=ALWAYS))
+
+    def surely_there_until(self, put: Operation) -> float:
+        if put.value in self.first:
+            return self.first[put.value].begin
+        return ALWAYS if self.silent else NEVER
+
+    def until(self, moment: float) -> float:
+        """Returns until when a value that was put before the moment is surely in the queue."""
+        return self.there[bisect_left(self.ends, moment)]
+
+    def breaches(self) -> Iterator[Operation]:
+        """Yields operations at whose end a rule is broken."""
+        for one in self.gets:
+            put = self.puts.get(one.result)
+            if put is None or one.end < put.begin or one is not self.first[one.result] or self.until(put.begin) > one.end:
+                yield one  # its value wasn't put yet, was got before, or overtook another
+        for one in self.empty:
+            moment = one.begin
+            while moment < self.until(moment) <= one.end:
+                moment = self.until(moment)
+            if self.until(moment) > moment:
+                yield one  # at no moment might the queue be empty
+        begins = [one.begin for one in self.silent]
+        for count, (_, one) in enumerate(self.due() if self.silent else ()):
+            if bisect_right(begins, one.end) <= count:
+                yield one  # nobody is left who might have got the value that came before
+
+    def due(self) -> list[tuple[str, Operation]]:
+        """Returns values that nobody is known to have got, each with the first get by whose end it has to be gone."""
+        later = [(self.puts[one.result].begin, one) for one in self.gets if one.result in self.puts]
+        later = sorted(later + [(one.begin, one) for one in self.empty], key=lambda pair: pair[0])
+        begins = [begin for begin, _ in later]
+        earliest = list(accumulate((one for _, one in reversed(later)), lambda one, other: min(one, other, key=END)))[::-1]
+        places = {value: bisect_right(begins, put.end) for value, put in self.puts.items() if value not in self.first}
+        due = [(value, earliest[place]) for value, place in places.items() if place < len(earliest)]
+        return sorted(due, key=lambda pair: pair[1].end)
+
+    def likely(self) -> list[Operation]:
+        """Returns the operations with the gets without a result that have to be, which get what has to be gone first."""
+        pairs = zip(self.silent, self.due())
+        guesses = [replace(one, words={**one.words, "result": value}) for one, (value, _) in pairs]
+        return [*self.puts.values(), *self.empty, *self.gets, *guesses]
+
+
+def first_breach(operations: list[Operation]) -> tuple[bool, Optional[Operation]]:
+    """Returns whether the rules decide the operations, and the first at whose end one is broken. Each value is put once. Gets without a
+    result beside gets from an empty queue are decided where a rule is broken anyway, or the likely values keep all rules."""
+    rules = Rules(operations)
+    breach = min(rules.breaches(), key=lambda one: (one.end, one.line), default=None)
+    is_clear = breach is not None or not (rules.silent and rules.empty)
+    return is_clear or not any(Rules(rules.likely()).breaches()), breach
