@@ -97,7 +97,8 @@ UNSEEN = {
     **dict.fromkeys(("Trace.flow_bound 1", "Trace.flow_bound 6"), "a flow above the bound has no packet"),
     "Wf2q.scaled 2": "another unit of tags changes an order only by its rounding; laws_of_shares has the unit",
     **dict.fromkeys(
-        ("Wf2q.goes_before 9", "Wf2q.goes_before 10"), "heads come in the order of their flows; laws_of_shares has the tie"
+        (f"Wf2q.goes_before {number}" for number in (6, 7, 9, 10)),
+        "heads come in the order of their flows; laws_of_shares has the tie",
     ),
     "Wf2q.goes_before 5": "a lesser finish tag goes first already",
     "Starts.waiting_all 1": "a settling may have a turn too many",

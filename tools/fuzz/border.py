@@ -63,26 +63,8 @@ OUTPUT, OUTPUT_TIMES = 1 << 20, 4000  # the same of what is written
 STATUSES = {0, 1, 2, 3, 4, 6}
 NUMBERS = [0, 1, 2, 4, 12, 28, 255, 256, 1500, 65535, 65536, 2**28, 2**31 - 1, 2**31, 2**32 - 4, 2**32 - 1]
 TEXTS = [
-    b",",
-    b"\n",
-    b"\x1b[31m",
-    b"\0",
-    b"\xff",
-    b"%",
-    b"fe80::1%\x1b[2J",
-    b"9" * 5000,
-    b'"',
-    b"-1",
-    b"[" * 2000,
-    b"{}",
-    b"null",
-    b"#,host,",
-    b"#,pipe,1,",
-    b"c,0,submit,pipe,1,",
-    b"up 1ms",
-    b"outage 1s lossy",
-    b"1e999",
-    b"\xc2\x9b31m",
+    *(b",", b"\n", b"\x1b[31m", b"\0", b"\xff", b"%", b"fe80::1%\x1b[2J", b"9" * 5000, b'"', b"-1", b"[" * 2000),
+    *(b"{}", b"null", b"#,host,", b"#,pipe,1,", b"c,0,submit,pipe,1,", b"up 1ms", b"outage 1s lossy", b"1e999", b"\xc2\x9b31m"),
 ]
 MEMORY_FOLDER = "/dev/shm"
 CONFIG = "pipe 1 config bw 8Mbit/s\n"

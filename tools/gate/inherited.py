@@ -6,8 +6,8 @@ user, who may have no second process, commands end as usual, or by a line that s
 
     python3 tools/gate/inherited.py PROGRAM
 
-Each script of the shell that has `cd` begins with FRONT, and the programs in Python with `inherit_nothing`. The first process of a simulated
-machine isn't tried: its parent is the machine's kernel, which passes nothing on to it.
+Each script of the shell that has `cd` begins with FRONT, and the programs in Python with `inherit_nothing`. In simulated time, too, programs
+begin without a blocked or ignored signal.
 """
 
 from __future__ import annotations
@@ -39,10 +39,12 @@ HOSTILE = {
 SHADOWED = "json random socket tempfile subprocess argparse dataclasses csv shlex".split()
 LIMIT = 120  # s
 PACKETS = "moment,target,number,src,dst,proto,sport,dport,len,word\n0,pipe,1,10.0.0.1,10.0.0.2,17,1000,2000,1000,0\n"
+TOLD = "cat /proc/self/status | grep ^Sig[BI]; exit 3"
 FILES = {
     "c": "pipe 1 config bw 8Mbit/s\n",
     "p": PACKETS,
     "n.net": "host a true\nhost b\nlink a b 1ms\n",
+    "s.net": f"host a {TOLD}\nmain b grep ^Sig[BI] /proc/self/status\nlink a b 1ms\n",
     "s.sh": "ipfw pipe 1 config\n",
     "plan": "line pipe 1 config\nline pipe 2 config\nseed 0 1\nseed 1 1\n",
 }
@@ -50,9 +52,11 @@ PAGE = 1 << 16  # bytes, more than those of a page of counts
 COMMANDS = [
     *([*HINGE, *words] for words in (["help"], ["check", "c", "p"], ["ipfw", "s.sh"], ["why", "1", "c", "p"])),
     *([*HINGE, *words] for words in (["packets", CAPTURE], ["try"], ["net", "n.net", "--dry-run"], ["packets", "missing"])),
-    [*HINGE, "run", "--quiet", "--link", "1ms", "--", "sh", "-c", "cat /proc/self/status | grep ^Sig[BI]; exit 3"],
+    [*HINGE, "run", "--quiet", "--link", "1ms", "--", "sh", "-c", TOLD],
     [*HINGE, "run", "--quiet", "--server", "sleep 9", "--server-wait", "10ms", "--", "true"],
     [*HINGE, "net", "--quiet", "n.net"],
+    [*HINGE, "run", "--simulated", "--seed", "1", "--quiet", "--link", "1ms", "--", "sh", "-c", TOLD],
+    [*HINGE, "net", "--simulated", "--seed", "1", "--quiet", "s.net"],
     [str(TOP / "dummynet"), "--version"],
     [str(TOP / "tools/release/program_sources")],
     [str(TOP / "install"), "--uninstall", "usr"],
@@ -66,10 +70,7 @@ def closed(*streams: int) -> None:
 
 CLOSED = "all streams are closed"
 INSTALL = [str(TOP / "install"), "there"]
-FORKING = [
-    [*HINGE, *words]
-    for words in (["udp", "0", "9"], ["up", "n.net"], ["look", "p", "p"], ["run", "--simulated", "--quiet", "--", "true"])
-]
+FORKING = [[*HINGE, *words] for words in (["udp", "0", "9"], ["up", "n.net"], ["look", "p", "p"])]
 # An ordinary user, since nothing bounds root's processes, who may read a clone in root's home.
 AS_ANOTHER = "setpriv --reuid 61234 --regid 61234 --clear-groups --inh-caps +dac_override --ambient-caps +dac_override".split()
 NO_PROCESS = ("it can't begin: Resource", "a process can't begin: Resource", "can't start new thread", "Cannot fork")

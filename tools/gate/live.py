@@ -15,6 +15,7 @@ from random import Random
 
 from tally import Tally, judge
 
+from config_lines import FAULT_ROWS
 from history import call_text
 from live import LINE_LIMIT, session
 from model import Configure
@@ -26,9 +27,7 @@ SUBMIT = b"c,0,submit,pipe,1,10.0.0.1,10.0.0.2,17,1000,2000,1000,0,%d"
 # fmt: off
 BAD = [
     (b"hello", "1,word 1: unknown word"), (b"r,queued,0,0,0", "1,word 1: unknown word"), (b"next ", "1,word 1: unknown word"),
-    (b"pipe 1 config bw", "1,word 4: missing value"), (b"pipe 1 config bw 3x", "1,word 5: bad number"),
-    (b"pipe 65536 config", "1,word 2: out of range"), (b"pipe 1 config red 1", "1,word 4: left out"),
-    (b"queue 1 config", "1,word 1: needs a pipe"), (b"pipe 1 config \xff", "1,not UTF-8"),
+    *((line.encode(), f"1,word {word}: {text}") for _, text, line, word in FAULT_ROWS), (b"pipe 1 config \xff", "1,not UTF-8"),
     (b"c", "2,bad field"), (b"c,16,show", "2,bad field"), (b"c,0,shows", "3,bad field"), (b"c,0,show,", "3,bad field"),
     (b"c,0,collect,-1", "4,bad field"), (b"c,0,collect,4611686018427387905", "4,bad field"),
     (b"c,0,configure,", "4,no command"), (b"c,0,configure,pipe 1 config bw 3x", "4,word 5: bad number"), (b"c,0,configure,\xff", "4,not UTF-8"),

@@ -13,6 +13,9 @@ import sys
 
 from tally import TOP, Tally, judge, ran
 
+from config_lines import NAME_OF
+from hinge.events.forms import WORDS
+
 
 def printed(*words: object) -> str:
     return ran(*words, is_apart=True, check=True).stdout
@@ -35,7 +38,7 @@ def named(tally: Tally, text: str, whose: str, words: list[str]) -> None:
     for word in words:
         tally.note(
             f"{whose} {word}",
-            "" if re.search(rf"(?<![\w-]){re.escape(word)}(?![\w-])", text) else "the manual page doesn't name it",
+            "" if re.search(rf"(?<![\w-]){re.escape(word)}(?![\w-])", text) else "the page doesn't name it",
         )
 
 
@@ -46,6 +49,7 @@ def of_dummynet(tally: Tally, program: str) -> None:
     ):
         tally.note(f"fault line {line}", "" if line in text else "the manual page doesn't name it")
     named(tally, text, "dummynet", options(printed(program, "replay", "--help")))
+    named(tally, text, "a line's fault", [*NAME_OF])
 
 
 def of_hinge(tally: Tally) -> None:
@@ -54,6 +58,8 @@ def of_hinge(tally: Tally) -> None:
     commands = re.findall(r"^  ([a-z-]+) ", printed(*hinge, "help"), re.M)
     tally.note("the commands of hinge", "" if len(commands) >= 10 else f"got {commands}")
     named(tally, text, "hinge", commands)
+    named(tally, text, "at TIME", [*WORDS])
+    named(tally, (TOP / "docs" / "NET.md").read_text(), "docs/NET.md: at TIME", [*WORDS])
     for command in commands:
         told = printed(*hinge, command, "--help")
         example = re.split(r"\nexamples?:\n", told)[-1]

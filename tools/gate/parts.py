@@ -26,6 +26,7 @@ LONGEST = 7200  # s after which a part that hasn't ended is ended and counts as 
 CALLS_BY_DEFINITIONS = 10_000
 TOLD_LINES = 20  # of a part that failed without naming what
 FUZZED_IN_C, FUZZED_IN_PYTHON = 20_000, 800  # inputs of each target
+READ_ALIKE = 200  # packet files, and as many lines
 SYSTEMS = "/usr/bin/python3"
 NUMPY, MATPLOTLIB = (f"/usr/lib/python3/dist-packages/{name}/__init__.py" for name in ("numpy", "matplotlib"))
 FUZZER = "/usr/lib/llvm-*/lib/clang/*/lib/linux/libclang_rt.fuzzer-x86_64.a"  # clang's libFuzzer
@@ -146,6 +147,7 @@ def parts(fresh: Optional[int], program: str) -> list[Part]:
         Part("libraries in simulated time", [python, "tools/libraries", "--seeds", "3"], "pytest", least=14),
         Part("fuzzing of the hosts", [python, "tools/fuzz/run.py", *by_seed, str(FUZZED_IN_C)], FUZZER, True, least=5),
         Part("fuzzing of the kit", [kit, "tools/fuzz/border.py", *by_seed, str(FUZZED_IN_PYTHON)], NUMPY, True, least=9),
+        Part("readers that agree", [python, "tools/fuzz/readers.py", program, *by_seed, str(READ_ALIKE)], "cargo", True, least=400),
         Part("kills of the kit's commands", [kit, "tools/gate/kills.py", *by_seed], NUMPY, True, least=46, by_clock=True),
         Part("the words of nets and runs", [python, "tools/gate/plans.py", *by_seed], "cc", True, 35, by_clock=True),
         Part("the notices of the crates", [python, "tools/release/notices.py", "--check"], "rt", least=20),
@@ -168,7 +170,7 @@ def parts(fresh: Optional[int], program: str) -> list[Part]:
         Part("parts that turn red", [python, "tools/gate/plants.py", program, of_gate], "git", True, 4),
         Part("README as a script", [kit, "tools/gate/readme.py", program], "ping", True, 25, by_clock=True),
         Part("the tables of CONTRIBUTING", [python, "tools/gate/contributing.py"], "git", least=170),
-        Part("the border of the kit", [python, "tools/gate/border.py"], least=200),
+        Part("the border of the kit", [python, "tools/gate/border.py"], least=400),
         Part("types of Python", [python, "tools/gate/python_types.py"], "mypy", least=250),
         Part("unused names of Python", [python, "tools/gate/linter.py"], "pyflakes3", least=500),
         Part("the form of Python", [python, "tools/gate/linter.py", "--format"], "black", True, 500),

@@ -27,6 +27,7 @@ from hinge.net.net_plan import NetPlan
 from hinge.plans.judged import Judge
 from hinge.plans.sessions import judged, judged_run
 from hinge.run.words import Wrong
+from hingetulip_words.values import SHARES
 
 HINGE, LIMIT = str(TOP / "hinge"), 300  # s
 LATEST = 2_600  # ms, of a drawn line
@@ -73,7 +74,7 @@ class Drawn:
             self.ms(1, 40),
             *[f"loss {self.draw.randint(1, 30)}%"] * (not self.has_model),
         ]
-        more = [f"jitter {self.ms(1, 4)}", *(f"{word} {self.draw.randint(1, 20)}%" for word in ("duplicate", "corrupt"))]
+        more = [f"jitter {self.ms(1, 4)}", *(f"{word} {self.draw.randint(1, 20)}%" for word in SHARES)]
         return " ".join([self.ms(41, 60)] * (not (kept := self.some(chosen))) + [*kept, *self.some(more)])
 
     def change(self) -> str:

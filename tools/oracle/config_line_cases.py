@@ -14,19 +14,11 @@ import sys
 from random import Random
 
 from broken import bad_line, random_words_line
-from config_lines import LineFault, parse_line
+from config_lines import NAME_OF, LineFault, parse_line
 from printing import command_text
 from scenarios import STYLES
 from spelling import any_command, spell
 
-FAULTS = {
-    "unknown word": "UnknownWord",
-    "missing value": "MissingValue",
-    "bad number": "BadNumber",
-    "out of range": "OutOfRange",
-    "left out": "LeftOut",
-    "needs a pipe": "NeedsPipe",
-}
 NINES = "9" * 10_000
 EXTREMES = (
     f"pipe 1 config queue {NINES}",
@@ -44,7 +36,7 @@ def answer(line: str) -> str:
     try:
         command = parse_line(line)
     except LineFault as fault:
-        return f"{FAULTS[fault.kind]} {fault.word}"
+        return f"{NAME_OF[fault.kind]} {fault.word}"
     return "none" if command is None else f"ok {command_text(command)}"
 
 

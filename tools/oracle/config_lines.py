@@ -3,16 +3,16 @@
 from __future__ import annotations
 
 import re
+from pathlib import Path
 from typing import Any, Optional
 
 import model
 
-UNKNOWN_WORD = "unknown word"
-MISSING_VALUE = "missing value"
-BAD_NUMBER = "bad number"
-OUT_OF_RANGE = "out of range"
-LEFT_OUT = "left out"
-NEEDS_PIPE = "needs a pipe"
+PAGE = Path(__file__).resolve().parents[2] / "docs" / "LINKS.md"
+# Each fault's name and text, with an example and the number of the example's wrong word.
+FAULT_ROWS = re.findall(r"^\| `(\w+)` \| ([a-z ]+) \| .+ \| `([^`]+)` \| (\d+) \|$", PAGE.read_text("utf-8"), re.M)
+NAME_OF = {text: name for name, text, _, _ in FAULT_ROWS}
+UNKNOWN_WORD, MISSING_VALUE, BAD_NUMBER, OUT_OF_RANGE, LEFT_OUT, NEEDS_PIPE = NAME_OF
 
 LEFT_OUT_WORDS = frozenset("red gred ecn codel pie fq_codel fq_pie sched burst profile noerror src-ip6 dst-ip6 flow-id".split())
 MASK_FIELDS = {  # word -> (name of the field, greatest value)
