@@ -1,24 +1,23 @@
-"""Publishes numbers with QoS 1 to a mosquitto whose host crashes again and again, and takes all of them at the end by the persistent session
-that subscribed before: each number that was acknowledged has to come."""
+"""Publishes numbers with QoS 1 to mosquitto, and takes all of them at the end by the persistent session that subscribed before: each number
+that was acknowledged has to come."""
 
 from __future__ import annotations
 
-import socket
 import sys
 from pathlib import Path
 
 sys.path.insert(0, str(Path(__file__).parent.parent))
-from operations import add_numbers, at_once, operation, patiently
+import operations as of
+from operations import add_numbers, at_once, check_set, patiently
 
 FOUND = set[int]()
 
 
-class Connection:
+class Connection(of.Connection):
     """Packets of MQTT 3.1.1 of less than 128 bytes, with a persistent session if it has a name."""
 
     def __init__(self, name: bytes = b"") -> None:
-        self.socket = socket.create_connection(("broker", 1883), 10)
-        self.file = self.socket.makefile("rb")
+        super().__init__("n1", 1883)
         self.send(0x10, b"\0\4MQTT\4" + (b"\0" if name else b"\2") + b"\0\0" + bytes([0, len(name)]) + name)
         self.expect(0x20, b"\0\0", b"\1\0")
 
@@ -38,18 +37,16 @@ class Connection:
             raise OSError(f"instead of {kind:#x} came {answer}")
 
 
-def publish(number: int) -> None:
+def publish(client: int, number: int) -> None:
     connection = Connection()
     connection.send(0x32, b"\0\1s\0\1%d" % number)
     connection.expect(0x40, b"\0\1")
-    connection.socket.close()
 
 
 def subscribe() -> None:
     connection = Connection(b"reader")
     connection.send(0x82, b"\0\1\0\1s\1")
     connection.expect(0x90, b"\0\1\1")
-    connection.socket.close()
 
 
 def everything() -> list[int]:
@@ -67,5 +64,5 @@ def everything() -> list[int]:
 
 
 patiently(subscribe)
-at_once(lambda client: add_numbers(client, "s", publish), 3)
-operation(9, "s", "read", lambda: patiently(everything))
+at_once(lambda client: add_numbers(client, publish), 3)
+check_set(everything)

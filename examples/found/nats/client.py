@@ -1,34 +1,32 @@
-"""Publishes numbers to a stream of three replicas for 40 s, and reads the stream once all nodes are back: each number that was
+"""Publishes numbers to a stream of three replicas for 50 s, and reads the stream once all nodes are back: each number that was
 acknowledged has to be there."""
 
 from __future__ import annotations
 
 import base64
 import json
-import socket
 import sys
 import time
 from pathlib import Path
-from typing import Any, Optional
+from typing import Any
 
 sys.path.insert(0, str(Path(__file__).parent.parent))
-from operations import at_once, operation, patiently, until
+import operations as of
+from operations import add_numbers, at_once, check_set, patiently
 
 STREAM = {"name": "S", "subjects": ["s.>"], "num_replicas": 3, "storage": "file"}
 
 
-class Connection:
+class Connection(of.Connection):
     """Requests to a node of NATS, by its text protocol."""
 
-    def __init__(self, host: str) -> None:
-        self.socket = socket.create_connection((host, 4222), 2)
-        self.file = self.socket.makefile("rb")
+    def __init__(self, host: str, seconds: float = 5) -> None:
+        super().__init__(host, 4222, seconds)
         self.count = 0
         self.socket.sendall(b'CONNECT {"verbose":false,"headers":true,"no_responders":true}\r\nSUB answer.* 1\r\n')
 
-    def ask(self, subject: str, data: bytes = b"", seconds: float = 2) -> dict[str, Any]:
+    def ask(self, subject: str, data: bytes = b"") -> dict[str, Any]:
         self.count += 1
-        self.socket.settimeout(seconds)
         self.socket.sendall(f"PUB {subject} answer.{self.count} {len(data)}\r\n".encode() + data + b"\r\n")
         while line := self.file.readline().split():
             if line[0] == b"PING":
@@ -43,19 +41,8 @@ class Connection:
         raise OSError("the node closed the connection")
 
 
-def publish(client: int) -> None:
-    connection: Optional[Connection] = None
-    number = client
-    while until(50):
-        try:
-            connection = connection or Connection(f"n{client + 1}")
-            used = connection
-            if not operation(client, "S", "add", lambda: used.ask("s.x", b"%d" % number), value=number):
-                connection = None
-        except OSError:
-            connection = None
-        number += 3
-        time.sleep(0.1)
+def publish(client: int, number: int) -> None:
+    Connection(f"n{client + 1}", 2).ask("s.x", b"%d" % number)
 
 
 def is_gone(error: OSError) -> bool:
@@ -66,7 +53,7 @@ def is_gone(error: OSError) -> bool:
 def number_at(connection: Connection, place: int) -> set[int]:
     """The number at a place of the stream, none where the stream has no message there."""
     try:
-        row = connection.ask("$JS.API.STREAM.MSG.GET.S", json.dumps({"seq": place}).encode(), 5)
+        row = connection.ask("$JS.API.STREAM.MSG.GET.S", json.dumps({"seq": place}).encode())
         return {int(base64.b64decode(row["message"]["data"]))}
     except OSError as error:
         if is_gone(error):
@@ -77,7 +64,7 @@ def number_at(connection: Connection, place: int) -> set[int]:
 def everything() -> list[int]:
     """All numbers of the stream, each once."""
     connection = Connection("n1")
-    state = connection.ask("$JS.API.STREAM.INFO.S", seconds=5)["state"]
+    state = connection.ask("$JS.API.STREAM.INFO.S")["state"]
     places = range(state["first_seq"], state["last_seq"] + 1) if state["messages"] else ()
     return sorted(set[int]().union(*(number_at(connection, place) for place in places)))
 
@@ -93,7 +80,7 @@ def all_that_is_left() -> list[int]:
         raise
 
 
-patiently(lambda: Connection("n1").ask("$JS.API.STREAM.CREATE.S", json.dumps(STREAM).encode(), 5))
-at_once(publish, 3)
+patiently(lambda: Connection("n1").ask("$JS.API.STREAM.CREATE.S", json.dumps(STREAM).encode()))
+at_once(lambda client: add_numbers(client, publish, 50, 0.1), 3)
 time.sleep(20)
-operation(9, "S", "read", all_that_is_left)
+check_set(all_that_is_left)

@@ -3,25 +3,25 @@ answer twice; from then on nobody writes to the old one. Each number whose commi
 
 from __future__ import annotations
 
-import socket
 import struct
 import sys
 import time
 from pathlib import Path
 
 sys.path.insert(0, str(Path(__file__).parent.parent))
-from operations import Refused, add_numbers, at_once, operation, patiently, until
+import operations as of
+from operations import Refused, add_numbers, at_once, check_set, patiently, until
 
 PRIMARY = ["n1"]  # and the standby behind it, once it was promoted
 OPEN = dict[int, "Connection"]()
 
 
-class Connection:
+class Connection(of.Connection):
     """Statements of SQL to a node, by PostgreSQL's protocol."""
 
-    def __init__(self, host: str, seconds: float = 2) -> None:
-        self.host, self.socket = host, socket.create_connection((host, 5432), seconds)
-        self.file = self.socket.makefile("rb")
+    def __init__(self, host: str, seconds: float = 10) -> None:
+        super().__init__(host, 5432, seconds)
+        self.host = host
         words = struct.pack("!i", 3 << 16) + b"user\0postgres\0database\0postgres\0\0"
         self.socket.sendall(struct.pack("!i", len(words) + 4) + words)
         self.rows()
@@ -46,17 +46,16 @@ class Connection:
         return self.rows()
 
 
-def ask(client: int, statement: str) -> bool:
+def ask(client: int, statement: str) -> None:
     """Asks the primary, by the client's connection or a new one."""
     host, connection = PRIMARY[-1], OPEN.pop(client, None)
-    connection = connection if connection and connection.host == host else Connection(host)
+    connection = connection if connection and connection.host == host else Connection(host, 2)
     connection.ask(statement)
     OPEN[client] = connection
-    return True
 
 
-def work(client: int) -> None:
-    add_numbers(client, "s", lambda number: ask(client, f"INSERT INTO s VALUES ({number})"), 35, 0.3)
+def insert(client: int, number: int) -> None:
+    ask(client, f"INSERT INTO s VALUES ({number})")
 
 
 def operate() -> None:
@@ -65,17 +64,12 @@ def operate() -> None:
         try:
             patiently(lambda: ask(3, "SELECT 1"), 2, 0.2)
         except (OSError, Refused):
-            patiently(lambda: Connection("n2", 10).ask("SELECT pg_promote()"))
+            patiently(lambda: Connection("n2").ask("SELECT pg_promote()"))
             PRIMARY.append("n2")
         time.sleep(0.5)
 
 
-def everything() -> list[int]:
-    return sorted(map(int, Connection(PRIMARY[-1], 10).ask("SELECT v FROM s")))
-
-
-patiently(lambda: Connection("n1", 10).ask("CREATE TABLE IF NOT EXISTS s (v int)"))
-at_once(lambda client: work(client) if client < 3 else operate(), 4)
+patiently(lambda: Connection("n1").ask("CREATE TABLE IF NOT EXISTS s (v int)"))
+at_once(lambda client: add_numbers(client, insert, 35, 0.3) if client < 3 else operate(), 4)
 time.sleep(10)
-operation(9, "s", "read", lambda: patiently(everything))
-print(f"the primary is {PRIMARY[-1]}", file=sys.stderr)
+check_set(lambda: sorted(map(int, Connection(PRIMARY[-1]).ask("SELECT v FROM s"))))

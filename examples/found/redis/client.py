@@ -3,22 +3,18 @@ number that was acknowledged has to be there."""
 
 from __future__ import annotations
 
-import socket
 import sys
 import time
 from pathlib import Path
 from typing import Any
 
 sys.path.insert(0, str(Path(__file__).parent.parent))
-from operations import Refused, at_once, operation, patiently, until
+import operations as of
+from operations import Refused, add_numbers, at_once, check_set, patiently
 
 
-class Connection:
+class Connection(of.Connection):
     """Requests to a node of redis, by its text protocol."""
-
-    def __init__(self, host: str, port: int = 6379) -> None:
-        self.socket = socket.create_connection((host, port), 1)
-        self.file = self.socket.makefile("rb")
 
     def ask(self, words: str) -> Any:
         self.socket.sendall(words.encode() + b"\r\n")
@@ -38,23 +34,15 @@ class Connection:
 
 
 def master(sentinel: str) -> Connection:
-    host, port = Connection(sentinel, 26379).ask("SENTINEL GET-MASTER-ADDR-BY-NAME m")
-    return Connection(host, int(port))
+    host, port = Connection(sentinel, 26379, 1).ask("SENTINEL GET-MASTER-ADDR-BY-NAME m")
+    return Connection(host, int(port), 1)
 
 
-def work(client: int) -> None:
-    number = client
-    while until(60):
-        try:
-            node = master(f"n{client + 1}")
-            operation(client, "s", "add", lambda: node.ask(f"SADD s {number}"), value=number)
-        except (OSError, Refused):
-            pass
-        number += 3
-        time.sleep(0.2)
+def add(client: int, number: int) -> None:
+    master(f"n{client + 1}").ask(f"SADD s {number}")
 
 
 patiently(lambda: master("n3").ask("PING"))
-at_once(work, 3)
+at_once(lambda client: add_numbers(client, add, 60, 0.2), 3)
 time.sleep(20)
-operation(9, "s", "read", lambda: sorted(map(int, patiently(lambda: master("n1").ask("SMEMBERS s")))))
+check_set(lambda: sorted(map(int, master("n1").ask("SMEMBERS s"))))

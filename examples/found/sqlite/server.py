@@ -1,5 +1,5 @@
-"""Inserts a number into a table of SQLite on the host's disk for each connection that sends one, and answers once the commit is done; for
-an empty line it lists the table. The word behind is that of PRAGMA synchronous."""
+"""Inserts a number into a table of SQLite for each connection that sends one, and answers once the commit is done; for an empty line it
+lists the table."""
 
 from __future__ import annotations
 
@@ -7,7 +7,6 @@ import json
 import socketserver
 import sqlite3
 import sys
-from pathlib import Path
 
 
 class Request(socketserver.StreamRequestHandler):
@@ -23,7 +22,7 @@ class Server(socketserver.TCPServer):
     allow_reuse_address = True
 
 
-BASE = sqlite3.connect(Path(__file__).with_name("disk") / "base", isolation_level=None)
+BASE = sqlite3.connect("base", isolation_level=None)
 BASE.execute(f"PRAGMA synchronous={sys.argv[1]}")
 BASE.execute("CREATE TABLE IF NOT EXISTS s (v)")
 Server(("", 2000), Request).serve_forever()
