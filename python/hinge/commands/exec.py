@@ -68,9 +68,9 @@ def main() -> NoReturn:
     sys.stdout.flush()
     before = held("/")
     status = status_of(started_behind(doors, arguments.host, arguments.command, mask))
-    if status == SIGNALLED + signal.SIGKILL:
+    if status == -signal.SIGKILL:
         os.fchdir(before)
         os.chroot(".")
         if ends(socket):
             say("the run has ended, and the command with it")
-    sys.exit(status)
+    sys.exit(status if status >= 0 else SIGNALLED - status)

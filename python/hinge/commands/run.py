@@ -126,7 +126,7 @@ def tell_hints(run: RunOptions) -> None:
 
 def begin(run: RunOptions) -> NoReturn:
     """Runs the command here, on this system's clock."""
-    from hinge.run.first import BLOCKED, first_process, status_of
+    from hinge.run.first import BLOCKED, exit_as, first_process
     from hinge.run.host import program
     from hinge.run.inside import Inside
     from hinge.run.joined import network_of
@@ -155,4 +155,4 @@ def begin(run: RunOptions) -> NoReturn:
     first = first_process(lambda: Inside(run, order, own_users, outside, network, ports).run())
     if outside:
         outside.tell(first, own_users)
-    sys.exit(status_of(first))
+    exit_as(first)

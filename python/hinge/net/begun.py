@@ -25,7 +25,7 @@ from hinge.net.statements import Unobeyed
 from hinge.net.ways import gap
 from hinge.paths.folder import HISTORY, NET, SUMMARY
 from hinge.run.changes import Change, refuse_second
-from hinge.run.first import BLOCKED, first_process, status_of
+from hinge.run.first import BLOCKED, exit_as, first_process
 from hinge.run.host import program
 from hinge.run.idle import refuse_idle, refuse_idle_seed
 from hinge.run.plan_of_options import draws, drawn_seed, limit_of
@@ -148,7 +148,7 @@ def begin(options: NetOptions) -> NoReturn:
         outside.tell(first, own_users)
     if options.while_open is not None:
         look_at(options.while_open)
-    sys.exit(status_of(first, options.while_open))
+    exit_as(first, options.while_open)
 
 
 def begin_inside() -> NoReturn:

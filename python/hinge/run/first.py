@@ -5,10 +5,13 @@ from __future__ import annotations
 import os
 import select
 import signal
-from typing import Callable, Optional
+import sys
+from typing import Callable, NoReturn, Optional
 
 from hinge.border.programs import forked
 from hinge.border.scratch import remove_all_left
+from hinge.command import say
+from hinge.run.processes import SIGNALLED
 from hinge.run.system import die_with_parent, is_simulated
 
 INTERRUPTED = 130
@@ -32,8 +35,8 @@ def first_process(run: Callable[[], int]) -> int:
 
 
 def status_of(first: int, leash: Optional[int] = None) -> int:
-    """Returns the first process's status. Signals are passed on to it, except ^C from a terminal, which the command receives too.
-    SIGIO reports that the leash, a pipe, was closed at the other end, which means SIGTERM, or that a byte arrived, after which a
+    """Returns the first process's status, or the negative number of the signal that ended it. Signals are passed on to it, except ^C
+    from a terminal, which the command receives too. SIGIO reports that the leash, a pipe, was closed at the other end, which means SIGTERM, or that a byte arrived, after which a
     close means nothing."""
     is_interrupted = False
     while True:
@@ -41,8 +44,8 @@ def status_of(first: int, leash: Optional[int] = None) -> int:
         if came.si_signo == signal.SIGCHLD:
             process, status = os.waitpid(first, os.WNOHANG)
             if process:
-                status = os.WEXITSTATUS(status) if os.WIFEXITED(status) else 128 + os.WTERMSIG(status)
-                return INTERRUPTED if is_interrupted and status == 128 + signal.SIGTERM else status
+                ended = os.waitstatus_to_exitcode(status)
+                return INTERRUPTED if is_interrupted and ended in (SIGNALLED + signal.SIGTERM, -signal.SIGTERM) else ended
         elif came.si_signo == signal.SIGIO:
             if leash is not None and select.select([leash], [], [], 0)[0]:
                 if not os.read(leash, 1):
@@ -51,3 +54,11 @@ def status_of(first: int, leash: Optional[int] = None) -> int:
         elif came.si_signo != signal.SIGINT or came.si_code == 0:
             is_interrupted = came.si_signo == signal.SIGINT
             os.kill(first, signal.SIGTERM)
+
+
+def exit_as(first: int, leash: Optional[int] = None) -> NoReturn:
+    """Exits with the first process's status. This process names a signal that ended the first one, which could say nothing then."""
+    status = status_of(first, leash)
+    if status < 0:
+        say(f"{signal.Signals(-status).name} ended the run's first process, and with it all programs, before a summary")
+    sys.exit(status if status >= 0 else SIGNALLED - status)

@@ -18,6 +18,11 @@ from in_a_folder import InAFolder
 PING = "ping -c 1 -W 5 -q"
 
 
+def children(process: int, *pattern: str) -> list[int]:
+    done = subprocess.run(["pgrep", "-P", str(process), *pattern], capture_output=True, text=True)
+    return [int(pid) for pid in done.stdout.split()]
+
+
 @needs_rooms
 @needs("curl", "slirp4netns")
 class OfOutside(InAFolder):
@@ -91,23 +96,22 @@ class OfTheEnd(InAFolder):
                 finally:
                     begun.kill()
 
-    def test_a_link_that_broke_off_is_told(self) -> None:
+    def test_what_is_killed_is_told(self) -> None:
+        """The links, and the first process, which can say nothing then."""
+        broken = "void: the links broke off before the end"
+        ended = "hinge net: SIGKILL ended the run's first process, and with it all programs, before a summary"
         mark = f"{7000 + os.getpid() % 1000}.5"
         self.file.write_text(f"host a\nmain b exec sleep {mark}\nlink a b\n")
-        begun = subprocess.Popen([*HINGE, "net", str(self.file), "--quiet"], stderr=subprocess.PIPE, text=True)
-        try:
-            until(lambda: self.left(f"^sleep {mark}") == 1)
-            parents = [
-                int(pid) for pid in subprocess.run(["pgrep", "-P", str(begun.pid)], capture_output=True, text=True).stdout.split()
-            ]
-            links = subprocess.run(
-                ["pgrep", "-P", ",".join(map(str, parents)), "hinge-link"], capture_output=True, text=True
-            ).stdout.split()
-            os.kill(int(links[0]), signal.SIGKILL)
-            _, said = begun.communicate(timeout=60)
-        finally:
-            begun.kill()
-        self.assertEqual((begun.returncode, "void: the links broke off before the end" in said), (75, True), said)
+        for name, status, told in (("hinge-link", 75, broken), ("", 137, ended)):
+            begun = subprocess.Popen([*HINGE, "net", str(self.file), "--quiet"], stderr=subprocess.PIPE, text=True)
+            try:
+                until(lambda: self.left(f"^sleep {mark}") == 1)
+                first = children(begun.pid)[0]
+                os.kill(children(first, name)[0] if name else first, signal.SIGKILL)
+                _, said = begun.communicate(timeout=60)
+            finally:
+                begun.kill()
+            self.assertEqual((begun.returncode, told in said), (status, True), said)
 
 
 @needs_rooms
