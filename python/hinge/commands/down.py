@@ -2,9 +2,9 @@
 
 from __future__ import annotations
 
-import select
 
 from hinge.border.asking import ask, process_at
+from hinge.border.waits import can_be_read
 from hinge.command import Fault, parser
 from hinge.run.names import socket_of
 
@@ -26,5 +26,5 @@ def main() -> None:
     path = socket_of(arguments.socket)
     process = process_at(path)
     ask(path, end=True)
-    if not select.select([process], [], [], LONGEST)[0]:
+    if not can_be_read(process, LONGEST):
         raise Fault(f"{arguments.socket}: it is there still after {LONGEST:g} s", STILL_THERE)

@@ -6,13 +6,13 @@ import fcntl
 import json
 import os
 import resource
-import select
 import shutil
 import signal
 import sys
 from typing import NoReturn
 
 from hinge.border.terminal import show
+from hinge.border.waits import can_be_read
 from hinge.checks.lines import twice
 from hinge.command import NAME, say
 from hinge.command import run as run_command
@@ -161,5 +161,5 @@ def look_at(pipe: int) -> None:
     """Makes the system send SIGIO to this process when a pipe can be read. The process can't start a thread for that any more."""
     fcntl.fcntl(pipe, fcntl.F_SETOWN, os.getpid())
     fcntl.fcntl(pipe, fcntl.F_SETFL, fcntl.fcntl(pipe, fcntl.F_GETFL) | os.O_ASYNC)
-    if select.select([pipe], [], [], 0)[0]:
+    if can_be_read(pipe, 0):
         os.kill(os.getpid(), signal.SIGIO)

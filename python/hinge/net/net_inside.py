@@ -4,7 +4,6 @@ from __future__ import annotations
 
 import math
 import os
-import select
 import signal
 import time
 from contextlib import suppress
@@ -14,6 +13,7 @@ from typing import Callable, Optional
 
 from hinge.border.files import opened_log
 from hinge.border.terminal import silence
+from hinge.border.waits import can_be_read
 from hinge.command import say
 from hinge.events.kinds import Act
 from hinge.net.acts import Acts, GroupProcesses, HostProcesses, line_of, sees_own_processes
@@ -116,7 +116,7 @@ class NetInside:
         cgroup = self.linked.get(host) if self.acts.goes_on(host, "cont") else None
 
         def see_there() -> None:
-            while not (cgroup and not cgroup.has_nothing()) and not select.select([there], [], [], LISTEN_POLL)[0]:
+            while not (cgroup and not cgroup.has_nothing()) and not can_be_read(there, LISTEN_POLL):
                 pass
             os.close(there)
             self.acts.note_later(host, self.lines.ask("moment").moment)

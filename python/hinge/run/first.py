@@ -3,13 +3,13 @@
 from __future__ import annotations
 
 import os
-import select
 import signal
 import sys
 from typing import Callable, NoReturn, Optional
 
 from hinge.border.programs import forked
 from hinge.border.scratch import remove_all_left
+from hinge.border.waits import can_be_read
 from hinge.command import say
 from hinge.run.processes import SIGNALLED
 from hinge.run.system import die_with_parent, is_simulated
@@ -27,7 +27,7 @@ def first_process(run: Callable[[], int]) -> int:
 
     def live() -> int:
         die_with_parent()
-        return INTERRUPTED if select.select([parent], [], [], 0)[0] else run()
+        return INTERRUPTED if can_be_read(parent, 0) else run()
 
     first = forked(live)
     os.close(parent)
@@ -47,7 +47,7 @@ def status_of(first: int, leash: Optional[int] = None) -> int:
                 ended = os.waitstatus_to_exitcode(status)
                 return INTERRUPTED if is_interrupted and ended in (SIGNALLED + signal.SIGTERM, -signal.SIGTERM) else ended
         elif came.si_signo == signal.SIGIO:
-            if leash is not None and select.select([leash], [], [], 0)[0]:
+            if leash is not None and can_be_read(leash, 0):
                 if not os.read(leash, 1):
                     os.kill(first, signal.SIGTERM)
                 leash = None

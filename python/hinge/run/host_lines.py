@@ -3,12 +3,12 @@
 from __future__ import annotations
 
 import os
-import select
 import socket
 import threading
 import time
 from typing import Callable, NamedTuple, Optional
 
+from hinge.border.waits import can_be_read
 from hinge.run.words import Wrong
 
 PATIENCE = 10.0  # s within which the host takes a line
@@ -76,7 +76,7 @@ class HostLines:
 
     def has_answered(self, patience: float) -> bool:
         """Returns whether the latest reply has arrived; earlier replies are dropped."""
-        while select.select([self.own], [], [], patience)[0]:
+        while can_be_read(self.own, patience):
             if not self.owed:
                 return True
             self.own.recv(LONGEST_ANSWER)

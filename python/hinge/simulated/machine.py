@@ -3,7 +3,6 @@
 from __future__ import annotations
 
 import os
-import select
 import shutil
 import signal
 import time
@@ -13,6 +12,7 @@ from typing import NamedTuple, Optional
 
 from hinge.border.files import read_system
 from hinge.border.programs import NOTHING, SAME, Process, begun
+from hinge.border.waits import can_be_read
 from hinge.run.host import program
 from hinge.run.system import Missing, die_with_parent
 from hinge.simulated.interrupts import Interrupts
@@ -167,7 +167,7 @@ class Machine:
         descriptor = os.pidfd_open(self.process.pid)
         try:
             while self.process.poll() is None:
-                select.select([descriptor], [], [], self.interrupts.look())
+                can_be_read(descriptor, self.interrupts.look())
                 self.processor.look(self.process.pid)
                 self.hold_back()
                 if self.lost():

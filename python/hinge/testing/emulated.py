@@ -3,13 +3,13 @@
 from __future__ import annotations
 
 import re
-import select
 import signal
 from abc import ABC, abstractmethod
 from pathlib import Path
 from typing import TYPE_CHECKING, Collection, Iterator, Optional
 
 from hinge.border.programs import PIPE, begun
+from hinge.border.waits import can_be_read
 from hinge.command import Fault
 from hinge.fault_lines import IS_LOST, Faults
 from hinge.program import HINGE, audit_of
@@ -133,7 +133,7 @@ class UdpPath(Emulated):
 
     def _ready(self) -> tuple[str, int]:
         assert self.process.stdout
-        ready, _, _ = select.select([self.process.stdout], [], [], PATIENCE)
+        ready = can_be_read(self.process.stdout, PATIENCE)
         match = re.fullmatch(r"ready at (.*):(\d+)\n", self.process.stdout.readline() if ready else "")
         if match is None:
             self.process.kill()

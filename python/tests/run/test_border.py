@@ -3,8 +3,10 @@
 from __future__ import annotations
 
 import contextlib
+import fcntl
 import json
 import os
+import resource
 import shutil
 import signal
 import socket
@@ -18,6 +20,7 @@ from typing import Iterator
 from linked import found, hinge, needs_rooms, until
 from test_control import InAFolder
 
+from hinge.border.waits import can_be_read
 from hinge.run.cgroups import name_of, own_folder, remove_left
 from hinge.run.control import Control
 from hinge.run.host_lines import UNTAKEN, Answer
@@ -85,6 +88,21 @@ class OfCgroups(unittest.TestCase):
 
 
 @needs_rooms
+class OfDescriptors(unittest.TestCase):
+    def test_one_of_any_number_is_waited_for(self) -> None:
+        """A net of hundreds of hosts has more than select(2) takes."""
+        limits = resource.getrlimit(resource.RLIMIT_NOFILE)
+        self.addCleanup(resource.setrlimit, resource.RLIMIT_NOFILE, limits)
+        resource.setrlimit(resource.RLIMIT_NOFILE, (3000, limits[1]))
+        reader, writer = os.pipe()
+        high = fcntl.fcntl(reader, fcntl.F_DUPFD, 2000)
+        for descriptor in (reader, writer, high):
+            self.addCleanup(os.close, descriptor)
+        self.assertFalse(can_be_read(high, 0))
+        os.write(writer, b"x")
+        self.assertTrue(can_be_read(high, 60))
+
+
 class OfClients(InAFolder):
     @contextlib.contextmanager
     def client(self) -> Iterator[socket.socket]:
