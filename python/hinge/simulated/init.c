@@ -32,7 +32,7 @@
 #define PATTERN "/proc/sys/kernel/core_pattern"
 #define DISKS "/run/disks"
 #define LIBRARIES "/etc/ld.so.cache"
-enum { NAMES = 100000, LONGEST_JOB = 1 << 22 };
+enum { NAMES = 100000 };
 /* ns: nothing that the user started has run for so long, and no timer of theirs is set, where it is told that they wait for ever. By then
    the kernel's own timers that could wake one are over, as that by which TCP asks whether the other end is there, after two hours. */
 #define WITHOUT_LIFE (3ULL * 3600 * SECOND)
@@ -88,12 +88,15 @@ char *must_next(struct job *job) {
 }
 
 static struct job read_job(void) {
-    struct job job = {.bytes = calloc(1, LONGEST_JOB)};
     int file = open(FOLDER "/job", O_RDONLY | O_CLOEXEC);
-    if (file < 0 || !job.bytes) stop("the job");
+    struct stat state;
+    if (file < 0 || fstat(file, &state)) stop("the job");
+    struct job job = {.bytes = calloc(1, (size_t)state.st_size + 1)};
+    if (!job.bytes) stop("the job");
     ssize_t got;
-    while ((got = read(file, job.bytes + job.length, LONGEST_JOB - 1 - job.length)) > 0) job.length += (size_t)got;
+    while ((got = read(file, job.bytes + job.length, (size_t)state.st_size - job.length)) > 0) job.length += (size_t)got;
     close(file);
+    if (got < 0) stop("the job");
     return job;
 }
 

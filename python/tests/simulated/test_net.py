@@ -167,6 +167,11 @@ nemesis partition-one every 1s..2s for 500ms until 6s of a b
 
 @needs("ping")
 class OfFaults(Simulated):
+    def test_a_job_of_any_length(self) -> None:
+        """What this machine is to do takes more than 4 MiB, as that of hundreds of hosts with different routes does."""
+        hosts = (f"host h{number} : {'x' * 60_000}\nlink h{number} r\n" for number in range(72))
+        self.net("router r\nmain m true\nlink m r\n" + "".join(hosts), 1)
+
     def test_faults_of_links_and_hosts_are_the_same_twice(self) -> None:
         """Those of links to the nanosecond. Of the two cuts between c and a the second ends within the first."""
         self.assertIn("hinge net: two runs by seed 3 are the same: ", self.net(FAULTS, 3, "--twice").stderr)
