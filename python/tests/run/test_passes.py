@@ -115,20 +115,6 @@ class OfPasses(unittest.TestCase):
         ended = link.end()
         assert (ended.counts.ways[0].underway, ended.counts.ways[0]["held"]) == (0, 0)
 
-    def test_lines_that_are_none(self) -> None:
-        jitters = (
-            "jitter 0 1",
-            "jitter 2 60000 5 7",
-            "jitter 0 0 5 7",
-            "jitter 0 65530 7 7",
-            "copies 0 1",
-            "copies 5 1 1",
-            "corruption 0 1",
-        )
-        for line in (*jitters, "fault 0 1 1", "fault 2 1 1 1", "fault 0 3 1 1", "fault 0 2 1 0", "fault 0 2 1 65536"):
-            ended = Linked(f"{SEEDS}{line}\n").ended()
-            assert (ended.status, ended.said) == (3, f"hinge: {line}: no line of a plan\n")
-
 
 class OfWords(unittest.TestCase):
     def test_they_are_parted_from_the_others(self) -> None:
