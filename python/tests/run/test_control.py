@@ -19,7 +19,7 @@ from unittest import mock
 
 import pytest
 
-from linked import HINGE, Done, audited_as_lawful, found, hinge, needs, needs_host, needs_rooms, run, until
+from linked import HINGE, Done, audited_as_lawful, found, hinge, matching, needs, needs_host, needs_rooms, run, until
 from with_folder import WithFolder
 
 from hinge.border.asking import ask
@@ -134,10 +134,10 @@ class OfRuns(InAFolder):
         for words in (["udp", "0", "1"], ["run", "--up", "1ms", "--", "true"]):
             words[1:1] = ["--control", str(self.socket)]
             with subprocess.Popen([*HINGE, *words], env={**os.environ, "HINGE_LINK": str(host)}) as process:
-                until(lambda: subprocess.run(["pgrep", "-f", f"^sleep {mark}"], capture_output=True).stdout)
+                until(lambda: matching("-f", f"^sleep {mark}"))
                 process.terminate()
             assert (process.returncode, self.socket.exists()) == (143, False), words
-            until(lambda: not subprocess.run(["pgrep", "-f", f"^sleep {mark}"], capture_output=True).stdout)
+            until(lambda: not matching("-f", f"^sleep {mark}"))
 
     def test_a_signal_while_a_process_ends_does_not_cut_the_wait(self) -> None:
         """As a ^C of which the launcher tells the first process, while the link ends because its command has."""
@@ -266,16 +266,13 @@ class OfHosts(InAFolder):
                 stderr=subprocess.PIPE,
                 text=True,
             )
-            until(
-                lambda: len(subprocess.run(["pgrep", "-f", f"^sleep {mark}"], capture_output=True, text=True).stdout.split()) == 2,
-                30,
-            )
+            until(lambda: len(matching("-f", f"^sleep {mark}")) == 2)
             end(run, command)
             command.wait(60)
         finally:
             run.terminate()
             run.communicate(timeout=60)
-        until(lambda: not subprocess.run(["pgrep", "-f", f"^sleep {mark}"], capture_output=True, text=True).stdout)
+        until(lambda: not matching("-f", f"^sleep {mark}"))
         return command
 
     @needs("pgrep", "setsid")

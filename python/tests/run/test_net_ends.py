@@ -10,7 +10,7 @@ import threading
 import unittest
 from unittest import mock
 
-from linked import HINGE, found, hinge, needs, needs_rooms, until, web_server
+from linked import HINGE, found, hinge, matching, needs, needs_rooms, until, web_server
 
 from hinge.run.outside import GATEWAY, Outside
 from in_a_folder import InAFolder
@@ -73,9 +73,6 @@ class OfTheWayOut(unittest.TestCase):
 
 
 class OfTheEnd(InAFolder):
-    def left(self, pattern: str) -> int:
-        return len(subprocess.run(["pgrep", "-f", pattern], capture_output=True, text=True).stdout.split())
-
     def test_signals_leave_nothing(self) -> None:
         """In the run and while a port is waited for."""
         for number, status in ((signal.SIGTERM, 143), (signal.SIGINT, 130), (signal.SIGKILL, -9)):
@@ -84,10 +81,10 @@ class OfTheEnd(InAFolder):
                 self.file.write_text(f"host a setsid sleep {mark} & sleep {mark}\nmain b exec sleep {mark}\nlink a b\n{wait}")
                 begun = subprocess.Popen([*HINGE, "net", str(self.file), "--quiet"], stderr=subprocess.DEVNULL)
                 try:
-                    until(lambda: self.left(f"^(setsid )?sleep {mark}") == (2 if wait else 3))
+                    until(lambda: len(matching("-f", f"^(setsid )?sleep {mark}")) == (2 if wait else 3))
                     begun.send_signal(number)
                     self.assertEqual(begun.wait(60), status)
-                    until(lambda: self.left(f"^(setsid )?sleep {mark}") == 0)
+                    until(lambda: not matching("-f", f"^(setsid )?sleep {mark}"))
                 finally:
                     begun.kill()
 
@@ -96,14 +93,8 @@ class OfTheEnd(InAFolder):
         self.file.write_text(f"host a\nmain b exec sleep {mark}\nlink a b\n")
         begun = subprocess.Popen([*HINGE, "net", str(self.file), "--quiet"], stderr=subprocess.PIPE, text=True)
         try:
-            until(lambda: self.left(f"^sleep {mark}") == 1)
-            parents = [
-                int(pid) for pid in subprocess.run(["pgrep", "-P", str(begun.pid)], capture_output=True, text=True).stdout.split()
-            ]
-            links = subprocess.run(
-                ["pgrep", "-P", ",".join(map(str, parents)), "hinge-link"], capture_output=True, text=True
-            ).stdout.split()
-            os.kill(int(links[0]), signal.SIGKILL)
+            until(lambda: matching("-f", f"^sleep {mark}"))
+            os.kill(matching("-P", ",".join(map(str, matching("-P", str(begun.pid)))), "hinge-link")[0], signal.SIGKILL)
             _, said = begun.communicate(timeout=60)
         finally:
             begun.kill()

@@ -18,7 +18,8 @@ import unittest
 
 import pytest
 
-from linked import AS_IN_A_CONTAINER, HINGE, audited, audited_as_lawful, found, hinge, needs, needs_mounts, needs_rooms, run, until
+from linked import AS_IN_A_CONTAINER, HINGE, audited, audited_as_lawful, found, hinge
+from linked import matching, needs, needs_mounts, needs_rooms, run, until
 
 from hinge.border.files import read_system
 from hinge.run.rooms import put_over
@@ -214,12 +215,9 @@ class OfPings(unittest.TestCase):
 @needs_rooms
 @needs("pgrep")
 class OfTheEnd(unittest.TestCase):
-    def left(self, mark: str) -> list[int]:
-        return [int(word) for word in subprocess.run(["pgrep", "-f", mark], stdout=subprocess.PIPE, text=True).stdout.split()]
-
     def end_all(self, mark: str) -> None:
         """A failing test leaves no process behind: a process that sleeps for two hours would hold its caller's output."""
-        for process in self.left(mark):
+        for process in matching("-f", mark):
             with contextlib.suppress(ProcessLookupError):
                 os.kill(process, signal.SIGKILL)
 
@@ -229,10 +227,10 @@ class OfTheEnd(unittest.TestCase):
             self.addCleanup(self.end_all, mark)
             words = ["run", "--quiet", "--server", mark, "--server-wait", "50ms", "--", "sh", "-c", f"setsid {mark} & {mark}"]
             begun = subprocess.Popen([*HINGE, *words], stdout=subprocess.DEVNULL, stderr=subprocess.DEVNULL)
-            until(lambda: len(self.left(f"^{mark}$")) == 3)
+            until(lambda: len(matching("-f", f"^{mark}$")) == 3)
             begun.send_signal(number)
             assert begun.wait(60) == status
-            until(lambda: self.left(mark) == [])
+            until(lambda: not matching("-f", mark))
 
 
 @needs_rooms

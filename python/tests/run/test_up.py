@@ -11,7 +11,7 @@ import unittest
 
 import pytest
 
-from linked import HINGE, Done, needs, needs_host, needs_rooms, until
+from linked import HINGE, Done, hinge, matching, needs, needs_host, needs_rooms, until
 from with_folder import WithFolder
 
 NET = "host a\nhost b\nlink a b 1ms\n"
@@ -24,16 +24,7 @@ class Named(WithFolder):
         self.sockets = self.folder / "run" / "hinge"
 
     def hinge(self, *words: object) -> Done[str]:
-        env = {**os.environ, "XDG_RUNTIME_DIR": str(self.folder / "run")}
-        return subprocess.run(
-            [*HINGE, *map(str, words)],
-            capture_output=True,
-            text=True,
-            cwd=self.folder,
-            env=env,
-            timeout=60,
-            stdin=subprocess.DEVNULL,
-        )
+        return hinge(*map(str, words), folder=self.folder, XDG_RUNTIME_DIR=str(self.folder / "run"))
 
     def up(self, text: str, *words: object) -> Done[str]:
         (self.folder / "x.net").write_text(text)
@@ -66,22 +57,12 @@ class OfNets(Named):
     def test_it_outlives_its_command_and_ends_what_it_started(self) -> None:
         mark = f"{7000 + os.getpid() % 1000}.61"
 
-        def left() -> int:
-            return len(subprocess.run(["pgrep", "-f", f"^sleep {mark}"], capture_output=True, text=True).stdout.split())
-
-        for end in (lambda: self.hinge("down", "x"), lambda: os.kill(outer(), signal.SIGKILL)):
+        outer = f"net x.net --transcripts out .*--control {self.sockets}/x"
+        for end in (lambda: self.hinge("down", "x"), lambda: os.kill(matching("-f", outer)[0], signal.SIGKILL)):
             assert self.up(f"host a exec sleep {mark}\nhost b\nlink a b\n", "--transcripts", "out").returncode == 0
-            until(lambda: left() == 1)
-
-            def outer() -> int:
-                return int(
-                    subprocess.run(
-                        ["pgrep", "-f", f"net x.net --transcripts out .*--control {self.sockets}/x"], capture_output=True, text=True
-                    ).stdout.split()[0]
-                )
-
+            until(lambda: len(matching("-f", f"^sleep {mark}")) == 1)
             end()
-            until(lambda: left() == 0)
+            until(lambda: not matching("-f", f"^sleep {mark}"))
         assert self.up(NET).returncode == 0  # in the place of the socket that was left
 
     def test_ports_and_faults(self) -> None:
