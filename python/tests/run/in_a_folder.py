@@ -26,6 +26,11 @@ class InAFolder(WithFolder):
         audited_as_lawful(self, self.folder / "out" / "net.history")
         return (self.folder / "out" / "net.history").read_text()
 
+    def assert_lawful(self) -> None:
+        """Its links are, and so is what is between them."""
+        self.history()
+        self.assertEqual(hinge("look", self.folder / "out").stdout.splitlines()[-1], "lawful between links")
+
     def packets(self) -> dict[str, int]:
         """How many came, by the ways that had any."""
         return {f"{way['from']} > {way['to']}": way["came"] for way in self.summary()["ways"] if way["came"]}

@@ -66,7 +66,7 @@ class OfRoutes(InAFolder):
         assert self.summary()["unforwarded"] == {"r": {"IpInNoRoutes": 3, "IpFragFails": 1}}, done.stderr
         assert "r: 4 packets weren't forwarded (IpInNoRoutes 3, IpFragFails 1)\n" in done.stderr
         assert (self.folder / "logs" / "r.log").read_text() == "1\n"
-        assert hinge("look", self.folder / "out").stdout.splitlines()[-1] == "lawful between links"
+        self.assert_lawful()
 
     def test_jitter_hands_on_what_no_host_may(self) -> None:
         """A packet whose time to live is 1, and one to a group of the link."""
@@ -75,7 +75,7 @@ class OfRoutes(InAFolder):
             f"host a\nmain c {PING} -t 1 a && {sys.executable} {self.folder / 'asker.py'} && {PING} a\nlink a c 1ms jitter 3ms\n"
         )
         assert (done.returncode, self.packets()) == (0, {"c > a": 3, "a > c": 2}), done.stderr
-        assert hinge("look", self.folder / "out").stdout.splitlines()[-1] == "lawful between links"
+        self.assert_lawful()
 
     def test_a_packet_to_a_group_changes_no_later_one(self) -> None:
         """Its time to live, 1, is not that of the next packet to a host by the same interface."""
@@ -120,7 +120,7 @@ class OfRoutes(InAFolder):
             ["pipe,1,10.8.0.3,224.0.0.251,17", "pipe,2,10.8.0.1,10.8.0.3,17"],
         )
         assert packets[0].startswith("pipe,2,10.9.1.2,224.0.0.22"), packets
-        assert hinge("look", self.folder / "out").stdout.splitlines()[-1] == "lawful between links"
+        self.assert_lawful()
 
     @unittest.skipUnless(HAS_SIX and HAS_ORDER, "no IPv6, or no /etc/gai.conf")
     def test_names_have_both_addresses(self) -> None:
@@ -164,7 +164,6 @@ class OfOspf(InAFolder):
         done = hinge("net", EXAMPLE, "--transcripts", self.folder / "out", "--quiet", seconds=120)
         assert done.returncode == 0, done.stderr
         assert done.stdout.splitlines() == ["r1 is reached by r1", "r1 is reached by r3", "converged"], done.stderr
-        self.history()
+        self.assert_lawful()
         paths = hinge("look", self.folder / "out").stdout.splitlines()
-        assert paths[-1] == "lawful between links", paths
         assert any(path.startswith("r4 - r3 - r2 - r1: ") for path in paths), paths

@@ -6,7 +6,7 @@ import os
 import sys
 import unittest
 
-from linked import HINGE, found, hinge, needs, needs_rooms
+from linked import HINGE, found, needs, needs_rooms
 
 from in_a_folder import InAFolder
 
@@ -101,10 +101,6 @@ while True:
 """
 
 
-def last_line(net: InAFolder) -> str:
-    return hinge("look", net.folder / "out").stdout.splitlines()[-1]
-
-
 @needs_rooms
 @needs("ping", "ip")
 class OfSwitches(InAFolder):
@@ -148,8 +144,7 @@ class OfSwitches(InAFolder):
             with self.subTest(what):
                 done = self.net(f"host a\nhost b\nmain c {does}\n{line}\n", "--quiet")
                 self.assertEqual((done.returncode, done.stdout.split()), (0, wanted.split()), done.stderr)
-                self.history()
-                self.assertEqual(last_line(self), "lawful between links")
+                self.assert_lawful()
 
     @unittest.skipUnless(os.path.exists("/proc/net/if_inet6"), "there is no IPv6")
     def test_ipv6_and_a_router_behind_two_switches(self) -> None:
@@ -158,8 +153,7 @@ class OfSwitches(InAFolder):
             " 'fd08::1 lladdr [^ ]*'\nswitch s c\nswitch t a r\nlink s t 1ms\nlink r far 1ms\n"
         )
         self.assertEqual((done.returncode, done.stdout.splitlines()[-1:]), (0, ["fd08::1 lladdr 02:00:00:00:00:02"]), done.stderr)
-        self.history()
-        self.assertEqual(last_line(self), "lawful between links")
+        self.assert_lawful()
 
     def test_packets_for_many_leave_by_each_other_port(self) -> None:
         sender = self.script("sender.py", SENDER + OF_SIX * os.path.exists("/proc/net/if_inet6"))
@@ -167,7 +161,7 @@ class OfSwitches(InAFolder):
         done = self.net(f"host a\nhost b\nmain c {sender} && {PING} a\nswitch s a b c 1ms\n")
         self.assertEqual(done.returncode, 0, done.stderr)
         self.assertEqual(self.groups(), {"c > s": each, "s > a": each, "s > b": each})
-        self.assertEqual(last_line(self), "lawful between links")
+        self.assert_lawful()
 
     def test_a_member_gets_the_packet_as_it_was_sent(self) -> None:
         """With its checksum, and its time to live."""
@@ -190,8 +184,7 @@ class OfSwitches(InAFolder):
             str(self.folder / "logs"),
         )
         self.assertEqual((done.returncode, log.read_text()), (0, "on\n88b5 0x8100 5 3\n"), done.stderr)
-        self.history()
-        self.assertEqual(last_line(self), "lawful between links")
+        self.assert_lawful()
 
 
 @needs_rooms
@@ -212,8 +205,7 @@ class OfDhcp(InAFolder):
             seconds=600,
         )
         self.assertEqual((done.returncode, (self.folder / "logs" / "c.log").read_text()), (0, "5 10.9.1.100\n"), done.stderr)
-        self.history()
-        self.assertEqual(last_line(self), "lawful between links")
+        self.assert_lawful()
 
 
 @needs_rooms
@@ -245,5 +237,4 @@ class OfVrrp(InAFolder):
             seconds=600,
         )
         self.assertEqual(done.returncode, 0, done.stderr)
-        self.history()
-        self.assertEqual(last_line(self), "lawful between links")
+        self.assert_lawful()
