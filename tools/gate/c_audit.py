@@ -17,7 +17,6 @@ from random import Random
 from tempfile import TemporaryDirectory
 
 from c_library import REFUSING, program
-from c_texts import replay
 from random_histories import random_history
 from scenarios import STYLES
 from scenes import made_scenes
@@ -38,6 +37,13 @@ CASES = {
     "a transcript": (b"dummynet-live,1\n#,next\n" + ADVANCED % 5 + b"end,1\n", ("lawful 1", 0)),
 }
 End = tuple[str, int]
+
+
+def replay(dummynet: str, config: Path, history: Path) -> bytes:
+    """Returns the history of a replay."""
+    words = [dummynet, "replay", config, config.with_suffix(".csv"), "--history", history]
+    subprocess.run(words, stdout=subprocess.DEVNULL, check=True)
+    return history.read_bytes()
 
 
 def by_program(dummynet: str, history: Path) -> End:

@@ -20,7 +20,6 @@ RANDOM_CASES = 400
 RUNS_BY_CALLERS = 100
 LIVE_SESSIONS = 200
 SERVICES_IN_C = 40
-TEXTS_IN_C = 60
 AUDITS_IN_C = 120
 LONGEST = 7200  # s after which a part that hasn't ended is ended and counts as failed: the edits take that on one processor
 CALLS_BY_DEFINITIONS = 10_000
@@ -123,7 +122,6 @@ def parts(fresh: Optional[int], program: str) -> list[Part]:
         Part("live sessions", [python, "tools/gate/live.py", *words, str(LIVE_SESSIONS)], least=270),
         Part("the C library", [python, "tools/gate/c_library.py"], "gcc", least=5),
         Part("the service from C", [python, "tools/gate/c_service.py", *words, str(SERVICES_IN_C)], "gcc", True, least=168),
-        Part("texts of entries from C", [python, "tools/gate/c_texts.py", *words, str(TEXTS_IN_C)], "gcc", least=140),
         Part("audits from C", [python, "tools/gate/c_audit.py", *words, str(AUDITS_IN_C)], "gcc", least=880),
         Part("the C library and Python from a prefix", [python, "tools/gate/embedding.py"], "cc", least=300),
         Part("the program without memory", [python, "tools/gate/memory.py", program], "cc", True, least=24),

@@ -183,6 +183,30 @@ static void rows_and_room(void) {
     HOLDS(READ(ROW "\n" ROW "\n", 1) == DN_OK && count == 1 && used == sizeof ROW && are_77(packets + 1, sizeof *packets));
 }
 
+/* A list a place too short: none is written, and all sizes are told. */
+static void histories_and_room(void) {
+    static const char TEXT[] = DN_HISTORY_FRONT "c,1,configure,pipe 1 config\nr,configured\nc,2,collect,7\nr,delivered,7,1\nd,0,0,1,2\n"
+                                                "c,2,show\nr,status,1\nf,0,pipe,1,1,0.0.0.0,0.0.0.0,0,0,0,0.0.0.0,0.0.0.0,0,0,0,1,2,3,4,5,6\n"
+                                                "end,3\n";
+#define READ_HISTORY(text, one, two, three, four) \
+    dn_read_history((const uint8_t *)(text), strlen(text), entries, one, lines, two, &delivery, three, &flow, four, &sizes, &record)
+    struct dn_entry entries[3];
+    struct dn_delivery delivery;
+    struct dn_flow flow;
+    struct dn_history sizes;
+    uint8_t lines[13];
+    uint64_t record = 77;
+    memset(entries, 77, sizeof entries), memset(lines, 77, sizeof lines);
+    memset(&delivery, 77, sizeof delivery), memset(&flow, 77, sizeof flow);
+    HOLDS(READ_HISTORY(TEXT, 2, 13, 1, 1) == DN_ROOM && READ_HISTORY(TEXT, 3, 12, 1, 1) == DN_ROOM);
+    HOLDS(READ_HISTORY(TEXT, 3, 13, 0, 1) == DN_ROOM && READ_HISTORY(TEXT, 3, 13, 1, 0) == DN_ROOM);
+    HOLDS(sizes.entries == 3 && sizes.bytes == 13 && sizes.deliveries == 1 && sizes.flows == 1 && sizes.rule == DN_ORDERED);
+    HOLDS(record == 77 && READ_HISTORY(TEXT + 1, 3, 13, 1, 1) == DN_BAD_RECORD && record == 1);
+    HOLDS(are_77(entries, sizeof entries) && are_77(lines, sizeof lines) && are_77(&delivery, sizeof delivery) && are_77(&flow, sizeof flow));
+    HOLDS(READ_HISTORY(TEXT, 3, 13, 1, 1) == DN_OK && entries[1].call == DN_COLLECT && entries[2].reply == DN_FLOWS);
+    HOLDS(memcmp(lines, "pipe 1 config", sizeof lines) == 0 && delivery.due == 2 && flow.discarded == 6);
+}
+
 static uint32_t fed(struct dn_audit *audit, const char *part) { return dn_audit_feed(audit, (const uint8_t *)part, strlen(part)); }
 
 /* An audit that has ended is closed, whatever ended it. */
@@ -227,6 +251,7 @@ int main(void) {
     texts_of_lines();
     reasons();
     rows_and_room();
+    histories_and_room();
     audits_that_end();
     return told();
 }
