@@ -1,9 +1,8 @@
-"""`hinge net` with the world outside, at its end and by other users."""
+"""`hinge net` with the world outside, and at its end."""
 
 from __future__ import annotations
 
 import os
-import shutil
 import signal
 import subprocess
 import threading
@@ -14,8 +13,6 @@ from linked import HINGE, found, hinge, matching, needs, needs_rooms, until, web
 
 from hinge.run.outside import GATEWAY, Outside
 from in_a_folder import InAFolder
-
-PING = "ping -c 1 -W 5 -q"
 
 
 @needs_rooms
@@ -99,20 +96,3 @@ class OfTheEnd(InAFolder):
         finally:
             begun.kill()
         self.assertEqual((begun.returncode, "void: the links broke off before the end" in said), (75, True), said)
-
-
-@needs_rooms
-@unittest.skipUnless(shutil.which("setpriv") and os.geteuid() == 0, "only root can be another user")
-class OfUsers(InAFolder):
-    def test_no_root_is_needed(self) -> None:
-        self.file.write_text(f"host a\nmain b id -u && {PING} a >/dev/null\nlink a b 1ms\n")
-        self.folder.chmod(0o755), self.file.chmod(0o644)
-        done = subprocess.run(
-            ["setpriv", "--reuid=65534", "--regid=65534", "--clear-groups", *HINGE, "net", str(self.file)],
-            capture_output=True,
-            text=True,
-            cwd="/",
-        )
-        if done.returncode == 6:
-            self.skipTest(done.stderr.strip())
-        self.assertEqual((done.returncode, done.stdout), (0, "65534\n"), done.stderr)

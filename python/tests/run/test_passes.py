@@ -2,7 +2,6 @@
 
 from __future__ import annotations
 
-import re
 import shutil
 import tempfile
 import unittest
@@ -202,16 +201,6 @@ class OfRuns(InAFolder):
             pytest.skip("no numpy")
         assert paths.stdout.splitlines()[-1] == "lawful between links", paths.stdout
         assert "a - a~r - r - b: " in paths.stdout
-
-    def test_they_are_of_a_whole_run(self) -> None:
-        (self.folder / "t").write_text("5s up 20ms jitter 3ms\n")
-        for words in (["--timeline", self.folder / "t"],):
-            assert re.search(
-                "line 1: 5s: 'jitter': of a whole run; write it in --up, --down or a line `link`, from the beginning on$",
-                run("--up", "5ms", *words, "--", "true").stderr,
-            )
-        self.file.write_text("host a\nhost b\nlink a b 5ms\nat 1s a b jitter 5ms\n")
-        assert re.search("line 4: 'jitter': of a whole run; write it in --up", hinge("net", self.file, "--dry-run").stderr)
 
     def test_second_passes_have_no_part_in_a_caution(self) -> None:
         done = run("--up", "500ms jitter 1ms", "--", "ping", "-c", "1", "-q", "server")
