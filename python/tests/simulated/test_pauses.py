@@ -15,9 +15,7 @@ from packets import packets_of
 ONCE = """take() { if [ ! -e lock ]; then echo > lock; echo $1 >> took; fi; }
           rm -f lock took; take a & take b & wait; test $(wc -l < took) = 1"""
 SEEDS = range(1, 21)
-MANY = range(
-    1, 201
-)  # as many of which find a fault depends on a program's calls, and so on its variables: none of 20 sometimes did
+MANY = range(1, 201)  # as many find a fault as a program's calls decide, and so its variables: none of 20 sometimes did
 
 
 class OfWords(unittest.TestCase):
