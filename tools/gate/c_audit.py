@@ -40,7 +40,6 @@ End = tuple[str, int]
 
 
 def replay(dummynet: str, config: Path, history: Path) -> bytes:
-    """Returns the history of a replay."""
     words = [dummynet, "replay", config, config.with_suffix(".csv"), "--history", history]
     subprocess.run(words, stdout=subprocess.DEVNULL, check=True)
     return history.read_bytes()
