@@ -178,10 +178,8 @@ class OfWords(unittest.TestCase):
 class OfRuns(InAFolder):
     def test_a_net_is_lawful_between_links_too(self) -> None:
         done = self.net(
-            (
-                "host a\nrouter r\nmain b ping -c 100 -i 0.002 -W 5 -q a; ping -c 10 -i 0.01 -q ip6-a\nlink a r 2ms"
-                " jitter 4ms\nlink r b duplicate 20% / jitter 3ms\n"
-            ),
+            "host a\nrouter r\nmain b ping -c 100 -i 0.002 -W 5 -q a; ping -c 10 -i 0.01 -q ip6-a\nlink a r 2ms"
+            " jitter 4ms\nlink r b duplicate 20% / jitter 3ms\n",
             "--seed",
             "1",
         )
