@@ -251,27 +251,29 @@ class OfHosts(InAFolder):
         with self.running("udp", "0", "9"):
             assert self.exec("a", "--", "true").stderr == "hinge exec: 'a': it has no hosts of its own\n"
 
-    def ended(self, end: Callable[["subprocess.Popen[str]", "subprocess.Popen[str]"], None]) -> "subprocess.Popen[str]":
-        """A command on a host, which something ends, and what it began is gone."""
-        mark = f"{7000 + os.getpid() % 1000}.{self.id().count('t')}{len(self.id())}"
-        net = self.folder / "x.net"
-        net.write_text("host a\nmain c exec sleep 1h\nlink a c\n")
-        run = subprocess.Popen(
-            [*HINGE, "net", str(net), "--control", str(self.socket), "--quiet"], stderr=subprocess.PIPE, text=True
-        )
+    @contextlib.contextmanager
+    def endless(self, *user: str) -> Iterator["subprocess.Popen[str]"]:
+        """A net that runs until it is ended, as this user's."""
+        (net := self.folder / "x.net").write_text("host a\nmain c exec sleep 1h\nlink a c 1ms\n")
+        net.chmod(0o644)
+        words = [*user, *HINGE, "net", net, "--control", self.socket, "--quiet"]
+        run = subprocess.Popen(words, stderr=subprocess.PIPE, text=True, cwd="/")
         try:
-            until(self.socket.exists)
-            command = subprocess.Popen(
-                [*HINGE, "exec", str(self.socket), "a", "--", "sh", "-c", f"setsid sleep {mark} & exec sleep {mark}"],
-                stderr=subprocess.PIPE,
-                text=True,
-            )
-            until(lambda: len(matching("-f", f"^sleep {mark}")) == 2)
-            end(run, command)
-            command.wait(60)
+            until(lambda: self.socket.exists() or run.poll() is not None)
+            yield run
         finally:
             run.terminate()
             run.communicate(timeout=60)
+
+    def ended(self, end: Callable[["subprocess.Popen[str]", "subprocess.Popen[str]"], None]) -> "subprocess.Popen[str]":
+        """A command on a host, which something ends, and what it began is gone."""
+        mark = f"{7000 + os.getpid() % 1000}.{self.id().count('t')}{len(self.id())}"
+        words = [*HINGE, "exec", str(self.socket), "a", "--", "sh", "-c", f"setsid sleep {mark} & exec sleep {mark}"]
+        with self.endless() as run:
+            command = subprocess.Popen(words, stderr=subprocess.PIPE, text=True)
+            until(lambda: len(matching("-f", f"^sleep {mark}")) == 2)
+            end(run, command)
+            command.wait(60)
         until(lambda: not matching("-f", f"^sleep {mark}"))
         return command
 
@@ -289,27 +291,14 @@ class OfHosts(InAFolder):
 
     @unittest.skipUnless(shutil.which("setpriv") and os.geteuid() == 0, "only root can be another user")
     def test_no_root_is_needed(self) -> None:
-        net = self.folder / "x.net"
-        net.write_text("host a\nmain c sleep 1h\nlink a c 1ms\n")
-        self.folder.chmod(0o777), net.chmod(0o644)
-        user = ["setpriv", "--reuid=65534", "--regid=65534", "--clear-groups", *HINGE]
-        run = subprocess.Popen(
-            [*user, "net", str(net), "--control", str(self.socket), "--quiet"], stderr=subprocess.PIPE, text=True, cwd="/"
-        )
-        try:
-            until(lambda: self.socket.exists() or run.poll() is not None)
+        self.folder.chmod(0o777)
+        user = "setpriv", "--reuid=65534", "--regid=65534", "--clear-groups"
+        with self.endless(*user) as run:
             if run.poll() == 6:
                 pytest.skip(run.communicate()[1].strip())
-            done = subprocess.run(
-                [*user, "exec", str(self.socket), "a", "--", "sh", "-c", "id -u; hostname; ping -c 1 -q c >/dev/null"],
-                capture_output=True,
-                text=True,
-                cwd="/",
-            )
+            words = [*user, *HINGE, "exec", self.socket, "a", "--", "sh", "-c", "id -u; hostname; ping -c 1 -q c >/dev/null"]
+            done = subprocess.run(words, capture_output=True, text=True, cwd="/")
             assert (done.returncode, done.stdout) == (0, "65534\na\n"), done.stderr
-        finally:
-            run.terminate()
-            run.communicate(timeout=60)
 
 
 @needs_host

@@ -85,6 +85,14 @@ class OfCommands(WithFolder):
             (["--json", "/none/json"], 2, "hinge run: --json /none/json: it can't be written\n"),
             (["--config", "/none"], 2, "hinge run: /none: No such file or directory\n"),
             (["--map", "tcp"], 2, "hinge run: --map tcp: it doesn't end in `=> pipe N` or `=> queue N`\n"),
+            *(
+                (["--net", net], 2, f"hinge run: --net {net}: no network of {kind}, as 10.20.0.0/24\n")
+                for kind, nets in (
+                    ("IPv4", ("10.20.0.1/24", "fd00::/64", "x")),
+                    ("hosts with /8 to /30", ("10.20.0.0/31", "127.0.0.0/8")),
+                )
+                for net in nets
+            ),
         ):
             got = run(*words, "--", "echo", "started")
             assert (got.returncode, got.stdout, got.stderr) == (status, "", told)
@@ -235,17 +243,6 @@ class OfNetworks(unittest.TestCase):
         code, _, seconds = done.stdout.partition(" ")
         assert (done.returncode, code) == (0, "200"), done.stderr
         assert float(seconds) >= 0.03
-
-    def test_networks_that_are_none(self) -> None:
-        for text, wanted in (
-            ("10.20.0.0/31", "no network of hosts with /8 to /30"),
-            ("10.20.0.1/24", "no network of IPv4"),
-            ("fd00::/64", "no network of IPv4"),
-            ("127.0.0.0/8", "no network of hosts"),
-            ("x", "no network of IPv4"),
-        ):
-            done = run("--net", text, "--", "true")
-            assert (done.returncode, wanted in done.stderr) == (2, True), done.stderr
 
 
 class OfSteps(unittest.TestCase):
