@@ -31,32 +31,17 @@ def one_by_one(shaper: hingetulip.Shaper, count: int) -> int:
     return came
 
 
-def by_columns(shaper: hingetulip.Shaper, count: int, at_once: int) -> int:
-    """A submit_many and a collect_many for some packets, whose moments are written anew."""
-    came, packets = 0, hingetulip.Packets(at_once, moment=0, length=1000, pipe=1, word=0)
-    for first in range(0, count * STEP, at_once * STEP):
-        packets.moment[:] = array("Q", range(first, first + at_once * STEP, STEP))
+def by_columns(shaper: hingetulip.Shaper, count: int) -> int:
+    """A submit_many and a collect_many for 1,000 packets, whose moments are written anew."""
+    came, packets, lasting = 0, hingetulip.Packets(1000, moment=0, length=1000, pipe=1, word=0), 1000 * STEP
+    for first in range(0, count * STEP, lasting):
+        packets.moment[:] = array("Q", range(first, first + lasting, STEP))
         shaper.submit_many(packets)
-        came += len(shaper.collect_many(first + at_once * STEP))
+        came += len(shaper.collect_many(first + lasting))
     return came
 
 
-def by_items(shaper: hingetulip.Shaper, count: int, at_once: int) -> int:
-    """The same, but each packet's fate and delivery is read as an object."""
-    came, queued, packets = 0, 0, hingetulip.Packets(at_once, moment=0, length=1000, pipe=1, word=0)
-    for first in range(0, count * STEP, at_once * STEP):
-        packets.moment[:] = array("Q", range(first, first + at_once * STEP, STEP))
-        queued += sum(fate.packet is not None for fate in shaper.submit_many(packets))
-        came += sum(delivery.due > 0 for delivery in shaper.collect(first + at_once * STEP))
-    return came
-
-
-LOADS: dict[str, Load] = {
-    "one by one": one_by_one,
-    "by columns, 10 at once": lambda shaper, count: by_columns(shaper, count, 10),
-    "by columns, 1,000 at once": lambda shaper, count: by_columns(shaper, count, 1000),
-    "by columns, each read as an object": lambda shaper, count: by_items(shaper, count, 1000),
-}
+LOADS: dict[str, Load] = {"one by one": one_by_one, "by columns, 1,000 at once": by_columns}
 
 
 def timed(load: Load, count: int) -> float:

@@ -1,17 +1,12 @@
 #!/bin/sh
-# Times the scheduler beside its twin, and refuses each of its growths in turn. The argument is the count of rounds, of
-# which the least counts.
+# Times the scheduler beside its twin. The argument is the count of rounds, of which the least counts.
 unset CDPATH POSIXLY_CORRECT; export LC_ALL=C
 set -e
 cd "$(dirname "$0")/.."
 kit=$(dirname "$(rt doc | tail -1)")
 (cd crates/bench_sched && rt lib)
-ours=crates/bench_sched/out/libbench_sched.a
 work=$(mktemp -d)
 trap 'rm -rf "$work"' EXIT
-cc -O2 -o "$work/refused" bench/sched_refused.c tools/gate/refused_growths.c "$ours" "$kit/c/liblibc_c.a" \
-    -Wl,--wrap=rattle_alloc,--wrap=rattle_realloc
-"$work/refused"
 rustc --edition 2021 -O -o "$work/sched" bench/sched.rs -L native=crates/bench_sched/out -l static=bench_sched \
     -L native="$kit/c" -l static=libc_c
 "$work/sched" "${1:-10}"

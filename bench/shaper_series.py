@@ -7,17 +7,13 @@ the processors of a virtual machine can be threads of cores whose other threads 
 fast as another, or as itself a second later. So beside all runs the steady ones are told by themselves, those in which the two costs at
 one link differ by at most a tenth.
 
-With a PAUSE, so many seconds pass between two runs: what other users leave of a machine's caches changes within minutes, and a
-series of an hour or two tells more of it than one of a minute.
-
-usage: bench/shaper_series.py ROUNDS RUNS [PAUSE]     (after bench/shaper.sh, which proves and builds the program)
+usage: bench/shaper_series.py ROUNDS RUNS     (after bench/shaper.sh, which proves and builds the program)
 """
 import os
 import re
 import statistics
 import subprocess
 import sys
-import time
 
 PROGRAM = os.path.join(os.path.dirname(__file__), "..", "crates", "bench_calls", "out", "bench_calls")
 LINE = re.compile(r"(.*): (\d+) ns and (\d+) ns for the Collects of \d+ rounds")
@@ -66,15 +62,11 @@ def tell_ratios(name, runs):
 
 
 def main():
-    if len(sys.argv) not in (3, 4):
+    if len(sys.argv) != 3:
         sys.exit(__doc__)
     rounds, count = int(sys.argv[1]), int(sys.argv[2])
-    pause = float(sys.argv[3]) if len(sys.argv) == 4 else 0
     processors = sorted(os.sched_getaffinity(0))
-    runs = []
-    for i in range(count):
-        time.sleep(pause)
-        runs.append(one_run(rounds, processors[i % len(processors)]))
+    runs = [one_run(rounds, processors[i % len(processors)]) for i in range(count)]
     tell_loads(runs)
     tell_ratios("all runs", runs)
     tell_ratios("steady runs", [(costs, after) for costs, after in runs if 0.9 < sum(costs[ONE]) / sum(after) < 1.1])

@@ -53,7 +53,6 @@ class Definitions:
             memory.clear()
 
     def value(self, file: str, name: str) -> Value:
-        """Returns the value of a name in a file."""
         spec = self.specs[file]
         if name in spec.constructors:
             return constructed(spec.constructors[name])
@@ -97,8 +96,6 @@ def constructed(constructor: Constructor) -> Value:
 
 
 class Compiler:
-    """The compiler of a file."""
-
     def __init__(self, definitions: Definitions, file: str) -> None:
         self.definitions, self.file = definitions, file
 

@@ -20,26 +20,7 @@ from values import NONE, Value, apply, data, some, to_list
 CONFIG = CRATE.parent / "dn_config"
 FAULT, LINE_FAULT, ROOM = Struct("=QII"), 8, 1024
 KINDS = ("", "UnknownWord", "MissingValue", "BadNumber", "OutOfRange", "LeftOut", "NeedsPipe")
-NUMBERS = (
-    "0",
-    "1",
-    "01",
-    "",
-    "x",
-    "16",
-    "50",
-    "100",
-    "101",
-    "1024",
-    "1025",
-    "3600000",
-    "3600001",
-    "10000",
-    "10001",
-    "65535",
-    "65536",
-    "65537",
-)
+NUMBERS = ("", *"0 1 01 x 16 50 100 101 1024 1025 3600000 3600001 10000 10001 65535 65536 65537".split())
 VALUES = {
     "bw": ("0", "1", "8bit/s", "8bits/s", "8byte/s", "8bytes/s", "8Kbit/s", "8Mbyte/s", "8gbit/s", "1000Gbit/s", "1001Gbit/s", "8k", "8kk", "8x", "eth0", "bit/s",
            "1000000000000", "1000000000001", "[", "01bit/s"),
@@ -98,17 +79,8 @@ def told(line: str) -> Value:
     """Returns what the C library reads of a line."""
     fault, text, length = ctypes.create_string_buffer(FAULT.size), ctypes.create_string_buffer(ROOM), ctypes.c_uint64()
     given = line.encode()
-    words = [
-        ctypes.c_uint64(0),
-        given,
-        ctypes.c_size_t(len(given)),
-        ctypes.c_uint32(0),
-        fault,
-        text,
-        ctypes.c_size_t(ROOM),
-        ctypes.byref(length),
-    ]
-    if library().dn_configure_text(*words) == LINE_FAULT:
+    words = (ctypes.c_uint64(0), given, ctypes.c_size_t(len(given)), ctypes.c_uint32(0), fault, text, ctypes.c_size_t(ROOM))
+    if library().dn_configure_text(*words, ctypes.byref(length)) == LINE_FAULT:
         word, kind, _ = FAULT.unpack(fault.raw)
         return data("Err", data(f"LineFault.{KINDS[kind]}", word))
     first = text.raw[: length.value].decode().split("\n", 1)[0]

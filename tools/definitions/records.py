@@ -74,7 +74,6 @@ def dotted(number: Value) -> str:
 
 
 def call_of(line: str) -> Value:
-    """Returns the call of a record."""
     try:
         _, _, kind, *fields = line.split(",", 3) if line.split(",")[2:3] == ["configure"] else line.split(",")
         if kind == "configure":
@@ -128,7 +127,6 @@ def delivery(of: Value) -> str:
 
 
 def reply_records(reply: Value) -> list[str]:
-    """Returns the records of a reply."""
     assert isinstance(reply, Data)
     kind = str(reply.constructor).removeprefix("Reply.")
     if kind == "Delivered":

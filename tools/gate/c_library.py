@@ -1,4 +1,4 @@
-"""The C library from C: arguments of every kind, texts of lines, and each growth of memory refused or counted.
+"""The C library from C: arguments of every kind, and each growth of memory refused or counted.
 
     python3 tools/gate/c_library.py
 
@@ -47,7 +47,7 @@ def ends_well(tally: Tally, place: Path, name: str, *more: str | Path) -> None:
 def main(tally: Tally) -> None:
     os.environ["ASAN_OPTIONS"] = "detect_leaks=1"
     with TemporaryDirectory() as folder:
-        for name in ("arguments", "line_texts", "reasons", "service_arguments"):
+        for name in ("arguments", "service_arguments"):
             ends_well(tally, Path(folder), name)
         for name in ("growths", "reserved", "service_growths"):
             ends_well(tally, Path(folder), name, *REFUSING)

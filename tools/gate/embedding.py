@@ -67,7 +67,6 @@ class Prefix:
 
 
 def blocks(language: str, page: str = PAGE) -> list[str]:
-    """Returns the page's blocks in a language."""
     return re.findall(rf"^```{language}\n(.*?)^```$", page, re.M | re.S)
 
 

@@ -77,8 +77,6 @@ def session(kind: str) -> Cost:
 
 @cache
 def replay(kind: str, times: int = 1, status: int = 0) -> Cost:
-    """Returns the cost of a replay."""
-
     @cache
     def cost(program: str, count: int) -> int:
         with TemporaryDirectory() as folder:

@@ -30,7 +30,6 @@ def page(tally: Tally, name: str) -> str:
 
 
 def options(text: str) -> list[str]:
-    """The long options that a help lists."""
     return sorted(set(re.findall(r"(?<![\w`-])--[a-z][a-z0-9-]*", text)))
 
 

@@ -91,7 +91,6 @@ def planted(path: Path, plant: Plant) -> bytes:
 
 
 def file_of(clone: Path, plant: Plant) -> Path:
-    """Returns the file that the plant changes."""
     return sorted(clone.glob(plant.file))[0]
 
 

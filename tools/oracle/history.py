@@ -25,7 +25,6 @@ def tuple_text(t: model.FiveTuple) -> str:
 
 
 def call_text(caller: int, c: model.Call) -> str:
-    """Returns the record of a call."""
     if isinstance(c, model.Configure):
         return f"c,{caller},configure,{command_text(c.command)}"
     if isinstance(c, model.Submit):
@@ -59,7 +58,6 @@ def reply_lines(r: model.Reply, version: int) -> list[str]:
 
 
 def history_text(rule: str, calls: Iterable[tuple[int, model.Call]], replies: Iterable[model.Reply]) -> str:
-    """Returns the history of calls with their callers and replies."""
     version = 2 if rule == model.FREE else 3
     lines, count = [f"dummynet-history,{version}"], 0
     for (caller, call), reply in zip(calls, replies):

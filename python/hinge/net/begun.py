@@ -85,12 +85,6 @@ def show_net(net: Description) -> None:
             show(f"pipe {pipe}: {at[0]} > {at[1]}: {words or 'open'}")
 
 
-def show_drawn(net_plan: NetPlan, seed: int) -> None:
-    """Prints the `at` lines that a nemesis stands for."""
-    for line in [*[f"# by seed {seed}"] * bool(net_plan.drawn), *net_plan.drawn]:
-        show(line)
-
-
 def refuse_gap(net: Description, options: NetOptions) -> None:
     """Checks routers. Wrong: a host that forwards packets has no command. With --control it may get one later, so the net only
     warns."""
@@ -105,7 +99,7 @@ def refuse_gap(net: Description, options: NetOptions) -> None:
 
 
 def run(arguments: NetOptions) -> None:
-    """Checks the options and runs the net."""
+    """Checks the options and runs the net. Wrong: an option, or a word of the net, has no effect here."""
     refuse_gap(read_description(arguments.file), arguments)
     net = net_of(arguments)
     seed = drawn_seed(arguments.seed)
@@ -117,18 +111,15 @@ def run(arguments: NetOptions) -> None:
     refuse_idle_seed(is_of_links, draws(net_plan.plan) or bool(net_plan.drawn))
     if arguments.dry_run:
         show_net(net)
-        show_drawn(net_plan, seed)
+        for line in [*[f"# by seed {seed}"] * bool(net_plan.drawn), *net_plan.drawn]:
+            show(line)
         return
     arguments = with_files(arguments)
     if arguments.simulated:
-        refuse_staying(arguments)
+        if arguments.stay or arguments.while_open is not None:
+            raise Wrong("--stay, --while-open: nobody can end a machine of its own; simulated time ends with its commands")
         sys.exit(start.run_simulated(arguments))
     begin(arguments)
-
-
-def refuse_staying(options: NetOptions) -> None:
-    if options.stay or options.while_open is not None:
-        raise Wrong("--stay, --while-open: nobody can end a machine of its own; simulated time ends with its commands")
 
 
 def begin(options: NetOptions) -> NoReturn:

@@ -168,7 +168,6 @@ class NetRooms:
         add_names(self.ends.names() + "127.0.0.1 localhost\n", self.ends.names_of_six(), first, self.ends.own[first].four)
 
     def descriptors(self) -> list[int]:
-        """Returns the descriptors of all interfaces."""
         return [interface for interface in self.interfaces if interface != AT_NO_HOST]
 
     def add_own(self, name: str) -> None:

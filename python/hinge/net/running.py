@@ -63,10 +63,6 @@ def spelled(*words: str, lasting: Optional[Time] = None) -> str:
     return " ".join(word for word in (*words, "" if lasting is None else spelled_time(lasting)) if word)
 
 
-def shell_words(command: Command) -> list[str]:
-    return ["sh", "-c", command] if isinstance(command, str) else list(command)
-
-
 class Net(Described):
     """A net. Describe it, then call `start`; `run` and a change without a moment start the net if needed."""
 
@@ -231,7 +227,8 @@ class Net(Described):
     def popen(self, host: str, command: Command, **how: Any) -> "Process[Any]":
         """Starts a command on a host, which ends with the net; returns the process. `how` is passed to subprocess.Popen."""
         self.start()
-        return begun([*HINGE, "exec", str(self.socket), host, "--", *shell_words(command)], **how)
+        words = ["sh", "-c", command] if isinstance(command, str) else command
+        return begun([*HINGE, "exec", str(self.socket), host, "--", *words], **how)
 
     def run(
         self,

@@ -15,16 +15,11 @@ def value(line: str, option: str) -> str:
     return words[words.index(option) + 1] if option in words[:-1] else ""
 
 
-def is_rate(text: str) -> bool:
-    """Returns whether the text is a bandwidth or a loss rate above 0."""
-    return any(letter in "123456789" for letter in text)
-
-
 def idle_queues(plan: Plan) -> Iterator[tuple[int, str]]:
     """Yields the ways with a queue in which no packet ever waits, with the reason."""
     for way in range(plan.ways):
         target, line = Target("pipe", way + 1), plan.current.get(Target("pipe", way + 1), "")
-        if not value(line, "queue") or is_rate(value(line, "bw")):
+        if not value(line, "queue") or any(digit in value(line, "bw") for digit in "123456789"):
             continue
         all_changes = [plan.changes, plan.behind_main]
         is_slowed = any(text.startswith(f"slots {way + 1} ") for text in plan.rest)

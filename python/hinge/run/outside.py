@@ -68,12 +68,6 @@ def words_for(process: str, own_users: bool, ipv6: bool, loopback: bool, outer: 
     ]
 
 
-def unless_there(error: OSError) -> None:
-    """Ignores the error if the address or the route already exists."""
-    if error.errno != errno.EEXIST:
-        raise error
-
-
 class Outside:
     """Starts before this process leaves the system's network, and waits for the name of the room to connect."""
 
@@ -154,7 +148,8 @@ class Outside:
             try:
                 give()
             except OSError as error:
-                unless_there(error)
+                if error.errno != errno.EEXIST:
+                    raise
         for address in others:
             announce(INTERFACE, address)
         return True

@@ -85,7 +85,6 @@ class Ports:
         back.close()
 
     def stay(self, back: socket.socket) -> None:
-        """The process that stays."""
         die_with_parent()
         self.front.close()
         doors = array.array("i")

@@ -88,8 +88,6 @@ class SimulatedOptions(RecordOptions):
 
 
 class RunOptions(SimulatedOptions, LiveOptions):
-    """The options of `hinge run`."""
-
     net: Optional[str]
     netns: Optional[str]
     container: Optional[str]
@@ -105,8 +103,6 @@ class RunOptions(SimulatedOptions, LiveOptions):
 
 
 class NetOptions(SimulatedOptions):
-    """The options of `hinge net`."""
-
     file: str
     transcripts: Optional[str]
     logs: Optional[str]

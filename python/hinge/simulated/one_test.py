@@ -73,18 +73,14 @@ def ran(item: pytest.Item, words: list[str], seed: int, folder: Path) -> Ran:
         item.nodeid,
     ]
     outer = [*HINGE, "run", "--simulated", "--seed", str(seed), "--kept", str(part), *words]
-    history = [] if has_net(item) else ["--transcript", str(folder / HISTORY)]
+    has_net = "net" in getattr(item, "fixturenames", ())  # and creates hosts itself, so that its machine's link stays unused
+    history = [] if has_net else ["--transcript", str(folder / HISTORY)]
     whole = [*outer, *history, "--", *inner]
     how: dict[str, Any] = {"cwd": item.config.rootpath, "env": names, "stdin": NOTHING, "stdout": PIPE, "stderr": PIPE}
     with begun(whole, text=True, errors="replace", **how) as process:
         output = process.communicate()[1].strip()
     text = (part / REPORTS).read_text().replace(f"{KEPT}/", f"{part}/") if (part / REPORTS).exists() else ""
     return Ran(process.returncode, output, [json.loads(line) for line in text.splitlines()])
-
-
-def has_net(item: pytest.Item) -> bool:
-    """Returns whether a test creates hosts itself, so that its machine's link stays unused."""
-    return "net" in getattr(item, "fixturenames", ())
 
 
 def read(config: pytest.Config, data: dict[str, Any]) -> pytest.TestReport:

@@ -113,7 +113,6 @@ def drawn(seed: int) -> Iterator[Given]:
 
 
 def pauses_of(word: Optional[str], seed: int) -> Optional[Pauses]:
-    """Returns the pauses for an option and a seed."""
     if word is None:
         return None
     return Pauses(word, tuple(drawn(seed)) if word == DRAWN else given(word))

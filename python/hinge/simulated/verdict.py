@@ -74,7 +74,6 @@ class Verdict(NamedTuple):
             yield f"and {len(self.waiting) - SHOWN} more threads"
 
     def record(self) -> "dict[str, Any]":
-        """Returns the record for JSON."""
         more: "dict[str, Any]" = {"signal": self.signal, "at": self.at}
         if self.waiting:
             more["waiting"] = [one._asdict() for one in self.waiting]

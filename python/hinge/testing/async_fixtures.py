@@ -14,15 +14,11 @@ if TYPE_CHECKING:
 NETWORK = "sim_net"
 
 
-def is_asynchronous(call: object) -> bool:
-    return inspect.iscoroutinefunction(call) or inspect.isasyncgenfunction(call)
-
-
 def asynchronous(call: Callable[..., Any]) -> Optional[Callable[..., Any]]:
     """Returns the coroutine function or asynchronous generator of a fixture or test, even inside another plugin's wrapper; None if
     it is synchronous."""
     result = inspect.unwrap(call)
-    return result if is_asynchronous(result) else None
+    return result if inspect.iscoroutinefunction(result) or inspect.isasyncgenfunction(result) else None
 
 
 def bound(call: Callable[..., Any], instance: object) -> Callable[..., Any]:
@@ -59,16 +55,11 @@ async def step(generator_of_loop: AsyncGenerator[object, None]) -> object:
     return await generator_of_loop.__anext__()
 
 
-def is_in_simulated_time(request: pytest.FixtureRequest, scope: str) -> bool:
-    """Returns whether a fixture belongs to simulated time: its test uses the network, and no other test shares the fixture."""
-    return scope == "function" and NETWORK in request.fixturenames
-
-
 @pytest.hookimpl(hookwrapper=True)  # type: ignore[misc]
 def pytest_fixture_setup(fixturedef: Any, request: pytest.FixtureRequest) -> Generator[None, None, None]:
-    """Runs an asynchronous fixture in its network; returns the fixture's value."""
+    """Runs an asynchronous fixture that no other test shares in its test's network, if any; returns the fixture's value."""
     own, call = fixturedef.func, asynchronous(fixturedef.func)
-    if call is not None and is_in_simulated_time(request, fixturedef.scope):
+    if call is not None and fixturedef.scope == "function" and NETWORK in request.fixturenames:
         fixturedef.func = synchronous(bound(call, request.instance), request.getfixturevalue(NETWORK))
     yield
     fixturedef.func = own

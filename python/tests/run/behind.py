@@ -15,9 +15,8 @@ CERTIFICATE = ["openssl", "req", "-x509", "-newkey", "rsa:2048", "-nodes", "-sub
 class Behind(WithFolder):
     def summary(self, *words: str, seconds: float = 60) -> tuple[Done[str], dict[str, Any]]:
         """Runs a command, and reads the summary too."""
-        done = run("--json", f"{self.folder}/json", *words, seconds=seconds)
-        with open(f"{self.folder}/json") as file:
-            return done, json.load(file)
+        done = run("--json", self.folder / "json", *words, seconds=seconds)
+        return done, json.loads((self.folder / "json").read_text())
 
     def certificate(self) -> tuple[str, str]:
         key, certificate = f"{self.folder}/key", f"{self.folder}/certificate"

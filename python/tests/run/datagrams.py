@@ -80,6 +80,5 @@ def counts(said: str, way: str) -> dict[str, int]:
 
 class InAFolder(WithFolder):
     def written(self, name: str, text: str) -> str:
-        with open(f"{self.folder}/{name}", "w") as file:
-            file.write(text)
-        return file.name
+        (self.folder / name).write_text(text)
+        return str(self.folder / name)

@@ -141,6 +141,26 @@ def state_of(process: int) -> str:
     return Path(f"/proc/{process}/stat").read_text().rpartition(")")[2].split()[0]
 
 
+def matching(*words: str) -> list[int]:
+    """The processes that pgrep finds."""
+    return [int(word) for word in subprocess.run(["pgrep", *words], stdout=subprocess.PIPE, text=True).stdout.split()]
+
+
+@contextmanager
+def crowded(process: int) -> Iterator[None]:
+    """Makes a process share a processor with four programs that do nothing but reckon, as the least of them."""
+    one = min(os.sched_getaffinity(0))
+    os.sched_setaffinity(process, {one})
+    os.setpriority(os.PRIO_PROCESS, process, 19)
+    spins = [sys.executable, "-c", "while 1: pass"]
+    loads = [subprocess.Popen(spins, preexec_fn=lambda: os.sched_setaffinity(0, {one})) for _ in range(4)]
+    try:
+        yield
+    finally:
+        for load in loads:
+            load.kill(), load.wait()
+
+
 @contextmanager
 def stopped(process: int) -> Iterator[None]:
     """Stops a process meanwhile, so that what comes to it waits."""

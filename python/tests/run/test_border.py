@@ -8,7 +8,6 @@ import json
 import os
 import resource
 import shutil
-import signal
 import socket
 import subprocess
 import sys
@@ -17,7 +16,7 @@ import unittest
 from pathlib import Path
 from typing import Iterator
 
-from linked import found, hinge, needs_rooms, until
+from linked import found, hinge, matching, needs_rooms, stopped, until
 from test_control import InAFolder
 
 from hinge.border.waits import can_be_read
@@ -148,17 +147,13 @@ class OfClients(InAFolder):
     def test_what_a_stalled_host_has_not_taken_is_never_obeyed(self) -> None:
         with self.running("run", "--up", "5ms") as begun:
             until(lambda: bool(hosts_of(begun.pid)))
-            hosts = hosts_of(begun.pid)
-            for host in hosts:
-                os.kill(host, signal.SIGSTOP)
-            try:
+            with contextlib.ExitStack() as still:
+                for host in hosts_of(begun.pid):
+                    still.enter_context(stopped(host))
                 refused = self.change("up", "11ms")
                 with self.client() as line:  # one that goes
                     line.sendall(b'{"change": "up 12ms"}\n')
                 time.sleep(0.5)
-            finally:
-                for host in hosts:
-                    os.kill(host, signal.SIGCONT)
             self.assertEqual((refused.returncode, "not obeyed" in refused.stderr), (2, True), refused.stdout)
             later = self.change("up", "21ms")
             self.assertEqual((later.returncode, found(r"s: (.*)$", later.stdout)), (0, ["pipe 1 config delay 21"]))
@@ -199,8 +194,7 @@ def plan_of_two() -> Plan:
 
 def hosts_of(process: int) -> list[int]:
     """The host of a run and the writer of its transcript."""
-    named = subprocess.run(["pgrep", "-x", "hinge-link"], capture_output=True, text=True).stdout.split()
-    return [int(pid) for pid in named if descends(int(pid), process)]
+    return [one for one in matching("-x", "hinge-link") if descends(one, process)]
 
 
 ASKS = """

@@ -19,7 +19,7 @@ from unittest import mock
 
 import pytest
 
-from linked import HINGE, Done, audited_as_lawful, found, hinge, needs, needs_host, needs_rooms, run, until
+from linked import HINGE, Done, audited_as_lawful, found, hinge, matching, needs, needs_host, needs_rooms, run, until
 from with_folder import WithFolder
 
 from hinge.border.asking import ask
@@ -134,10 +134,10 @@ class OfRuns(InAFolder):
         for words in (["udp", "0", "1"], ["run", "--up", "1ms", "--", "true"]):
             words[1:1] = ["--control", str(self.socket)]
             with subprocess.Popen([*HINGE, *words], env={**os.environ, "HINGE_LINK": str(host)}) as process:
-                until(lambda: subprocess.run(["pgrep", "-f", f"^sleep {mark}"], capture_output=True).stdout)
+                until(lambda: matching("-f", f"^sleep {mark}"))
                 process.terminate()
             assert (process.returncode, self.socket.exists()) == (143, False), words
-            until(lambda: not subprocess.run(["pgrep", "-f", f"^sleep {mark}"], capture_output=True).stdout)
+            until(lambda: not matching("-f", f"^sleep {mark}"))
 
     def test_a_signal_while_a_process_ends_does_not_cut_the_wait(self) -> None:
         """As a ^C of which the launcher tells the first process, while the link ends because its command has."""
@@ -251,31 +251,30 @@ class OfHosts(InAFolder):
         with self.running("udp", "0", "9"):
             assert self.exec("a", "--", "true").stderr == "hinge exec: 'a': it has no hosts of its own\n"
 
-    def ended(self, end: Callable[["subprocess.Popen[str]", "subprocess.Popen[str]"], None]) -> "subprocess.Popen[str]":
-        """A command on a host, which something ends, and what it began is gone."""
-        mark = f"{7000 + os.getpid() % 1000}.{self.id().count('t')}{len(self.id())}"
-        net = self.folder / "x.net"
-        net.write_text("host a\nmain c exec sleep 1h\nlink a c\n")
-        run = subprocess.Popen(
-            [*HINGE, "net", str(net), "--control", str(self.socket), "--quiet"], stderr=subprocess.PIPE, text=True
-        )
+    @contextlib.contextmanager
+    def endless(self, *user: str) -> Iterator["subprocess.Popen[str]"]:
+        """A net that runs until it is ended, as this user's."""
+        (net := self.folder / "x.net").write_text("host a\nmain c exec sleep 1h\nlink a c 1ms\n")
+        net.chmod(0o644)
+        words = [*user, *HINGE, "net", net, "--control", self.socket, "--quiet"]
+        run = subprocess.Popen(words, stderr=subprocess.PIPE, text=True, cwd="/")
         try:
-            until(self.socket.exists)
-            command = subprocess.Popen(
-                [*HINGE, "exec", str(self.socket), "a", "--", "sh", "-c", f"setsid sleep {mark} & exec sleep {mark}"],
-                stderr=subprocess.PIPE,
-                text=True,
-            )
-            until(
-                lambda: len(subprocess.run(["pgrep", "-f", f"^sleep {mark}"], capture_output=True, text=True).stdout.split()) == 2,
-                30,
-            )
-            end(run, command)
-            command.wait(60)
+            until(lambda: self.socket.exists() or run.poll() is not None)
+            yield run
         finally:
             run.terminate()
             run.communicate(timeout=60)
-        until(lambda: not subprocess.run(["pgrep", "-f", f"^sleep {mark}"], capture_output=True, text=True).stdout)
+
+    def ended(self, end: Callable[["subprocess.Popen[str]", "subprocess.Popen[str]"], None]) -> "subprocess.Popen[str]":
+        """A command on a host, which something ends, and what it began is gone."""
+        mark = f"{7000 + os.getpid() % 1000}.{self.id().count('t')}{len(self.id())}"
+        words = [*HINGE, "exec", str(self.socket), "a", "--", "sh", "-c", f"setsid sleep {mark} & exec sleep {mark}"]
+        with self.endless() as run:
+            command = subprocess.Popen(words, stderr=subprocess.PIPE, text=True)
+            until(lambda: len(matching("-f", f"^sleep {mark}")) == 2)
+            end(run, command)
+            command.wait(60)
+        until(lambda: not matching("-f", f"^sleep {mark}"))
         return command
 
     @needs("pgrep", "setsid")
@@ -292,27 +291,14 @@ class OfHosts(InAFolder):
 
     @unittest.skipUnless(shutil.which("setpriv") and os.geteuid() == 0, "only root can be another user")
     def test_no_root_is_needed(self) -> None:
-        net = self.folder / "x.net"
-        net.write_text("host a\nmain c sleep 1h\nlink a c 1ms\n")
-        self.folder.chmod(0o777), net.chmod(0o644)
-        user = ["setpriv", "--reuid=65534", "--regid=65534", "--clear-groups", *HINGE]
-        run = subprocess.Popen(
-            [*user, "net", str(net), "--control", str(self.socket), "--quiet"], stderr=subprocess.PIPE, text=True, cwd="/"
-        )
-        try:
-            until(lambda: self.socket.exists() or run.poll() is not None)
+        self.folder.chmod(0o777)
+        user = "setpriv", "--reuid=65534", "--regid=65534", "--clear-groups"
+        with self.endless(*user) as run:
             if run.poll() == 6:
                 pytest.skip(run.communicate()[1].strip())
-            done = subprocess.run(
-                [*user, "exec", str(self.socket), "a", "--", "sh", "-c", "id -u; hostname; ping -c 1 -q c >/dev/null"],
-                capture_output=True,
-                text=True,
-                cwd="/",
-            )
+            words = [*user, *HINGE, "exec", self.socket, "a", "--", "sh", "-c", "id -u; hostname; ping -c 1 -q c >/dev/null"]
+            done = subprocess.run(words, capture_output=True, text=True, cwd="/")
             assert (done.returncode, done.stdout) == (0, "65534\na\n"), done.stderr
-        finally:
-            run.terminate()
-            run.communicate(timeout=60)
 
 
 @needs_host

@@ -24,8 +24,7 @@ class OfDownloads(Behind):
         """1,000,000 bytes at 8 Mbit/s take 1.036 s with their headers, after two round trips of 40 ms. They come as
         they are."""
         data = os.urandom(10**6)
-        with open(f"{self.folder}/data", "wb") as file:
-            file.write(data)
+        (self.folder / "data").write_bytes(data)
         serve = f"cd {self.folder} && exec {sys.executable} -m http.server 8080 2>/dev/null >&2"
         done = run(
             *shlex.split("--up 20ms --down '8Mbit/s 20ms queue 100' --server"),
@@ -33,8 +32,7 @@ class OfDownloads(Behind):
             *shlex.split(f"-- curl -s -o {self.folder}/got -w '%{{time_total}}' http://server:8080/data"),
         )
         self.assertEqual(done.returncode, 0, done.stderr)
-        with open(f"{self.folder}/got", "rb") as file:
-            self.assertTrue(file.read() == data)
+        self.assertTrue((self.folder / "got").read_bytes() == data)
         self.assertGreaterEqual(float(done.stdout), 1.036 + 0.08)
 
     @needs("curl")
@@ -42,8 +40,7 @@ class OfDownloads(Behind):
         """What the system hands over in one piece is cut to the interface's longest packets, in either family, and is
         whole at the end."""
         data = os.urandom(2 * 10**7)
-        with open(f"{self.folder}/data", "wb") as file:
-            file.write(data)
+        (self.folder / "data").write_bytes(data)
         serve = f"cd {self.folder} && exec {sys.executable} -m http.server 8080 --bind :: 2>/dev/null >&2"
         for name in ("10.8.0.2", "[fd08::2]"):
             done, told = self.summary(
@@ -52,10 +49,9 @@ class OfDownloads(Behind):
                 *shlex.split(f"-- curl -s -o {self.folder}/got http://{name}:8080/data"),
             )
             self.assertEqual(done.returncode, 0, done.stderr)
-            with open(f"{self.folder}/got", "rb") as file:
-                self.assertTrue(file.read() == data)
-            with open(f"{self.folder}/h") as history:
-                lengths = [int(text) for text in found(r"^c,0,submit,pipe,2,(?:[^,]*,){5}(\d+),", history.read())]
+            self.assertTrue((self.folder / "got").read_bytes() == data)
+            history = (self.folder / "h").read_text()
+            lengths = [int(text) for text in found(r"^c,0,submit,pipe,2,(?:[^,]*,){5}(\d+),", history)]
             self.assertEqual((max(lengths), len(lengths)), (1400, told["down"]["came"]))
             audited_as_lawful(self, f"{self.folder}/h")
 
@@ -90,9 +86,8 @@ class OfDownloads(Behind):
     @needs("gtlsserver", "gtlsclient", "openssl")
     def test_quic(self) -> None:
         key, certificate = self.certificate()
-        os.mkdir(f"{self.folder}/got")
-        with open(f"{self.folder}/data", "wb") as file:
-            file.write(bytes(10**5))
+        (self.folder / "got").mkdir()
+        (self.folder / "data").write_bytes(bytes(10**5))
         serve = f"exec gtlsserver -q -d {self.folder} 10.8.0.2 4433 {key} {certificate}"
         done, told = self.summary(
             *shlex.split("--up 20ms --down '8Mbit/s 20ms' --loss down:list:20,40-42 --server"),
@@ -136,8 +131,7 @@ class OfOutside(Behind):
         self.assertGreaterEqual(float(answer.split()[-1]), 0.12)  # two round trips
 
     def answer(self, path: str, own: str, gateway: str, option: str, *before: str) -> str:
-        with open(f"{self.folder}/data", "w") as file:
-            file.write("from outside")
+        (self.folder / "data").write_text("from outside")
         with web_server(self.folder, own) as port:
             ask = ["curl", "-s", "-m", "9", "-w", " %{time_total}", f"http://{gateway}:{port}/data"]
             done = subprocess.run(

@@ -171,7 +171,9 @@ WRONG = """transcript|transcript x|at|at x pipe 1 config|outage 5 1|outage 5 0 9
 |slots 0 1|slots 3 1|slots 1|slots 1 x|slots 1 5 4|slots 1 0|map 0 0 1|seed|seed 2 1|seed -1 1|gilbert 0 1 2 3|gilbert 5 1 2 3 4\
 |list 0 x|list 0 1 x|list 2 1|jitter 0 9 2|jitter 0 0 2 1|jitter 0 9 0 1|jitter 0 65535 2 1|jitter 0 2147483647 2147483647 1\
 |jitter 7 9 2 1|copies 0 5|copies 2 5 1|switch |switch 0 2|switch 0 x|switch -1|realtime now|simulated now|epoch|epoch x\
-|epoch 5 x|control 0|contents too|lines|"""
+|epoch 5 x|control 0|contents too|lines||list -1 3|hold 9 1 2|jitter 0 65530 7 7|copies 0 1|corruption 0 1|fault 0 1 1|fault 2 1 1 1\
+|fault 0 3 1 1|fault 0 2 1 0|fault 0 2 1 65536|host b 3 4|host b 3 4 5 6|at 5 act stop b 1|at 5 cut 3 1|at 5 cut 0 1|at 5 open 1\
+|at 5 cut 1 1 1|at 5 heal x|at 5 cut 1 1 17 0|at 5 cut 1 1 17 53 1|at 5 heal 1 17|main line pipe 1 config|main at 5 cut 9 9|"""
 
 
 @needs_host
@@ -229,14 +231,12 @@ class OfTheEnd(unittest.TestCase):
             ("at 5 pipe delete 7\n", "no-such-pipe"),
             ("nonsense\n", "no line of a plan"),
         ):
-            link = Linked(text)
-            self.assertEqual((link.process.wait(60), told in link.process.stderr.read().decode()), (3, True))
-            link.process.stderr.close()
+            ended = Linked(text).ended()
+            self.assertEqual((ended.status, told in ended.said), (3, True))
 
     def test_a_plan_has_no_other_lines(self) -> None:
         """Each is told whole, and no packet is taken."""
         for text in f"{WRONG}map 0 0 1 -1 -1 {'x ' * 4}0 65535 0 65535".split("|"):
-            link = Linked(text + "\n")
-            status, said = link.process.wait(60), link.process.stderr.read().decode()
-            link.process.stderr.close()
-            self.assertEqual((status, said), (3, f"hinge: {text}: no line of a plan\n"))
+            ended = Linked(text + "\n").ended()
+            line = text.rpartition("at 5 ")[2]
+            self.assertIn((ended.status, ended.said), [(3, f"hinge: {line}: no line{of}\n") for of in ("", " of a plan")])

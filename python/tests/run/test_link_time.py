@@ -4,8 +4,6 @@ from __future__ import annotations
 
 import os
 import re
-import subprocess
-import sys
 import tempfile
 import time
 import unittest
@@ -14,7 +12,7 @@ from contextlib import suppress
 from hinge.run.plan import Plan
 from hinge.run.summary import void
 from link_packets import CLIENT, SERVER, plan_of, udp
-from linked import AT_ONCE, SEEDS, Linked, audited, found, ip4, needs_host, stopped, until, with_lines
+from linked import AT_ONCE, SEEDS, Linked, audited, crowded, found, ip4, needs_host, stopped, until, with_lines
 
 
 @needs_host
@@ -129,23 +127,12 @@ class OfTime(unittest.TestCase):
 @needs_host
 class OfALoadedMachine(unittest.TestCase):
     def test_it_reports_that_it_had_no_processor(self) -> None:
-        """Four programs that do nothing but reckon share a processor with the host, which is the least of them."""
         link = Linked(SEEDS + "line pipe 1 config delay 1\n")
-        one = min(os.sched_getaffinity(0))
-        os.sched_setaffinity(link.process.pid, {one})
-        os.setpriority(os.PRIO_PROCESS, link.process.pid, 19)
-        loads = [
-            subprocess.Popen([sys.executable, "-c", "while 1: pass"], preexec_fn=lambda: os.sched_setaffinity(0, {one}))
-            for _ in range(4)
-        ]
-        try:
+        with crowded(link.process.pid):
             for number in range(40):
                 link.near.send(udp(number))
                 time.sleep(0.03)
             until(lambda: link.page.read().ways[0]["sent"] == 40)
-        finally:
-            for load in loads:
-                load.kill(), load.wait()
         counts = link.end().counts
         assert re.search(
             r"up: the p99 of `(late|unread)`, [\d.]+ ms, is above the limit of 1 ms", "\n".join(void(counts, [0, 0], 1.0))

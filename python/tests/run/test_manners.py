@@ -9,7 +9,7 @@ import signal
 import subprocess
 from typing import Any, Optional
 
-from linked import HINGE, audited_as_lawful, found, hinge, needs, needs_rooms, run, until
+from linked import HINGE, audited_as_lawful, found, hinge, matching, needs, needs_rooms, run, until
 from with_folder import WithFolder
 
 
@@ -112,7 +112,7 @@ class OfFiles(WithFolder):
         fifo = self.folder / "fifo"
         os.mkfifo(fifo)
         begun = subprocess.Popen([*HINGE, "run", "--transcript", str(fifo), "--", "true"], stderr=subprocess.DEVNULL)
-        until(lambda: subprocess.run(["pgrep", "-P", str(begun.pid)], capture_output=True).returncode == 0)
+        until(lambda: matching("-P", str(begun.pid)))
         begun.send_signal(signal.SIGTERM)
         assert begun.wait(60) == 143
 

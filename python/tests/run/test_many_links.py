@@ -86,11 +86,6 @@ class OfManyLinks(unittest.TestCase):
         self.assertEqual([way["lost"] for way in ended.counts.ways], [0, 0, 1, 2, 0, 0])
         self.assertEqual(found(r"^c,0,configure,(pipe \d config delay.*)", ended.history), ["pipe 5 config delay 3"])
 
-    def test_ways_that_are_not_there(self) -> None:
-        for line in ("seed 4 1", "gilbert 6 1 1 1 1", "list -1 3", "outage 0 7 1500"):
-            ended = Linked(line + "\n", links=2 + line.startswith(("gilbert", "outage"))).ended()
-            self.assertEqual((ended.status, ended.said), (3, f"hinge: {line}: no line of a plan\n"))
-
     def test_moments_begin_at_the_epoch(self) -> None:
         epoch = time.monotonic_ns() - 5 * 10**9
         link = Linked(f"epoch {epoch}\nline pipe 1 config\n")

@@ -79,26 +79,20 @@ class OfRooms(InAFolder):
 @needs_rooms
 class OfCommands(InAFolder):
     def test_what_hosts_print_and_where_they_are(self) -> None:
-        done = self.net(
-            (
-                f"host a echo $HINGE_NET; echo error >&2\nmain b while ! grep -qs error {self.folder}/logs/a.log; do"
-                " sleep 0.1; done; echo main\nlink a b\n"
-            ),
-            "--logs",
-            str(self.folder / "logs"),
+        done = self.logged(
+            f"host a echo $HINGE_NET; echo error >&2\nmain b while ! grep -qs error {self.logs}/a.log; do"
+            " sleep 0.1; done; echo main\nlink a b\n"
         )
-        assert (self.folder / "logs" / "a.log").read_text() == f"{self.folder}\nerror\n"
-        assert (self.folder / "logs" / "b.log").read_text() == "main\n"
+        assert (self.logs / "a.log").read_text() == f"{self.folder}\nerror\n"
+        assert (self.logs / "b.log").read_text() == "main\n"
         assert done.stdout == ""
 
     def test_the_ends_of_hosts_are_told(self) -> None:
         script = self.folder / "x"
         done = self.net(
-            (
-                "host fine exec sleep 99\nhost early exit 3\nhost dead kill -SEGV $$\nhost deaf trap '' TERM; touch"
-                f" {script}; while :; do sleep 1; done\nhost idle\nmain m while ! [ -e {script} ]; do sleep 0.1; done;"
-                " sleep 0.3\nlink m fine\n"
-            ),
+            "host fine exec sleep 99\nhost early exit 3\nhost dead kill -SEGV $$\nhost deaf trap '' TERM; touch"
+            f" {script}; while :; do sleep 1; done\nhost idle\nmain m while ! [ -e {script} ]; do sleep 0.1; done;"
+            " sleep 0.3\nlink m fine\n",
             "--end-wait",
             "300ms",
             "--quiet",

@@ -61,11 +61,9 @@ class OfHosts(InAFolder):
     def test_faults_with_a_length_end_by_themselves(self) -> None:
         """Each ends for itself: the stop that ends first doesn't end the other, and a host is begun again once."""
         command = f"echo begun >> {self.folder}/told; while :; do echo on; sleep 0.02; done"
-        done = self.net(
+        done = self.logged(
             f"host a {command}\nmain c sleep 3\n{TWO}at 200ms stop a 1s\nat 300ms stop a 200ms\nat 1500ms kill a 200ms\n"
-            "at 1600ms kill a 400ms\n",
-            "--logs",
-            str(self.folder / "logs"),
+            "at 1600ms kill a 400ms\n"
         )
         self.assertEqual((done.returncode, self.lines()), (0, ["begun"] * 2), done.stderr)
         self.assertEqual(

@@ -1,26 +1,18 @@
-"""`hinge net` with the world outside, at its end and by other users."""
+"""`hinge net` with the world outside, and at its end."""
 
 from __future__ import annotations
 
 import os
-import shutil
 import signal
 import subprocess
 import threading
 import unittest
 from unittest import mock
 
-from linked import HINGE, found, hinge, needs, needs_rooms, until, web_server
+from linked import HINGE, found, hinge, matching, needs, needs_rooms, until, web_server
 
 from hinge.run.outside import GATEWAY, Outside
 from in_a_folder import InAFolder
-
-PING = "ping -c 1 -W 5 -q"
-
-
-def children(process: int, *pattern: str) -> list[int]:
-    done = subprocess.run(["pgrep", "-P", str(process), *pattern], capture_output=True, text=True)
-    return [int(pid) for pid in done.stdout.split()]
 
 
 @needs_rooms
@@ -78,9 +70,6 @@ class OfTheWayOut(unittest.TestCase):
 
 
 class OfTheEnd(InAFolder):
-    def left(self, pattern: str) -> int:
-        return len(subprocess.run(["pgrep", "-f", pattern], capture_output=True, text=True).stdout.split())
-
     def test_signals_leave_nothing(self) -> None:
         """In the run and while a port is waited for."""
         for number, status in ((signal.SIGTERM, 143), (signal.SIGINT, 130), (signal.SIGKILL, -9)):
@@ -89,10 +78,10 @@ class OfTheEnd(InAFolder):
                 self.file.write_text(f"host a setsid sleep {mark} & sleep {mark}\nmain b exec sleep {mark}\nlink a b\n{wait}")
                 begun = subprocess.Popen([*HINGE, "net", str(self.file), "--quiet"], stderr=subprocess.DEVNULL)
                 try:
-                    until(lambda: self.left(f"^(setsid )?sleep {mark}") == (2 if wait else 3))
+                    until(lambda: len(matching("-f", f"^(setsid )?sleep {mark}")) == (2 if wait else 3))
                     begun.send_signal(number)
                     self.assertEqual(begun.wait(60), status)
-                    until(lambda: self.left(f"^(setsid )?sleep {mark}") == 0)
+                    until(lambda: not matching("-f", f"^(setsid )?sleep {mark}"))
                 finally:
                     begun.kill()
 
@@ -105,27 +94,10 @@ class OfTheEnd(InAFolder):
         for name, status, told in (("hinge-link", 75, broken), ("", 137, ended)):
             begun = subprocess.Popen([*HINGE, "net", str(self.file), "--quiet"], stderr=subprocess.PIPE, text=True)
             try:
-                until(lambda: self.left(f"^sleep {mark}") == 1)
-                first = children(begun.pid)[0]
-                os.kill(children(first, name)[0] if name else first, signal.SIGKILL)
+                until(lambda: matching("-f", f"^sleep {mark}"))
+                first = matching("-P", str(begun.pid))[0]
+                os.kill(matching("-P", str(first), name)[0] if name else first, signal.SIGKILL)
                 _, said = begun.communicate(timeout=60)
             finally:
                 begun.kill()
             self.assertEqual((begun.returncode, told in said), (status, True), said)
-
-
-@needs_rooms
-@unittest.skipUnless(shutil.which("setpriv") and os.geteuid() == 0, "only root can be another user")
-class OfUsers(InAFolder):
-    def test_no_root_is_needed(self) -> None:
-        self.file.write_text(f"host a\nmain b id -u && {PING} a >/dev/null\nlink a b 1ms\n")
-        self.folder.chmod(0o755), self.file.chmod(0o644)
-        done = subprocess.run(
-            ["setpriv", "--reuid=65534", "--regid=65534", "--clear-groups", *HINGE, "net", str(self.file)],
-            capture_output=True,
-            text=True,
-            cwd="/",
-        )
-        if done.returncode == 6:
-            self.skipTest(done.stderr.strip())
-        self.assertEqual((done.returncode, done.stdout), (0, "65534\n"), done.stderr)

@@ -8,7 +8,7 @@ import socket
 import subprocess
 import sys
 
-from linked import needs, needs_rooms, until
+from linked import matching, needs, needs_rooms, until
 from with_folder import WithFolder
 
 from hinge.net import CommandFailed, Net, NetError
@@ -174,10 +174,6 @@ class OfNets(InAFolder):
     @needs("pgrep", "setsid")
     def test_the_end_of_its_caller_leaves_nothing(self) -> None:
         mark = f"{7000 + os.getpid() % 1000}.77"
-
-        def left() -> int:
-            return len(subprocess.run(["pgrep", "-f", f"^sleep {mark}"], capture_output=True, text=True).stdout.split())
-
         for number in (signal.SIGKILL, signal.SIGTERM, signal.SIGINT):
             folder = self.folder / str(int(number))
             caller = subprocess.Popen(
@@ -188,7 +184,11 @@ class OfNets(InAFolder):
             )
             assert caller.stdout
             self.assertEqual(caller.stdout.readline(), "begun\n")
-            until(lambda: left() == 3)
+            until(lambda: len(matching("-f", f"^sleep {mark}")) == 3)
             caller.send_signal(number)
             caller.communicate(timeout=60)
-            until(lambda: left() == 0 and not (folder / "control").exists() and (folder / "net.json").exists())
+            until(
+                lambda: not matching("-f", f"^sleep {mark}")
+                and not (folder / "control").exists()
+                and (folder / "net.json").exists()
+            )

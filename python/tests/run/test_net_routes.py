@@ -55,35 +55,28 @@ class OfRoutes(InAFolder):
     def test_what_a_router_rightly_doesnt_forward(self) -> None:
         """Nothing leads there, or it is too long, of which the sender learns, or the router rejects it. An interface that the
         router's program adds forwards too."""
-        done = self.net(
+        done = self.logged(
             "host b\nrouter r ip route add unreachable 10.78.0.0/24; ip tuntap add own mode tun; cat /proc/sys/net/ipv4/conf/own/forwarding; exec sleep 1000\n"
             "main a ip route add 10.77.0.0/24 dev to-r; ping -q -c 3 -i 0.2 -W 1 10.77.0.1; ping -q -c 2 -i 0.2 -W 1 -M do -s 1400 b;"
             " ip route add 10.78.0.0/24 dev to-r; ping -q -c 3 -i 0.2 -W 1 10.78.0.1\n"
-            "link a r 1ms\nlink r b 1ms\nmtu r b 1300\n",
-            "--logs",
-            str(self.folder / "logs"),
+            "link a r 1ms\nlink r b 1ms\nmtu r b 1300\n"
         )
         assert self.summary()["unforwarded"] == {"r": {"IpInNoRoutes": 3, "IpFragFails": 1}}, done.stderr
         assert "r: 4 packets weren't forwarded (IpInNoRoutes 3, IpFragFails 1)\n" in done.stderr
-        assert (self.folder / "logs" / "r.log").read_text() == "1\n"
-        assert hinge("look", self.folder / "out").stdout.splitlines()[-1] == "lawful between links"
+        assert (self.logs / "r.log").read_text() == "1\n"
+        self.assert_lawful()
 
     def test_jitter_hands_on_what_no_host_may(self) -> None:
         """A packet whose time to live is 1, and one to a group of the link."""
-        self.folder.joinpath("asker.py").write_text(ASKER.partition("print")[0])
-        done = self.net(
-            f"host a\nmain c {PING} -t 1 a && {sys.executable} {self.folder / 'asker.py'} && {PING} a\nlink a c 1ms jitter 3ms\n"
-        )
+        asker = self.script("asker.py", ASKER.partition("print")[0])
+        done = self.net(f"host a\nmain c {PING} -t 1 a && {asker} && {PING} a\nlink a c 1ms jitter 3ms\n")
         assert (done.returncode, self.packets()) == (0, {"c > a": 3, "a > c": 2}), done.stderr
-        assert hinge("look", self.folder / "out").stdout.splitlines()[-1] == "lawful between links"
+        self.assert_lawful()
 
     def test_a_packet_to_a_group_changes_no_later_one(self) -> None:
         """Its time to live, 1, is not that of the next packet to a host by the same interface."""
-        self.folder.joinpath("asker.py").write_text(ASKER.partition("print")[0])
-        done = self.net(
-            f"host a\nrouter r\nmain c {sys.executable} {self.folder / 'asker.py'} && {PING} a >/dev/null && {PING} a\nlink a r 1ms\n"
-            "link r c 1ms\n"
-        )
+        asker = self.script("asker.py", ASKER.partition("print")[0])
+        done = self.net(f"host a\nrouter r\nmain c {asker} && {PING} a >/dev/null && {PING} a\nlink a r 1ms\nlink r c 1ms\n")
         assert (done.returncode, self.packets()["c > r"]) == (0, 3), done.stdout
 
     def test_routes_to_neighbours_alone(self) -> None:
@@ -102,25 +95,19 @@ class OfRoutes(InAFolder):
 
     def test_members_of_a_group(self) -> None:
         """The kernel itself sends no message, not even for routers, and only the member's host reports the group."""
-        self.folder.joinpath("member.py").write_text(MEMBER)
-        self.folder.joinpath("asker.py").write_text(ASKER)
-        log = self.folder / "logs" / "a.log"
-        done = self.net(
-            f"host a exec {sys.executable} member.py\nrouter r\nmain c until grep -qs on {log}; do sleep 0.01; done;"
-            f" exec {sys.executable} asker.py\nlink c a 1ms\nlink r c 1ms\n".replace(
-                "member.py", str(self.folder / "member.py")
-            ).replace("asker.py", str(self.folder / "asker.py")),
-            "--logs",
-            str(self.folder / "logs"),
+        member, asker, log = self.script("member.py", MEMBER), self.script("asker.py", ASKER), self.logs / "a.log"
+        done = self.logged(
+            f"host a exec {member}\nrouter r\nmain c until grep -qs on {log}; do sleep 0.01; done; exec {asker}\n"
+            "link c a 1ms\nlink r c 1ms\n"
         )
-        assert (done.returncode, (self.folder / "logs" / "c.log").read_text()) == (0, "answer\n"), done.stderr
+        assert (done.returncode, (self.logs / "c.log").read_text()) == (0, "answer\n"), done.stderr
         packets = found(r"^c,0,submit,(pipe,\d,[\d.]+,[\d.]+,\d+),", self.history())
         self.assertEqual(
             [packet for packet in packets if not packet.endswith(",224.0.0.22,2")],  # which IGMP repeats
             ["pipe,1,10.8.0.3,224.0.0.251,17", "pipe,2,10.8.0.1,10.8.0.3,17"],
         )
         assert packets[0].startswith("pipe,2,10.9.1.2,224.0.0.22"), packets
-        assert hinge("look", self.folder / "out").stdout.splitlines()[-1] == "lawful between links"
+        self.assert_lawful()
 
     @unittest.skipUnless(HAS_SIX and HAS_ORDER, "no IPv6, or no /etc/gai.conf")
     def test_names_have_both_addresses(self) -> None:
@@ -164,7 +151,6 @@ class OfOspf(InAFolder):
         done = hinge("net", EXAMPLE, "--transcripts", self.folder / "out", "--quiet", seconds=120)
         assert done.returncode == 0, done.stderr
         assert done.stdout.splitlines() == ["r1 is reached by r1", "r1 is reached by r3", "converged"], done.stderr
-        self.history()
+        self.assert_lawful()
         paths = hinge("look", self.folder / "out").stdout.splitlines()
-        assert paths[-1] == "lawful between links", paths
         assert any(path.startswith("r4 - r3 - r2 - r1: ") for path in paths), paths

@@ -3,10 +3,9 @@
 from __future__ import annotations
 
 import os
-import sys
 import unittest
 
-from linked import HINGE, found, hinge, needs, needs_rooms
+from linked import HINGE, found, needs, needs_rooms
 
 from in_a_folder import InAFolder
 
@@ -101,17 +100,9 @@ while True:
 """
 
 
-def last_line(net: InAFolder) -> str:
-    return hinge("look", net.folder / "out").stdout.splitlines()[-1]
-
-
 @needs_rooms
 @needs("ping", "ip")
 class OfSwitches(InAFolder):
-    def script(self, name: str, text: str) -> str:
-        (self.folder / name).write_text(text)
-        return f"{sys.executable} {self.folder / name}"
-
     def groups(self) -> dict[str, int]:
         """How many packets of UDP to groups and broadcasts each way had."""
         ways = found(r"^#,pipe,\d+,(.*),(.*)$", self.history())
@@ -148,8 +139,7 @@ class OfSwitches(InAFolder):
             with self.subTest(what):
                 done = self.net(f"host a\nhost b\nmain c {does}\n{line}\n", "--quiet")
                 self.assertEqual((done.returncode, done.stdout.split()), (0, wanted.split()), done.stderr)
-                self.history()
-                self.assertEqual(last_line(self), "lawful between links")
+                self.assert_lawful()
 
     @unittest.skipUnless(os.path.exists("/proc/net/if_inet6"), "there is no IPv6")
     def test_ipv6_and_a_router_behind_two_switches(self) -> None:
@@ -158,8 +148,7 @@ class OfSwitches(InAFolder):
             " 'fd08::1 lladdr [^ ]*'\nswitch s c\nswitch t a r\nlink s t 1ms\nlink r far 1ms\n"
         )
         self.assertEqual((done.returncode, done.stdout.splitlines()[-1:]), (0, ["fd08::1 lladdr 02:00:00:00:00:02"]), done.stderr)
-        self.history()
-        self.assertEqual(last_line(self), "lawful between links")
+        self.assert_lawful()
 
     def test_packets_for_many_leave_by_each_other_port(self) -> None:
         sender = self.script("sender.py", SENDER + OF_SIX * os.path.exists("/proc/net/if_inet6"))
@@ -167,31 +156,26 @@ class OfSwitches(InAFolder):
         done = self.net(f"host a\nhost b\nmain c {sender} && {PING} a\nswitch s a b c 1ms\n")
         self.assertEqual(done.returncode, 0, done.stderr)
         self.assertEqual(self.groups(), {"c > s": each, "s > a": each, "s > b": each})
-        self.assertEqual(last_line(self), "lawful between links")
+        self.assert_lawful()
 
     def test_a_member_gets_the_packet_as_it_was_sent(self) -> None:
         """With its checksum, and its time to live."""
-        receiver, log = self.script("receiver.py", RECEIVER), self.folder / "logs" / "a.log"
+        receiver, log = self.script("receiver.py", RECEIVER), self.logs / "a.log"
         sender = self.script("sender.py", SENDER.replace("bytes(place)", "b'question'").replace(", 9))", ", 5353))"))
-        done = self.net(
+        done = self.logged(
             f"host a exec {receiver}\nmain c until grep -qs on {log}; do sleep 0.01; done; {sender}; until grep -qs question"
-            f" {log}; do sleep 0.01; done\nswitch s a c 1ms\n",
-            "--logs",
-            str(self.folder / "logs"),
+            f" {log}; do sleep 0.01; done\nswitch s a c 1ms\n"
         )
         self.assertEqual((done.returncode, log.read_text()), (0, "on\nquestion 1\n"), done.stderr)
 
     def test_a_tag_arrives_and_no_frame_ends_the_net(self) -> None:
-        receiver, log = self.script("untagged.py", UNTAGGED), self.folder / "logs" / "a.log"
-        done = self.net(
+        receiver, log = self.script("untagged.py", UNTAGGED), self.logs / "a.log"
+        done = self.logged(
             f"host a exec {receiver}\nmain c until grep -qs on {log}; do sleep 0.01; done; {self.script('tagged.py', TAGGED)} && until"
-            f" grep -q 0x8100 {log}; do sleep 0.01; done; {PING} a\nswitch s a c 1ms\n",
-            "--logs",
-            str(self.folder / "logs"),
+            f" grep -q 0x8100 {log}; do sleep 0.01; done; {PING} a\nswitch s a c 1ms\n"
         )
         self.assertEqual((done.returncode, log.read_text()), (0, "on\n88b5 0x8100 5 3\n"), done.stderr)
-        self.history()
-        self.assertEqual(last_line(self), "lawful between links")
+        self.assert_lawful()
 
 
 @needs_rooms
@@ -199,21 +183,17 @@ class OfSwitches(InAFolder):
 class OfDhcp(InAFolder):
     def test_a_server_leases_an_address_to_a_client(self) -> None:
         """Afterwards the client answers at this address, and is valid though the file lacks it."""
-        (self.folder / "client.py").write_text(DHCP_CLIENT)
         server = (
             "exec dnsmasq --no-daemon --port=0 --no-ping --user=root --conf-file=/dev/null --interface=to-s"
             f" --dhcp-range=10.9.1.100,10.9.1.100 --dhcp-leasefile={self.folder}/leases"
         )
-        done = self.net(
-            f"host server {server}\nhost b\nmain c {sys.executable} {self.folder}/client.py && {PING} -I 10.9.1.100 b >/dev/null\nswitch s"
+        done = self.logged(
+            f"host server {server}\nhost b\nmain c {self.script('client.py', DHCP_CLIENT)} && {PING} -I 10.9.1.100 b >/dev/null\nswitch s"
             " server b c 2ms\nwait server port 67\n",
-            "--logs",
-            str(self.folder / "logs"),
             seconds=600,
         )
-        self.assertEqual((done.returncode, (self.folder / "logs" / "c.log").read_text()), (0, "5 10.9.1.100\n"), done.stderr)
-        self.history()
-        self.assertEqual(last_line(self), "lawful between links")
+        self.assertEqual((done.returncode, (self.logs / "c.log").read_text()), (0, "5 10.9.1.100\n"), done.stderr)
+        self.assert_lawful()
 
 
 @needs_rooms
@@ -234,16 +214,13 @@ class OfVrrp(InAFolder):
             " 'sent_packets_total.from=.s.,to=.k2.,pipe=.4.. ([6-9]|..)'; do sleep 0.2; done"
         )
         reached = "until ping -c 1 -W 1 -q 10.9.1.100; do sleep 0.1; done"
-        done = self.net(
+        done = self.logged(
             f"host k1 {command}\nhost k2 {command}\nmain c {one_is}; {reached}; {adverts}; {one_is}; {' '.join(HINGE)} change"
             f" {self.folder}/control cut k1; {other_is}; {reached}\nswitch s k1 k2 c 10Mbit/s 2ms\n",
-            "--logs",
-            str(logs),
             "--quiet",
             "--control",
             str(self.folder / "control"),
             seconds=600,
         )
         self.assertEqual(done.returncode, 0, done.stderr)
-        self.history()
-        self.assertEqual(last_line(self), "lawful between links")
+        self.assert_lawful()

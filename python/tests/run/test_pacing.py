@@ -115,11 +115,6 @@ class OfTraces(unittest.TestCase):
         ended = link.end()
         self.close(passages(ended.history), [5])
 
-    def test_what_is_no_trace(self) -> None:
-        for line in ("slots 1", "slots 1 x", "slots 1 3 2", "slots 1 0", "slots 3 5", "list 0 x", "hold 1 5 4", "hold 9 1 2"):
-            ended = Linked(line + "\n").ended()
-            self.assertEqual((ended.status, ended.said), (3, f"hinge: {line}: no line of a plan\n"))
-
 
 @needs_host
 class OfOutages(unittest.TestCase):

@@ -2,7 +2,6 @@
 
 from __future__ import annotations
 
-import re
 import shutil
 import tempfile
 import unittest
@@ -115,20 +114,6 @@ class OfPasses(unittest.TestCase):
         ended = link.end()
         assert (ended.counts.ways[0].underway, ended.counts.ways[0]["held"]) == (0, 0)
 
-    def test_lines_that_are_none(self) -> None:
-        jitters = (
-            "jitter 0 1",
-            "jitter 2 60000 5 7",
-            "jitter 0 0 5 7",
-            "jitter 0 65530 7 7",
-            "copies 0 1",
-            "copies 5 1 1",
-            "corruption 0 1",
-        )
-        for line in (*jitters, "fault 0 1 1", "fault 2 1 1 1", "fault 0 3 1 1", "fault 0 2 1 0", "fault 0 2 1 65536"):
-            ended = Linked(f"{SEEDS}{line}\n").ended()
-            assert (ended.status, ended.said) == (3, f"hinge: {line}: no line of a plan\n")
-
 
 class OfWords(unittest.TestCase):
     def test_they_are_parted_from_the_others(self) -> None:
@@ -193,10 +178,8 @@ class OfWords(unittest.TestCase):
 class OfRuns(InAFolder):
     def test_a_net_is_lawful_between_links_too(self) -> None:
         done = self.net(
-            (
-                "host a\nrouter r\nmain b ping -c 100 -i 0.002 -W 5 -q a; ping -c 10 -i 0.01 -q ip6-a\nlink a r 2ms"
-                " jitter 4ms\nlink r b duplicate 20% / jitter 3ms\n"
-            ),
+            "host a\nrouter r\nmain b ping -c 100 -i 0.002 -W 5 -q a; ping -c 10 -i 0.01 -q ip6-a\nlink a r 2ms"
+            " jitter 4ms\nlink r b duplicate 20% / jitter 3ms\n",
             "--seed",
             "1",
         )
@@ -216,16 +199,6 @@ class OfRuns(InAFolder):
             pytest.skip("no numpy")
         assert paths.stdout.splitlines()[-1] == "lawful between links", paths.stdout
         assert "a - a~r - r - b: " in paths.stdout
-
-    def test_they_are_of_a_whole_run(self) -> None:
-        (self.folder / "t").write_text("5s up 20ms jitter 3ms\n")
-        for words in (["--timeline", self.folder / "t"],):
-            assert re.search(
-                "line 1: 5s: 'jitter': of a whole run; write it in --up, --down or a line `link`, from the beginning on$",
-                run("--up", "5ms", *words, "--", "true").stderr,
-            )
-        self.file.write_text("host a\nhost b\nlink a b 5ms\nat 1s a b jitter 5ms\n")
-        assert re.search("line 4: 'jitter': of a whole run; write it in --up", hinge("net", self.file, "--dry-run").stderr)
 
     def test_second_passes_have_no_part_in_a_caution(self) -> None:
         done = run("--up", "500ms jitter 1ms", "--", "ping", "-c", "1", "-q", "server")

@@ -23,18 +23,11 @@ from hinge.run.plan import Plan
 from hinge.run.settings import LiveOptions, NetOptions, RunOptions
 from hinge.run.summary import cautions, line, void
 from hinge.run.transcripts import AUDITED, told
-from hinge.run.words import Wrong, duration, link_of
+from hinge.run.words import Wrong, duration
 from plan_files import OfFiles
 
 
 class Words(unittest.TestCase):
-    def test_links(self) -> None:
-        wanted = "pipe 2 config bw 10Mbit/s delay 20ms queue 100 plr 0.01"
-        for text in ("10Mbit/s 20ms queue 100 loss 1%", "bw 10Mbit/s delay 20ms queue 100 plr 0.01"):
-            self.assertEqual(link_of(text, "--down").line(2), wanted)
-        self.assertEqual(link_of("", "--up").line(1), "pipe 1 config")
-        self.assertRaisesRegex(Wrong, "^--up: '10mbit': not a bandwidth; write 10Mbit/s$", link_of, "10mbit", "--up")
-
     def test_changes_without_words_and_numbers_of_any_length(self) -> None:
         plan = Plan()
         plan.link("pipe 1 config")

@@ -12,13 +12,15 @@ import signal
 import socket
 import subprocess
 import sys
-import tempfile
 import threading
 import unittest
+from pathlib import Path
 
 import pytest
 
-from linked import AS_IN_A_CONTAINER, HINGE, audited, audited_as_lawful, found, hinge, needs, needs_mounts, needs_rooms, run, until
+from linked import AS_IN_A_CONTAINER, HINGE, audited, audited_as_lawful, found, hinge
+from linked import matching, needs, needs_mounts, needs_rooms, run, until
+from with_folder import WithFolder
 
 from hinge.border.files import read_system
 from hinge.run.rooms import put_over
@@ -38,7 +40,7 @@ exit $status
 
 
 @needs_rooms
-class OfCommands(unittest.TestCase):
+class OfCommands(WithFolder):
     def test_status_and_user(self) -> None:
         got = run("--", "sh", "-c", "id -u; exit 7")
         assert (got.returncode, got.stdout.strip()) == (7, str(os.getuid()))
@@ -59,11 +61,9 @@ class OfCommands(unittest.TestCase):
             "        print(line.connect_ex(place))\n"
             "print([name for name in os.listdir('/proc') if name.isdecimal() and int(name) > 99])"
         )
-        with tempfile.TemporaryDirectory() as folder, socket.socket(socket.AF_UNIX) as named, socket.create_server(
-            ("127.0.0.1", 0)
-        ) as port:
-            named.bind(f"{folder}/named"), named.listen()
-            done = run("--quiet", "--", sys.executable, "-c", inside, f"{folder}/named", port.getsockname()[1])
+        with socket.socket(socket.AF_UNIX) as named, socket.create_server(("127.0.0.1", 0)) as port:
+            named.bind(f"{self.folder}/named"), named.listen()
+            done = run("--quiet", "--", sys.executable, "-c", inside, self.folder / "named", port.getsockname()[1])
         assert (done.returncode, done.stdout.split("\n")) == (0, ["0", str(errno.ECONNREFUSED), "[]", ""]), done.stderr
         done = run("--", "sh", "-c", "kill -9 $(pgrep -x hinge-link); exec sleep 9")
         assert (done.returncode, "void: the link broke off before the end" in done.stderr) == (75, True), done.stderr
@@ -80,15 +80,19 @@ class OfCommands(unittest.TestCase):
             ),
             (["--transcript", "/none/history"], 2, "hinge run: --transcript /none/history: it can't be written\n"),
             (["--faults", "/none"], 2, "hinge run: /none: No such file or directory\n"),
-            (
-                ["--transcript", "both", "--control", "./both"],
-                2,
-                "hinge run: --control ./both: the same file as both\n",
-            ),
+            (["--transcript", "both", "--control", "./both"], 2, "hinge run: --control ./both: the same file as both\n"),
             (["--late", "2"], 2, "hinge run: --late 2: it has no unit; write 2ms or 2s\n"),
             (["--json", "/none/json"], 2, "hinge run: --json /none/json: it can't be written\n"),
             (["--config", "/none"], 2, "hinge run: /none: No such file or directory\n"),
             (["--map", "tcp"], 2, "hinge run: --map tcp: it doesn't end in `=> pipe N` or `=> queue N`\n"),
+            *(
+                (["--net", net], 2, f"hinge run: --net {net}: no network of {kind}, as 10.20.0.0/24\n")
+                for kind, nets in (
+                    ("IPv4", ("10.20.0.1/24", "fd00::/64", "x")),
+                    ("hosts with /8 to /30", ("10.20.0.0/31", "127.0.0.0/8")),
+                )
+                for net in nets
+            ),
         ):
             got = run(*words, "--", "echo", "started")
             assert (got.returncode, got.stdout, got.stderr) == (status, "", told)
@@ -106,42 +110,33 @@ class OfCommands(unittest.TestCase):
             assert "nothing came" in run("--up", words, "--", "true").stderr
 
     def test_names_that_are_not_utf8(self) -> None:
-        with tempfile.TemporaryDirectory() as folder:
-            name, net = os.path.join(os.fsencode(folder), b"a \xff b"), os.path.join(folder, "x.net")
-            assert run("--line", os.fsdecode(b"\xff"), "--", "true").returncode == 3
-            done = run("--up", "1ms", "--transcript", os.fsdecode(name), "--", "true")
-            assert (done.returncode, done.stderr.count("nothing came")) == (0, 2), done.stderr
-            with open(net, "w") as file:
-                file.write("main a true\nhost b\nlink a b 1ms\n")
-            done = hinge("net", net, "--transcripts", f"{os.fsdecode(name)}.session")
-            assert done.returncode == 0, done.stderr
-            for history in (name, name + b".session/net.history"):
-                with open(history, "rb") as file:
-                    assert file.readline()[:13] == b"dummynet-live"
-            done = hinge("net", net, "--transcripts", f"{folder}/a\nb")
-            assert (done.returncode, os.path.exists(f"{folder}/a\nb")) == (2, False)
+        name, net = os.path.join(os.fsencode(self.folder), b"a \xff b"), self.folder / "x.net"
+        assert run("--line", os.fsdecode(b"\xff"), "--", "true").returncode == 3
+        done = run("--up", "1ms", "--transcript", os.fsdecode(name), "--", "true")
+        assert (done.returncode, done.stderr.count("nothing came")) == (0, 2), done.stderr
+        net.write_text("main a true\nhost b\nlink a b 1ms\n")
+        done = hinge("net", net, "--transcripts", f"{os.fsdecode(name)}.session")
+        assert done.returncode == 0, done.stderr
+        for history in (name, name + b".session/net.history"):
+            assert Path(os.fsdecode(history)).read_bytes()[:13] == b"dummynet-live"
+        done = hinge("net", net, "--transcripts", self.folder / "a\nb")
+        assert (done.returncode, (self.folder / "a\nb").exists()) == (2, False)
 
     def test_a_transcript_that_is_a_file_to_be_read_is_refused(self) -> None:
-        with tempfile.TemporaryDirectory() as folder:
-            link, alias = f"{folder}/link", f"{folder}/alias"
-            with open(link, "w") as file:
-                file.write("pipe 1 config delay 1\n")
-            os.symlink(link, alias)
-            got = run("--config", link, "--transcript", alias, "--", "true")
-            assert (got.returncode, open(link).read()) == (2, "pipe 1 config delay 1\n"), got.stderr
+        link, alias = self.folder / "link", self.folder / "alias"
+        link.write_text("pipe 1 config delay 1\n")
+        alias.symlink_to(link)
+        got = run("--config", link, "--transcript", alias, "--", "true")
+        assert (got.returncode, link.read_text()) == (2, "pipe 1 config delay 1\n"), got.stderr
 
     def test_the_summary_for_a_program(self) -> None:
-        with tempfile.NamedTemporaryFile() as file:
-            run("--json", file.name, "--quiet", "--link", "loss 1%", "--seed", "5", "--", "sh", "-c", "exit 3")
-            with open(file.name) as written:
-                got = json.load(written)
+        run("--json", self.folder / "json", "--quiet", "--link", "loss 1%", "--seed", "5", "--", "sh", "-c", "exit 3")
+        got = json.loads((self.folder / "json").read_text())
         assert (got["status"], got["seed"], got["void"], got["up"]["came"]) == (3, 5, [], 0)
 
     def test_nothing_but_the_command_speaks(self) -> None:
-        with tempfile.TemporaryDirectory() as folder:
-            run("--transcript", f"{folder}/h", "--", "sleep", "2")
-            with open(f"{folder}/h") as file:
-                assert "submit" not in file.read()
+        run("--transcript", self.folder / "h", "--", "sleep", "2")
+        assert "submit" not in (self.folder / "h").read_text()
 
     @needs("ip")
     def test_an_interface_that_goes_away_ends_the_run(self) -> None:
@@ -161,12 +156,11 @@ class OfCommands(unittest.TestCase):
 @needs_rooms
 @needs_mounts
 @needs("chroot", "getent")
-class OfChroots(unittest.TestCase):
+class OfChroots(WithFolder):
     def test_a_root_that_is_no_file_system_s(self) -> None:
         """The folder's mounts are shared, so that a mount outside the run's own room would be visible."""
-        with tempfile.TemporaryDirectory() as folder:
-            words = ["unshare", "-m", "sh", "-c", CHROOTED, folder, *HINGE, "run", "--quiet", "--", "getent", "ahostsv4", "server"]
-            got = subprocess.run(words, capture_output=True, text=True, timeout=60)
+        words = ["unshare", "-m", "sh", "-c", CHROOTED, self.folder, *HINGE, *"run --quiet -- getent ahostsv4 server".split()]
+        got = subprocess.run(words, capture_output=True, text=True, timeout=60)
         assert (got.returncode, got.stderr) == (0, "")
         assert "10.8.0.2" in got.stdout
         assert "mounts came out" not in got.stdout
@@ -175,29 +169,25 @@ class OfChroots(unittest.TestCase):
 @needs_rooms
 @needs_mounts
 @needs("ping")
-class OfContainers(unittest.TestCase):
+class OfContainers(WithFolder):
     def test_nothing_but_the_command_speaks(self) -> None:
         """Six entries: two lines, a packet there and back, and the two moments at which they leave."""
-        with tempfile.TemporaryDirectory() as folder:
-            words = [*AS_IN_A_CONTAINER, *HINGE, "run", "--quiet", "--up", "10ms", "--transcript", f"{folder}/h", "--"]
-            got = subprocess.run([*words, "sh", "-c", "sleep 2; ping -c 1 server6"], capture_output=True, text=True, timeout=60)
-            assert (got.returncode, got.stderr) == (0, "")
-            assert audited(f"{folder}/h") == "lawful 6"
+        words = [*AS_IN_A_CONTAINER, *HINGE, "run", "--quiet", "--up", "10ms", "--transcript", self.folder / "h", "--"]
+        got = subprocess.run([*words, "sh", "-c", "sleep 2; ping -c 1 server6"], capture_output=True, text=True, timeout=60)
+        assert (got.returncode, got.stderr, audited(self.folder / "h")) == (0, "", "lawful 6")
 
 
 @needs_rooms
 @needs("ping")
-class OfPings(unittest.TestCase):
+class OfPings(WithFolder):
     def test_round_trips_and_an_audit(self) -> None:
         for name in ("server", "server6"):
-            with tempfile.TemporaryDirectory() as folder:
-                got = run(
-                    "--up", "30ms", "--down", "40ms", "--transcript", f"{folder}/h", "--", "ping", "-c", "3", "-i", "0.2", name
-                )
-                times = [float(text) for text in found(r"time=([0-9.]+)", got.stdout)]
-                assert (got.returncode, len(times)) == (0, 3), got.stderr
-                assert min(times) >= 70
-                audited_as_lawful(self, f"{folder}/h")
+            links = ["--up", "30ms", "--down", "40ms", "--transcript", self.folder / name]
+            got = run(*links, "--", *"ping -c 3 -i 0.2".split(), name)
+            times = [float(text) for text in found(r"time=([0-9.]+)", got.stdout)]
+            assert (got.returncode, len(times)) == (0, 3), got.stderr
+            assert min(times) >= 70
+            audited_as_lawful(self, self.folder / name)
 
     def test_late_makes_a_run_void(self) -> None:
         got = run("--late", "1ns", "--up", "1ms", "--", "ping", "-c", "2", "-i", "0.2", "server")
@@ -214,12 +204,9 @@ class OfPings(unittest.TestCase):
 @needs_rooms
 @needs("pgrep")
 class OfTheEnd(unittest.TestCase):
-    def left(self, mark: str) -> list[int]:
-        return [int(word) for word in subprocess.run(["pgrep", "-f", mark], stdout=subprocess.PIPE, text=True).stdout.split()]
-
     def end_all(self, mark: str) -> None:
         """A failing test leaves no process behind: a process that sleeps for two hours would hold its caller's output."""
-        for process in self.left(mark):
+        for process in matching("-f", mark):
             with contextlib.suppress(ProcessLookupError):
                 os.kill(process, signal.SIGKILL)
 
@@ -229,10 +216,10 @@ class OfTheEnd(unittest.TestCase):
             self.addCleanup(self.end_all, mark)
             words = ["run", "--quiet", "--server", mark, "--server-wait", "50ms", "--", "sh", "-c", f"setsid {mark} & {mark}"]
             begun = subprocess.Popen([*HINGE, *words], stdout=subprocess.DEVNULL, stderr=subprocess.DEVNULL)
-            until(lambda: len(self.left(f"^{mark}$")) == 3)
+            until(lambda: len(matching("-f", f"^{mark}$")) == 3)
             begun.send_signal(number)
             assert begun.wait(60) == status
-            until(lambda: self.left(mark) == [])
+            until(lambda: not matching("-f", mark))
 
 
 @needs_rooms
@@ -241,17 +228,8 @@ class OfNetworks(unittest.TestCase):
     """--net"""
 
     def test_addresses_of_ones_choice(self) -> None:
-        done = run(
-            "--quiet",
-            "--net",
-            "10.20.4.8/30",
-            "--up",
-            "5ms",
-            "--",
-            "sh",
-            "-c",
-            "grep -E 'server6?$' /etc/hosts; ping -c 1 -q 10.20.4.10 && ping -c 1 -q server",
-        )
+        ask = "grep -E 'server6?$' /etc/hosts; ping -c 1 -q 10.20.4.10 && ping -c 1 -q server"
+        done = run(*"--quiet --net 10.20.4.8/30 --up 5ms -- sh -c".split(), ask)
         assert (done.returncode, done.stdout.splitlines()[:2]) == (0, ["10.20.4.10 server", "fd08:a14:408::2 server6"]), done.stderr
 
     def test_a_run_inside_a_run_reaches_the_outer_server(self) -> None:
@@ -265,17 +243,6 @@ class OfNetworks(unittest.TestCase):
         code, _, seconds = done.stdout.partition(" ")
         assert (done.returncode, code) == (0, "200"), done.stderr
         assert float(seconds) >= 0.03
-
-    def test_networks_that_are_none(self) -> None:
-        for text, wanted in (
-            ("10.20.0.0/31", "no network of hosts with /8 to /30"),
-            ("10.20.0.1/24", "no network of IPv4"),
-            ("fd00::/64", "no network of IPv4"),
-            ("127.0.0.0/8", "no network of hosts"),
-            ("x", "no network of IPv4"),
-        ):
-            done = run("--net", text, "--", "true")
-            assert (done.returncode, wanted in done.stderr) == (2, True), done.stderr
 
 
 class OfSteps(unittest.TestCase):

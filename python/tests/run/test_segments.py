@@ -5,7 +5,6 @@ from __future__ import annotations
 
 import os
 import platform
-import signal
 import socket
 import struct
 import time
@@ -244,8 +243,7 @@ class OfJoins(unittest.TestCase):
         until(lambda: link.came() == 1)
         link.ends[2].send(sent[1])
         until(lambda: link.page.read().ways[2]["came"] == 1)
-        os.kill(link.process.pid, signal.SIGSTOP)
-        time.sleep(0.05)
-        os.kill(link.process.pid, signal.SIGCONT)
+        with stopped(link.process.pid):
+            time.sleep(0.05)
         self.assertEqual([link.ends[1].recv(70000), link.ends[3].recv(70000)], sent)
         link.end()

@@ -4,12 +4,10 @@ from __future__ import annotations
 
 import os
 import socket
-import subprocess
-import sys
 import time
 
 from datagrams import InAFolder, Path, ROUND, SIZE, counts, port_of, rounds, sockets
-from linked import audited_as_lawful, found, hinge, needs_host
+from linked import audited_as_lawful, crowded, found, hinge, matching, needs, needs_host
 
 LINKS = ["pipe 1 config bw 8Mbit/s delay 20", "pipe 2 config delay 20"]
 
@@ -17,7 +15,7 @@ LINKS = ["pipe 1 config bw 8Mbit/s delay 20", "pipe 2 config delay 20"]
 @needs_host
 class OfDatagrams(InAFolder):
     def test_two_clients_and_a_burst_that_is_not_early(self) -> None:
-        kept = f"{self.folder}/history"
+        kept = self.folder / "history"
         with sockets(3) as [server, *clients]:
             path = Path(0, port_of(server), *LINKS, "--transcript", kept)
             took = [second for client in clients for second in rounds(client, server, path, 12)]
@@ -34,20 +32,17 @@ class OfDatagrams(InAFolder):
         assert counts(said, "up")["came"] == 44
         assert counts(said, "up")["delivered"] == 44
         assert counts(said, "down")["delivered"] == 24
-        with open(kept) as file:
-            history = file.read()
-        assert len(found(r"^c,0,submit,pipe,[12],127.0.0.1,127.0.0.1,17,\d+,\d+,1000,", history)) == 68
+        assert len(found(r"^c,0,submit,pipe,[12],127.0.0.1,127.0.0.1,17,\d+,\d+,1000,", kept.read_text())) == 68
         audited_as_lawful(self, kept)
 
     def test_ipv6(self) -> None:
-        kept = f"{self.folder}/history"
+        kept = self.folder / "history"
         with sockets(2, socket.AF_INET6) as [server, client]:
             path = Path("[::1]:0", f"[::1]:{port_of(server)}", "--up", "20ms", "--down", "20ms", "--transcript", kept)
             took = rounds(client, server, path, 3)
             status, _ = path.end()
         assert (status, min(took) >= 0.04) == (0, True)
-        with open(kept) as file:
-            assert len(found(rf"submit,pipe,1,240.0.0.1,240.0.0.1,17,\d+,\d+,{SIZE + 48},", file.read())) == 3
+        assert len(found(rf"submit,pipe,1,240.0.0.1,240.0.0.1,17,\d+,\d+,{SIZE + 48},", kept.read_text())) == 3
 
     def test_no_datagram_of_ipv6_is_cut(self) -> None:
         """A link's packet has at most 65,535 bytes with its headers: what is longer is dropped whole, and counted,
@@ -66,26 +61,14 @@ class OfDatagrams(InAFolder):
             _, said = path.end()
         assert found(r"(\d+) turned away", said) == ["2", "1"]
 
+    @needs("pgrep")
     def test_a_path_without_a_processor_is_void(self) -> None:
-        """Four programs that do nothing but reckon share a processor with the host, which is the least of them."""
         with sockets(2) as [server, client]:
             path = Path(0, port_of(server), "--up", "1ms", "--late", "1ms")
-            with open(f"/proc/{path.process.pid}/task/{path.process.pid}/children") as children:
-                host = int(children.read().split()[0])
-            one = min(os.sched_getaffinity(0))
-            os.sched_setaffinity(host, {one})
-            os.setpriority(os.PRIO_PROCESS, host, 19)
-            loads = [
-                subprocess.Popen([sys.executable, "-c", "while 1: pass"], preexec_fn=lambda: os.sched_setaffinity(0, {one}))
-                for _ in range(4)
-            ]
-            try:
+            with crowded(matching("-P", str(path.process.pid))[0]):
                 for _ in range(40):
                     client.sendto(b"some", ("127.0.0.1", path.port))
                     time.sleep(0.03)
-            finally:
-                for load in loads:
-                    load.kill(), load.wait()
             for _ in range(40):
                 server.recv(9)
             status, said = path.end()
@@ -102,15 +85,14 @@ class OfDatagrams(InAFolder):
 
     def test_a_trace(self) -> None:
         """From 8 Mbit/s to 80 kbit/s: by the link's own clock a packet takes 1 ms before, and 100 ms behind."""
-        trace, kept = self.written("trace", "seconds,bit/s\n0,8000000\n1,80000\n"), f"{self.folder}/history"
+        trace, kept = self.written("trace", "seconds,bit/s\n0,8000000\n1,80000\n"), self.folder / "history"
         with sockets(2) as [server, client]:
             path = Path(0, port_of(server), "--up-trace", trace, "--transcript", kept)
             rounds(client, server, path, 4)
             time.sleep(1)
             rounds(client, server, path, 2)
             path.end()
-        with open(kept) as file:
-            passed = [tuple(map(int, row)) for row in found(r"^d,\d+,0,(\d+),(\d+)$", file.read())]
+        passed = [tuple(map(int, row)) for row in found(r"^d,\d+,0,(\d+),(\d+)$", kept.read_text())]
         took = [(start < 10**9, due - start) for start, due in passed]
         assert (len(took), set(took)) == (6, {(True, 10**6), (False, 10**8)}), passed
 
@@ -152,8 +134,7 @@ class OfWords(InAFolder):
             2,
             f"hinge udp: --transcript {self.folder}/alias: the same file as {link}\n",
         )
-        with open(link) as file:
-            assert file.read() == "pipe 1 config delay 20\n"
+        assert (self.folder / "link").read_text() == "pipe 1 config delay 20\n"
 
     def test_what_is_wrong_is_told_before_it_listens(self) -> None:
         assert self.refused("pipe 1 config dely 20") == (

@@ -6,11 +6,10 @@ import resource
 import signal
 import socket
 import struct
-import subprocess
 import time
 
 from datagrams import InAFolder, Path, counts, port_of, rounds, sockets
-from linked import AT_ONCE, needs, needs_host, only_long, stopped, until, with_sigterm
+from linked import AT_ONCE, matching, needs, needs_host, only_long, stopped, until, with_sigterm
 
 
 @needs_host
@@ -92,12 +91,12 @@ class OfHostileEnds(InAFolder):
         with sockets(2) as [server, client]:
             path = Path(0, port_of(server))
             self.assertLess(0, min(rounds(client, server, path, 1)))
-            host = subprocess.run(["pgrep", "-P", str(path.process.pid), "hinge-link"], stdout=subprocess.PIPE, text=True)
-            with stopped(int(host.stdout)):
+            [host] = matching("-P", str(path.process.pid), "hinge-link")
+            with stopped(host):
                 for _ in range(4 * AT_ONCE):
                     client.sendto(b"x", ("127.0.0.1", path.port))
                 path.process.send_signal(signal.SIGTERM)
-                until(lambda: with_sigterm(int(host.stdout)))
+                until(lambda: with_sigterm(host))
             status, said = path.ended()
         self.assertEqual(status, 0, said)
         self.assertLessEqual(counts(said, "up")["came"], 1 + AT_ONCE)

@@ -9,9 +9,7 @@ import signal
 import subprocess
 import unittest
 
-import pytest
-
-from linked import HINGE, Done, needs, needs_host, needs_rooms, until
+from linked import HINGE, Done, hinge, matching, needs, needs_host, needs_rooms, until
 from with_folder import WithFolder
 
 NET = "host a\nhost b\nlink a b 1ms\n"
@@ -24,16 +22,7 @@ class Named(WithFolder):
         self.sockets = self.folder / "run" / "hinge"
 
     def hinge(self, *words: object) -> Done[str]:
-        env = {**os.environ, "XDG_RUNTIME_DIR": str(self.folder / "run")}
-        return subprocess.run(
-            [*HINGE, *map(str, words)],
-            capture_output=True,
-            text=True,
-            cwd=self.folder,
-            env=env,
-            timeout=60,
-            stdin=subprocess.DEVNULL,
-        )
+        return hinge(*map(str, words), folder=self.folder, XDG_RUNTIME_DIR=str(self.folder / "run"))
 
     def up(self, text: str, *words: object) -> Done[str]:
         (self.folder / "x.net").write_text(text)
@@ -65,23 +54,12 @@ class OfNets(Named):
 
     def test_it_outlives_its_command_and_ends_what_it_started(self) -> None:
         mark = f"{7000 + os.getpid() % 1000}.61"
-
-        def left() -> int:
-            return len(subprocess.run(["pgrep", "-f", f"^sleep {mark}"], capture_output=True, text=True).stdout.split())
-
-        for end in (lambda: self.hinge("down", "x"), lambda: os.kill(outer(), signal.SIGKILL)):
+        outer = f"net x.net --transcripts out .*--control {self.sockets}/x"
+        for end in (lambda: self.hinge("down", "x"), lambda: os.kill(matching("-f", outer)[0], signal.SIGKILL)):
             assert self.up(f"host a exec sleep {mark}\nhost b\nlink a b\n", "--transcripts", "out").returncode == 0
-            until(lambda: left() == 1)
-
-            def outer() -> int:
-                return int(
-                    subprocess.run(
-                        ["pgrep", "-f", f"net x.net --transcripts out .*--control {self.sockets}/x"], capture_output=True, text=True
-                    ).stdout.split()[0]
-                )
-
+            until(lambda: len(matching("-f", f"^sleep {mark}")) == 1)
             end()
-            until(lambda: left() == 0)
+            until(lambda: not matching("-f", f"^sleep {mark}"))
         assert self.up(NET).returncode == 0  # in the place of the socket that was left
 
     def test_ports_and_faults(self) -> None:
@@ -132,26 +110,21 @@ class OfNets(Named):
         assert (done.returncode, done.stderr) == (6, "hinge up: x.session/net.log: No such device or address\n")
         assert kept.read_text() == "kept"
 
-    @unittest.skipUnless(os.geteuid() == 0, "only root can give a file away")
-    def test_a_log_of_another_user(self) -> None:
-        (self.folder / "x.session").mkdir()
-        log = self.folder / "x.session" / "net.log"
-        log.write_text("")
-        os.chown(log, 65534, 65534)
-        done = self.up(NET)
-        assert (done.returncode, done.stderr) == (6, "hinge up: x.session/net.log: it isn't a file of this user's\n")
+    @unittest.skipUnless(os.geteuid() == 0, "only root can give a file and a folder away")
+    def test_a_log_and_a_folder_of_another_user(self) -> None:
+        (self.folder / "x.session").mkdir(), self.sockets.mkdir(0o700)
+        (log := self.folder / "x.session" / "net.log").write_text("")
+        for path, status, told in (
+            (log, 6, "x.session/net.log: it isn't a file of this user's"),
+            (self.sockets, 2, f"{self.sockets}: it is another user's"),
+        ):
+            os.chown(path, 65534, 65534)
+            done = self.up(NET)
+            assert (done.returncode, done.stderr) == (status, f"hinge up: {told}\n")
 
     def test_what_a_fault_quotes_is_not_obeyed_by_a_terminal(self) -> None:
         done = self.up("host a\nhost b\nlink a b\n\x1b[31m\n")
         assert (done.returncode, "\x1b" in done.stderr, "\\x1b[31m" in done.stderr) == (2, False, True), done.stderr
-
-    def test_a_folder_of_another_user(self) -> None:
-        if os.geteuid() != 0:
-            pytest.skip("only root can give a folder away")
-        self.sockets.mkdir()
-        os.chown(self.sockets, 65534, 65534)
-        done = self.up(NET)
-        assert (done.returncode, done.stderr) == (2, f"hinge up: {self.sockets}: it is another user's\n")
 
 
 @needs_host

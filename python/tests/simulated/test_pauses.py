@@ -15,7 +15,7 @@ from packets import packets_of
 ONCE = """take() { if [ ! -e lock ]; then echo > lock; echo $1 >> took; fi; }
           rm -f lock took; take a & take b & wait; test $(wc -l < took) = 1"""
 SEEDS = range(1, 21)
-MANY = range(1, 201)  # as many of which find a fault depends on a program's calls, and so on its variables: none of 20 sometimes did
+MANY = range(1, 201)  # as many find a fault as a program's calls decide, and so its variables: none of 20 sometimes did
 
 
 class OfWords(unittest.TestCase):
@@ -82,9 +82,7 @@ class OfPauses(Simulated):
         wakes = str(self.folder / self.compiled((HERE / "wakes.c").read_text()))
         for words in (["bash", "-c", ONCE], [sys.executable, "-c", JOBS], [wakes]):
             self.assertEqual(self.run_by(1, "--", *words).status, 0, words)
-            self.assertEqual(
-                first_two(self.run_by(seed, "--pauses", "drawn", "--", *words).status for seed in MANY), {0, 1}, words
-            )
+            self.assertEqual(first_two(self.run_by(seed, "--pauses", "drawn", "--", *words).status for seed in MANY), {0, 1}, words)
 
     def calls_of(self, program: str) -> int:
         """How many calls of a program of Python may pause."""

@@ -1,4 +1,4 @@
-/* Every refusal of hingetulip.h: its status, and that nothing else changed; and audits. */
+/* Every refusal of hingetulip.h: its status, and that nothing else changed; room; and audits. */
 #include "hingetulip.h"
 #include "wrong_packets.h"
 
@@ -142,6 +142,71 @@ static void texts_that_are_refused(void) {
     HOLDS(dn_advance_text(0, 7, 7, text, 27, &text_length) == DN_OK && is_text("c,0,advance,7\nr,advanced,7\n"));
 }
 
+static uint32_t line_text(uint64_t caller, const char *line, uint32_t status, size_t room, struct dn_fault *fault) {
+    return dn_configure_text(caller, (const uint8_t *)line, strlen(line), status, fault, text, room, &text_length);
+}
+
+static void texts_of_lines(void) {
+    struct dn_fault fault;
+    fill_text();
+    memset(&fault, 77, sizeof fault);
+    HOLDS(line_text(16, "pipe delete 7", DN_OK, sizeof text, &fault) == DN_BAD_CALLER);
+    HOLDS(line_text(0, "pipe delete 7", DN_CLOSED, sizeof text, &fault) == DN_BAD_OUTCOME);
+    HOLDS(line_text(0, "pipe delete 7", UINT32_MAX, sizeof text, &fault) == DN_BAD_OUTCOME && text_length == 77);
+    HOLDS(line_text(0, "pipe delete 7", DN_OK, 37, &fault) == DN_ROOM && text_length == 38 && are_77(text, sizeof text));
+    HOLDS(line_text(0, "pipe delete 7", DN_OK, 38, &fault) == DN_OK && is_text("c,0,configure,pipe delete 7\nr,deleted\n"));
+    HOLDS(line_text(0, "# nothing", DN_OK, 0, &fault) == DN_OK && is_text("") && are_77(&fault, sizeof fault));
+    HOLDS(line_text(16, "pipe 1 config \xff", DN_CLOSED, sizeof text, &fault) == DN_LINE && fault.word == 0 && fault.kind == DN_NOT_UTF8);
+    HOLDS(line_text(16, "pipe 1 config bw 8Mbps", DN_CLOSED, sizeof text, &fault) == DN_LINE && fault.word == 5);
+    HOLDS(fault.kind == DN_NOT_A_NUMBER && fault.reserved == 0 && text_length == 77 && are_77(text, sizeof text));
+}
+
+static void reasons(void) {
+    const struct dn_fault fault = {.word = 1, .kind = DN_UNKNOWN_WORD}, wrong = {.word = 1, .kind = 1, .reserved = 1};
+    fill_text();
+    HOLDS(dn_reason(DN_LINE, &wrong, text, sizeof text, &text_length) == DN_BAD_RESERVED && text_length == 77);
+    HOLDS(dn_reason(DN_LINE, &fault, text, 19, &text_length) == DN_ROOM && text_length == 20 && are_77(text, sizeof text));
+    HOLDS(dn_reason(DN_LINE, &fault, text, 20, &text_length) == DN_OK && is_text("word 1: unknown word"));
+    HOLDS(dn_reason(UINT32_MAX, &wrong, text, sizeof text, &text_length) == DN_OK && is_text("status 4294967295"));
+}
+
+/* Plain rows are read as far as there is room, and a text with others has to fit whole. */
+static void rows_and_room(void) {
+#define ROW "5,pipe,1,10.0.0.1,10.0.0.2,17,3,4,1000,9"
+#define READ(text, room) dn_read_packets((const uint8_t *)(text), strlen(text), packets, room, &count, &used, &row, &field)
+    struct dn_packet packets[2];
+    uint64_t count, used = 7, row = 7, field = 7;
+    memset(packets, 77, sizeof packets);
+    HOLDS(READ(ROW "\n" ROW "\n", 0) == DN_ROOM && count == 2);
+    HOLDS(READ(ROW "\r" ROW "\r" ROW "\r", 2) == DN_ROOM && count == 3 && row == 7);
+    HOLDS(READ("x" ROW "\n", 2) == DN_BAD_ROW && row == 1 && field == 1 && used == 7 && are_77(packets, sizeof packets));
+    HOLDS(READ(ROW "\n" ROW "\n", 1) == DN_OK && count == 1 && used == sizeof ROW && are_77(packets + 1, sizeof *packets));
+}
+
+/* A list a place too short: none is written, and all sizes are told. */
+static void histories_and_room(void) {
+    static const char TEXT[] = DN_HISTORY_FRONT "c,1,configure,pipe 1 config\nr,configured\nc,2,collect,7\nr,delivered,7,1\nd,0,0,1,2\n"
+                                                "c,2,show\nr,status,1\nf,0,pipe,1,1,0.0.0.0,0.0.0.0,0,0,0,0.0.0.0,0.0.0.0,0,0,0,1,2,3,4,5,6\n"
+                                                "end,3\n";
+#define READ_HISTORY(text, one, two, three, four) \
+    dn_read_history((const uint8_t *)(text), strlen(text), entries, one, lines, two, &delivery, three, &flow, four, &sizes, &record)
+    struct dn_entry entries[3];
+    struct dn_delivery delivery;
+    struct dn_flow flow;
+    struct dn_history sizes;
+    uint8_t lines[13];
+    uint64_t record = 77;
+    memset(entries, 77, sizeof entries), memset(lines, 77, sizeof lines);
+    memset(&delivery, 77, sizeof delivery), memset(&flow, 77, sizeof flow);
+    HOLDS(READ_HISTORY(TEXT, 2, 13, 1, 1) == DN_ROOM && READ_HISTORY(TEXT, 3, 12, 1, 1) == DN_ROOM);
+    HOLDS(READ_HISTORY(TEXT, 3, 13, 0, 1) == DN_ROOM && READ_HISTORY(TEXT, 3, 13, 1, 0) == DN_ROOM);
+    HOLDS(sizes.entries == 3 && sizes.bytes == 13 && sizes.deliveries == 1 && sizes.flows == 1 && sizes.rule == DN_ORDERED);
+    HOLDS(record == 77 && READ_HISTORY(TEXT + 1, 3, 13, 1, 1) == DN_BAD_RECORD && record == 1);
+    HOLDS(are_77(entries, sizeof entries) && are_77(lines, sizeof lines) && are_77(&delivery, sizeof delivery) && are_77(&flow, sizeof flow));
+    HOLDS(READ_HISTORY(TEXT, 3, 13, 1, 1) == DN_OK && entries[1].call == DN_COLLECT && entries[2].reply == DN_FLOWS);
+    HOLDS(memcmp(lines, "pipe 1 config", sizeof lines) == 0 && delivery.due == 2 && flow.discarded == 6);
+}
+
 static uint32_t fed(struct dn_audit *audit, const char *part) { return dn_audit_feed(audit, (const uint8_t *)part, strlen(part)); }
 
 /* An audit that has ended is closed, whatever ended it. */
@@ -183,6 +248,10 @@ int main(void) {
     HOLDS(dn_open(&handle, DN_FREE) == DN_OK); /* lets go of what was open */
     HOLDS(dn_close(&handle) == DN_OK && dn_close(&handle) == DN_CLOSED);
     texts_that_are_refused();
+    texts_of_lines();
+    reasons();
+    rows_and_room();
+    histories_and_room();
     audits_that_end();
     return told();
 }

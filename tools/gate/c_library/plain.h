@@ -1,4 +1,4 @@
-/* What the programs over hingetulip.h share: bytes that were filled with 77, and addresses. */
+/* What the programs over hingetulip.h share: bytes that were filled with 77. */
 #include <inttypes.h>
 #include <stdbool.h>
 #include <stddef.h>
@@ -10,8 +10,4 @@ static inline bool are_77(const void *bytes, size_t count) {
     for (const uint8_t *at = bytes; count > 0; at++, count--)
         if (*at != 77) return false;
     return true;
-}
-
-static inline void print_address(uint32_t a) {
-    printf("%" PRIu32 ".%" PRIu32 ".%" PRIu32 ".%" PRIu32 ",", a >> 24, a >> 16 & 255, a >> 8 & 255, a & 255);
 }
