@@ -46,9 +46,20 @@ def read_as_change(line: str) -> Iterator[None]:
     try:
         yield
     except Wrong:
-        if meant := line_meant(line, CHANGES):
+        if (meant := line_meant(line, CHANGES)) and is_change(meant):
             raise Wrong(f"{line!r}: not a change; write {meant}") from None
         raise
+
+
+def is_change(line: str) -> bool:
+    """Returns whether a timeline's line can be read."""
+    from hinge.events.link_words import link_event  # which needs this module
+
+    word, text = first_word(line)
+    try:
+        return duration(word) >= 0 and (is_line(text) or bool(link_event(text, word)))
+    except Wrong:
+        return False
 
 
 def duration(text: str, option: str = "") -> int:
