@@ -15,13 +15,8 @@ WAYS = {"up": 0, "down": 1}
 PROTOCOLS = {"icmp": (1, 58), "icmp6": (58,), "tcp": (6,), "udp": (17,)}  # icmp is that of IPv4 and that of IPv6
 PORTS = {"port": "port", "sport": "sport", "src-port": "sport", "dport": "dport", "dst-port": "dport"}
 NETS = ("src", "dst", "host")
-DSCP = {
-    "be": 0,
-    "le": 1,
-    "ef": 46,
-    **{f"cs{n}": 8 * n for n in range(8)},
-    **{f"af{n}{m}": 8 * n + 2 * m for n in range(1, 5) for m in range(1, 4)},
-}
+DSCP = {"be": 0, "le": 1, "ef": 46} | {f"cs{n}": 8 * n for n in range(8)}
+DSCP |= {f"af{n}{m}": 8 * n + 2 * m for n in range(1, 5) for m in range(1, 4)}
 WORDS = ("any", *WAYS, *PROTOCOLS, "proto", *NETS, *PORTS, "dscp")
 HELP = RULE
 TARGET = re.compile(r"(pipe|queue)\s+([1-9]\d{0,4})\Z", re.ASCII)
@@ -140,7 +135,8 @@ class RuleReader:
             self.short.ports[PORTS[word]] = port_span_of(self.value(word))
         elif word != "any":
             near = difflib.get_close_matches(word, WORDS, 1)
-            right = of_filter(" ".join([word, *self.rest])) or (near[0] if near else HELP)
+            port = word if word.isdigit() else {"http": "80", "https": "443", "ssh": "22", "dns": "53"}.get(word.lower())
+            right = of_filter(" ".join([word, *self.rest])) or (f"port {port}" if port else near[0] if near else HELP)
             raise BadRule(f"'{word}': not a word of a rule; write {right}")
 
 
@@ -160,7 +156,9 @@ def parted(text: str) -> tuple[str, RuleTarget]:
     rest, arrow, right = text.rpartition("=>")
     match = TARGET.match(right.strip())
     if not arrow or match is None or int(match[2]) > MOST_NUMBER:
-        raise BadRule("it doesn't end in `=> pipe N` or `=> queue N`")
+        meant = re.fullmatch(r"(.*?) *(?:[-=]*>)? *(?:to )?(pipe|queue|) *(\d+)", text if ">" in text else "")
+        right = f"; write {meant[1]} => {meant[2] or 'pipe'} {meant[3]}" if meant else ""
+        raise BadRule(f"it doesn't end in `=> pipe N` or `=> queue N`{right}")
     return rest.strip(), RuleTarget(match[1], int(match[2]))
 
 
