@@ -254,7 +254,7 @@ def of_options(typed: Sequence[tuple[str, str]], given: Mapping[str, Sequence[st
         words = shlex.quote((corrected(value) or value) if forms[0].startswith(("--link", "--up ", "--down ")) else value)
         own = [form for form in forms if {*re.findall(r"(?<!\S)--[\w-]+", form.partition("hinge ")[0])} <= {*known}]
         meant.left += [f"{option} here"] * (not own)
-        parts += ["; write " * bool(parts and not own[0].startswith("-")) + ", or ".join(own).format(words)] * bool(own)
+        parts += ["; write " * bool(parts and form[0] != "-") + form.format(words) for form in filter(None, [", or ".join(own)])]
     notes = [f"write {' '.join(parts)}".replace(" ; ", "; ")] * bool(parts)
     notes += ["10Mbit/s is an example, as no packet waits without a bandwidth"] * is_idle
     notes += [f"no link does: {what}" for what in meant.left] + [f"{what!r} isn't such a value" for what in meant.rest]

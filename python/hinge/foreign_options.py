@@ -14,8 +14,8 @@ TABLE = """
 --graph --plot = --transcript FILE, and hinge look FILE -o FILE.png
 --docker --podman = --container {0}
 --pid = --netns {0}
---port = --map 'port {0} => pipe 3' and --line 'pipe 3 config delay 20' for its packets alone, or --to {0} for this system's port
---filter --match = --map 'RULE => pipe 3', where RULE is {0}, and --line 'pipe 3 config delay 20'
+--port = --map 'up port {0} => pipe 3' --line 'pipe 3 config delay 20' for its packets alone, or --to {0} for this system's port
+--filter --match = --map 'up RULE => pipe 3' --line 'pipe 3 config delay 20', where RULE is {0}
 --presets = --list-presets
 --iface --interface --dev -i = nothing for {0}, as COMMAND runs behind the link, or --container NAME
 --uplink --upload = --up {0}

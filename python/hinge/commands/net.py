@@ -43,7 +43,7 @@ OF_RUN = {
     **dict.fromkeys(("--up", "--down"), "a line `link A B LINK / LINK` in FILE, where {} is one of them"),
     **dict.fromkeys(("-o", "--output", "--graph", "--plot"), "--transcripts FOLDER, and hinge look FOLDER -o FILE.png"),
     "--preset": "a line `link A B preset {}` in FILE",
-    "--loss": "a line `loss A B {}` in FILE",
+    "--loss": "{} in a line `link`, or a line `loss A B gilbert:0.01,0.3` in FILE",
     "--timeline": "lines as `at 5s A B 1Mbit/s` in FILE",
     "--topo": "lines `host h1`, `host h2` and `link h1 h2 10Mbit/s 20ms` in FILE",
     "--seeds": "hinge search FILE --seeds {}",

@@ -70,7 +70,9 @@ class Foreign(argparse.Action):
 
     def __call__(self, parser: argparse.ArgumentParser, namespace: argparse.Namespace, values: Any, option: Any = None) -> None:
         if self.const:
-            parser.error(f"{option}: write {self.const.format(values)}")
+            from hingetulip_words.link import corrected
+
+            parser.error(f"{option}: write {self.const.format(corrected(values) or values)}")
         elif isinstance(parser, Parser):
             parser.foreign.append((option, values or ""))
 

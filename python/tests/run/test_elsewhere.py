@@ -175,7 +175,10 @@ class Options(unittest.TestCase):
                 plan_of(run_options([*words, "true"]), 1500)
         for option, (_, has_value) in OPTIONS.items():
             with self.subTest(option):
-                assert f"{option}: write " in refused([option, *["5ms"] * has_value, "true"])
+                said = refused([option, *["5"] * has_value, "true"])
+                assert f"{option}: write " in said
+                for text in re.findall("--map '.*' --line '.*?'", said):
+                    plan_of(run_options([*shlex.split(text.replace("RULE", "tcp")), "true"]), 1500)
 
     def test_all_foreign_options_of_a_line_get_one_answer(self) -> None:
         for words, wanted in (
