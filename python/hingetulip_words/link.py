@@ -262,10 +262,8 @@ class Words:
         """Returns the error for a word that includes the next one, or for a preset's name."""
         half = re.fullmatch(r"(\d*[02468])ms", following)
         if word == "rtt":
-            advice = Advice(
-                "a link has the delay of one way", f"write {int(half[1]) // 2}ms" if half else "write half of it, as 20ms"
-            )
-            return WordError(f"{word} {following}".strip(), advice)
+            right = f"write {int(half[1]) // 2}ms" if half else "write half of it, as 20ms"
+            return WordError(f"{word} {following}".strip(), Advice("a link has the delay of one way", right))
         if spread := re.fullmatch(AROUND, f"{self.before} {word} {following}"):
             return WordError(spread[0], Advice("a jitter adds to the delay", f"write {around(spread)}"))
         if PERCENT.fullmatch(word) and following in ("loss", *SHARES):

@@ -114,17 +114,11 @@ class RuleReader:
             self.short.way = WAYS[word]
         elif word in PROTOCOLS or word == "proto":
             self.once("protocol", word)
-            self.short.protocols = (
-                PROTOCOLS[word] if word in PROTOCOLS else (number_of(self.value(word), 255, "no protocol from 0 to 255"),)
-            )
+            self.short.protocols = PROTOCOLS.get(word) or (number_of(self.value(word), 255, "no protocol from 0 to 255"),)
         elif word == "dscp":
             self.once(word, word)
-            text = self.value(word)
-            self.short.dscp = (
-                DSCP[text.lower()]
-                if text.lower() in DSCP
-                else number_of(text, 63, "no DSCP from 0 to 63, and no " "name of one, as ef or af41")
-            )
+            text, what = self.value(word), "no DSCP from 0 to 63, and no name of one, as ef or af41"
+            self.short.dscp = DSCP[text.lower()] if text.lower() in DSCP else number_of(text, 63, what)
         elif word in NETS:
             if self.rest[:1] == ["port"] and word != "host":  # as tcpdump has it
                 raise BadRule(f"'{word} port': not a word of a rule; write {word[0]}port")
