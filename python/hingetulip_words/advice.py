@@ -21,6 +21,7 @@ OTHER_NAMES = {
 }
 UNIT = rf"(?i:{FACTOR}{PER_SECOND}|{FACTOR})|ms|KB|Kbytes?"
 ALONE = "kill|stop|cont|restart|crash"
+HOST = r"([A-Za-z][\w-]*)"
 ACT = f"cut|heal|skew|{ALONE}"
 NET_LINES = (  # what people write of a net, and the line that says it
     (r"((?!nemesis).*) for (\d\S*)", r"\1 \2"),
@@ -42,17 +43,11 @@ NET_LINES = (  # what people write of a net, and the line that says it
     (r"at (\S+) (?:link )?([\w -]*) down", r"at \1 cut \2"),
     (r"at (\S+) link (.*) up", r"at \1 heal \2"),
     (r"at (\S+) (?:partition|disconnect|isolate|split) ([\w ,<>|-]*)", r"at \1 cut \2"),
-    (r"at (\S+) cut ([A-Za-z][\w-]*) \| (.*)", r"at \1 cut \2 from \3"),
-    (
-        r"at (\S+) (cut|heal) ([A-Za-z][\w-]*?) ?(?:<?-+>?|,| and | ) ?(?!from |until )([A-Za-z][\w-]*)( \d\S*)?",
-        r"at \1 \2 \3 from \4\5",
-    ),
-    (r"at (\S+) (?:set|change|delay|rate|bandwidth|link) ([A-Za-z][\w-]*) ([A-Za-z][\w-]*) (\d.*)", r"at \1 \2 \3 \4"),
-    (
-        rf"(at \S+ (?:{ALONE})) ([A-Za-z][\w-]*)(?: and |, ?| )([A-Za-z][\w-]*)( \d\S*)?",
-        r"\1 \2\4, and \1 \3\4 in a line of its own",
-    ),
-    (r"at (\S+) loss ([A-Za-z][\w-]*) ([A-Za-z][\w-]*) (\d.*)", r"at \1 \2 \3 loss \4"),
+    (rf"at (\S+) cut {HOST} \| (.*)", r"at \1 cut \2 from \3"),
+    (rf"at (\S+) (cut|heal) {HOST[:-1]}?) ?(?:<?-+>?|,| and | ) ?(?!from |until ){HOST}( \d\S*)?", r"at \1 \2 \3 from \4\5"),
+    (rf"at (\S+) (?:set|change|delay|rate|bandwidth|link) {HOST} {HOST} (\d.*)", r"at \1 \2 \3 \4"),
+    (rf"(at \S+ (?:{ALONE})) {HOST}(?: and |, ?| ){HOST}( \d\S*)?", r"\1 \2\4, and \1 \3\4 in a line of its own"),
+    (rf"at (\S+) loss {HOST} {HOST} (\d.*)", r"at \1 \2 \3 loss \4"),
     (r"\w+:.*", "host NAME, and `link A B 20ms`, each in a line of its own, as a net isn't YAML"),
 )
 CHANGES = (  # the same of a timeline
