@@ -72,7 +72,7 @@ class Foreign(argparse.Action):
         if self.const:
             from hingetulip_words.link import corrected
 
-            parser.error(f"{option}: write {self.const.format(corrected(values) or values)}")
+            parser.error(f"{option}: write {self.const.format(values and (corrected(values) or values))}")
         elif isinstance(parser, Parser):
             parser.foreign.append((option, values or ""))
 
