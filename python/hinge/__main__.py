@@ -48,22 +48,23 @@ def list_of_commands() -> str:
 
 def refuse(words: list[str], program: str = "hinge") -> None:
     """Refuses an unknown first word with advice, and ends the process."""
-    import difflib  # which a wrong word alone needs
+    import difflib  # as the next, which a wrong word alone needs
+    import shlex
 
     from hinge.border import terminal
     from hinge.foreign import answer_of
-    from hinge.misplaced import kind_of, line_for
+    from hinge.misplaced import filled, kind_of, line_for
 
     answer, near = answer_of(words), difflib.get_close_matches(words[0], COMMANDS, 1)
-    files = [word for word in words if os.path.isfile(word)]
+    files = [word for word in words if os.path.exists(word) and kind_of(word)]
     if program == "dummynet" and len(files) == 2 and files == words[-2:]:
         text = f"write dummynet replay {' '.join(files)}"
-    elif words[0] in COMMANDS:
-        text = f"write hinge {' '.join(words)}"
-    elif answer is not None:
-        text = answer.text()
-    elif os.path.exists(words[0]) and (kind := kind_of(words[0])):
-        text = f"it is {line_for(program, kind, words[0])}"
+    elif words[0].lower() in COMMANDS:
+        text = f"write hinge {shlex.join([words[0].lower(), *words[1:]])}"
+    elif answer is not None and all(file in filled(answer.write, words) for file in files):
+        text = answer._replace(write=filled(answer.write, words)).text()
+    elif files:
+        text = f"{files[0]} is {filled(line_for(program, kind_of(files[0]), files[0]), words)}"
     else:
         text = f"did you mean `hinge {near[0]}`?" if near else "`hinge help` lists the commands."
     terminal.tell(f"{program}: no command {words[0]!r}; {text}")
@@ -99,7 +100,7 @@ def obey(words: list[str]) -> None:
     from hinge.version import version
 
     if words[:1] == ["help"] and len(words) > 1:
-        words = [words[1], "--help"]
+        words = [words[1], *["--help"] * (words[1] in COMMANDS)]
     if not words:
         terminal.tell(list_of_commands(), "")
         sys.exit(USAGE)

@@ -3,10 +3,11 @@
 from __future__ import annotations
 
 import argparse
+import re
+import sys
 from typing import Any, Callable, NoReturn
 
 NEAR, OUTPUT = 0.82, ("--out", "--output")  # of what was typed, and of what is meant
-VALUE = "--option=-1 if the value begins with a hyphen"
 
 
 class Joined(argparse.Action):
@@ -46,11 +47,15 @@ class Parser(argparse.ArgumentParser):
         if self.foreign:
             from hinge.foreign import of_options
 
-            self.error(of_options(self.foreign, self.given))
+            self.error(of_options(self.foreign, self.given, self.options()))
         for option, is_idle, where in self.rules:
             if option in self.given and is_idle():
                 self.error(f"{option} does nothing {where}")
         return result
+
+    def options(self) -> list[str]:
+        """Returns the names of the options that a help lists."""
+        return [name for name, action in self._option_string_actions.items() if action.help is not argparse.SUPPRESS]
 
     def _get_values(self, action: argparse.Action, texts: list[str]) -> Any:
         """Reads an option's values, each time that it occurs."""
@@ -70,17 +75,26 @@ class Parser(argparse.ArgumentParser):
         self.given[option] = [*before, *texts] if is_list else texts
         return super()._get_values(action, texts)
 
+    def value_fault(self, fault: re.Match[str]) -> str:
+        """Returns what is wrong with an option's lack of a value, or with a value, in place of argparse's words."""
+        option = fault[1].rpartition("/")[2]
+        behind = next((word for before, word in zip(sys.argv, sys.argv[1:]) if before == option and re.match(r"-\d", word)), "")
+        lack = "a value is missing" + f"; write {option}={behind} if it is this one" * bool(behind)
+        return f"argument {option}: {f'it has no value; leave out {fault[2]}' if fault[2] else lack}"
+
     def error(self, message: str) -> NoReturn:
         import difflib  # which takes longer to load than a help may
 
         words = message.partition("unrecognized arguments: ")[2]
         option, command = words.partition(" ")[0].partition("=")[0], self.prog.removeprefix("hinge ")
-        names = [name for name, action in self._option_string_actions.items() if action.help is not argparse.SUPPRESS]
-        starts = [name for name in names if name.startswith(option)] if option.startswith("--") else []
-        near = ["-o"] if option in OUTPUT and "-o" in names else starts or difflib.get_close_matches(option, names, 1, NEAR)
+        names = self.options()
+        is_long = option.startswith("--") and option != "--"
+        starts = [name for name in names if is_long and name.startswith(option)]
+        ends = [name for name in names if is_long and name.endswith(option[1:])]
+        near = ["-o"] if option in OUTPUT and "-o" in names else starts or ends or difflib.get_close_matches(option, names, 1, NEAR)
         from hinge.command import advised
 
-        message = message.replace("expected one argument", f"a value is missing ({VALUE})")
+        message = re.sub("argument (.*): (?:expected one argument|ignored explicit argument (.*))", self.value_fault, message)
         refusal = advised(message)
         lacks = message.partition("arguments are required: ")[2]
         if lacks:
@@ -91,7 +105,9 @@ class Parser(argparse.ArgumentParser):
 
                 refusal += running()
         elif option and refusal == message and not option.startswith("-") and "[-- COMMAND" in (self.usage or ""):
-            refusal += f"; a command comes after --: write -- {words}"
+            import shutil
+
+            refusal += f"; a command comes after --: write -- {words if shutil.which(option) else 'COMMAND'}"
         elif option and refusal == message:
             is_near = near and option.startswith("--")
             refusal += f"; did you mean {' or '.join(near[:3])}?" if is_near else f"; `hinge help {command}` lists the options"

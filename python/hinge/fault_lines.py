@@ -19,6 +19,7 @@ from pathlib import Path
 from typing import Iterable, List, Tuple, Union
 
 from hinge.border.files import lines_in
+from hingetulip_words.advice import FAULTS, line_meant
 
 IS_LOST, IS_TWICE, IS_LATE = "lost", "twice", "late"
 CUT, HOLD, CRASH, SKEW = ACTS = "cut", "hold", "crash", "skew"
@@ -83,7 +84,8 @@ def read_fault(line: str) -> Either:
     if match is None and line.startswith("at "):
         return read_act(line)
     if match is None or int(match["ms"] or 0) > LATEST:
-        raise ValueError(f"{line!r}: {NO_FAULT}")
+        meant = line_meant(line, FAULTS)
+        raise ValueError(f"{line!r}: {f'not a fault; write {meant}' if LINE.fullmatch(meant) else NO_FAULT}")
     return Fault(match["link"], int(match["packet"]), match["kind"] or IS_LATE, int(match["ms"] or 0))
 
 

@@ -4,14 +4,15 @@ from __future__ import annotations
 
 import re
 import shlex
-from typing import Callable, Mapping, NamedTuple, Optional, Sequence
+from typing import Callable, Collection, Mapping, NamedTuple, Optional, Sequence
 
 from hinge.foreign_options import OF_LINK, OPTIONS
-from hingetulip_words.foreign import Meant, number
-from hingetulip_words.link import LEFT_OUT, corrected
-from hingetulip_words.presets import PRESETS
+from hingetulip_words.foreign import STRICT, Meant, number
+from hingetulip_words.link import LEFT_OUT, Place, corrected, in_full, link_before, read_link
+from hingetulip_words.presets import PRESETS, either_way
 from hingetulip_words.values import SHARES, plain
 
+BOTH = ("--up", "--down")
 ONE_WAY = "it is one way, as in the original; --link is both"
 EXAMPLE = "an example, as nothing in this line is of a link"
 CONTAINER = "sudo hinge run --container %s"
@@ -25,13 +26,18 @@ sudo hinge run --container NAME --up 100ms | LIVE | pumba
 hinge udp 5000 HOST:PORT 'pipe 1 config delay 20' | LIVE | udp-proxy
 hinge net FILE | NET | mn mininet containernet topo topology create host hosts pingall cluster nodes
 hinge up FILE | NET | start launch daemon
-hinge down NAME; a run ends with its COMMAND | NET | stop kill end quit delete remove rm flush toggle clean
+hinge down NAME; a run ends with its COMMAND | NET | stop kill end quit delete remove rm flush toggle clean tcdel
 hinge status NAME | NET | list ls ps info inspect
-hinge change NAME cut HOST 5s | NET | cut heal partition isolate restart set outage
+hinge change NAME cut HOST 5s | NET | cut partition isolate outage
+hinge change NAME heal HOST | NET | heal
+hinge change NAME restart HOST | NET | restart
+hinge change NAME WORDS | LIVE | set
+hinge look --diff HISTORY HISTORY | CAPTURE | diff compare
 hinge exec NAME HOST -- COMMAND | NET | sh bash shell enter attach ssh xterm h1 h2
 hinge net FILE, with a line `nemesis partition-halves every 10s for 3s` | NET | nemesis chaos jepsen
 hinge run --line 'pipe 1 config bw 10Mbit/s' -- COMMAND | LINKS | pipe queue dnctl pfctl sched add
-dummynet replay CONFIG PACKETS, or dummynet audit HISTORY | FILES | replay audit live
+dummynet replay CONFIG PACKETS, or dummynet audit HISTORY | FILES | replay live
+dummynet audit HISTORY | FILES | audit
 hinge docs CAPTURE, which shows a loop over configurations and seeds | | sweep
 hinge look PACKETS REPORT --capture CAPTURE --index INDEX -o FILE.pcap | CAPTURE | through
 LD_PRELOAD=$(hinge kernel --clock) COMMAND | TESTING | with-clock
@@ -98,7 +104,7 @@ def of_link(
 
 def of_tc(words: Sequence[str]) -> Optional[Answer]:
     """Answers a line of tc that adds, changes, shows or deletes a qdisc."""
-    for tool in ("netem", "tbf", "htb"):
+    for tool in STRICT:
         if tool in words:
             return of_link(tool, words[list(words).index(tool) + 1 :])
     if left_out := [word for word in words if word in LEFT_OUT]:
@@ -113,13 +119,13 @@ def of_ipfw(words: Sequence[str]) -> Optional[Answer]:
         kind, number_of, rest = own[0], own[own.index("config") % 2 + 1], own[3:]
         pipe = rest[:2] if kind == "queue" and rest[:1] == ["pipe"] and rest[1:] else []
         text = " ".join(rest[len(pipe) :])
-        link = corrected(text, kind=kind) if text else ""
+        link = corrected(text, Place.DUMMYNET, kind) if text else ""
         if link is None:
             return lacking([text])
         if kind == "pipe" and number_of not in ("1", "2"):
             number_of = "1"  # one of the two of a run
         lines = [f"{' '.join(pipe or ['pipe', '1'])} config bw 10Mbit/s"] * (kind == "queue")
-        lines.append(" ".join([kind, number_of, "config", *pipe, *link.split()]))
+        lines.append(" ".join([kind, number_of, "config", *pipe, in_full(read_link(link, kind))]).strip())
         return Answer(f"hinge run{''.join(f' --line {shlex.quote(line)}' for line in lines)} -- COMMAND", "LINKS")
     if own[:1] == ["sched"]:
         return lacking(own[:1])
@@ -136,9 +142,11 @@ def of_pumba(words: Sequence[str]) -> Optional[Answer]:
     kind = next((kind for kind in ("loss-gemodel", "loss", *SHARES, "delay", "rate") if kind in words), None)
     options = [f"--{kind}-percent" if word == "--percent" else word for word in words[1:] if word not in ("netem", kind)]
     if kind is not None:
-        name = words[-1] if ":" not in words[-1] else "NAME"
         default = ["--time", "100"] * (kind == "delay" and "--time" not in words)
-        return of_link("pumba", [*options, *default], before=CONTAINER % name, behind="")
+        first, *others = Meant("pumba", options).rest or ["NAME"]
+        answer = of_link("pumba", [*options, *default], before=CONTAINER % ("NAME" if ":" in first else first), behind="")
+        more = (f"the same for {', '.join(others)}, as a run has one container",) * bool(others)
+        return answer and answer._replace(notes=answer.notes + more)
     act = next((act for word, act in (("kill", "kill"), ("stop", "kill"), ("pause", "stop")) if word in words), None)
     length = dict(zip(words, words[1:])).get("--duration", "")
     return Answer(f"hinge change NAME {act} HOST {length}".rstrip(), "NET") if act else None
@@ -168,16 +176,19 @@ def of_shaper(words: Sequence[str]) -> Optional[Answer]:
 
 def of_run(words: Sequence[str]) -> Optional[Answer]:
     """Answers link words, or options and a command for `hinge run`, after another word."""
-    if words[1:2] and (link := corrected(words[1])):
-        return Answer(shlex.join(["hinge", "run", "--link", link, "--", *(words[2:] or ["COMMAND"])]), "LINKS")
+    words = [words[0], *words[2 if words[1:2] == ["run"] else 1 :]]
+    link, rest = link_before(words[1:])
+    time = ["--simulated", "--seed", "1"] * words[0].startswith("sim")
+    if link:
+        return Answer(shlex.join(["hinge", "run", *time, "--link", link, "--", *(rest or ["COMMAND"])]), "LINKS")
     if "simul" in words[0] and words[1:] and words[1].endswith(".net"):
         return Answer(f"hinge net {words[1]} --simulated --seed 1", "SIMULATED")
     own = words[1 : words.index("--")] if "--" in words else []
     pairs = [place for place, word in enumerate(own[:-1]) if word in OF_LINK]
     meant = Meant("ours", [word for place in pairs for word in own[place : place + 2]])
     rest = [word for place, word in enumerate(own) if not {place, place - 1} & {*pairs}]
-    time = ["--simulated", "--seed", "1"] * ("--simulated" in WORDS[words[0]].write)
-    return Answer(shlex.join(["hinge", "run", *time, *rest, *meant.options(), *words[len(own) + 1 :]]), "LIVE") if own else None
+    line = ["hinge", "run", *time, *rest, *meant.options(), *words[len(own) + 1 :]]
+    return Answer(shlex.join(line), "LIVE") if "--" in words else None
 
 
 def of_command(words: Sequence[str]) -> Optional[Answer]:
@@ -186,52 +197,65 @@ def of_command(words: Sequence[str]) -> Optional[Answer]:
     return Answer(f"hinge run --preset lte{server} -- {shlex.join(words)}", "LIVE") if words[1:] else None
 
 
-TOOLS: dict[str, Callable[[Sequence[str]], Optional[Answer]]] = {
-    **dict.fromkeys("tc qdisc netem tbf".split(), of_tc),
-    **dict.fromkeys("mm-delay mm-link mm-loss".split(), lambda words: of_link("mahimahi", words, " --outside")),
-    **dict.fromkeys("ipfw dnctl pipe queue".split(), of_ipfw),
-    **dict.fromkeys("toxic toxiproxy-cli".split(), of_toxiproxy),
+OF_TOOLS: dict[str, Callable[[Sequence[str]], Optional[Answer]]] = {
+    "tc qdisc netem tbf": of_tc,
+    "mm-delay mm-link mm-loss": lambda words: of_link("mahimahi", words, " --outside"),
+    "ipfw dnctl pipe queue": of_ipfw,
+    "toxic toxiproxy-cli": of_toxiproxy,
     "comcast": lambda words: WORDS["stop"] if "--stop" in words else of_link("comcast", words),
     "pumba": of_pumba,
-    **dict.fromkeys("link mn".split(), of_net),
-    **dict.fromkeys("trickle tcset".split(), lambda words: of_link(words[0], words[1:])),
+    "link mn": of_net,
+    "trickle tcset": lambda words: of_link(words[0], words[1:]),
     "wondershaper": of_shaper,
-    **dict.fromkeys("ping curl wget iperf3".split(), of_command),
-    **dict.fromkeys(
-        "start launch emulate emulator throttle slow limit delay latency bandwidth shape with wrap simulate sim simulation".split(),
-        of_run,
-    ),
-    **dict.fromkeys(PRESETS, lambda words: Answer(f"hinge run --preset {words[0]} -- COMMAND", "LINKS")),
+    "ping curl wget iperf3": of_command,
+    "start launch emulate emulator throttle slow limit delay latency bandwidth shape with wrap simulate sim simulation": of_run,
+    " ".join(PRESETS): lambda words: Answer(f"hinge run --preset {words[0]} -- COMMAND", "LINKS"),
 }
+TOOLS = {tool: answer for tools, answer in OF_TOOLS.items() for tool in tools.split()}
 
 
 def answer_of(words: Sequence[str]) -> Optional[Answer]:
     """Returns the replacement for these words after `hinge`, if known."""
     words = list(words)[words[0] == "sudo" and len(words) > 1 :]
-    first = words[0] = (words[0].rpartition("/")[2] or words[0]).lower()
+    link, first = words[0], (words[0].rpartition("/")[2] or words[0]).lower()
+    words[0] = first
     line = TOOLS[first](words) if first in TOOLS else None
     if first.startswith("--") and (of_comcast := of_link("comcast", words)) and of_comcast.write:
         line = of_comcast
+    elif first.startswith("-") and "--" in words:
+        line = Answer(shlex.join(["hinge", "run", *words]), "LIVE")
+    elif first not in WORDS and corrected(link):
+        line = of_run(["", link, *words[1:]])
     answer = line or WORDS.get(first)
     return answer._replace(notes=(EXAMPLE,)) if line is None and answer is not None and words[1:] and first in EXAMPLES else answer
 
 
-def of_options(typed: Sequence[tuple[str, str]], given: Mapping[str, Sequence[str]]) -> str:
-    """Returns the replacement for all of these options and their values, with the link's existing words."""
+def of_options(typed: Sequence[tuple[str, str]], given: Mapping[str, Sequence[str]], known: Collection[str]) -> str:
+    """Returns the replacement for all of these options and their values, by options that the command knows, with the link's
+    existing words."""
     meant = Meant("ours", [word for option, value in typed if option not in OPTIONS for word in (option, value)])
-    links = [words for words in map(corrected, meant.rest) if words]
+    more = [*meant.options()[1:], *filter(None, map(corrected, meant.rest))]
     meant.rest = [words for words in meant.rest if not corrected(words)]
-    more, before = [*meant.options()[1:], *links], " ".join(given.get("--link", ()))
-    link = " ".join([before, *more]).strip()
-    if before and corrected(before) and not corrected(link):
-        return f"{', '.join(dict(typed))}: leave this out, as --link says {before!r}"
-    is_idle = "queue" in link.split() and not re.search(r"/s\b|\bbw\b", link)
-    link = f"10Mbit/s {link}" if is_idle else link
-    parts = [f"--link {shlex.quote(corrected(link) or link)}"] * bool(more)
-    for form, value in ((OPTIONS[option][0], value) for option, value in typed if option in OPTIONS):
-        words = (corrected(value) or value) if form.startswith(("--link", "--up ", "--down ")) else value
-        parts.append(form.format(*[shlex.quote(words)] * 2))
-    notes = [f"write {' '.join(parts)}"] * bool(parts)
+    name = " ".join(given.get("--preset", ())) if more else ""
+    named = either_way(name) if name else ("", "")
+    before = [" ".join(given.get(way, given.get("--link", ()))) or words for way, words in zip(BOTH, named)]
+    links = [" ".join([words, *more]).strip() for words in before]
+    for words, link in zip(before, links):
+        if words and corrected(words) and not corrected(link):
+            return f"{', '.join(dict(typed))}: leave this out, as the link says {words!r}"
+    is_idle = any("queue" in link.split() and not re.search(r"/s\b|\bbw\b", link) for link in links)
+    links = [shlex.quote(corrected(link) or link) for link in (f"{'10Mbit/s ' * is_idle}{link}" for link in links)]
+    parts = [f"--link {links[0]}" if links[0] == links[1] else " ".join(f"{way} {link}" for way, link in zip(BOTH, links))] * bool(
+        more
+    )
+    parts += [f"in place of --preset {name}"] * bool(name)
+    for option, value in ((option, value) for option, value in typed if option in OPTIONS):
+        forms = OPTIONS[option][0].split(", or ")
+        words = shlex.quote((corrected(value) or value) if forms[0].startswith(("--link", "--up ", "--down ")) else value)
+        own = [form for form in forms if {*re.findall(r"(?<!\S)--[\w-]+", form.partition("hinge ")[0])} <= {*known}]
+        meant.left += [f"{option} here"] * (not own)
+        parts += ["; write " * bool(parts and form[0] != "-") + form.format(words) for form in filter(None, [", or ".join(own)])]
+    notes = [f"write {' '.join(parts)}".replace(" ; ", "; ")] * bool(parts)
     notes += ["10Mbit/s is an example, as no packet waits without a bandwidth"] * is_idle
     notes += [f"no link does: {what}" for what in meant.left] + [f"{what!r} isn't such a value" for what in meant.rest]
     return f"{', '.join(dict(typed))}: {'; '.join(notes)}"

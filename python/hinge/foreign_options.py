@@ -2,39 +2,35 @@
 
 from __future__ import annotations
 
-# Options that people try with `hinge run`, beside those of a link: what to write, and whether a value comes with them.
-OPTIONS = {
-    "--trace": ("--up-trace {0} --down-trace {0}", True),
-    "--outage": ("--timeline FILE with a line `5s outage {}` in FILE", True),
-    "--pcap": ("--transcript {}, which `hinge look` draws", True),
-    **dict.fromkeys(
-        ("--timeout", "--time", "--duration", "--for"), ("timeout {} before COMMAND, or --real-limit {} of simulated time", True)
-    ),
-    "--simulate": ("--simulated", False),
-    "-l": ("--link {}", True),
-    **dict.fromkeys(("-o", "--output"), ("--transcript FILE, and hinge look FILE -o {}", True)),
-    "--graph": ("--transcript FILE, and hinge look FILE -o FILE.png", False),
-    "--plot": ("--transcript FILE, and hinge look FILE -o FILE.png", False),
-    **dict.fromkeys(("--docker", "--podman"), ("--container {}", True)),
-    "--pid": ("--netns {}", True),
-    "--port": (
-        "--map 'port {0} => pipe 3' and --line 'pipe 3 config delay 20' for its packets alone, or --to {0} for this system's port",
-        True,
-    ),
-    **dict.fromkeys(
-        ("--filter", "--match"), ("--map 'RULE => pipe 3', where RULE is {0}, and --line 'pipe 3 config delay 20'", True)
-    ),
-    "--presets": ("--list-presets", False),
-    **dict.fromkeys(
-        ("--iface", "--interface", "--dev", "-i"),
-        ("no interface: COMMAND runs behind the link, or --container NAME names one", True),
-    ),
-}
-SAME = """both=link uplink=up upload=up downlink=down download=down profile=preset conditions=preset log=transcript record=transcript
-report=json"""
-OPTIONS.update({f"--{word}": (f"--{own} {{}}", True) for word, _, own in (entry.partition("=") for entry in SAME.split())})
-OPTIONS.update(dict.fromkeys(("--meter-all", "--verbose", "-v"), ("--watch", False)))
-OPTIONS.update(dict.fromkeys(("--internet", "--network"), ("--outside", False)))
-OPTIONS.update({f"--{way}link-queue": (f"--{way} '10Mbit/s queue 100'", True) for way in ("up", "down")})
+# Options that people try with `hinge run`, beside those of a link, and what to write, where {0} is the option's value.
+TABLE = """
+--trace = --up-trace {0} --down-trace {0}
+--outage = --timeline FILE with a line `5s outage {0}` in FILE
+--pcap = --transcript {0}, which `hinge look` draws
+--timeout --time --duration --for = timeout {0} before hinge, or --real-limit {0} of simulated time
+--simulate = --simulated
+-l --both = --link {0}
+-o --output = --transcript FILE, and hinge look FILE -o {0}
+--graph --plot = --transcript FILE, and hinge look FILE -o FILE.png
+--docker --podman = --container {0}
+--pid = --netns {0}
+--port = --map 'up port {0} => pipe 3' --line 'pipe 3 config delay 20' for its packets alone, or --to {0} for this system's port
+--filter --match = --map 'up RULE => pipe 3' --line 'pipe 3 config delay 20', where RULE is {0}
+--presets = --list-presets
+--iface --interface --dev -i = nothing for {0}, as COMMAND runs behind the link, or --container NAME
+--uplink --upload = --up {0}
+--downlink --download = --down {0}
+--profile --conditions = --preset {0}
+--log --record = --transcript {0}
+--report = --json {0}
+--seeds = hinge search --seeds {0} run, with the other words behind it
+--repeat --count --runs -n = for i in $(seq {0}); do this line; done, or hinge search --seeds 1-{0} run in simulated time
+--meter-all --verbose -v = --watch
+--internet --network = --outside
+--uplink-queue = --up '10Mbit/s queue 100' for {0}
+--downlink-queue = --down '10Mbit/s queue 100' for {0}
+"""
+ROWS = [row.split(" = ", 1) for row in TABLE.strip().splitlines()]
+OPTIONS = {option: (form, "{" in form) for options, form in ROWS for option in options.split()}
 OF_LINK = """--rate --bandwidth --bw --speed --delay --latency --rtt --jitter --plr --packet-loss --drop --queue --target-bw
 --duplicate --corrupt""".split()

@@ -6,6 +6,7 @@ import re
 from typing import Optional
 
 from hingetulip_words.advice import advice, words_of
+from hingetulip_words.link import Place, corrected, in_full, read_link
 
 CAUSE = re.compile(r"word (\d+): (.+)")
 NO_TEXT = "not UTF-8: a file of another kind, or of an older encoding"
@@ -21,10 +22,14 @@ def explained(line: str, fault: str) -> str:
 
 
 def replaced(line: str, fault: str) -> Optional[str]:
-    """Returns the line with the advised word, if there is one to put in the wrong word's place."""
+    """Returns the line with the advised word in the wrong word's place, or a pipe's line for a link's words; None without either."""
     words, cause = words_of(line), CAUSE.fullmatch(fault)
     if not cause or int(cause[1]) > len(words):
         return None
     place = int(cause[1]) - 1
     word = advice(words, place + 1, cause[2]).word
-    return None if word is None else " ".join([*words[:place], word, *words[place + 1 :]])
+    if word is not None:
+        return " ".join([*words[:place], word, *words[place + 1 :]])
+    front = words[:3] if words[0] == "pipe" and words[2:3] == ["config"] else []
+    link = corrected(" ".join(words[len(front) :]), Place.DUMMYNET) if front or place == 0 else None
+    return " ".join([*(front or ["pipe 1 config"]), in_full(read_link(link))]) if link else None

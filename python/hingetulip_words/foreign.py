@@ -7,7 +7,7 @@ import re
 from fractions import Fraction
 from typing import Mapping, Optional, Sequence, Union
 
-from hingetulip_words.values import SCALE, SHARES, plain, scaled
+from hingetulip_words.values import SCALE, SHARES, TIMES, plain, scaled
 
 # Tools, each with the way that it slows, and its words, which stand before `=` and their values in their order: PROPERTY:UNIT, `!NAME`
 # for one that no link has, a lone `!` for all values of a word that none has, `-` for one of no concern; `>WAY` turns to another way.
@@ -17,6 +17,7 @@ netem up; delay latency = delay:us spread:us !correlation; loss drop random = lo
  corrupt = corrupt:% !correlation; reorder gap slot ecn distribution state = !
 tbf up; rate = bw:tc; limit = size:bytes; latency = lasting:us; burst buffer maxburst peakrate minburst mtu mpu overhead = !
 htb up; rate = bw:tc; ceil burst cburst prio quantum = !
+cake up; bandwidth = bw:tc; rtt = -; besteffort diffserv4 nat wash ack-filter triple-isolate flows overhead = !
 mahimahi both; mm-delay = >both delay:ms; mm-link = >both up-trace:file down-trace:file; uplink = >up loss:part;
  downlink = >down loss:part; mm-loss meter-all meter-uplink meter-uplink-delay meter-downlink meter-downlink-delay = ;
  uplink-queue downlink-queue uplink-queue-args downlink-queue-args uplink-log downlink-log once = !value
@@ -41,7 +42,7 @@ for row in TABLE.replace("\n ", " ").strip().splitlines():
     WAYS[name] = way
     WORDS[name] = {word: kinds.split() for words, _, kinds in (entry.partition("=") for entry in entries) for word in words.split()}
 # Tools whose words are lists, those that run a command, and those without names of other things.
-LISTS, WRAPPERS, STRICT = ("toxiproxy", "mn"), ("mahimahi", "trickle"), ("netem", "tbf", "htb")
+LISTS, WRAPPERS, STRICT = ("toxiproxy", "mn"), ("mahimahi", "trickle"), ("netem", "tbf", "htb", "cake")
 
 NUMBER = r"(?a)(\d{0,99}\.?\d{1,99})([a-z%/]*)"  # of few digits, as Python refuses thousands
 SCALES = SCALE | {"t": 10**12, "ki": 2**10, "mi": 2**20, "gi": 2**30}
@@ -52,8 +53,6 @@ def rates(endings: Sequence[str], times: int = 1) -> dict[str, Fraction]:
     return {f"{letter}{ending}": Fraction(scale * times) for letter, scale in SCALES.items() for ending in endings}
 
 
-LENGTHS = {"us": Fraction(1, 1000), "ms": Fraction(1), "s": Fraction(1000)}
-TIMES = {name: ms for unit, ms in LENGTHS.items() for name in (unit, f"{unit[:-1]}sec", f"{unit[:-1]}secs")}
 BITS = rates(("bit", "bps", "bit/s", "bits/s", "b/s", ""))
 SIZES = {"": 1, "b": 1, "k": 1024, "kb": 1024, "m": 1024**2, "mb": 1024**2, "kbit": 128, "mbit": 128 * 1024}
 # What ms, bit/s, bytes or percent a number is, by the unit that is typed; "" where there is none. In tc, `bps` are bytes.

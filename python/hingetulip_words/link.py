@@ -6,20 +6,22 @@ from __future__ import annotations
 import re
 from enum import Enum
 from fractions import Fraction
-from typing import NamedTuple, Optional
+from typing import NamedTuple, Optional, Sequence
 
 from hingetulip_words.advice import OPTIONS, OTHER_NAMES, left_out, missing_value, option_word
 from hingetulip_words.foreign import Meant
 from hingetulip_words.presets import NEAREST, PRESETS
-from hingetulip_words.values import EXTRAS, FACTOR, FIELD_BITS, LONGEST_WORD, PER_SECOND, PERCENT, SHARES
-from hingetulip_words.values import Advice, bandwidth, delay, fault_of, plain, room
+from hingetulip_words.values import DELAY as DELAY_WORD
+from hingetulip_words.values import EXTRAS, FACTOR, FIELD_BITS, LONGEST_WORD, PER_SECOND, PERCENT, SHARES, TIMES
+from hingetulip_words.values import Advice, fault_of, plain, wrong_form
 
 RATE = re.compile(rf"\d+{FACTOR}{PER_SECOND}", re.ASCII | re.IGNORECASE)
 DELAY = re.compile(r"\d+ms", re.ASCII)
-LIKE_A_DELAY = r"(?ai)-?\d+(\.\d+)?(ns|us|µs|usec|ms|msec|s|sec)"
+LIKE_A_DELAY = f"(?ai){DELAY_WORD}"
 LIKE_ROOM = r"(?ai)\d+(pkts?|packets?|p|slots?|[km]?bytes?|kb|kib|mib)"
 AROUND = r"(\d+)ms(?: ?(?:±|\+/?-) ?| )(\d+)ms"  # as netem's `20ms 5ms`
-UNIT = rf"(?ai){FACTOR}(bits?|bytes?|bps|b)(/s|ps)?|[munµ]?s|m?sec|usec|%"
+SPAN = r"(\d+)(?:ms)?(?:-|\.\.+)(\d+)ms"
+UNIT = rf"(?ai){FACTOR}(bits?|bytes?|bps|b)(/s|ps)?|{'|'.join(TIMES)}|%"
 LINE = ("ipfw", "pipe", "config")
 NETEMS = {"rate", "limit", "netem"}  # words that netem has, and no link
 LEFT_OUT = ("red", "gred", "ecn", "codel", "pie", "fq_codel", "fq_pie", "sched", "burst", "profile", "noerror", "droptail")
@@ -50,7 +52,8 @@ class Place(Enum):
 
 
 REORDER = Advice("no link reorders by a share", "write jitter 5ms, by which packets overtake each other")
-WITHOUT_CHECKSUMS = Advice("no packet has a checksum here, which would discard it", "write loss 1%")
+ONE_WAY = Advice("one way of a link", "write --up LINK --down LINK, or LINK / LINK in a net's line")
+ONE_WORD = Advice("a number and its unit are one word", "")
 OF_RUNS = Advice("of a whole run", "write it in --up, --down or a line `link`, from the beginning on")
 
 
@@ -98,27 +101,29 @@ def number_alone(word: str, following: str) -> tuple[str, Advice]:
         return word, Advice("a number without a unit", f"write {word}ms for a delay, {word}Mbit/s for a bandwidth or queue {word}")
     joined = word + following
     if not (RATE.fullmatch(joined) or DELAY.fullmatch(joined)):
-        joined = f"loss {joined}" if following == "%" else unknown(joined).word or joined
-    return f"{word} {following}", Advice("a number and its unit are one word", f"write {joined}")
+        joined = unknown(joined).word or joined
+    return f"{word} {following}", ONE_WORD._replace(right=f"write {joined}")
 
 
 def unknown(word: str) -> Advice:
     """Of a word that begins with a digit and is no short form."""
-    parts = [part for part in re.split("[,;]", word) if part]
+    parts = [part for part in re.split("[,;]|/(?!s|$)", word) if part]
     if len(parts) > 1:
-        return Advice("blanks alone part the words", f"write {' '.join(parts)}")
+        is_of_ways = any(all(map(form.fullmatch, parts)) for form in (RATE, DELAY))
+        return ONE_WAY if is_of_ways else Advice("blanks alone part the words", f"write {' '.join(parts)}")
     if spread := re.fullmatch(AROUND, word):
         return Advice("a jitter adds to the delay", f"write {around(spread)}")
+    if (span := re.fullmatch(SPAN, word)) and 0 < int(span[2]) - int(span[1]) <= MOST_JITTER:
+        return Advice("a jitter adds to the delay", f"write {span[1]}ms jitter {int(span[2]) - int(span[1])}ms")
     if PERCENT.fullmatch(word):
         return Advice("a percentage of what", f"write loss {word}")
     if re.fullmatch(LIKE_A_DELAY, word):
-        return delay(word)
+        return wrong_form("delay", word)
     if re.fullmatch(LIKE_ROOM, word):
-        limit = room(word.lower()).word
-        return Advice("a queue limit has its word before it", f"write queue {limit}", f"queue {limit}")
-    if word != (bare := word.rstrip(",;")):
-        return Advice(f"ends in {word[len(bare):]!r}, and blanks alone part the words", f"write {bare}", bare)
-    return bandwidth(word)
+        limit = wrong_form("queue", word.lower())
+        right = f"queue {limit.word}"
+        return Advice("a queue limit has its word before it", f"write {right}", right) if limit.word else limit
+    return wrong_form("bw", word)
 
 
 class Words:
@@ -159,7 +164,10 @@ class Words:
         if not self.rest:
             advice = missing_value(word)
             raise WordError(word, advice._replace(right=MISSING.get(word, advice.right)))
-        return self.rest.pop(0)
+        text = self.rest.pop(0)
+        if text.replace(".", "", 1).isdigit() and self.rest and re.fullmatch(UNIT, self.rest[0]):
+            raise WordError(f"{text} {self.rest[0]}", ONE_WORD._replace(right=f"write {text}{self.rest[0]}"))
+        return text
 
     def read_one(self, word: str) -> None:
         if word == "mask":
@@ -184,10 +192,10 @@ class Words:
         """Reads a word of a run's additions to dummynet."""
         if word == "reorder" or self.place is Place.CHANGE:
             raise WordError(word, REORDER if word == "reorder" else OF_RUNS)
-        if word == "corrupt" and self.place is Place.RUN:
-            raise WordError(word, WITHOUT_CHECKSUMS)
         text = self.value_of(word)
         typed = f"{word} {text}"
+        if word == "corrupt" and self.place is Place.RUN:
+            raise WordError(typed, Advice("no packet has a checksum here, which would discard it", f"write loss {text}"))
         self.note(word, typed)
         if word == "jitter":
             if not DELAY.fullmatch(text) or not 1 <= int(text[:-2]) <= MOST_JITTER:
@@ -229,36 +237,42 @@ class Words:
             return WordError(word, LIKE_A_LINE)
         if word in LEFT_OUT:
             return WordError(word, left_out("", word))
+        if word != (bare := word.rstrip(",;")):
+            return WordError(word, Advice(f"ends in {word[len(bare):]!r}, and blanks alone part the words", f"write {bare}"))
         name = OTHER_NAMES.get(word.lower(), "")
         if name and self.typed.get(name) == self.before:
             return WordError(f"{self.before} {word}", Advice("the unit says this already", f"write {self.before}"))
         if word.partition("=")[0] in ("up", "down", "/"):
-            return WordError(word, Advice("one way of a link", "write --up LINK --down LINK, or LINK / LINK in a net's line"))
-        if self.before.isdigit() and re.fullmatch(UNIT, word):
-            return WordError(f"{self.before} {word}", Advice("a number and its unit are one word", f"write {self.before}{word}"))
+            return WordError(word, self.one_way(ONE_WAY))
         if word.isdigit():
-            return WordError(*number_alone(word, self.rest[0] if self.rest else ""))
-        if word in ("rtt", "±", "+-", "+/-") or PERCENT.fullmatch(word) or word.lower() in {*PRESETS, *NEAREST}:
-            return self.of_two(word, self.rest[0] if self.rest else "")
+            return WordError(*number_alone(word, self.rest[0].rstrip(",;") if self.rest else ""))
+        following = self.rest[0] if self.rest else ""
+        is_preset = {word.lower(), f"{word}-{following}".lower()} & {*PRESETS, *NEAREST}
+        if word in ("rtt", "±", "+-", "+/-") or PERCENT.fullmatch(word) or is_preset:
+            return self.of_two(word, following)
         is_value = word[:1].isdigit() or re.match(r"[-.]\d", word)
         more = ["loss"] if self.place is Place.DUMMYNET else [*MISSING]
-        return WordError(word, unknown(word) if is_value else option_word(self.kind, self.before, word, more))
+        return WordError(word, self.one_way(unknown(word)) if is_value else option_word(self.kind, self.before, word, more))
+
+    def one_way(self, advice: Advice) -> Advice:
+        is_change = advice is ONE_WAY and self.place is Place.CHANGE
+        return advice._replace(right="write up LINK, and down LINK in a line of its own") if is_change else advice
 
     def of_two(self, word: str, following: str) -> WordError:
         """Returns the error for a word that includes the next one, or for a preset's name."""
         half = re.fullmatch(r"(\d*[02468])ms", following)
         if word == "rtt":
-            advice = Advice(
-                "a link has the delay of one way", f"write {int(half[1]) // 2}ms" if half else "write half of it, as 20ms"
-            )
-            return WordError(f"{word} {following}".strip(), advice)
+            right = f"write {int(half[1]) // 2}ms" if half else "write half of it, as 20ms"
+            return WordError(f"{word} {following}".strip(), Advice("a link has the delay of one way", right))
         if spread := re.fullmatch(AROUND, f"{self.before} {word} {following}"):
             return WordError(spread[0], Advice("a jitter adds to the delay", f"write {around(spread)}"))
         if PERCENT.fullmatch(word) and following in ("loss", *SHARES):
             return WordError(f"{word} {following}", Advice("the name stands before its value", f"write {following} {word}"))
-        if name := word.lower() if word.lower() in PRESETS else NEAREST.get(word.lower()):
-            right = f"write --preset {name}, or preset {name} in a net's line"
-            return WordError(word, Advice("the name of a preset, and no word of a link", right))
+        for typed in (f"{word} {following}".strip(), word):
+            if name := (NEAREST | {one: one for one in PRESETS}).get("-".join(typed.lower().split())):
+                right = f"write --preset {name}, or preset {name} in a net's line"
+                right = f"write {PRESETS[name].up}" if self.place is Place.CHANGE else right
+                return WordError(typed, Advice("the name of a preset, and no word of a link", right))
         return WordError(
             word, unknown(word) if word[0].isdigit() else Advice("not an option", f"write jitter {following or '5ms'}")
         )
@@ -290,7 +304,7 @@ def read_link(text: str, kind: str = "pipe") -> dict[str, str]:
 
 def corrected(text: str, place: Place = Place.KERNELS, kind: str = "pipe") -> Optional[str]:
     """Returns the likely intended words: netem's converted, or the words with advised replacements."""
-    text = " ".join(text.partition("#")[0].split())
+    text = " ".join(word.rstrip(",;") for word in text.partition("#")[0].split())
     words = text.split()
     netem = Meant("netem", words[words.index("netem") + 1 :] if "netem" in words else words)
     link = netem.options()
@@ -306,6 +320,15 @@ def corrected(text: str, place: Place = Place.KERNELS, kind: str = "pipe") -> Op
                 return None
             text = f" {text} ".replace(f" {wrong.word} ", f" {right} ", 1).strip()
     return None
+
+
+def link_before(words: Sequence[str]) -> tuple[str, list[str]]:
+    """Returns the link in the first words before a `--` or an option, or an empty text, and the words behind it."""
+    most = next((place for place, word in enumerate(words) if word.startswith("--")), len(words))
+    for count in range(most, 0, -1):
+        if link := corrected(" ".join(words[:count])):
+            return link, [word for word in words[count:] if word != "--"]
+    return "", [*words]
 
 
 def refusal(begun: dict[str, str], changed: dict[str, str], place: str = "{}") -> str:

@@ -69,11 +69,10 @@ def either_way(name: str, up: Optional[str] = None, down: Optional[str] = None) 
 
 def table() -> str:
     """All presets, in lines of at most 80 columns."""
-    rows = [("preset", "up", "down", ""), *((name, it.up, it.down, it.source) for name, it in PRESETS.items())]
-    widths = [max(len(row[place]) for row in rows) for place in range(2)]
-    lines = []
-    for name, up, down, source in rows:
-        lines.append(f"{name:<{widths[0]}}  {up:<{widths[1]}}  {down}")
-        if source:
-            lines.append(f"{'':<{widths[0]}}  {source}")
+    rows = [("preset", "up", "down", ""), *((name, *links) for name, links in PRESETS.items())]
+    of_name, of_up = (max(len(row[place]) for row in rows) for place in range(2))
+    lines = (
+        f"{name:<{of_name}}  {up:<{of_up}}  {down}" + f"\n{'':<{of_name}}  {source}" * bool(source)
+        for name, up, down, source in rows
+    )
     return "\n".join(lines)

@@ -19,7 +19,9 @@ LONGEST_WORD = 200  # letters; no value that is taken has as many
 FIELD_BITS = {"src-ip": 32, "dst-ip": 32, "src-port": 16, "dst-port": 16, "proto": 8}
 # Patterns that wrong words alone need are texts, which no start compiles.
 BANDWIDTH = r"(\d+(?:\.\d+)?)([kmgt]?)i?(b|bit|bits|byte|bytes|bps|b/s|bit/sec|bits/sec|bit/s|bits/s|byte/s|bytes/s|byte/sec|)"
-DELAY = r"(-?)(\d+(?:\.\d+)?)(us|µs|usec|ns|s|sec|ms|msec|)"
+UNITS = "ns=1/1000000 us,µs,usec,usecs=1/1000 ms,msec,msecs,milliseconds=1 s,sec,secs,second,seconds=1000 min,minute,minutes=60000"
+TIMES = {name: Fraction(ms) for names, _, ms in (unit.partition("=") for unit in UNITS.split()) for name in names.split(",")}
+DELAY = rf"(-?)(\d+(?:\.\d+)?)({'|'.join(TIMES)})"
 ROOM = r"(\d+)(kib|mb|mbyte|mbytes|m|mib|b|byte|bytes|pkt|pkts|packet|packets|p|slots?|k|kb|kbytes?)"
 MOST_KBYTES = 1024
 SCALE = {"": 1, "k": 10**3, "m": 10**6, "g": 10**9}
@@ -54,13 +56,9 @@ TAKEN = {
     "weight": Form(re.compile(NUMBER, re.ASCII), 1, 100, "a weight is 1 to 100"),
     "buckets": Form(re.compile(NUMBER, re.ASCII), 16, 65_536, "buckets are 16 to 65536"),
     "pipe": Form(re.compile(NUMBER, re.ASCII), 1, 65_535, "pipes are 1 to 65535"),
-    **{
-        field: Form(
-            re.compile(NUMBER + r"|0[xX][\da-fA-F]+", re.ASCII), 0, 2**bits - 1, f"a mask of {field} has at most {bits} bits"
-        )
-        for field, bits in FIELD_BITS.items()
-    },
 }
+BITS = re.compile(NUMBER + r"|0[xX][\da-fA-F]+", re.ASCII)
+TAKEN |= {name: Form(BITS, 0, 2**bits - 1, f"a mask of {name} has at most {bits} bits") for name, bits in FIELD_BITS.items()}
 
 
 class Advice(NamedTuple):
@@ -97,15 +95,12 @@ def bandwidth(text: str) -> Advice:
 
 
 def delay(text: str) -> Advice:
-    found = re.fullmatch(DELAY, text.lower())
+    found = re.fullmatch(f"{DELAY}?", text.lower())
     if not found:
         return Advice("not a delay", FORMS["delay"])
     if found[1]:
         return Advice("a delay can't be negative", FORMS["delay"])
-    a_unit = {"u": Fraction(1, 1000), "µ": Fraction(1, 1000), "n": Fraction(1, 10**6), "s": Fraction(1000)}.get(
-        found[3][:1], Fraction(1)
-    )
-    value = Fraction(found[2]) * a_unit
+    value = Fraction(found[2]) * TIMES.get(found[3], 1)
     if value.denominator == 1:
         return Advice("not a delay", f"write {value}ms", f"{value}ms")
     near = max(1, round(value))
@@ -130,13 +125,13 @@ def room(text: str) -> Advice:
 
 
 def loss(text: str) -> Advice:
-    if found := re.fullmatch(r"(\d+(?:\.\d+)?)%", text):
-        rate = plain(Fraction(found[1]) / 100)
-        return Advice("a loss rate isn't a percentage", f"write {rate}", rate)
+    found = PERCENT.fullmatch(text)
     try:
-        value = Fraction(text)
+        value = Fraction(found[1]) / 100 if found else Fraction(text)
     except (ValueError, ZeroDivisionError):
         return Advice("not a loss rate", FORMS["plr"])
+    if found:
+        return Advice("a loss rate isn't a percentage", f"write {plain(value)}", plain(value))
     if value > 1:
         rate = plain(value / 100)
         return Advice("a loss rate is at most 1", f"write {rate} for {text} %", rate if value <= 100 else None)
@@ -181,10 +176,16 @@ def fault_of(option: str, text: str) -> Optional[Advice]:
         return Advice(f"ends in {text[len(bare):]!r}, and blanks alone part the words{also}", f"write {bare}", bare)
     if form is None or len(text) > LONGEST_WORD or not form.pattern.fullmatch(text):
         return wrong_form(option, text)
-    in_kbytes = option == "queue" and not text.isdigit()
-    if form.least <= number_of(option, text) <= (MOST_KBYTES if in_kbytes else form.most):
+    if is_in_range(option, text):
         return None
-    return READERS[option](text) if option == "plr" or in_kbytes else Advice("out of range", form.range)
+    in_kbytes = option == "queue" and not text.isdigit()
+    return wrong_form(option, text) if option == "plr" or in_kbytes else Advice("out of range", form.range)
+
+
+def is_in_range(option: str, text: str) -> bool:
+    """Returns whether a value in its option's format is one that dummynet takes."""
+    most = MOST_KBYTES if option == "queue" and not text.isdigit() else TAKEN[option].most
+    return TAKEN[option].least <= number_of(option, text) <= most
 
 
 def wrong_form(option: str, text: str) -> Advice:
@@ -192,5 +193,6 @@ def wrong_form(option: str, text: str) -> Advice:
     if len(text) > LONGEST_WORD:
         return Advice(f"a word of {len(text):,} letters", FORMS.get(option, "write a number"))
     if option in READERS:
-        return READERS[option](text)
+        said = READERS[option](text)
+        return said if said.word is None or is_in_range(option, said.word) else Advice("out of range", TAKEN[option].range)
     return mask(option, text) if option in FIELD_BITS else Advice("not a number here", FORMS.get(option, "write a number"))

@@ -15,13 +15,8 @@ WAYS = {"up": 0, "down": 1}
 PROTOCOLS = {"icmp": (1, 58), "icmp6": (58,), "tcp": (6,), "udp": (17,)}  # icmp is that of IPv4 and that of IPv6
 PORTS = {"port": "port", "sport": "sport", "src-port": "sport", "dport": "dport", "dst-port": "dport"}
 NETS = ("src", "dst", "host")
-DSCP = {
-    "be": 0,
-    "le": 1,
-    "ef": 46,
-    **{f"cs{n}": 8 * n for n in range(8)},
-    **{f"af{n}{m}": 8 * n + 2 * m for n in range(1, 5) for m in range(1, 4)},
-}
+DSCP = {"be": 0, "le": 1, "ef": 46} | {f"cs{n}": 8 * n for n in range(8)}
+DSCP |= {f"af{n}{m}": 8 * n + 2 * m for n in range(1, 5) for m in range(1, 4)}
 WORDS = ("any", *WAYS, *PROTOCOLS, "proto", *NETS, *PORTS, "dscp")
 HELP = RULE
 TARGET = re.compile(r"(pipe|queue)\s+([1-9]\d{0,4})\Z", re.ASCII)
@@ -119,17 +114,11 @@ class RuleReader:
             self.short.way = WAYS[word]
         elif word in PROTOCOLS or word == "proto":
             self.once("protocol", word)
-            self.short.protocols = (
-                PROTOCOLS[word] if word in PROTOCOLS else (number_of(self.value(word), 255, "no protocol from 0 to 255"),)
-            )
+            self.short.protocols = PROTOCOLS.get(word) or (number_of(self.value(word), 255, "no protocol from 0 to 255"),)
         elif word == "dscp":
             self.once(word, word)
-            text = self.value(word)
-            self.short.dscp = (
-                DSCP[text.lower()]
-                if text.lower() in DSCP
-                else number_of(text, 63, "no DSCP from 0 to 63, and no " "name of one, as ef or af41")
-            )
+            text, what = self.value(word), "no DSCP from 0 to 63, and no name of one, as ef or af41"
+            self.short.dscp = DSCP[text.lower()] if text.lower() in DSCP else number_of(text, 63, what)
         elif word in NETS:
             if self.rest[:1] == ["port"] and word != "host":  # as tcpdump has it
                 raise BadRule(f"'{word} port': not a word of a rule; write {word[0]}port")
@@ -140,7 +129,8 @@ class RuleReader:
             self.short.ports[PORTS[word]] = port_span_of(self.value(word))
         elif word != "any":
             near = difflib.get_close_matches(word, WORDS, 1)
-            right = of_filter(" ".join([word, *self.rest])) or (near[0] if near else HELP)
+            port = word if word.isdigit() else {"http": "80", "https": "443", "ssh": "22", "dns": "53"}.get(word.lower())
+            right = of_filter(" ".join([word, *self.rest])) or (f"port {port}" if port else near[0] if near else HELP)
             raise BadRule(f"'{word}': not a word of a rule; write {right}")
 
 
@@ -160,7 +150,9 @@ def parted(text: str) -> tuple[str, RuleTarget]:
     rest, arrow, right = text.rpartition("=>")
     match = TARGET.match(right.strip())
     if not arrow or match is None or int(match[2]) > MOST_NUMBER:
-        raise BadRule("it doesn't end in `=> pipe N` or `=> queue N`")
+        meant = re.fullmatch(r"(.*?) *(?:[-=]*>)? *(?:to )?(pipe|queue|) *(\d+)", text if ">" in text else "")
+        right = f"; write {meant[1]} => {meant[2] or 'pipe'} {meant[3]}" if meant else ""
+        raise BadRule(f"it doesn't end in `=> pipe N` or `=> queue N`{right}")
     return rest.strip(), RuleTarget(match[1], int(match[2]))
 
 

@@ -72,10 +72,8 @@ def field_advice(name: str, text: str) -> str:
     if text == "":
         return "empty; write 0" if name in ("sport", "dport", "proto") else f"empty; write {RANGES[name]}"
     if name == "target":
-        is_case = text.lower() in ("pipe", "queue")
-        return (
-            f"keywords are lower case; write {text.lower()}" if is_case else "write pipe or queue, and its number in the next field"
-        )
+        other = "write pipe or queue, and its number in the next field"
+        return f"keywords are lower case; write {text.lower()}" if text.lower() in ("pipe", "queue") else other
     if name in ("src", "dst"):
         return of_address(text)
     if name == "proto" and text.lower() in PROTOCOLS:

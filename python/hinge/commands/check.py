@@ -22,6 +22,7 @@ from hinge.command import CONFIGURATION, ROWS, parser
 from hinge.misplaced import FRONT, kind_of_text, line_for
 from hinge.plans.sessions import judged
 from hinge.run.words import duration
+from hingetulip_words.link import Place, corrected, in_full, read_link
 
 WHAT = """\
 Says what is wrong with configuration lines, packet files and histories, and what to write: the file, the line, the word
@@ -117,6 +118,14 @@ class Check:
                 tell(f"{self.lines.name}: {text}")
 
 
+def of_text(typed: str) -> str:
+    """Returns the command that checks a line of a configuration or net, or a link's words, in place of a file; else an empty text."""
+    kind, link = kind_of_text(typed.encode(errors="replace")), corrected(typed, Place.DUMMYNET)
+    text = shlex.quote(f"pipe 1 config {in_full(read_link(link))}" if link else typed)
+    command = "net --dry-run" if kind == "net" else "check" if link or kind == "config" else ""
+    return f"printf '%s\\n' {text} | hinge {command} /dev/stdin" * bool(command)
+
+
 def main() -> None:
     line = parser(
         WHAT,
@@ -132,9 +141,8 @@ def main() -> None:
     words = line.parse_args()
     check = Check(None if words.late is None else duration(words.late, "--late"))
     for path in words.files:
-        if (path.startswith(("pipe", "queue", "ipfw")) or " " in path) and not os.path.exists(path):
-            typed = shlex.quote(" ".join(words.files))
-            line.error(f"it reads files: printf '%s\\n' {typed} | hinge check /dev/stdin")
+        if not os.path.exists(path) and (right := of_text(" ".join(words.files))):
+            line.error(f"it reads files: {right}")
         if words.model:
             from hinge.checks.orders import check_operations
 

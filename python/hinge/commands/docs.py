@@ -17,16 +17,9 @@ Names the pages of the documentation and their folder, or shows one: on a termin
 and else as it is."""
 INSTALLED = Path("share", "doc", "hingetulip", "docs")
 INSIDE = "inside"  # the folder of the pages on the code, which a clone has
-MOVED = {  # pages that versions up to 1.7 had, and the page that has their contents
-    **dict.fromkeys(("FORMATS", "HISTORIES", "SESSIONS", "JSON"), "FILES"),
-    "CONFIG": "LINKS",
-    "FAULTS": "NET",
-    "SWEEPS": "CAPTURE",
-    "SHARES": "SPEC",
-    "THREADS": "EMBEDDING",
-    **dict.fromkeys(("CALLERS", "CHOICES"), "DECISIONS"),
-    "RATES": "PERFORMANCE",
-}
+PAGES = """FORMATS=FILES HISTORIES=FILES SESSIONS=FILES JSON=FILES CONFIG=LINKS FAULTS=NET SWEEPS=CAPTURE SHARES=SPEC THREADS=EMBEDDING
+CALLERS=DECISIONS CHOICES=DECISIONS RATES=PERFORMANCE"""
+MOVED = dict(pair.split("=") for pair in PAGES.split())  # pages that versions up to 1.7 had, and the page that has their contents
 
 
 def folder_of_pages() -> Path:
@@ -55,6 +48,9 @@ def page_named(folder: Path, name: str) -> str:
     if key not in pages:
         near = difflib.get_close_matches(key, pages, 1)
         text = f"did you mean `hinge docs {near[0]}`?" if near else "`hinge docs` names them."
+        from hinge.__main__ import COMMANDS  # which a wrong name alone needs
+
+        text = f"`hinge help {name}` describes it." if name in COMMANDS else text
         raise Fault(f"no page {name!r}; {text}", USAGE)
     return pages[key].read_text(encoding="utf-8")
 

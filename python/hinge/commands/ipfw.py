@@ -37,7 +37,7 @@ def main() -> None:
     line.add_argument("-o", metavar="FILE", help="the configuration (default: standard output)")
     answer = of_ipfw(sys.argv[1:]) if not any(map(os.path.exists, sys.argv[1:])) else None
     if answer is not None:
-        line.error(f"it reads files, and a line of ipfw is written so: {answer.write}")
+        line.error(f"it reads files, and this is a line of ipfw; {answer.text()}")
     arguments = line.parse_args()
     refuse_inputs((arguments.o,), arguments.files)
     conversion = Conversion()

@@ -6,17 +6,7 @@ import os
 import shlex
 import sys
 
-from hinge.arguments import (
-    MODEL_NAMES,
-    PICTURE_FLOWS,
-    SOURCE,
-    TABLE_FLOWS,
-    LookOptions,
-    add_flows,
-    add_source,
-    bounded,
-    file_of,
-)
+from hinge.arguments import MODEL_NAMES, PICTURE_FLOWS, SOURCE, TABLE_FLOWS, LookOptions, add_flows, add_source, bounded, file_of
 from hinge.border.terminal import lines
 from hinge.command import MISSING, STATUSES, Fault, numpy, parser
 from hinge.command_line import Parser

@@ -11,7 +11,7 @@ from hinge.command import parser
 from hinge.command_line import Parser
 from hinge.events.forms import help_lines
 from hinge.foreign_options import OF_LINK
-from hinge.run.options import add_options_of_run, mtu, seed
+from hinge.run.options import add_foreign, mtu, seed
 from hinge.run.settings import NetOptions
 from hinge.simulated.failures import repeated_net
 from hinge.simulated.time_options import add_simulated
@@ -40,12 +40,13 @@ words of FILE, one line each (hinge docs NET):
 OF_RUN = {
     "--to": "--outside-loopback HOST, where HOST finds this system's port at 10.9.0.2:{}",
     "--link": "a line `link A B {}` in FILE",
+    **dict.fromkeys(("--up", "--down"), "a line `link A B LINK / LINK` in FILE, where {} is one of them"),
+    **dict.fromkeys(("-o", "--output", "--graph", "--plot"), "--transcripts FOLDER, and hinge look FOLDER -o FILE.png"),
     "--preset": "a line `link A B preset {}` in FILE",
-    "--loss": "a line `loss A B {}` in FILE",
+    "--loss": "{} in a line `link`, or a line `loss A B gilbert:0.01,0.3` in FILE",
     "--timeline": "lines as `at 5s A B 1Mbit/s` in FILE",
     "--topo": "lines `host h1`, `host h2` and `link h1 h2 10Mbit/s 20ms` in FILE",
     "--seeds": "hinge search FILE --seeds {}",
-    **dict.fromkeys(("--duration", "--time", "--timeout"), "timeout {0} before hinge net, or --limit {0} of simulated time"),
     **dict.fromkeys(OF_LINK, "a line `link A B 10Mbit/s 20ms loss 1%` in FILE"),
 }
 EXAMPLE = """\
@@ -86,7 +87,7 @@ def options() -> Parser:
     line.yields("--outside", "--outside-loopback")
     line.yields("--stay", "--while-open")
     add_simulated(line)
-    add_options_of_run(line, OF_RUN)
+    add_foreign(line, OF_RUN)
     return line
 
 

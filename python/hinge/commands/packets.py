@@ -149,6 +149,8 @@ def command_line() -> PacketsOptions:
     line.add_argument("--index", metavar="FILE", help="write the frame number of each row, for `hinge look --capture`")
     line.needs("--rate", "--mtu")
     arguments = line.parse_args()
+    if (arguments.o or "").endswith((".pcap", ".pcapng", ".png", ".html")):
+        line.error(f"-o {arguments.o}: a packet file is a table; write -o {arguments.o.rpartition('.')[0]}.csv")
     targets = [target for target, _ in arguments.loss]
     if len(targets) > len({*targets}):
         line.error("--loss: a second model of one pipe or queue; write one of them")

@@ -17,7 +17,7 @@ from hinge.command import FILES, parser
 from hinge.command_line import Parser
 from hinge.checks.lines import refuse_wrong
 from hinge.run.host import Link, program
-from hinge.run.options import add_link, add_options_of_run, add_run
+from hinge.run.options import add_link, add_run
 from hinge.run.order import Order, note_realtime, order_of, report
 from hinge.run.page import Page
 from hinge.run.processes import Processes, Ticker
@@ -27,7 +27,7 @@ from hinge.run.system import Missing
 from hinge.run.watch import Watch
 from hinge.replays.units import socket_address
 from hinge.run.words import Wrong, read_lines
-from hingetulip_words.link import corrected
+from hingetulip_words.link import Place, corrected
 
 LONGEST = 1500  # bytes of a packet, by which outages are reckoned
 SIGNALS = {signal.SIGCHLD, signal.SIGTERM, signal.SIGHUP, signal.SIGINT}
@@ -75,10 +75,11 @@ def links_in_order(words: list[str]) -> list[str]:
     """Returns the configuration lines. A LINK with a space is a line, otherwise a file. Wrong: it is a link's words."""
     lines = list[str]()
     for word in words:
-        if " " in word:
+        link = None if os.path.exists(word) else corrected(word, Place.RUN)
+        if " " in word and not link:
             new = word.splitlines()
             refuse_wrong(new, [0] * len(new), "", "LINK")
-        elif link := None if os.path.exists(word) else corrected(word):
+        elif link:
             raise Wrong(f"LINK: {word!r} isn't a line or a file of lines; write --link {shlex.quote(link)}")
         else:
             new = [*read_lines(word)]
@@ -101,9 +102,8 @@ def options() -> Parser:
     line.add_argument(
         "links", nargs="*", default=[], metavar="LINK", help="a configuration line, or a file of such lines, as --line and --config"
     )
-    add_link(line)
+    add_link(line, OF_RUN)
     add_run(line.add_argument_group("the run"))
-    add_options_of_run(line, OF_RUN)
     return line
 
 

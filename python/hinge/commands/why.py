@@ -31,15 +31,10 @@ def main() -> None:
     numbers = list(takewhile(str.isdecimal, arguments.source))
     files, config = arguments.source[len(numbers) :], arguments.config
     if not numbers:
-        from hinge.replays.record_lines import is_history_file
-
-        right = (
-            " ".join(sorted(files, key=str.isdecimal, reverse=True)) if any(map(str.isdecimal, files)) else f"1 {' '.join(files)}"
-        )
-        is_source = os.path.isdir(files[0]) or len(files) > 1 or not os.path.exists(files[0]) or is_history_file(files[0])
-        line.error(f"{files[0]!r} isn't the number of a row" + f"; write hinge why {right}" * is_source)
+        right = "; write hinge why ROW SOURCE, with a number from 1 on for ROW" * (not any(map(os.path.exists, files)))
+        line.error(f"{files[0]!r} isn't the number of a row{right}")
     if not files:
-        line.error("behind the rows comes a history, or a packet file and its report")
+        line.error(f"behind the rows comes {SOURCE}")
     if len(files) == 3 and config is None:
         config, *files = files
     try:

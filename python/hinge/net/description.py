@@ -15,6 +15,7 @@ from hinge.run.words import Wrong, bytes_of_mtu, placed
 
 NAME = re.compile(r"[A-Za-z][A-Za-z0-9-]{0,62}", re.ASCII)
 TAKEN = {"localhost", "from", *WORDS_OF_EVENTS}
+MOST_NAMED = 10  # hosts of a refusal
 KEYWORDS = {"at", "of", "every", "for", "until", "to", "and", *TAKEN}  # for which nobody means a host
 HOST, MAIN, ROUTER = "host NAME [COMMAND]", "main NAME [COMMAND]", "router NAME [COMMAND]"
 MTU, ROUTES = "mtu A B [N] BYTES", "routes none"
@@ -98,10 +99,9 @@ class Description:
     def host(self, statement: Statement, form: str) -> str:
         name = statement.take(form)
         if name not in self.hosts:
-            is_of_file = statement.number > 0  # and not a word of `hinge change`, which can't add a host
-            raise statement.unknown(
-                name, self.hosts, NO_HOST, f"write host {name}" * bool(is_of_file and NAME.fullmatch(name) and name not in KEYWORDS)
-            )
+            may_be = statement.number > 0 and statement.word != "at" and NAME.fullmatch(name) and name not in KEYWORDS
+            hosts = f"it has {', '.join(list(self.hosts)[:MOST_NAMED])}"
+            raise statement.unknown(name, self.hosts, NO_HOST, f"write host {name}" if may_be else hosts)
         return name
 
     def is_room(self, name: str) -> bool:

@@ -6,12 +6,11 @@ import os
 import re
 import shlex
 import shutil
-from itertools import takewhile
 from typing import Iterator, Optional, Sequence
 
 from hinge.misplaced import kind_of, line_for
 from hinge.run.settings import RunOptions
-from hingetulip_words.link import corrected
+from hingetulip_words.link import link_before
 
 CLIENTS = """curl dig=bind9-dnsutils host=bind9-host iperf iperf3 mtr=mtr-tiny nc=netcat-openbsd ncat nslookup=bind9-dnsutils
 ping=iputils-ping socat ssh=openssh-client telnet traceroute wget"""
@@ -28,20 +27,18 @@ OWN = re.compile(r"(server|client|localhost|127\..*|::1|10\.8\..*|fd08:.*)", re.
 
 def link_as_command(command: Sequence[str]) -> Optional[str]:
     """Returns advice if the command begins with a link's words."""
-    words = list(takewhile(lambda word: word != "--", command))
-    if not words or shutil.which(words[0]):
-        return None
-    texts = [(count, corrected(" ".join(words[:count]))) for count in range(len(words), 0, -1)]
-    count, link = next((one for one in texts if one[1]), (0, None))
-    rest = [word for word in command[count:] if word != "--"]
-    return f"{words[0]!r} isn't a command; write --link {shlex.quote(link)} -- {' '.join(rest) or 'COMMAND'}" if link else None
+    link, rest = ("", []) if command and shutil.which(command[0]) else link_before(command)
+    return f"{command[0]!r} isn't a command; write --link {shlex.quote(link)} -- {' '.join(rest) or 'COMMAND'}" if link else None
 
 
 def lacking(command: Sequence[str]) -> Optional[str]:
     """Returns advice if the system lacks the command's program, or /etc/hosts, which is needed for the name `server`."""
     names, ways = list[str](), list[str]()
-    if command and os.path.isfile(command[0]) and not os.access(command[0], os.X_OK) and (kind := kind_of(command[0])):
-        return f"{command[0]} is {line_for('run', kind, command[0])}"
+    if command and os.path.isfile(command[0]) and not os.access(command[0], os.X_OK):
+        kind = kind_of(command[0])
+        is_program = kind in ("program", "empty", "")
+        what = f"not executable: {runnable(command[0])}" if is_program else line_for("run", kind, command[0])
+        return f"{command[0]} is {what}"
     if command and "/" not in command[0] and shutil.which(command[0], os.F_OK) is None:
         package = (PACKAGES | SERVERS).get(command[0])
         names.append(command[0] if package else f"{command[0]} on the path")
@@ -56,7 +53,8 @@ def runnable(name: str) -> str:
     """Returns advice on a file of this folder, or a command line in quotes, in the place of a program."""
     interpreter = {".py": "python3", ".sh": "sh"}.get(os.path.splitext(name)[1])
     if os.path.isfile(name):
-        return f"write ./{name}" if os.access(name, os.X_OK) else f"write {interpreter} {name}" if interpreter else ""
+        by_other = f"write {interpreter or 'chmod +x'} {name}"
+        return f"write ./{name}" if os.access(name, os.X_OK) else by_other
     return f"write sh -c {shlex.quote(name)}" if " " in name.strip() else ""
 
 

@@ -47,7 +47,7 @@ def loss_lines(text: str, link: int = 0) -> dict[int, str]:
         why = (
             str(wrong)
             if "twice" in str(wrong)
-            else f"none of gilbert:P,R[,B[,G]] and list:N,N-M{f'; write a rate in the link: 20ms loss {rate_of(text)}' * bool(rate_of(text))}"
+            else f"none of gilbert:P,R[,B[,G]] and list:N,N-M (examples: gilbert:0.01,0.3 and list:3,17-20){f'; write a rate in the link: 20ms loss {rate_of(text)}' * bool(rate_of(text))}"
         )
         raise Wrong(f"--loss {text}: {why}") from None
 

@@ -3,7 +3,7 @@
 from __future__ import annotations
 
 import argparse
-from typing import Any, NoReturn, Optional
+from typing import Any, Mapping, NoReturn, Optional
 
 from hinge.arguments import RULE, is_number
 from hinge.border.terminal import show
@@ -70,7 +70,9 @@ class Foreign(argparse.Action):
 
     def __call__(self, parser: argparse.ArgumentParser, namespace: argparse.Namespace, values: Any, option: Any = None) -> None:
         if self.const:
-            parser.error(f"{option}: write {self.const.format(values)}")
+            from hingetulip_words.link import corrected
+
+            parser.error(f"{option}: write {self.const.format(values and (corrected(values) or values))}")
         elif isinstance(parser, Parser):
             parser.foreign.append((option, values or ""))
 
@@ -87,26 +89,19 @@ class Model(argparse._AppendAction):
             super().__call__(parser, namespace, values, option)
 
 
-def add_foreign(parser: Parser) -> None:
-    for option in (*OF_LINK, *OPTIONS):
-        action = parser.add_argument(option, action=Foreign, default=argparse.SUPPRESS, help=argparse.SUPPRESS)
+def add_foreign(parser: Parser, table: Mapping[str, str]) -> None:
+    """Adds other tools' options, and those of `hinge run` in the table that another command refuses with advice of its own."""
+    for option in dict.fromkeys((*table, *OF_LINK, *OPTIONS)):
+        unseen = argparse.SUPPRESS
+        action = parser.add_argument(option, action=Foreign, const=table.get(option), default=unseen, help=unseen)
         action.nargs = None if OPTIONS.get(option, ("", True))[1] else 0
 
 
-def add_options_of_run(parser: Parser, table: dict[str, str]) -> None:
-    """Adds the options of `hinge run` that another command refuses with advice."""
-    for option, text in table.items():
-        parser.add_argument(option, action=Foreign, const=text, default=argparse.SUPPRESS, help=argparse.SUPPRESS)
-
-
-def add_link(parser: Parser) -> None:
-    add_foreign(parser)
+def add_link(parser: Parser, table: Optional[Mapping[str, str]] = None) -> None:
+    add_foreign(parser, table or {})
     link = parser.add_argument_group("the link")
     link.add_argument(
-        "--up",
-        metavar="LINK",
-        action=Joined,
-        help=f"towards the server, as '{' '.join(EXAMPLES)}': pipe 1".replace("%", "%%"),
+        "--up", metavar="LINK", action=Joined, help=f"towards the server, as '{' '.join(EXAMPLES)}': pipe 1".replace("%", "%%")
     )
     link.add_argument("--down", metavar="LINK", action=Joined, help="from the server: pipe 2")
     link.add_argument("--link", metavar="LINK", action=BothWays, default=argparse.SUPPRESS, help="both ways")

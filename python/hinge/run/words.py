@@ -3,7 +3,7 @@
 from __future__ import annotations
 
 import re
-from contextlib import contextmanager
+from contextlib import contextmanager, suppress
 from functools import lru_cache
 from typing import Callable, Iterator, NamedTuple, Optional
 
@@ -43,10 +43,15 @@ def placed(place: str) -> Iterator[None]:
 @contextmanager
 def read_as_change(line: str) -> Iterator[None]:
     """Replaces a timeline's error with the line to write, if known."""
+    from hinge.events.link_words import link_event  # which needs this module
+
     try:
         yield
     except Wrong:
-        if meant := line_meant(line, CHANGES):
+        (word, text), may_be = first_word(meant := line_meant(line, CHANGES)), False
+        with suppress(Wrong):
+            may_be = duration(word) >= 0 and bool(link_event(text, word))
+        if may_be:
             raise Wrong(f"{line!r}: not a change; write {meant}") from None
         raise
 

@@ -109,4 +109,4 @@ class Ipfw(unittest.TestCase):
         answers |= {"-f pipe flush": "hinge down NAME; a run ends with its COMMAND", "-S pipe list": "hinge status NAME"}
         for words, wanted in answers.items():
             done = run("ipfw", *words.split())
-            assert (done.returncode, done.stderr.rpartition("written so: ")[2]) == (2, f"{wanted}\n"), words
+            assert (done.returncode, done.stderr.partition("; write ")[2].rpartition(" (hinge docs ")[0]) == (2, wanted), words

@@ -175,7 +175,10 @@ class Options(unittest.TestCase):
                 plan_of(run_options([*words, "true"]), 1500)
         for option, (_, has_value) in OPTIONS.items():
             with self.subTest(option):
-                assert f"{option}: write " in refused([option, *["5ms"] * has_value, "true"])
+                said = refused([option, *["5"] * has_value, "true"])
+                assert f"{option}: write " in said
+                for text in re.findall("--map '.*' --line '.*?'", said):
+                    plan_of(run_options([*shlex.split(text.replace("RULE", "tcp")), "true"]), 1500)
 
     def test_all_foreign_options_of_a_line_get_one_answer(self) -> None:
         for words, wanted in (
@@ -184,10 +187,10 @@ class Options(unittest.TestCase):
             ("--delay 100ms --loss 5%", "--delay, --loss: write --link '100ms loss 5%'"),
             *((f"--loss {text}", f"--loss: write --link 'loss {share}%'") for text, share in (("0.05", 5), ("5", 5), (".5%", 0.5))),
             ("--bw 1MB/s", "--bw: write --link 8Mbit/s"),
-            ("--link 20ms --rtt 50ms", "--rtt: leave this out, as --link says '20ms'"),
+            ("--link 20ms --rtt 50ms", "--rtt: leave this out, as the link says '20ms'"),
             ("--rtt 40ms --pcap f", "--rtt, --pcap: write --link 20ms --transcript f, which `hinge look` draws"),
             ("--rtt 45ms", "--rtt: no link does: delay 22.5ms, as a link has whole milliseconds"),
-            ("--duration 10s", "--duration: write timeout 10s before COMMAND, or --real-limit 10s of simulated time"),
+            ("--duration 10s", "--duration: write timeout 10s before hinge, or --real-limit 10s of simulated time"),
             ("--trace f", "--trace: write --up-trace f --down-trace f"),
         ):
             assert f"error: {wanted}\n" in refused([*words.split(), "true"])
