@@ -76,6 +76,12 @@ PLANTS = [
     Plant("the text of the definitions", "the checker takes a list for its reverse", ("definitions", "checks"), file="tools/definitions/values.py",
           old="for item in reversed([*items]):", new="for item in [*items]:"),
     Plant("the source archive", "a setting of the user changes the bytes", ("gate/archive.py",), file="tools/release/source_archive.py", old="umask", new="umaks"),
+    Plant("plans of links", "a millisecond has 1,000 ns", ("gate/pytests.py", "tests/run/test_plan_files.py"), file="python/hinge/run/traces.py", old="MS = 10**6", new="MS = 10**3"),
+    Plant("the kit", "a line for a pipe is dropped", ("gate/pytests.py", "tests/kit_tests/test_ipfw.py"), file="python/hinge/configurations/ipfw_lines.py", old='"pipe"', new='"pip"'),
+    Plant("cases of the reference", "a lost packet met a full queue", ("gate/cases.py", PROGRAM, "1", "5"), "o = o.replace(b'lost,', b'full,')"),
+    Plant("replays by callers", "a packet has another number", ("oracle/callers_checks.py", PROGRAM, "1", "5"), "o = o.replace(b'out,1,', b'out,2,')"),
+    Plant("texts of entries from C", "a clock is ten times as late", ("gate/c_texts.py", PROGRAM, "1", "5"), "o = re.sub(rb'(?m)^(r,advanced,[1-9].*)$', rb'\\g<1>0', o)"),
+    Plant("rows of packet files from C", "the ports are exchanged", ("gate/c_rows.py",), file="tools/gate/c_library/rows.c", old="p->sport, p->dport", new="p->dport, p->sport"),
 ]
 # fmt: on
 

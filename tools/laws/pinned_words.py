@@ -8,7 +8,7 @@ A law says no more than its words. So each definition of dn_types that a law's s
 replies and events. crates/dn_laws/README.md has a table of them: words, and the functions and clauses that pin them. A row without
 a law has words that need none, since what they are made of is plain: types, and words of such rows. A word passes where the table
 has it once and its row holds. A row of laws holds if each law exists and uses a word in the row, and if a law uses each word. A
-word that no law uses, and a row that doesn't hold, fails.
+word that no law uses, and a row that doesn't hold, fails. So does a clause that docs/TRUST.md doesn't state in its table of laws.
 """
 
 from __future__ import annotations
@@ -20,7 +20,7 @@ from typing import Dict, List, NamedTuple, Set, Tuple
 
 from lines_to_believe import WORD, Definitions, Key, imports_of, read_specs
 
-HEADING = "### Words of the laws"
+HEADING, STATED = "### Words of the laws", "## The laws (dn_laws)"
 CONTRACT = re.compile(r"^pub fn (\w+)\([^)]*\)\n(.*?)^\{\}", re.M | re.S)
 CLAUSE = re.compile(r"ensures (\w*) ?\{ (.*) \}")
 TYPE = re.compile(r"^(pub (record|data) |abbrev pub \w+ : Type 0$)")
@@ -105,6 +105,22 @@ def faults_of(row: Row, laws: Dict[Clause, Set[str]], definitions: Definitions, 
     return missing + idle + [f"no law of its row uses `{word}`" for word in row.words if word not in used]
 
 
+def faults_of_page(text: str, laws: Set[Clause]) -> List[str]:
+    """Returns the clauses that the page's table of laws lacks, and those that it has for a function without them."""
+    stated: Set[Clause] = set()
+    for line in text.partition(STATED)[2].splitlines():
+        cells = line.split("|")
+        if len(cells) == 6:
+            functions = re.findall(r"`(\w+)`", cells[3])
+            clauses = cells[4].split(";") if len(functions) > 1 else cells[4:5]
+            stated |= {(function, name) for function, names in zip(functions, clauses) for name in re.findall(r"`(\w+)`", names)}
+    named = {clause for clause in laws if clause[1]}
+    return [
+        *(f"docs/TRUST.md doesn't state `{name}` of `{function}`" for function, name in sorted(named - stated)),
+        *(f"docs/TRUST.md states `{name}` of `{function}`, which has no such clause" for function, name in sorted(stated - named)),
+    ]
+
+
 def main(arguments: List[str]) -> int:
     """Prints the failures and the number of passing words; returns the status."""
     top = Path(__file__).resolve().parents[2]
@@ -123,6 +139,7 @@ def main(arguments: List[str]) -> int:
     faults += [
         f"no law uses `{word}`, or it is there twice" for word in sorted(set(told)) if word not in reached or told.count(word) > 1
     ]
+    faults += faults_of_page((top / "docs" / "TRUST.md").read_text(), set(laws))
     print(*faults, sep="\n", end="\n" if faults else "")
     print(f"{len(reached & set(told))} passed, {len(faults)} failed")
     return 1 if faults else 0

@@ -88,7 +88,7 @@ def is_named(name: str, text: str) -> bool:
     """Returns whether a text uses an imported name, and doesn't declare it."""
     here = name.rpartition(" ")[2]
     word = rf"(?<!\S){re.escape(here[1:-1])}(?!\S)" if here.startswith("◌") else rf"(?<![\w.'-]){re.escape(here)}(?![\w'-])"
-    return re.search(word, text) is not None and not re.search(rf"(?m)^\s*(?:abbrev )?{re.escape(here)} :", text)
+    return re.search(word, text) is not None and not re.search(rf"(?m)^\s*(?:abbrev )?(?:pub )?{re.escape(here)} :", text)
 
 
 def with_imports(text: str, base: Base) -> str:
