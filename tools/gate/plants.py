@@ -80,8 +80,6 @@ PLANTS = [
     Plant("the kit", "a line for a pipe is dropped", ("gate/pytests.py", "tests/kit_tests/test_ipfw.py"), file="python/hinge/configurations/ipfw_lines.py", old='"pipe"', new='"pip"'),
     Plant("cases of the reference", "a lost packet met a full queue", ("gate/cases.py", PROGRAM, "1", "5"), "o = o.replace(b'lost,', b'full,')"),
     Plant("replays by callers", "a packet has another number", ("oracle/callers_checks.py", PROGRAM, "1", "5"), "o = o.replace(b'out,1,', b'out,2,')"),
-    Plant("texts of entries from C", "a clock is ten times as late", ("gate/c_texts.py", PROGRAM, "1", "5"), "o = re.sub(rb'(?m)^(r,advanced,[1-9].*)$', rb'\\g<1>0', o)"),
-    Plant("rows of packet files from C", "the ports are exchanged", ("gate/c_rows.py",), file="tools/gate/c_library/rows.c", old="p->sport, p->dport", new="p->dport, p->sport"),
 ]
 # fmt: on
 
