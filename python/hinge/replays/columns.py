@@ -2,9 +2,10 @@
 
 from __future__ import annotations
 
+import contextlib
+import mmap
 import os
 from array import array
-from contextlib import contextmanager
 from dataclasses import dataclass
 from itertools import islice
 from typing import Any, BinaryIO, Callable, Iterable, Iterator, NamedTuple, Optional, Sequence, TypeVar, Union, cast, overload
@@ -107,8 +108,16 @@ class Answer:
         self.fill(memoryview(numbers).cast("B"))
         return numbers
 
+    def pages(self, size: int) -> "Union[bytearray, mmap.mmap]":
+        """Returns so many bytes, in large pages where the system has them."""
+        data = mmap.mmap(-1, size, mmap.MAP_PRIVATE) if size else bytearray()
+        with contextlib.suppress(AttributeError, OSError):
+            data.madvise(mmap.MADV_HUGEPAGE)  # type: ignore[union-attr]
+        self.fill(memoryview(data))
+        return data
+
     def columns(self, count: int, widths: Widths) -> dict[str, Integers]:
-        return {name: np.frombuffer(self.bytes(count * int(width[1])), width) for name, width in widths.items()}
+        return {name: np.frombuffer(self.pages(count * int(width[1])), width) for name, width in widths.items()}
 
     def targets(self, count: int) -> list[tuple[str, int]]:
         return [(KINDS[item & 1], item >> 1) for item in self.numbers(count)]
@@ -129,7 +138,7 @@ class Quoted(Exception):
     """Raised for a file with quotes, which the program doesn't read in this way."""
 
 
-@contextmanager
+@contextlib.contextmanager
 def asked(source: BinaryIO, words: Iterable[str], refuse: Callable[[int, str], object]) -> Iterator[Answer]:
     """Yields the program's answer about a file."""
     with begun([packets(), "columns", *words], stdin=source, stdout=PIPE, stderr=PIPE) as program:
@@ -185,12 +194,13 @@ class Tuples:
 
     def number_of(self, addresses: int, ports: int) -> int:
         """Returns the number of the five-tuple with these words, or -1."""
-        places = np.flatnonzero((np.array(self.words[::2]) == addresses) & (np.array(self.words[1::2]) == ports))
+        words = np.frombuffer(self.words, "i8")
+        places = np.flatnonzero((words[::2] == addresses) & (words[1::2] == ports))
         return int(places[0]) if len(places) else -1
 
     def columns(self) -> list[Integers]:
         """Returns the addresses, protocols and ports of all flows."""
-        addresses, ports = (np.array(self.words[place::2], "i8") for place in (0, 1))
+        addresses, ports = (np.frombuffer(self.words, "i8")[place::2] for place in (0, 1))
         return [addresses >> 32 & 0xFFFFFFFF, addresses & 0xFFFFFFFF, ports >> 48, ports >> 32 & 0xFFFF, ports >> 16 & 0xFFFF]
 
 

@@ -148,8 +148,7 @@ class LinkOrder:
         packets."""
         replay, packets = self.parts.replay, self.parts.replay.packets
         seconds_of = [kind == "pipe" and number > LAST_OF_LINKS for kind, number in packets.targets]
-        is_again = np.array([*seconds_of, False])[packets.target] & (packets.word == KEPT)
-        if not is_again.any():
+        if not any(seconds_of) or not (is_again := np.array(seconds_of)[packets.target] & (packets.word == KEPT)).any():
             return {}
         records = np.concatenate((replay.submitted, replay.handed[replay.is_out]))
         places = np.concatenate((np.arange(len(packets)), -1 - np.flatnonzero(replay.is_out)))
