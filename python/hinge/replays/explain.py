@@ -2,8 +2,8 @@
 
 from __future__ import annotations
 
-from dataclasses import dataclass
-from itertools import takewhile
+from dataclasses import dataclass, field
+from itertools import islice, takewhile
 from typing import Callable, Optional
 
 from hinge.command import ROWS, Fault
@@ -22,11 +22,16 @@ LOW_31_BITS = LOSS_PARTS - 1
 BYTES_PER_KBYTE = 1024
 
 
+def loss_of(setting: Setting) -> int:
+    return setting.loss
+
+
 @dataclass
 class Explainer:
     """Explains rows of one replay."""
 
     parts: Parts
+    whiles: dict[tuple[int, Callable[[Setting], int]], str] = field(default_factory=dict)  # by spells
 
     def __post_init__(self) -> None:
         self.replay = self.parts.replay
@@ -80,10 +85,12 @@ class Explainer:
 
     def while_so(self, number: int, value: Callable[[Setting], int]) -> str:
         """Describes the same in words; an empty text if the value never changed."""
-        begin, end = self.time_of(number, value)
-        if begin is None:
-            return "" if end is None else f"in force until {seconds(end)}"
-        return f"in force from {seconds(begin)} {'on' if end is None else f'to {seconds(end)}'}"
+        if (number, value) not in self.whiles:
+            begin, end = self.time_of(number, value)
+            until = "" if end is None else f"in force until {seconds(end)}"
+            since = "" if begin is None else f"in force from {seconds(begin)} {'on' if end is None else f'to {seconds(end)}'}"
+            self.whiles[number, value] = since or until
+        return self.whiles[number, value]
 
     def is_outage(self, place: int) -> bool:
         return bool(self.packets.five_tuple[place] == self.parts.of_nobody and self.packets.word[place] == KEPT)
@@ -91,7 +98,7 @@ class Explainer:
     def shades(self, end: int) -> set[tuple[int, int]]:
         """From when to when a pipe lost all packets, which it didn't from the beginning, or held all."""
         lossy = [
-            self.time_of(number, lambda setting: setting.loss)
+            self.time_of(number, loss_of)
             for number, spell in enumerate(self.parts.configuration.spells)
             if spell.setting is not None and spell.setting.loss == LOSS_PARTS
         ]
@@ -171,8 +178,8 @@ class Explainer:
         if delay == 0:
             return "The link was free, so its transmission began at once."
         wait = self.order.wait(place)
-        if int(wait.costs.sum()) != delay:
-            raise self.parts.another(f"row {place + 1} would have waited {ms(int(wait.costs.sum()))}")
+        if sum(wait.costs) != delay:
+            raise self.parts.another(f"row {place + 1} would have waited {ms(sum(wait.costs))}")
         return f"It waited {ms(delay)} for {self.link_name(place)}: {'; '.join(self.waited_for(place, wait))}."
 
     def waited_for(self, place: int, wait: WaitedFor) -> list[str]:
@@ -182,30 +189,29 @@ class Explainer:
             first = int(wait.places[0])
             whose = f" of {self.flow_name(first)}" if self.parts.is_shared[place] else ""
             before = f"row {first + 1}{whose}, which was under transmission, had been sent"
-            lines.append(
-                f"{ms(int(wait.costs[0]))} until {f'the end of {self.outage(first)}' if self.is_outage(first) else before}"
-            )
-        places, costs = wait.places[int(wait.first_was_sending) :], wait.costs[int(wait.first_was_sending) :]
-        is_outage = (self.packets.five_tuple[places] == self.parts.of_nobody) & (self.packets.word[places] == KEPT)
-        lines += [f"{ms(cost)} for {self.outage(one)}" for one, cost in zip(places[is_outage].tolist(), costs[is_outage].tolist())]
-        places, costs = places[~is_outage], costs[~is_outage]
-        flows = self.replay.flow[places]
-        for flow in sorted(set(flows.tolist()), key=lambda flow: (flow != self.replay.flow[place], flow)):
-            choice = flows == flow
-            lines.append(self.group(place, places[choice], int(costs[choice].sum())))
-        return lines
+            lines.append(f"{ms(wait.costs[0])} until {f'the end of {self.outage(first)}' if self.is_outage(first) else before}")
+        columns = (column[wait.places].tolist() for column in (self.packets.five_tuple, self.packets.word, self.replay.flow))
+        waited, flows = zip(wait.places.tolist(), wait.costs, *columns), dict[int, dict[int, int]]()
+        for one, cost, five_tuple, word, flow in islice(waited, int(wait.first_was_sending), None):
+            if five_tuple == self.parts.of_nobody and word == KEPT:
+                lines.append(f"{ms(cost)} for {self.outage(one)}")
+            else:
+                flows.setdefault(flow, {})[one] = cost
+        own = int(self.replay.flow[place])
+        return [
+            *lines,
+            *(self.group(place, flow == own, flows[flow]) for flow in sorted(flows, key=lambda flow: (flow != own, flow))),
+        ]
 
-    def group(self, place: int, places: Integers, cost: int) -> str:
-        """Describes one flow's packets ahead of a packet."""
+    def group(self, place: int, is_own: bool, costs: dict[int, int]) -> str:
+        """Describes one flow's packets ahead of a packet, each with its cost."""
         if not self.parts.is_shared[place]:
             whose = "that came before it"
-        elif self.replay.flow[places[0]] == self.replay.flow[place]:
-            whose = f"of its own {self.flow_name(place)}"
         else:
-            whose = f"of {self.flow_name(int(places[0]))}"
-        later = int(np.count_nonzero(places > place))
-        which = "" if later == 0 else ", which came after it" if later == len(places) else f", {later:,} of which came after it"
-        return f"{ms(cost)} for {packets(len(places))} {whose}{which}: {rows((places + 1).tolist())}"
+            whose = f"of its own {self.flow_name(place)}" if is_own else f"of {self.flow_name(next(iter(costs)))}"
+        later = sum(one > place for one in costs)
+        which = "" if later == 0 else ", which came after it" if later == len(costs) else f", {later:,} of which came after it"
+        return f"{ms(sum(costs.values()))} for {packets(len(costs))} {whose}{which}: {rows(one + 1 for one in costs)}"
 
     # ---- packets that didn't ----
 
@@ -213,7 +219,7 @@ class Explainer:
         word, own = int(self.packets.word[place]), self.own(place)
         if word & LOW_31_BITS >= own.loss:
             raise self.parts.another(f"row {place + 1} would not have been lost")
-        in_force = self.while_so(int(self.parts.own[place]), lambda setting: setting.loss)
+        in_force = self.while_so(int(self.parts.own[place]), loss_of)
         if own.loss == LOSS_PARTS and in_force:
             return f"It was lost in a cut or a lossy outage: {self.target_name(place)} lost all packets {in_force.removeprefix('in force ')}."
         if word & LOW_31_BITS == LOST_WORD and own.loss == LOSS_PARTS // 2:
