@@ -3,6 +3,7 @@
 from __future__ import annotations
 
 import csv
+from itertools import chain
 from dataclasses import dataclass
 from typing import IO, Iterator, Optional, Union
 
@@ -94,11 +95,12 @@ def of_rows(replay: Replay, rows: Integers, flows: list[slice]) -> Iterator[Valu
 def of_delays(replay: Replay, parts: Optional[Parts], out: Integers, flows: list[slice]) -> Iterator[Value]:
     """Yields the figures of each flow's packets that left, and then those of all, without jitter. The parts of delays need the
     configuration."""
-    columns = (replay.packets.length, replay.at, replay.start, replay.due, *([parts.transmission] if parts else []))
-    sums = ([exact_sum(column[flow]) for flow in (*flows, WHOLE)] for column in (column[out] for column in columns))
-    due, packet = replay.due[out], replay.packet[out]
-    took = due - replay.at[out]
-    for flow, (size, at, start, end, *sending) in zip((*flows, WHOLE), [*zip(*sums)]):
+    came, due, packet = (column[out] for column in (replay.at, replay.due, replay.packet))
+    columns = (column[out] for column in (replay.packets.length, replay.start, *([parts.transmission] if parts else [])))
+    sums = [*zip(*([exact_sum(column[flow]) for flow in flows] for column in chain((came, due), columns)))]
+    all_sums = tuple(map(sum, zip(*sums))) or (0,) * (4 + bool(parts))
+    took = due - came
+    for flow, (at, end, size, start, *sending) in zip((*flows, WHOLE), (*sums, all_sums)):
         own, count = took[flow], len(took[flow])
         value: Value = {"carried_mbit_s": rate(size, due[flow]), "min_ns": int(own.min()) if count else None}
         value |= {"mean_ns": mean(end - at, count), **percentiles(own), "max_ns": int(own.max()) if count else None}

@@ -194,9 +194,8 @@ class Tuples:
 
     def number_of(self, addresses: int, ports: int) -> int:
         """Returns the number of the five-tuple with these words, or -1."""
-        words = np.frombuffer(self.words, "i8")
-        places = np.flatnonzero((words[::2] == addresses) & (words[1::2] == ports))
-        return int(places[0]) if len(places) else -1
+        places = np.flatnonzero(np.frombuffer(self.words, "i8")[1::2] == ports).tolist()
+        return next((place for place in places if self.words[2 * place] == addresses), -1)
 
     def columns(self) -> list[Integers]:
         """Returns the addresses, protocols and ports of all flows."""

@@ -150,8 +150,12 @@ class Parts:
     @cached_property
     def transmission(self) -> Integers:
         """Returns the transmission times in ns, rounded up; 0 if the bandwidth is unlimited."""
-        bits, bandwidth = self.replay.packets.length * -BITS_NS, self.bandwidth
-        return np.where(bandwidth > 0, -(bits // np.maximum(bandwidth, 1)), 0)
+        spells, length = self.configuration.spells, self.replay.packets.length
+        found = np.zeros(len(length), np.int64)
+        for spell, rows in zip(spells, places_of(self.carrier + 1, len(spells) + 1)[1:]):
+            if spell.setting and (bandwidth := bandwidth_of(spell.setting)):
+                found[rows] = -(length[rows] * -BITS_NS // bandwidth)
+        return found
 
     @cached_property
     def delay(self) -> Integers:
