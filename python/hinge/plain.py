@@ -125,10 +125,6 @@ def concatenate(rows: Iterable[Array]) -> Array:
     return Array(chain.from_iterable(rows))
 
 
-def ones(count: int, dtype: object = None) -> Array:
-    return full(count, True if dtype is bool else 1)
-
-
 def where(choice: Array, one: Any, other: Any) -> Array:
     return Array(this if is_so else that for is_so, this, that in zip(choice, each(one), each(other)))
 

@@ -6,7 +6,7 @@ import os
 import socket
 from array import array
 from contextlib import ExitStack, contextmanager, suppress
-from functools import cached_property
+from functools import cache, cached_property
 from struct import Struct
 from typing import BinaryIO, Callable, Iterator, NamedTuple, Optional, Sequence, cast
 
@@ -89,7 +89,7 @@ class Capture:
         self.frame_count, self.packet_count, self.long, self.is_cut, addresses, flows = HEAD.unpack(
             self.whole(HEAD.size, f"{name}: ")
         )
-        self.ends = self.whole(ADDRESS.size * addresses)
+        self.ends, self.address = self.whole(ADDRESS.size * addresses), cache(self.address_of)
         self.flows = self.whole(FLOW.size * flows)
         self.items = self.whole(FRAME.size * self.packet_count) if by_frame else None
 
@@ -104,7 +104,7 @@ class Capture:
             raise Fault(prefix + (text if status == FAULT else f"{NAME} {how_ended(status)}"), ROWS)
         return data
 
-    def address(self, number: int) -> str:
+    def address_of(self, number: int) -> str:
         address, is_six = ADDRESS.unpack_from(self.ends, number * ADDRESS.size)
         return socket.inet_ntop(*((socket.AF_INET6, address) if is_six else (socket.AF_INET, address[12:])))
 

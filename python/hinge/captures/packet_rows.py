@@ -18,8 +18,8 @@ HEADER = "moment,target,number,src,dst,proto,sport,dport,len,word"
 def warnings(meetings: Iterable[tuple[int, str, str]]) -> Iterator[str]:
     """Yields a warning for each pipe or queue that both directions of two hosts use."""
     of_targets = dict[int, list[tuple[str, str]]]()
-    for target, *hosts in meetings:
-        of_targets.setdefault(target, []).append(hosts)
+    for target, first, second in meetings:
+        of_targets.setdefault(target, []).append((first, second))
     for target, pairs in of_targets.items():
         first, second = min(pairs)
         others = f" and of {len(pairs) - 1:,} other pairs" if len(pairs) > 1 else ""

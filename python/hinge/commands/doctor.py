@@ -93,11 +93,6 @@ def modules(**packages: str) -> Finding:
     return Finding(f"Python lacks {', '.join(lacking)}", tuple(lacking.values())) if lacking else Finding()
 
 
-def load_all() -> None:
-    """Loads the modules beside other trials, which then find them loaded, or wait until they are."""
-    modules(numpy="", matplotlib="", pytest="")
-
-
 def is_loaded(name: str, package: str) -> bool:
     """Returns whether a module loads. One that is there may be broken, so that a look for its file isn't enough."""
     try:
@@ -163,7 +158,8 @@ def install(packages: list[str]) -> Optional[str]:
 def main() -> None:
     parser(WHAT, "hinge doctor", "0 links in real time work, 7 they don't").parse_args()
     packages, works = list[str](), True
-    Thread(target=load_all, daemon=True).start()  # while the runs are waited for
+    loaded = {"numpy": "", "matplotlib": "", "pytest": ""}  # while the runs are waited for
+    Thread(target=modules, kwargs=loaded, daemon=True).start()
     for what, look in TRIALS.items():
         show(line_of(what, finding := look()))
         sys.stdout.flush()

@@ -168,7 +168,8 @@ def thinned(places: Integers, replay: Replay, most: int) -> Integers:
     order = np.argsort(stretch, kind="stable")
     begins, took = np.flatnonzero(np.diff(stretch[order], prepend=-1)), took[order]
     counts = np.diff(np.append(begins, len(order)))
-    low, high = (np.flatnonzero(took == np.repeat(extreme.reduceat(took, begins), counts)) for extreme in (np.minimum, np.maximum))
+    extremes = np.minimum.reduceat(took, begins), np.maximum.reduceat(took, begins)
+    low, high = (np.flatnonzero(took == np.repeat(extreme, counts)) for extreme in extremes)
     ends = np.union1d(low[np.searchsorted(low, begins)], high[np.searchsorted(high, begins + counts) - 1])
     return np.union1d(spread(places, most // 2), places[order[ends]])
 

@@ -6,7 +6,7 @@ import io
 import os
 from typing import Callable, Iterator, Optional
 
-from hinge.border.files import MOST_TABLE, lines_of, opened, read_object, untrusted
+from hinge.border.files import MOST_TABLE, lines_of, opened, read_front, read_object, untrusted
 from hinge.command import ROWS, Fault
 from hinge.paths.folder import NET, NO_SUMMARY, session_of
 from hinge.plans.asked import OfRun, asked_of
@@ -16,6 +16,7 @@ from hinge.plans.of_hosts import MS
 from hinge.plans.spelling import Unread
 from hinge.run.transcripts import files_of
 
+FRONT = 1 << 16  # bytes in which a run repeats its words, behind the seeds of its ways
 FIRST = ("#,main,", "#,drawn,", "#,asked,", "#,format,")  # remarks that a meaning is of
 Remarks = dict[str, list[str]]
 
@@ -39,8 +40,11 @@ def judged(session: str, path: Optional[str] = None, limit: Optional[int] = None
     return judged_by(file, files, lambda remarks: meaning_of_net(file, told.get("main"), remarks), limit)
 
 
-def judged_run(path: str) -> Judge:
-    """Returns the check of a run's transcript by its recorded words. Fault: the transcript can't be checked."""
+def judged_run(path: str) -> Optional[Judge]:
+    """Returns the check of a run's transcript by its recorded words; None for transcripts from older versions, which contain no
+    words. Fault: the transcript can't be checked."""
+    if b"\n#,asked," not in read_front(path, FRONT):
+        return None
     return judged_by(
         "the words of its command line", files_of(path), lambda remarks: OfRun([*map(asked_of, remarks["asked"])]).read(), 0
     )

@@ -5,7 +5,6 @@ from __future__ import annotations
 import contextlib
 import mmap
 import os
-from array import array
 from dataclasses import dataclass
 from itertools import islice
 from typing import Any, BinaryIO, Callable, Iterable, Iterator, NamedTuple, Optional, Sequence, TypeVar, Union, cast, overload
@@ -20,6 +19,7 @@ from hinge.program import packets
 from hinge.replays.record_lines import rows_of, without_quotes
 
 GREATEST = 2**63 - 1  # of a number of 63 bits
+MANY = 1 << 20  # bytes
 QUOTED, FAULT, SYSTEM, BAD_HEADER, BAD_ROW, TOO_LONG = 3, 4, (5, 6), 8, 9, 10  # the statuses with which it ends
 EVENTS = NONE, FULL, LOST, HELD, OUT = range(5)
 EVENT_NAMES = ("none", "full", "lost", "held", "out")
@@ -98,26 +98,19 @@ class Answer:
             text = cast(BinaryIO, self.program.stderr).read().decode(errors="replace")
             self.refuse(self.program.wait(), text)
 
-    def bytes(self, size: int) -> bytearray:
-        data = bytearray(size)
-        self.fill(memoryview(data))
-        return data
-
-    def numbers(self, count: int) -> "array[int]":
-        numbers = array("q", [0]) * count
-        self.fill(memoryview(numbers).cast("B"))
-        return numbers
-
-    def pages(self, size: int) -> "Union[bytearray, mmap.mmap]":
-        """Returns so many bytes, in large pages where the system has them."""
-        data = mmap.mmap(-1, size, mmap.MAP_PRIVATE) if size else bytearray()
+    def bytes(self, size: int) -> memoryview:
+        """Returns so many bytes; many are in large pages where the system has them."""
+        data: Any = mmap.mmap(-1, size, mmap.MAP_PRIVATE) if size >= MANY else bytearray(size)
         with contextlib.suppress(AttributeError, OSError):
-            data.madvise(mmap.MADV_HUGEPAGE)  # type: ignore[union-attr]
-        self.fill(memoryview(data))
-        return data
+            data.madvise(mmap.MADV_HUGEPAGE)
+        self.fill(view := memoryview(data))
+        return view
+
+    def numbers(self, count: int) -> memoryview:
+        return self.bytes(8 * count).cast("q")
 
     def columns(self, count: int, widths: Widths) -> dict[str, Integers]:
-        return {name: np.frombuffer(self.pages(count * int(width[1])), width) for name, width in widths.items()}
+        return {name: np.frombuffer(self.bytes(count * int(width[1])), width) for name, width in widths.items()}
 
     def targets(self, count: int) -> list[tuple[str, int]]:
         return [(KINDS[item & 1], item >> 1) for item in self.numbers(count)]
@@ -186,7 +179,7 @@ def read_columns(
 class Tuples:
     """Five-tuples as two words each: addresses; protocol and ports."""
 
-    words: "array[int]"
+    words: memoryview
 
     def numbers(self, place: int) -> tuple[int, int, int, int, int]:
         addresses, ports = self.words[2 * place] & (1 << 64) - 1, self.words[2 * place + 1]
@@ -297,7 +290,7 @@ def read_told(path: str, kind: str, widths: Widths) -> Told:
     def take(answer: Answer) -> Told:
         count, targets, tuples, changes, remarks, records, first, last_line, is_whole = answer.numbers(9)
         kinds, five = answer.targets(targets), Tuples(answer.numbers(2 * tuples))
-        lines = answer.bytes(changes).decode("utf-8", "replace").split("\n")[:-1]
+        lines = str(answer.bytes(changes), "utf-8", "replace").split("\n")[:-1]
         told = [(int(record), int(moment), text) for record, moment, text in (line.split(",", 2) for line in lines)]
         text = bytes(answer.bytes(remarks))
         return Told(Rows(answer.columns(count, widths), kinds, five), told, text, records, first, last_line, bool(is_whole))

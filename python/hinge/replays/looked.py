@@ -6,13 +6,12 @@ import sys
 from typing import Optional
 
 from hinge.arguments import TABLE_FLOWS, LookOptions
-from hinge.border.files import read_front
 from hinge.border.terminal import show, standard_output
 from hinge.command import say
 from hinge.outputs import CAPTURES, PICTURES, Format, refuse_inputs, write_json
 from hinge.pictures.figures import Figures, table_of, write_csv
 from hinge.pictures.text_table import write_bounds, write_text
-from hinge.replays.history import FRONT, read_sources
+from hinge.replays.history import read_sources
 from hinge.replays.remarks import KINDS
 from hinge.replays.source import Source, seen
 from hinge.run.summary import FORMAT
@@ -61,16 +60,13 @@ def tell_of(source: Source, options: LookOptions, head: str) -> None:
 
 
 def judge_run(path: str) -> None:
-    """Checks whether a run followed its words, and ends the process with a special status if not. Transcripts from older versions
-    contain no words."""
-    if b"\n#,asked," not in read_front(path, FRONT):
-        return
+    """Checks whether a run followed its words, and ends the process with a special status if not."""
     from hinge.plans.sessions import judged_run
 
     judge = judged_run(path)
-    for text in judge.lines_told():
+    for text in judge.lines_told() if judge else ():
         say(text)
-    if judge.faults:
+    if judge and judge.faults:
         sys.exit(DIFFERENT)
 
 
@@ -87,5 +83,5 @@ def look(options: LookOptions, most_reports: int) -> None:
         tell_of(source, options, head)
     for remark in sources[0].remarks():
         say(remark)
-    if len(options.source) == 1:
+    if sources[0].words:  # as each run since version 2 has
         judge_run(options.source[0])
