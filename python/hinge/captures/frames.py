@@ -110,7 +110,7 @@ class Capture:
 
     @cached_property
     def keys(self) -> list[int]:
-        """The addresses as numbers of IPv6, which only rules about hosts need."""
+        """Returns the addresses as IPv6 numbers, which only rules about hosts need."""
         both = ADDRESS.iter_unpack(self.ends)
         return [int.from_bytes(it, "big") if six else MAPPED | int.from_bytes(it[12:], "big") for it, six in both]
 
@@ -130,7 +130,7 @@ class Capture:
 
     def write(self, targets: "array[int]") -> tuple[Counts, list[str], list[tuple[int, str, str]]]:
         """Writes the rows of `frames` for these targets (0: no target). Returns the counts, the stand-ins' IPv6 addresses, and the
-        meetings: a target and two hosts, of which the first sends first."""
+        meetings: a target, the host that sends first, and the other host."""
         questions = cast(BinaryIO, self.program.stdin)
         with suppress(BrokenPipeError):
             questions.write(targets.tobytes())

@@ -158,8 +158,8 @@ def install(packages: list[str]) -> Optional[str]:
 def main() -> None:
     parser(WHAT, "hinge doctor", "0 links in real time work, 7 they don't").parse_args()
     packages, works = list[str](), True
-    loaded = {"numpy": "", "matplotlib": "", "pytest": ""}  # while the runs are waited for
-    Thread(target=modules, kwargs=loaded, daemon=True).start()
+    names = {"numpy": "", "matplotlib": "", "pytest": ""}  # which load while runs are waited for
+    Thread(target=modules, kwargs=names, daemon=True).start()
     for what, look in TRIALS.items():
         show(line_of(what, finding := look()))
         sys.stdout.flush()

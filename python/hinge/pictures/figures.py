@@ -10,12 +10,11 @@ from typing import IO, Iterator, Optional, Union
 from hinge.arguments import TABLE_FLOWS
 from hinge.lazy import Integers, few as np
 from hinge.replays.columns import GREATEST
-from hinge.replays.groups import group, ordered, spans
+from hinge.replays.groups import group, order_of, spans
 from hinge.replays.links import Parts
 from hinge.replays.replay import EVENT_NAMES, FULL, HELD, LOST, NONE, OUT, Replay
 
 PERCENTILES = (50, 95, 99)
-LOW = (1 << 32) - 1
 RECENT = 1 << 9  # packets
 WHOLE = slice(None)
 Value = dict[str, Union[int, float, None]]
@@ -33,7 +32,7 @@ def exact_sum(column: Integers) -> int:
     """Returns a sum that may exceed the range of the column's numbers."""
     if len(column) * max(int(column.max(initial=0)), -int(column.min(initial=0))) <= GREATEST:
         return int(column.sum())
-    return (int((column >> 32).sum()) << 32) + int((column & LOW).sum())
+    return sum(column.tolist())
 
 
 def mean(total: int, count: int) -> Optional[int]:
@@ -55,7 +54,7 @@ def rate(size: int, moments: Integers) -> Optional[float]:
 
 
 def last_to_leave(due: Integers, packet: Integers, count: int) -> Integers:
-    """Returns the places of the last packets in the order in which they left."""
+    """Returns the last packets' places in the order of departure."""
     first = len(due) - count
     near = np.flatnonzero(due >= np.partition(due, [first])[first]) if first > 0 else np.arange(len(due))
     places: Integers = near[np.lexsort((packet[near], due[near]))][-count:]
@@ -84,7 +83,7 @@ def jitter_after(sixteenfold: int, delays: list[int]) -> int:
 
 
 def of_rows(replay: Replay, rows: Integers, flows: list[slice]) -> Iterator[Value]:
-    """Yields the figures of each flow's rows."""
+    """Yields each flow's figures for all rows."""
     event, length, at = (column[rows] for column in (replay.event, replay.packets.length, replay.at))
     for flow in flows:
         size = exact_sum(length[flow])
@@ -93,8 +92,8 @@ def of_rows(replay: Replay, rows: Integers, flows: list[slice]) -> Iterator[Valu
 
 
 def of_delays(replay: Replay, parts: Optional[Parts], out: Integers, flows: list[slice]) -> Iterator[Value]:
-    """Yields the figures of each flow's packets that left, and then those of all, without jitter. The parts of delays need the
-    configuration."""
+    """Yields each flow's figures for packets that left, and finally those for all flows, without jitter. The delays' parts need
+    the configuration."""
     came, due, packet = (column[out] for column in (replay.at, replay.due, replay.packet))
     columns = (column[out] for column in (replay.packets.length, replay.start, *([parts.transmission] if parts else [])))
     sums = [*zip(*([exact_sum(column[flow]) for flow in flows] for column in chain((came, due), columns)))]
@@ -117,7 +116,7 @@ def table_of(replay: Replay, parts: Optional[Parts], by: str = "tuple", top: int
     """Returns the figures for the largest flows, for the other flows together, and for all rows."""
     flows = group(replay, by).largest(replay.packets.length, top)
     count, is_out = len(flows.names), replay.is_out
-    rows = ordered(flows.of, count)
+    rows = order_of(flows.of, count)
     of_all = of_rows(replay, rows, [*spans(flows.of, count), WHOLE])
     of_those_out = of_delays(replay, parts, rows[is_out[rows]], spans(flows.of[is_out], count))
     return [Figures(name, {**one, **other}) for name, one, other in zip([*flows.names, "all"], of_all, of_those_out)]

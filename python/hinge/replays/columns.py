@@ -99,7 +99,7 @@ class Answer:
             self.refuse(self.program.wait(), text)
 
     def bytes(self, size: int) -> memoryview:
-        """Returns so many bytes; many are in large pages where the system has them."""
+        """Returns `size` bytes; many bytes use large pages, if the system has them."""
         data: Any = mmap.mmap(-1, size, mmap.MAP_PRIVATE) if size >= MANY else bytearray(size)
         with contextlib.suppress(AttributeError, OSError):
             data.madvise(mmap.MADV_HUGEPAGE)

@@ -2,13 +2,13 @@
 
 from __future__ import annotations
 
-from dataclasses import dataclass, field
+from dataclasses import dataclass
 from itertools import islice, takewhile
 from typing import Callable, Optional
 
 from hinge.command import ROWS, Fault
 from hinge.configurations.configured import Pipe, Queue, Setting
-from hinge.lazy import Integers, few as np
+from hinge.lazy import few as np
 from hinge.loss import KEPT, LOST as LOST_WORD
 from hinge.replays.columns import GREATEST
 from hinge.replays.link_order import LinkOrder, WaitedFor
@@ -22,16 +22,11 @@ LOW_31_BITS = LOSS_PARTS - 1
 BYTES_PER_KBYTE = 1024
 
 
-def loss_of(setting: Setting) -> int:
-    return setting.loss
-
-
 @dataclass
 class Explainer:
     """Explains rows of one replay."""
 
     parts: Parts
-    whiles: dict[tuple[int, Callable[[Setting], int]], str] = field(default_factory=dict)  # by spells
 
     def __post_init__(self) -> None:
         self.replay = self.parts.replay
@@ -85,12 +80,10 @@ class Explainer:
 
     def while_so(self, number: int, value: Callable[[Setting], int]) -> str:
         """Describes the same in words; an empty text if the value never changed."""
-        if (number, value) not in self.whiles:
-            begin, end = self.time_of(number, value)
-            until = "" if end is None else f"in force until {seconds(end)}"
-            since = "" if begin is None else f"in force from {seconds(begin)} {'on' if end is None else f'to {seconds(end)}'}"
-            self.whiles[number, value] = since or until
-        return self.whiles[number, value]
+        begin, end = self.time_of(number, value)
+        if begin is None:
+            return "" if end is None else f"in force until {seconds(end)}"
+        return f"in force from {seconds(begin)} {'on' if end is None else f'to {seconds(end)}'}"
 
     def is_outage(self, place: int) -> bool:
         return bool(self.packets.five_tuple[place] == self.parts.of_nobody and self.packets.word[place] == KEPT)
@@ -98,7 +91,7 @@ class Explainer:
     def shades(self, end: int) -> set[tuple[int, int]]:
         """From when to when a pipe lost all packets, which it didn't from the beginning, or held all."""
         lossy = [
-            self.time_of(number, loss_of)
+            self.time_of(number, lambda setting: setting.loss)
             for number, spell in enumerate(self.parts.configuration.spells)
             if spell.setting is not None and spell.setting.loss == LOSS_PARTS
         ]
@@ -138,10 +131,9 @@ class Explainer:
     def delivered(self, place: int) -> str:
         """Waiting, transmission and delay, and their sum."""
         parts = self.parts
-        wait, sending, delay, behind = (
-            int(column[place]) for column in (parts.waited, parts.transmission, parts.delay, parts.behind)
-        )
-        took, due = int(self.replay.took[place]), int(self.replay.due[place])
+        sending, delay, behind = (int(column[place]) for column in (parts.transmission, parts.delay, parts.behind))
+        at, start, due = (int(column[place]) for column in (self.replay.at, self.replay.start, self.replay.due))
+        wait, took = start - at, due - at
         parts_of_it = f"{ms(took)} = {ms(wait)} waiting + {ms(sending)} transmission + {ms(delay)} delay"
         in_force = self.while_so(int(parts.carrier[place]), delay_of)
         before = (
@@ -163,12 +155,12 @@ class Explainer:
         return f"It stayed {ms(behind)} more behind row {before + 1}, since a link keeps the order of its packets when its delay becomes shorter."
 
     def sending(self, place: int) -> str:
-        bandwidth = int(self.parts.bandwidth[place])
+        carrier = int(self.parts.carrier[place])
+        bandwidth = int(self.parts.configuration.values(np.array([carrier]), bandwidth_of)[0])
         if bandwidth == 0:
             return "Its transmission took no time, since the bandwidth is unlimited."
         length, took = int(self.packets.length[place]), int(self.parts.transmission[place])
         rounding = "" if length * BITS_NS % bandwidth == 0 else ", rounded up to whole ns"
-        carrier = int(self.parts.carrier[place])
         in_force = self.while_so(carrier, bandwidth_of)
         alone = " to " in in_force and np.count_nonzero(self.replay.is_out & (self.parts.carrier == carrier)) == 1
         whose = f", {in_force}{' for this packet alone, as a trace or an outage has it' * bool(alone)}" if in_force else ""
@@ -219,7 +211,7 @@ class Explainer:
         word, own = int(self.packets.word[place]), self.own(place)
         if word & LOW_31_BITS >= own.loss:
             raise self.parts.another(f"row {place + 1} would not have been lost")
-        in_force = self.while_so(int(self.parts.own[place]), loss_of)
+        in_force = self.while_so(int(self.parts.own[place]), lambda setting: setting.loss)
         if own.loss == LOSS_PARTS and in_force:
             return f"It was lost in a cut or a lossy outage: {self.target_name(place)} lost all packets {in_force.removeprefix('in force ')}."
         if word & LOW_31_BITS == LOST_WORD and own.loss == LOSS_PARTS // 2:

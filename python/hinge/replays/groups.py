@@ -10,22 +10,22 @@ from hinge.replays.columns import Lazily
 from hinge.replays.replay import Replay
 
 
-def ordered(of: Integers, count: int) -> Integers:
-    """Returns the places of the numbers, which are below `count`, by number, and in order for each."""
+def order_of(of: Integers, count: int) -> Integers:
+    """Returns the places sorted by their numbers, which are below `count`."""
     return np.argsort(np.array(of, "u2") if count <= 1 << 16 else of, kind="stable")  # which is faster for short numbers
 
 
 def spans(of: Integers, count: int) -> list[slice]:
-    """Returns where the places of each number are among the ordered ones."""
+    """Returns each number's span among the sorted places."""
     ends = np.cumsum(np.bincount(of, minlength=count)).tolist()
     return [slice(begin, end) for begin, end in zip([0, *ends], ends)]
 
 
 def places_of(of: Integers, count: int) -> list[Any]:
-    """Returns by what the rows of each number are selected: their places, or a slice where all rows or none have the number."""
+    """Returns an index for each number's rows: their places, or a slice if all rows or none have the number."""
     if len(of) and of.min() == of.max():
         return [slice(None) if number == of[0] else slice(0) for number in range(count)]
-    order = ordered(of, count)
+    order = order_of(of, count)
     return [order[span] for span in spans(of, count)]
 
 
@@ -40,7 +40,7 @@ class Groups:
 
     def places(self) -> Iterator[tuple[str, Integers]]:
         """Yields each group with its rows' places, in order."""
-        order = ordered(self.of, len(self.names))
+        order = order_of(self.of, len(self.names))
         return ((name, order[span]) for name, span in zip(self.names, spans(self.of, len(self.names))))
 
     def largest(self, sizes: Integers, most: int) -> Groups:

@@ -144,10 +144,6 @@ class Parts:
         return {*self.carrier[self.replay.packets.five_tuple == self.of_nobody].tolist()} - {UNKNOWN}
 
     @cached_property
-    def bandwidth(self) -> Integers:
-        return self.configuration.values(self.carrier, bandwidth_of)
-
-    @cached_property
     def transmission(self) -> Integers:
         """Returns the transmission times in ns, rounded up; 0 if the bandwidth is unlimited."""
         spells, length = self.configuration.spells, self.replay.packets.length
@@ -160,10 +156,6 @@ class Parts:
     @cached_property
     def delay(self) -> Integers:
         return self.configuration.values(self.carrier, delay_of)
-
-    @cached_property
-    def waited(self) -> Integers:
-        return self.replay.start - self.replay.at
 
     @cached_property
     def behind(self) -> Integers:

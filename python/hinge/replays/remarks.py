@@ -42,7 +42,7 @@ def seed_in(data: bytes) -> Optional[str]:
 
 
 def words_in(data: bytes) -> dict[str, str]:
-    """Returns the last words of each option of a run, from the remarks `#,asked,OPTION,LINE,WORDS`."""
+    """Returns each option's last words, from the remarks `#,asked,OPTION,LINE,WORDS`."""
     return {fields[0]: ",".join(fields[2:]) for fields in remarks_of(data, b"asked")}
 
 
