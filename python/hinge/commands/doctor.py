@@ -6,7 +6,6 @@ import os
 import shutil
 import sys
 from functools import lru_cache
-from threading import Thread
 from typing import Callable, NamedTuple, Optional
 
 from hinge.border.files import read_system
@@ -158,8 +157,6 @@ def install(packages: list[str]) -> Optional[str]:
 def main() -> None:
     parser(WHAT, "hinge doctor", "0 links in real time work, 7 they don't").parse_args()
     packages, works = list[str](), True
-    names = {"numpy": "", "matplotlib": "", "pytest": ""}  # which load while runs are waited for
-    Thread(target=modules, kwargs=names, daemon=True).start()
     for what, look in TRIALS.items():
         show(line_of(what, finding := look()))
         sys.stdout.flush()

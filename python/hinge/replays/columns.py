@@ -2,9 +2,8 @@
 
 from __future__ import annotations
 
-import contextlib
-import mmap
 import os
+from contextlib import contextmanager
 from dataclasses import dataclass
 from itertools import islice
 from typing import Any, BinaryIO, Callable, Iterable, Iterator, NamedTuple, Optional, Sequence, TypeVar, Union, cast, overload
@@ -12,14 +11,13 @@ from typing import Any, BinaryIO, Callable, Iterable, Iterator, NamedTuple, Opti
 from hinge.arguments import is_number
 from hinge.border.files import LONGEST_LINE, MOST_TABLE, Exceeded, opened, read_again, untrusted
 from hinge.border.programs import PIPE, Process, begun, how_ended
-from hinge.border.scratch import unnamed
+from hinge.border.scratch import memory, unnamed
 from hinge.command import ROWS, Fault, working
 from hinge.lazy import Integers, few as np
 from hinge.program import packets
 from hinge.replays.record_lines import rows_of, without_quotes
 
 GREATEST = 2**63 - 1  # of a number of 63 bits
-MANY = 1 << 20  # bytes
 QUOTED, FAULT, SYSTEM, BAD_HEADER, BAD_ROW, TOO_LONG = 3, 4, (5, 6), 8, 9, 10  # the statuses with which it ends
 EVENTS = NONE, FULL, LOST, HELD, OUT = range(5)
 EVENT_NAMES = ("none", "full", "lost", "held", "out")
@@ -99,12 +97,8 @@ class Answer:
             self.refuse(self.program.wait(), text)
 
     def bytes(self, size: int) -> memoryview:
-        """Returns `size` bytes; many bytes use large pages, if the system has them."""
-        data: Any = mmap.mmap(-1, size, mmap.MAP_PRIVATE) if size >= MANY else bytearray(size)
-        with contextlib.suppress(AttributeError, OSError):
-            data.madvise(mmap.MADV_HUGEPAGE)
-        self.fill(view := memoryview(data))
-        return view
+        self.fill(data := memory(size))
+        return data
 
     def numbers(self, count: int) -> memoryview:
         return self.bytes(8 * count).cast("q")
@@ -131,7 +125,7 @@ class Quoted(Exception):
     """Raised for a file with quotes, which the program doesn't read in this way."""
 
 
-@contextlib.contextmanager
+@contextmanager
 def asked(source: BinaryIO, words: Iterable[str], refuse: Callable[[int, str], object]) -> Iterator[Answer]:
     """Yields the program's answer about a file."""
     with begun([packets(), "columns", *words], stdin=source, stdout=PIPE, stderr=PIPE) as program:
