@@ -4,14 +4,16 @@
 
    CAPTURE, OUT and INDEX are descriptors: a pcap or pcapng file, the packet file, and an index of frames or -1. MTU, RATE, BYTES and
    SEED are those of rows.h. It reads the capture, and prints a head, the addresses and the flows, and with BY_FRAME 1 the frames. Then
-   it reads the targets of the flows, or of the frames, writes the rows, and prints what became of them and the addresses of IPv6 that
-   were replaced. All that is binary, in the byte order of the machine. tools/release/hosts builds it. */
+   it reads the targets of the flows, or of the frames, writes the rows, and prints what became of them, the addresses of IPv6 that
+   were replaced, and without BY_FRAME the hosts that meet. All that is binary, in the byte order of the machine. tools/release/hosts
+   builds it. */
 #include <signal.h>
 #include <stdlib.h>
 #include <string.h>
 #include <unistd.h>
 
 #include "columns.h"
+#include "meetings.h"
 #include "rows.h"
 
 static void tell(const struct capture *capture, const struct frames *frames, bool by_frame) {
@@ -67,7 +69,10 @@ int main(int count, char **words) {
     struct targets targets = {read_targets(by_frame ? frames.count : frames.flows.count), by_frame};
     uint32_t *replaced = zeroed(frames.addresses.count, sizeof *replaced);
     struct counts counts = write_rows(&frames, &plan, targets, replaced);
+    struct meeting *meetings = zeroed(by_frame ? 0 : frames.flows.count, sizeof *meetings);
+    if (!by_frame) counts.meetings = find_meetings(&frames, targets.items, meetings);
     answer(&counts, sizeof counts);
     answer(replaced, counts.stand_ins * sizeof *replaced);
+    answer(meetings, counts.meetings * sizeof *meetings);
     return 0;
 }

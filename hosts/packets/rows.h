@@ -22,7 +22,7 @@ struct targets {
 
 /* What became of the packets. */
 struct counts {
-    uint64_t rows, bytes, split, cut, unmapped, stand_ins;
+    uint64_t rows, bytes, split, cut, unmapped, stand_ins, meetings;
 };
 
 /* Writes the rows, and the addresses of IPv6 for which others stand, in their order, as numbers in the table of addresses. */

@@ -49,7 +49,7 @@ static void make_room(struct table *table) {
     if (table->room >= MOST_ITEMS) refuse("it takes more memory than there is");
     uint64_t *old = table->slots;
     size_t count = old ? mask_of(table) + 1 : 0;
-    table->room = table->room ? 2 * table->room : LEAST_ROOM;
+    table->room = table->room ? 4 * table->room : LEAST_ROOM;
     table->items = grown(table->items, table->room * table->words * WORD);
     table->slots = zeroed(2 * (size_t)table->room, sizeof *table->slots);
     for (size_t i = 0; i < count; i++) { /* no two are equal, so that none is compared */

@@ -58,8 +58,8 @@ class Array:
     def max(self, initial: Any = None) -> Any:
         return max(self.items) if initial is None else max(self.items, default=initial)
 
-    def min(self) -> Any:
-        return min(self.items)
+    def min(self, initial: Any = None) -> Any:
+        return min(self.items) if initial is None else min(self.items, default=initial)
 
     def tolist(self) -> list[Any]:
         return list(self.items)
@@ -123,10 +123,6 @@ def append(*rows: Any) -> Array:
 
 def concatenate(rows: Iterable[Array]) -> Array:
     return Array(chain.from_iterable(rows))
-
-
-def ones(count: int, dtype: object = None) -> Array:
-    return full(count, True if dtype is bool else 1)
 
 
 def where(choice: Array, one: Any, other: Any) -> Array:

@@ -5,6 +5,7 @@
 #include <string.h>
 
 #include "../../hosts/packets/dissect.h"
+#include "../../hosts/packets/meetings.h"
 #include "../../hosts/packets/rows.h"
 
 enum { MTU = 256, SLOW = 1000000, MOST_FRAMES = 1024 };
@@ -37,6 +38,7 @@ static void look_at_frames(struct capture *capture) {
 
 static void write_frames(struct capture *capture, struct frames *frames, uint8_t how) {
     static uint32_t targets[MOST_FRAMES], replaced[2 * MOST_FRAMES];
+    static struct meeting meetings[MOST_FRAMES];
     struct plan plan = {.out = -1, .index = -1, .mtu = how & 1 ? MTU : 0, .rate = how & 2 ? SLOW : 0, .link_bytes = how & 4, .seed = how};
     bool of_frames = how & 8;
     read_frames(capture, frames);
@@ -48,6 +50,10 @@ static void write_frames(struct capture *capture, struct frames *frames, uint8_t
     uint64_t least = frames->count - counts.unmapped;
     if (counts.rows < least || (!counts.split && counts.rows != least)) abort();
     if (counts.stand_ins > frames->addresses.count) abort();
+    size_t met = find_meetings(frames, targets, meetings);
+    if (met > frames->flows.count / 2) abort();
+    for (size_t i = 0; i < met; i++)
+        if (!meetings[i].target || meetings[i].first == meetings[i].second || meetings[i].first >= frames->addresses.count) abort();
 }
 
 int LLVMFuzzerTestOneInput(const uint8_t *given, size_t size) {

@@ -5,6 +5,7 @@ from __future__ import annotations
 
 import errno
 import fcntl
+import mmap
 import os
 import shutil
 import signal
@@ -13,10 +14,11 @@ import time
 from contextlib import contextmanager, suppress
 from pathlib import Path
 from types import FrameType
-from typing import IO, ContextManager, Iterator, Optional, Union
+from typing import IO, Any, ContextManager, Iterator, Optional, Union
 
 PREFIX = ".hinge-"
 IN_MEMORY = "/dev/shm"
+MANY = 1 << 20  # bytes
 MARK = ".mark"  # the file by which a folder is the kit's; a name alone says nothing
 TOGETHER = 1.0  # s in which signals are one
 # The signals that end a process, with what Python has them do at first.
@@ -192,6 +194,14 @@ def undisturbed() -> ContextManager[None]:
     """Cleans up, which no signal cuts short."""
     is_main = threading.current_thread() is threading.main_thread()
     return noted([one for one in USUAL if is_main and signal.getsignal(one) not in (signal.SIG_IGN, None)], cuts=False)
+
+
+def memory(size: int) -> memoryview:
+    """Returns `size` bytes; many bytes use large pages, if the system has them."""
+    data: Any = mmap.mmap(-1, size, mmap.MAP_PRIVATE) if size >= MANY else bytearray(size)
+    with suppress(AttributeError, OSError):
+        data.madvise(mmap.MADV_HUGEPAGE)
+    return memoryview(data)
 
 
 @contextmanager

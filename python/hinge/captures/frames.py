@@ -6,8 +6,9 @@ import os
 import socket
 from array import array
 from contextlib import ExitStack, contextmanager, suppress
+from functools import cache, cached_property
 from struct import Struct
-from typing import BinaryIO, Iterator, NamedTuple, Optional, Sequence, cast
+from typing import BinaryIO, Callable, Iterator, NamedTuple, Optional, Sequence, cast
 
 from hinge.border.files import Input, untrusted
 from hinge.border.programs import PIPE, Process, begun, how_ended
@@ -18,7 +19,7 @@ from hinge.program import packets
 
 NAME = "hinge-packets"
 PORTED = {6: "tcp", 17: "udp", 132: "sctp", 136: "udp", 33: "dccp"}
-HEAD, ADDRESS, FLOW, FRAME, COUNTS = map(Struct, ("=6Q", "=16sQ", "=IIHHBBxx", "=QqQII", "=6Q"))
+HEAD, ADDRESS, FLOW, FRAME, COUNTS, MEETING = map(Struct, ("=6Q", "=16sQ", "=IIHHBBxx", "=QqQII", "=7Q", "=3I"))
 NOT_VALID = "a block of the capture isn't valid"
 MAPPED = 0xFFFF << 32  # what is above an address of IPv4 in a number of IPv6
 FASTEST = 1 << 62  # bit/s, at which any packet takes 1 ns
@@ -38,9 +39,9 @@ class Frame(NamedTuple):
 
 
 class Asked(NamedTuple):
-    """The properties of many frames in columns. Addresses are indices into a list of IPv6 numbers."""
+    """The properties of many frames in columns. Addresses are indices into a list of IPv6 numbers, which `addresses` returns."""
 
-    addresses: Sequence[int]
+    addresses: Callable[[], Sequence[int]]
     src: Sequence[int]
     dst: Sequence[int]
     proto: Sequence[int]
@@ -67,6 +68,7 @@ class Counts(NamedTuple):
     cut: int
     strays: int  # frames without a target
     stand_ins: int
+    meetings: int  # pairs of hosts with both directions in one pipe or queue
 
 
 class Plan(NamedTuple):
@@ -87,14 +89,7 @@ class Capture:
         self.frame_count, self.packet_count, self.long, self.is_cut, addresses, flows = HEAD.unpack(
             self.whole(HEAD.size, f"{name}: ")
         )
-        data = self.whole(ADDRESS.size * addresses)
-        self.addresses = [
-            socket.inet_ntop(*((socket.AF_INET6, it) if six else (socket.AF_INET, it[12:])))
-            for it, six in ADDRESS.iter_unpack(data)
-        ]
-        self.keys = [
-            int.from_bytes(it, "big") if six else MAPPED | int.from_bytes(it[12:], "big") for it, six in ADDRESS.iter_unpack(data)
-        ]
+        self.ends, self.address = self.whole(ADDRESS.size * addresses), cache(self.address_of)
         self.flows = self.whole(FLOW.size * flows)
         self.items = self.whole(FRAME.size * self.packet_count) if by_frame else None
 
@@ -109,9 +104,19 @@ class Capture:
             raise Fault(prefix + (text if status == FAULT else f"{NAME} {how_ended(status)}"), ROWS)
         return data
 
+    def address_of(self, number: int) -> str:
+        address, is_six = ADDRESS.unpack_from(self.ends, number * ADDRESS.size)
+        return socket.inet_ntop(*((socket.AF_INET6, address) if is_six else (socket.AF_INET, address[12:])))
+
+    @cached_property
+    def keys(self) -> list[int]:
+        """Returns the addresses as IPv6 numbers, which only rules about hosts need."""
+        both = ADDRESS.iter_unpack(self.ends)
+        return [int.from_bytes(it, "big") if six else MAPPED | int.from_bytes(it[12:], "big") for it, six in both]
+
     def frame(self, number: int, flow: int) -> Frame:
         src, dst, sport, dport, proto, dscp = FLOW.unpack_from(self.flows, flow * FLOW.size)
-        return Frame(number, self.addresses[src], self.addresses[dst], proto, sport, dport, dscp)
+        return Frame(number, self.address(src), self.address(dst), proto, sport, dport, dscp)
 
     def packets(self) -> Iterator[Packet]:
         """Yields all packets in order of time, if the program answered by frame."""
@@ -121,17 +126,20 @@ class Capture:
     def asked(self) -> Asked:
         """Returns a frame of each flow."""
         flows, halves, words = self.flows, array("H", self.flows), array("I", self.flows)
-        return Asked(self.keys, words[0::4], words[1::4], flows[12::16], halves[4::8], halves[5::8], flows[13::16])
+        return Asked(lambda: self.keys, words[0::4], words[1::4], flows[12::16], halves[4::8], halves[5::8], flows[13::16])
 
-    def write(self, targets: "array[int]") -> tuple[Counts, list[str]]:
-        """Writes the rows of `frames` for these targets (0: no target). Returns the counts, and the stand-ins' IPv6 addresses."""
+    def write(self, targets: "array[int]") -> tuple[Counts, list[str], list[tuple[int, str, str]]]:
+        """Writes the rows of `frames` for these targets (0: no target). Returns the counts, the stand-ins' IPv6 addresses, and the
+        meetings: a target, the host that sends first, and the other host."""
         questions = cast(BinaryIO, self.program.stdin)
         with suppress(BrokenPipeError):
             questions.write(targets.tobytes())
             questions.close()
         counts = Counts(*COUNTS.unpack(self.whole(COUNTS.size)))
         originals = array("I", self.whole(4 * counts.stand_ins))
-        return counts, [self.addresses[number] for number in originals]
+        meetings = MEETING.iter_unpack(self.whole(MEETING.size * counts.meetings))
+        hosts = [(target, self.address(first), self.address(second)) for target, first, second in meetings]
+        return counts, [*map(self.address, originals)], hosts
 
 
 @contextmanager

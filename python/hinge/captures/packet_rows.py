@@ -2,50 +2,31 @@
 
 from __future__ import annotations
 
-from array import array
-from itertools import compress
-from typing import IO, Iterator, NamedTuple, Optional, Sequence, TextIO
+from typing import IO, Iterable, Iterator, NamedTuple, Optional, TextIO
 
 from hinge.border.files import Input
 from hinge.border.scratch import unnamed
 from hinge.captures.addresses import StandIns
-from hinge.captures.frames import Asked, Counts, Plan, read
+from hinge.captures.frames import Counts, Plan, read
 from hinge.captures.random_words import direction_of, name_of
 from hinge.captures.targets import Targets
 from hinge.loss import Maker, Words
 
-ENDS = (1 << 32) - 1
 HEADER = "moment,target,number,src,dst,proto,sport,dport,len,word"
 
 
-def meetings(frames: Asked, directions: Sequence[int], names: Sequence[str]) -> Iterator[str]:
-    """Yields warnings about pairs of hosts whose packets use one pipe or queue in both directions."""
-    warnings = list[tuple[int, str]]()
-    if set(frames.src).isdisjoint(frames.dst):
-        return iter(())
-    ends = array("I", bytes(8 * len(frames.src)))
-    ends[0::2], ends[1::2] = array("I", frames.dst), array("I", frames.src)
-    passages = memoryview(ends).cast("B").cast("Q")  # the source above the destination
-    for direction in set(directions) - {0}:
-        pairs_there = set(compress(passages, map(direction.__eq__, directions)))
-        both = {one for one in pairs_there if one >> 32 != one & ENDS and turned(one) in pairs_there}
-        first = dict[int, int]()  # the place of the first packet of each
-        for place, one in enumerate(passages) if both else ():
-            if one in both and directions[place] == direction:
-                first.setdefault(one, place)
-        pairs = [one for one in both if first[one] < first[turned(one)]]
-        if pairs:
-            first_host, second = min((names[pair >> 32], names[pair & ENDS]) for pair in pairs)
-            others = f" and of {len(pairs) - 1:,} other pairs" if len(pairs) > 1 else ""
-            line = (
-                f"both directions of {first_host} and {second}{others} go to {name_of(direction)}, where they wait for each other; "
-            )
-            warnings.append((min(first[turned(pair)] for pair in pairs), f"{line}--from {first_host} gives each direction a pipe"))
-    return (line for _, line in sorted(warnings))
-
-
-def turned(passage: int) -> int:
-    return (passage & ENDS) << 32 | passage >> 32
+def warnings(meetings: Iterable[tuple[int, str, str]]) -> Iterator[str]:
+    """Yields a warning for each pipe or queue that both directions of two hosts use."""
+    of_targets = dict[int, list[tuple[str, str]]]()
+    for target, first, second in meetings:
+        of_targets.setdefault(target, []).append((first, second))
+    for target, pairs in of_targets.items():
+        first, second = min(pairs)
+        others = f" and of {len(pairs) - 1:,} other pairs" if len(pairs) > 1 else ""
+        yield (
+            f"both directions of {first} and {second}{others} go to {name_of(target)}, where they wait for each other; "
+            f"--from {first} gives each direction a pipe"
+        )
 
 
 class ModelWords:
@@ -90,13 +71,10 @@ def write_random(capture: Input, targets: Targets, plan: Plan, out: int, index: 
     """Writes the rows with random words; returns the summary's content."""
     addresses = StandIns()
     with read(capture, plan, out, index) as reader:
-        frames = reader.asked()
-        directions = targets.of(frames)
-        counts, originals = reader.write(directions)
+        counts, originals, meetings = reader.write(targets.of(reader.asked()))
     for address in originals:
         addresses.of(address)
-    lines = list(meetings(frames, directions, reader.addresses))
-    return Product(counts, reader.frame_count, reader.packet_count, reader.long, addresses, lines)
+    return Product(counts, reader.frame_count, reader.packet_count, reader.long, addresses, [*warnings(meetings)])
 
 
 def write_rows(

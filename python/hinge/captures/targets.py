@@ -30,7 +30,7 @@ def is_within(name: str, network: Net) -> Test:
     shift = network.max_prefixlen - network.prefixlen
 
     def test(frames: Asked) -> Mask:
-        is_one = [address >> shift == base >> shift for address in frames.addresses]
+        is_one = [address >> shift == base >> shift for address in frames.addresses()]
         if name == "host":
             return [is_one[src] or is_one[dst] for src, dst in zip(frames.src, frames.dst)]
         return [is_one[end] for end in (frames.src if name == "src" else frames.dst)]

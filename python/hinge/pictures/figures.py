@@ -3,18 +3,21 @@
 from __future__ import annotations
 
 import csv
+from itertools import chain
 from dataclasses import dataclass
-from typing import IO, Optional
+from typing import IO, Iterator, Optional, Union
 
 from hinge.arguments import TABLE_FLOWS
 from hinge.lazy import Integers, few as np
-from hinge.replays.groups import group
+from hinge.replays.columns import GREATEST
+from hinge.replays.groups import group, order_of, spans
 from hinge.replays.links import Parts
 from hinge.replays.replay import EVENT_NAMES, FULL, HELD, LOST, NONE, OUT, Replay
 
 PERCENTILES = (50, 95, 99)
-LOW = (1 << 32) - 1
-RECENT = 1 << 12  # packets
+RECENT = 1 << 9  # packets
+WHOLE = slice(None)
+Value = dict[str, Union[int, float, None]]
 
 
 @dataclass(frozen=True)
@@ -22,17 +25,19 @@ class Figures:
     """A flow's figures by name. Rates are in Mbit/s, names with `_ns` in ns; None means that no packet determines the figure."""
 
     name: str
-    value: dict[str, Optional[int | float]]
+    value: Value
 
 
 def exact_sum(column: Integers) -> int:
     """Returns a sum that may exceed the range of the column's numbers."""
-    return (int((column >> 32).sum()) << 32) + int((column & LOW).sum())
+    if len(column) * max(int(column.max(initial=0)), -int(column.min(initial=0))) <= GREATEST:
+        return int(column.sum())
+    return sum(column.tolist())
 
 
-def mean(column: Integers) -> Optional[int]:
+def mean(total: int, count: int) -> Optional[int]:
     """Rounded down to whole ns."""
-    return exact_sum(column) // len(column) if len(column) else None
+    return total // count if count else None
 
 
 def percentiles(took: Integers) -> dict[str, Optional[int]]:
@@ -42,20 +47,28 @@ def percentiles(took: Integers) -> dict[str, Optional[int]]:
     return {f"p{part}_ns": int(order[rank]) if len(took) else None for part, rank in ranks.items()}
 
 
-def rate(lengths: Integers, moments: Integers) -> Optional[float]:
+def rate(size: int, moments: Integers) -> Optional[float]:
     """Returns the Mbit/s from the first to the last moment, or None if they are equal."""
     span = int(moments.max()) - int(moments.min()) if len(moments) else 0
-    return int(lengths.sum()) * 8000 / span if span else None
+    return size * 8000 / span if span else None
 
 
-def jitter(took: Integers) -> Optional[int]:
+def last_to_leave(due: Integers, packet: Integers, count: int) -> Integers:
+    """Returns the last packets' places in the order of departure."""
+    first = len(due) - count
+    near = np.flatnonzero(due >= np.partition(due, [first])[first]) if first > 0 else np.arange(len(due))
+    places: Integers = near[np.lexsort((packet[near], due[near]))][-count:]
+    return places
+
+
+def jitter(due: Integers, packet: Integers, took: Integers) -> Optional[int]:
     """Returns RFC 3550's interarrival jitter (appendix A.8) in ns after the last of these packets, in order of arrival. The last
     few packets suffice if the smallest and the greatest possible earlier jitter lead to the same result."""
     if len(took) < 2:
         return None
     most, count = int(took.max()) - int(took.min()), RECENT
     while True:
-        recent = took[-count:].tolist()
+        recent = took[last_to_leave(due, packet, count)].tolist()
         least, greatest = (jitter_after(before, recent) for before in (0, 16 * most + 7))
         if least == greatest or count >= len(took):
             return least
@@ -69,43 +82,44 @@ def jitter_after(sixteenfold: int, delays: list[int]) -> int:
     return sixteenfold >> 4
 
 
-def times(replay: Replay, out: Integers, came: Integers) -> tuple[Integers, Integers, Optional[int], Optional[int]]:
-    """Returns packets' due moments and delays, with the means of the delays' parts."""
-    start, due = replay.start[out], replay.due[out]
-    return due, due - came, mean(start - came), mean(due - start)
+def of_rows(replay: Replay, rows: Integers, flows: list[slice]) -> Iterator[Value]:
+    """Yields each flow's figures for all rows."""
+    event, length, at = (column[rows] for column in (replay.event, replay.packets.length, replay.at))
+    for flow in flows:
+        size = exact_sum(length[flow])
+        value = {"packets": len(event[flow]), "bytes": size, "offered_mbit_s": rate(size, at[flow]), "carried_mbit_s": None}
+        yield value | {EVENT_NAMES[kind]: int(np.count_nonzero(event[flow] == kind)) for kind in (OUT, LOST, FULL, NONE, HELD)}
 
 
-def figures(name: str, replay: Replay, parts: Optional[Parts], places: Optional[Integers] = None) -> Figures:
-    """Returns a flow's figures, or those of all rows, without jitter. The parts of delays need the configuration."""
-    columns = replay.event, replay.packets.length, replay.at
-    event, length, at = columns if places is None else (column[places] for column in columns)
-    is_out = event == OUT
-    out = np.flatnonzero(is_out) if places is None else places[is_out]
-    due, took, queueing, sending = times(replay, out, at[is_out])
-    value: dict[str, Optional[int | float]] = {
-        "packets": len(event),
-        "bytes": int(length.sum()),
-        "offered_mbit_s": rate(length, at),
-        "carried_mbit_s": rate(length[is_out], due),
-    }
-    for kind in (OUT, LOST, FULL, NONE, HELD):
-        value[EVENT_NAMES[kind]] = int(np.count_nonzero(event == kind))
-    value["min_ns"], value["mean_ns"] = (int(took.min()) if len(took) else None), mean(took)
-    value |= percentiles(took)
-    value["max_ns"] = int(took.max()) if len(took) else None
-    value["jitter_ns"] = jitter(took[np.lexsort((replay.packet[out], due))]) if places is not None else None
-    value["queueing_ns"] = queueing
-    if parts is None:
-        value["sending_and_delay_ns"] = sending
-    else:
-        value["transmission_ns"], value["link_delay_ns"] = mean(parts.transmission[out]), mean((parts.delay + parts.behind)[out])
-    return Figures(name, value)
+def of_delays(replay: Replay, parts: Optional[Parts], out: Integers, flows: list[slice]) -> Iterator[Value]:
+    """Yields each flow's figures for packets that left, and finally those for all flows, without jitter. The delays' parts need
+    the configuration."""
+    came, due, packet = (column[out] for column in (replay.at, replay.due, replay.packet))
+    columns = (column[out] for column in (replay.packets.length, replay.start, *([parts.transmission] if parts else [])))
+    sums = [*zip(*([exact_sum(column[flow]) for flow in flows] for column in chain((came, due), columns)))]
+    all_sums = tuple(map(sum, zip(*sums))) or (0,) * (4 + bool(parts))
+    took = due - came
+    for flow, (at, end, size, start, *sending) in zip((*flows, WHOLE), (*sums, all_sums)):
+        own, count = took[flow], len(took[flow])
+        value: Value = {"carried_mbit_s": rate(size, due[flow]), "min_ns": int(own.min()) if count else None}
+        value |= {"mean_ns": mean(end - at, count), **percentiles(own), "max_ns": int(own.max()) if count else None}
+        value["jitter_ns"] = None if flow is WHOLE else jitter(due[flow], packet[flow], own)
+        value["queueing_ns"] = mean(start - at, count)
+        if sending:
+            value |= {"transmission_ns": mean(sending[0], count), "link_delay_ns": mean(end - start - sending[0], count)}
+        else:
+            value["sending_and_delay_ns"] = mean(end - start, count)
+        yield value
 
 
 def table_of(replay: Replay, parts: Optional[Parts], by: str = "tuple", top: int = TABLE_FLOWS) -> list[Figures]:
     """Returns the figures for the largest flows, for the other flows together, and for all rows."""
     flows = group(replay, by).largest(replay.packets.length, top)
-    return [*(figures(name, replay, parts, places) for name, places in flows.places()), figures("all", replay, parts)]
+    count, is_out = len(flows.names), replay.is_out
+    rows = order_of(flows.of, count)
+    of_all = of_rows(replay, rows, [*spans(flows.of, count), WHOLE])
+    of_those_out = of_delays(replay, parts, rows[is_out[rows]], spans(flows.of[is_out], count))
+    return [Figures(name, {**one, **other}) for name, one, other in zip([*flows.names, "all"], of_all, of_those_out)]
 
 
 def write_csv(table: list[Figures], out: IO[str]) -> None:

@@ -9,6 +9,7 @@ from hinge.arguments import PICTURE_FLOWS
 from hinge.lazy import Integers, Reals, np
 from hinge.pictures.drawing import DASHED, DENSE, DOTTED, MIXED, SOLID, Band, Bars, Drawing, Item, Key, Line, Panel, Points
 from hinge.pictures.series import CAUSES, NS_PER_MS, NS_PER_S, Flow, Series, Steps, spread
+from hinge.replays.groups import order_of
 from hinge.replays.remarks import LEAST_LATE
 from hinge.replays.replay import EVENT_NAMES
 
@@ -38,7 +39,8 @@ def range_of(values: Reals, unit: str) -> str:
 def percentiles(moments: Integers, values: Reals, steps: Steps) -> Reals:
     """Returns the 5th, 50th and 95th percentile of each step's values; nan for empty steps."""
     of = np.minimum(moments // steps.length, steps.rated - 1)
-    order = np.lexsort((values, of))
+    order = np.argsort(values)
+    order = order[order_of(of[order], steps.rated)]
     begins = np.searchsorted(of[order], np.arange(steps.rated))
     counts = np.diff(np.append(begins, len(order)))
     places = np.full((3, steps.rated), np.nan)

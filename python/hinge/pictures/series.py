@@ -165,10 +165,13 @@ def thinned(places: Integers, replay: Replay, most: int) -> Integers:
         return places
     at, took = replay.at[places], replay.took[places]
     stretch = (at - at.min()) // ((int(at.max()) - int(at.min())) // (most // 4) + 1)
-    order = np.lexsort((took, stretch))
-    begins = np.flatnonzero(np.diff(stretch[order], prepend=-1))
-    ends = np.append(begins[1:], len(order)) - 1
-    return np.union1d(spread(places, most // 2), places[order[np.union1d(begins, ends)]])
+    order = np.argsort(stretch, kind="stable")
+    begins, took = np.flatnonzero(np.diff(stretch[order], prepend=-1)), took[order]
+    counts = np.diff(np.append(begins, len(order)))
+    extremes = np.minimum.reduceat(took, begins), np.maximum.reduceat(took, begins)
+    low, high = (np.flatnonzero(took == np.repeat(extreme, counts)) for extreme in extremes)
+    ends = np.union1d(low[np.searchsorted(low, begins)], high[np.searchsorted(high, begins + counts) - 1])
+    return np.union1d(spread(places, most // 2), places[order[ends]])
 
 
 def distribution(took: Integers) -> tuple[Reals, Reals]:

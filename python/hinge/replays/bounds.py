@@ -6,9 +6,10 @@ from dataclasses import dataclass
 from typing import Iterator, Optional
 
 from hinge.checks.waits import Bound, bound_of, with_bound
-from hinge.lazy import Integers, few as np
+from hinge.lazy import Integers
+from hinge.replays.groups import places_of
 from hinge.replays.links import Configuration
-from hinge.replays.replay import HELD, Replay
+from hinge.replays.replay import HELD, OUT, Replay
 
 
 @dataclass(frozen=True)
@@ -42,14 +43,12 @@ def greatest(column: Integers) -> Optional[int]:
 
 def bounds(replay: Replay, configuration: Configuration) -> Iterator[Bounded]:
     """Yields the bound of each pipe that has one and accepted a packet, if the configuration holds for every packet."""
-    numbers = {target: number for number, target in enumerate(replay.packets.targets)}
-    connection = replay.is_out | (replay.event == HELD)
+    packets = replay.packets
+    rows_of = dict(zip(packets.targets, places_of(packets.target, len(packets.targets))))
     for pipe in with_bound(configuration.last.pipes, configuration.last.queues):
-        places = np.flatnonzero(connection & (replay.packets.target == numbers.get(("pipe", pipe.number), -1)))
-        if len(places):
-            out = places[replay.is_out[places]]
-            yield Bounded(
-                bound_of(pipe, int(replay.packets.length[places].max())),
-                greatest(replay.start[out] - replay.at[out]),
-                greatest(replay.due[out] - replay.at[out]),
-            )
+        rows = rows_of.get(("pipe", pipe.number), slice(0))
+        event = replay.event[rows]
+        longest = int(packets.length[rows][(event == OUT) | (event == HELD)].max(initial=-1))
+        if longest >= 0:
+            at, start, due = (column[rows][event == OUT] for column in (replay.at, replay.start, replay.due))
+            yield Bounded(bound_of(pipe, longest), greatest(start - at), greatest(due - at))

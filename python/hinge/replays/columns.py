@@ -3,7 +3,6 @@
 from __future__ import annotations
 
 import os
-from array import array
 from contextlib import contextmanager
 from dataclasses import dataclass
 from itertools import islice
@@ -12,7 +11,7 @@ from typing import Any, BinaryIO, Callable, Iterable, Iterator, NamedTuple, Opti
 from hinge.arguments import is_number
 from hinge.border.files import LONGEST_LINE, MOST_TABLE, Exceeded, opened, read_again, untrusted
 from hinge.border.programs import PIPE, Process, begun, how_ended
-from hinge.border.scratch import unnamed
+from hinge.border.scratch import memory, unnamed
 from hinge.command import ROWS, Fault, working
 from hinge.lazy import Integers, few as np
 from hinge.program import packets
@@ -97,15 +96,12 @@ class Answer:
             text = cast(BinaryIO, self.program.stderr).read().decode(errors="replace")
             self.refuse(self.program.wait(), text)
 
-    def bytes(self, size: int) -> bytearray:
-        data = bytearray(size)
-        self.fill(memoryview(data))
+    def bytes(self, size: int) -> memoryview:
+        self.fill(data := memory(size))
         return data
 
-    def numbers(self, count: int) -> "array[int]":
-        numbers = array("q", [0]) * count
-        self.fill(memoryview(numbers).cast("B"))
-        return numbers
+    def numbers(self, count: int) -> memoryview:
+        return self.bytes(8 * count).cast("q")
 
     def columns(self, count: int, widths: Widths) -> dict[str, Integers]:
         return {name: np.frombuffer(self.bytes(count * int(width[1])), width) for name, width in widths.items()}
@@ -177,7 +173,7 @@ def read_columns(
 class Tuples:
     """Five-tuples as two words each: addresses; protocol and ports."""
 
-    words: "array[int]"
+    words: memoryview
 
     def numbers(self, place: int) -> tuple[int, int, int, int, int]:
         addresses, ports = self.words[2 * place] & (1 << 64) - 1, self.words[2 * place + 1]
@@ -185,12 +181,12 @@ class Tuples:
 
     def number_of(self, addresses: int, ports: int) -> int:
         """Returns the number of the five-tuple with these words, or -1."""
-        places = np.flatnonzero((np.array(self.words[::2]) == addresses) & (np.array(self.words[1::2]) == ports))
-        return int(places[0]) if len(places) else -1
+        places = np.flatnonzero(np.frombuffer(self.words, "i8")[1::2] == ports).tolist()
+        return next((place for place in places if self.words[2 * place] == addresses), -1)
 
     def columns(self) -> list[Integers]:
         """Returns the addresses, protocols and ports of all flows."""
-        addresses, ports = (np.array(self.words[place::2], "i8") for place in (0, 1))
+        addresses, ports = (np.frombuffer(self.words, "i8")[place::2] for place in (0, 1))
         return [addresses >> 32 & 0xFFFFFFFF, addresses & 0xFFFFFFFF, ports >> 48, ports >> 32 & 0xFFFF, ports >> 16 & 0xFFFF]
 
 
@@ -288,7 +284,7 @@ def read_told(path: str, kind: str, widths: Widths) -> Told:
     def take(answer: Answer) -> Told:
         count, targets, tuples, changes, remarks, records, first, last_line, is_whole = answer.numbers(9)
         kinds, five = answer.targets(targets), Tuples(answer.numbers(2 * tuples))
-        lines = answer.bytes(changes).decode("utf-8", "replace").split("\n")[:-1]
+        lines = str(answer.bytes(changes), "utf-8", "replace").split("\n")[:-1]
         told = [(int(record), int(moment), text) for record, moment, text in (line.split(",", 2) for line in lines)]
         text = bytes(answer.bytes(remarks))
         return Told(Rows(answer.columns(count, widths), kinds, five), told, text, records, first, last_line, bool(is_whole))

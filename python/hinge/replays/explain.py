@@ -3,12 +3,12 @@
 from __future__ import annotations
 
 from dataclasses import dataclass
-from itertools import takewhile
+from itertools import islice, takewhile
 from typing import Callable, Optional
 
 from hinge.command import ROWS, Fault
 from hinge.configurations.configured import Pipe, Queue, Setting
-from hinge.lazy import Integers, few as np
+from hinge.lazy import few as np
 from hinge.loss import KEPT, LOST as LOST_WORD
 from hinge.replays.columns import GREATEST
 from hinge.replays.link_order import LinkOrder, WaitedFor
@@ -131,10 +131,9 @@ class Explainer:
     def delivered(self, place: int) -> str:
         """Waiting, transmission and delay, and their sum."""
         parts = self.parts
-        wait, sending, delay, behind = (
-            int(column[place]) for column in (parts.waited, parts.transmission, parts.delay, parts.behind)
-        )
-        took, due = int(self.replay.took[place]), int(self.replay.due[place])
+        sending, delay, behind = (int(column[place]) for column in (parts.transmission, parts.delay, parts.behind))
+        at, start, due = (int(column[place]) for column in (self.replay.at, self.replay.start, self.replay.due))
+        wait, took = start - at, due - at
         parts_of_it = f"{ms(took)} = {ms(wait)} waiting + {ms(sending)} transmission + {ms(delay)} delay"
         in_force = self.while_so(int(parts.carrier[place]), delay_of)
         before = (
@@ -156,12 +155,12 @@ class Explainer:
         return f"It stayed {ms(behind)} more behind row {before + 1}, since a link keeps the order of its packets when its delay becomes shorter."
 
     def sending(self, place: int) -> str:
-        bandwidth = int(self.parts.bandwidth[place])
+        carrier = int(self.parts.carrier[place])
+        bandwidth = int(self.parts.configuration.values(np.array([carrier]), bandwidth_of)[0])
         if bandwidth == 0:
             return "Its transmission took no time, since the bandwidth is unlimited."
         length, took = int(self.packets.length[place]), int(self.parts.transmission[place])
         rounding = "" if length * BITS_NS % bandwidth == 0 else ", rounded up to whole ns"
-        carrier = int(self.parts.carrier[place])
         in_force = self.while_so(carrier, bandwidth_of)
         alone = " to " in in_force and np.count_nonzero(self.replay.is_out & (self.parts.carrier == carrier)) == 1
         whose = f", {in_force}{' for this packet alone, as a trace or an outage has it' * bool(alone)}" if in_force else ""
@@ -171,8 +170,8 @@ class Explainer:
         if delay == 0:
             return "The link was free, so its transmission began at once."
         wait = self.order.wait(place)
-        if int(wait.costs.sum()) != delay:
-            raise self.parts.another(f"row {place + 1} would have waited {ms(int(wait.costs.sum()))}")
+        if sum(wait.costs) != delay:
+            raise self.parts.another(f"row {place + 1} would have waited {ms(sum(wait.costs))}")
         return f"It waited {ms(delay)} for {self.link_name(place)}: {'; '.join(self.waited_for(place, wait))}."
 
     def waited_for(self, place: int, wait: WaitedFor) -> list[str]:
@@ -182,30 +181,29 @@ class Explainer:
             first = int(wait.places[0])
             whose = f" of {self.flow_name(first)}" if self.parts.is_shared[place] else ""
             before = f"row {first + 1}{whose}, which was under transmission, had been sent"
-            lines.append(
-                f"{ms(int(wait.costs[0]))} until {f'the end of {self.outage(first)}' if self.is_outage(first) else before}"
-            )
-        places, costs = wait.places[int(wait.first_was_sending) :], wait.costs[int(wait.first_was_sending) :]
-        is_outage = (self.packets.five_tuple[places] == self.parts.of_nobody) & (self.packets.word[places] == KEPT)
-        lines += [f"{ms(cost)} for {self.outage(one)}" for one, cost in zip(places[is_outage].tolist(), costs[is_outage].tolist())]
-        places, costs = places[~is_outage], costs[~is_outage]
-        flows = self.replay.flow[places]
-        for flow in sorted(set(flows.tolist()), key=lambda flow: (flow != self.replay.flow[place], flow)):
-            choice = flows == flow
-            lines.append(self.group(place, places[choice], int(costs[choice].sum())))
-        return lines
+            lines.append(f"{ms(wait.costs[0])} until {f'the end of {self.outage(first)}' if self.is_outage(first) else before}")
+        columns = (column[wait.places].tolist() for column in (self.packets.five_tuple, self.packets.word, self.replay.flow))
+        waited, flows = zip(wait.places.tolist(), wait.costs, *columns), dict[int, dict[int, int]]()
+        for one, cost, five_tuple, word, flow in islice(waited, int(wait.first_was_sending), None):
+            if five_tuple == self.parts.of_nobody and word == KEPT:
+                lines.append(f"{ms(cost)} for {self.outage(one)}")
+            else:
+                flows.setdefault(flow, {})[one] = cost
+        own = int(self.replay.flow[place])
+        return [
+            *lines,
+            *(self.group(place, flow == own, flows[flow]) for flow in sorted(flows, key=lambda flow: (flow != own, flow))),
+        ]
 
-    def group(self, place: int, places: Integers, cost: int) -> str:
-        """Describes one flow's packets ahead of a packet."""
+    def group(self, place: int, is_own: bool, costs: dict[int, int]) -> str:
+        """Describes one flow's packets ahead of a packet, each with its cost."""
         if not self.parts.is_shared[place]:
             whose = "that came before it"
-        elif self.replay.flow[places[0]] == self.replay.flow[place]:
-            whose = f"of its own {self.flow_name(place)}"
         else:
-            whose = f"of {self.flow_name(int(places[0]))}"
-        later = int(np.count_nonzero(places > place))
-        which = "" if later == 0 else ", which came after it" if later == len(places) else f", {later:,} of which came after it"
-        return f"{ms(cost)} for {packets(len(places))} {whose}{which}: {rows((places + 1).tolist())}"
+            whose = f"of its own {self.flow_name(place)}" if is_own else f"of {self.flow_name(next(iter(costs)))}"
+        later = sum(one > place for one in costs)
+        which = "" if later == 0 else ", which came after it" if later == len(costs) else f", {later:,} of which came after it"
+        return f"{ms(sum(costs.values()))} for {packets(len(costs))} {whose}{which}: {rows(one + 1 for one in costs)}"
 
     # ---- packets that didn't ----
 

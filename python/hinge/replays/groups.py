@@ -3,11 +3,30 @@
 from __future__ import annotations
 
 from dataclasses import dataclass
-from typing import Iterator, Optional, Sequence
+from typing import Any, Iterator, Optional, Sequence
 
 from hinge.lazy import Integers, few as np
 from hinge.replays.columns import Lazily
 from hinge.replays.replay import Replay
+
+
+def order_of(of: Integers, count: int) -> Integers:
+    """Returns the places sorted by their numbers, which are below `count`."""
+    return np.argsort(np.array(of, "u2") if count <= 1 << 16 else of, kind="stable")  # which is faster for short numbers
+
+
+def spans(of: Integers, count: int) -> list[slice]:
+    """Returns each number's span among the sorted places."""
+    ends = np.cumsum(np.bincount(of, minlength=count)).tolist()
+    return [slice(begin, end) for begin, end in zip([0, *ends], ends)]
+
+
+def places_of(of: Integers, count: int) -> list[Any]:
+    """Returns an index for each number's rows: their places, or a slice if all rows or none have the number."""
+    if len(of) and of.min() == of.max():
+        return [slice(None) if number == of[0] else slice(0) for number in range(count)]
+    order = order_of(of, count)
+    return [order[span] for span in spans(of, count)]
 
 
 @dataclass(frozen=True)
@@ -21,18 +40,16 @@ class Groups:
 
     def places(self) -> Iterator[tuple[str, Integers]]:
         """Yields each group with its rows' places, in order."""
-        numbers = np.array(self.of, "u2") if len(self.names) <= 1 << 16 else self.of  # which are sorted faster
-        order = np.argsort(numbers, kind="stable")
-        ends = np.cumsum(np.bincount(self.of, minlength=len(self.names)))
-        for name, begin, end in zip(self.names, [0, *ends[:-1].tolist()], ends.tolist()):
-            yield name, order[begin:end]
+        order = order_of(self.of, len(self.names))
+        return ((name, order[span]) for name, span in zip(self.names, spans(self.of, len(self.names))))
 
     def largest(self, sizes: Integers, most: int) -> Groups:
         """Returns at most `most` groups with the largest sums of sizes, and the rest as one group."""
         sums = np.bincount(self.of, weights=sizes, minlength=len(self.names))
-        least = np.partition(sums, [len(sums) - most])[len(sums) - most] if len(sums) > most else 0
-        candidates = np.flatnonzero(sums >= least)  # which are few, so that no million of flows is sorted
-        part = candidates[np.argsort(-sums[candidates], kind="stable")][:most]
+        least = np.partition(sums, [len(sums) - most])[len(sums) - most] if len(sums) > most else -1
+        above = np.flatnonzero(sums > least)  # which are few, so that no million of flows is sorted
+        part = above[np.argsort(-sums[above], kind="stable")]
+        part = np.append(part, np.flatnonzero(sums == least)[: most - len(above)])
         is_there = np.bincount(self.of, minlength=len(self.names)) > 0
         part = part[is_there[part]]
         number, rest = np.full(len(self.names), len(part)), int(np.count_nonzero(is_there)) - len(part)

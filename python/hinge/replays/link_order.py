@@ -24,7 +24,7 @@ class WaitedFor:
     """
 
     places: Integers
-    costs: Integers
+    costs: list[int]
     first_was_sending: bool
 
 
@@ -83,12 +83,10 @@ class LinkOrder:
         link, at = self.sent_on(int(self.parts.link[place])), replay.at[place]
         first = int(np.searchsorted(link.starts, at, side="right"))
         own = int(np.searchsorted(link.starts, replay.start[place], side="left"))
-        places = link.places[first:own]
-        costs = transmission[places]
-        if first and (rest := link.starts[first - 1] + transmission[link.places[first - 1]] - at) > 0:
-            places, costs = np.append(link.places[first - 1], places), np.append(rest, costs)
-            return WaitedFor(places, costs, True)
-        return WaitedFor(places, costs, False)
+        rest = link.starts[first - 1] + transmission[link.places[first - 1]] - at if first else 0
+        places = link.places[first - int(rest > 0) : own]
+        costs = transmission[places].tolist()
+        return WaitedFor(places, [int(rest), *costs[1:]] if rest > 0 else costs, bool(rest > 0))
 
     def before(self, place: int) -> int:
         """Returns the packet that left its link before this packet, or UNKNOWN."""
@@ -148,8 +146,7 @@ class LinkOrder:
         packets."""
         replay, packets = self.parts.replay, self.parts.replay.packets
         seconds_of = [kind == "pipe" and number > LAST_OF_LINKS for kind, number in packets.targets]
-        is_again = np.array([*seconds_of, False])[packets.target] & (packets.word == KEPT)
-        if not is_again.any():
+        if not any(seconds_of) or not (is_again := np.array(seconds_of)[packets.target] & (packets.word == KEPT)).any():
             return {}
         records = np.concatenate((replay.submitted, replay.handed[replay.is_out]))
         places = np.concatenate((np.arange(len(packets)), -1 - np.flatnonzero(replay.is_out)))

@@ -15,6 +15,7 @@ from hinge.command import CONFIGURATION, ROWS, Fault
 from hinge.configurations.configured import InForce, LineFault, Pipe, Queue, Setting, setting_of, spelled_lines
 from hinge.lazy import Integers, Mask, few as np
 from hinge.replays.columns import Change
+from hinge.replays.groups import places_of
 from hinge.replays.replay import NONE, Replay
 
 NS_PER_MS, BITS_NS = 10**6, 8 * 10**9
@@ -66,6 +67,8 @@ class Configuration:
         own = self.by_target.get(target, [])
         begins = np.array([self.spells[place][:2][key] for place in own], np.int64)
         table = np.array([UNKNOWN, *(place if self.spells[place].setting else UNKNOWN for place in own)], np.int64)
+        if len(before) and begins.max(initial=BEFORE_ALL) < before.min():
+            return np.full(len(before), table[-1])
         found: Integers = table[np.searchsorted(begins, before, side="left")]
         return found
 
@@ -109,25 +112,24 @@ class Parts:
         """The spell that decided each row, UNKNOWN for targets without a configuration."""
         packets = self.replay.packets
         found = np.full(len(packets), UNKNOWN, np.int64)
-        for number, target in enumerate(packets.targets):
-            rows = np.flatnonzero(packets.target == number)
+        for target, rows in zip(packets.targets, places_of(packets.target, len(packets.targets))):
             found[rows] = self.configuration.places(target, self.replay.submitted[rows], RECORD)
         return found
 
     @cached_property
     def pipe(self) -> Integers:
-        """The number of the pipe that carries each row."""
+        """The number of the pipe that carries each row, 0 for none."""
         return self.configuration.values(self.own, pipe_of)
 
     @cached_property
     def carrier(self) -> Integers:
         """The spell of its pipe during each row's transmission; for a row that didn't leave, the spell at its arrival."""
         replay, found = self.replay, np.full(len(self.own), UNKNOWN, np.int64)
-        for number in np.unique(self.pipe[self.own != UNKNOWN]).tolist():
-            rows, target = np.flatnonzero((self.pipe == number) & (self.own != UNKNOWN)), ("pipe", number)
-            on_coming = self.configuration.places(target, replay.submitted[rows], RECORD)
-            later = self.configuration.places(target, replay.start[rows], MOMENT)
-            found[rows] = np.where(replay.start[rows] > replay.at[rows], later, on_coming)
+        for number, rows in enumerate(places_of(self.pipe, int(self.pipe.max(initial=0)) + 1)):
+            if number and len(start := replay.start[rows]):
+                on_coming = self.configuration.places(("pipe", number), replay.submitted[rows], RECORD)
+                later = self.configuration.places(("pipe", number), start, MOMENT)
+                found[rows] = np.where(start > replay.at[rows], later, on_coming)
         return found
 
     @cached_property
@@ -142,22 +144,18 @@ class Parts:
         return {*self.carrier[self.replay.packets.five_tuple == self.of_nobody].tolist()} - {UNKNOWN}
 
     @cached_property
-    def bandwidth(self) -> Integers:
-        return self.configuration.values(self.carrier, bandwidth_of)
-
-    @cached_property
     def transmission(self) -> Integers:
         """Returns the transmission times in ns, rounded up; 0 if the bandwidth is unlimited."""
-        bits, bandwidth = self.replay.packets.length * BITS_NS, self.bandwidth
-        return np.where(bandwidth > 0, -(-bits // np.maximum(bandwidth, 1)), 0)
+        spells, length = self.configuration.spells, self.replay.packets.length
+        found = np.zeros(len(length), np.int64)
+        for spell, rows in zip(spells, places_of(self.carrier + 1, len(spells) + 1)[1:]):
+            if spell.setting and (bandwidth := bandwidth_of(spell.setting)):
+                found[rows] = -(length[rows] * -BITS_NS // bandwidth)
+        return found
 
     @cached_property
     def delay(self) -> Integers:
         return self.configuration.values(self.carrier, delay_of)
-
-    @cached_property
-    def waited(self) -> Integers:
-        return self.replay.start - self.replay.at
 
     @cached_property
     def behind(self) -> Integers:

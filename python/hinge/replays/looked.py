@@ -7,13 +7,11 @@ from typing import Optional
 
 from hinge.arguments import TABLE_FLOWS, LookOptions
 from hinge.border.terminal import show, standard_output
-from hinge.captures.through import write_through
 from hinge.command import say
 from hinge.outputs import CAPTURES, PICTURES, Format, refuse_inputs, write_json
 from hinge.pictures.figures import Figures, table_of, write_csv
 from hinge.pictures.text_table import write_bounds, write_text
 from hinge.replays.history import read_sources
-from hinge.replays.parting import parting
 from hinge.replays.remarks import KINDS
 from hinge.replays.source import Source, seen
 from hinge.run.summary import FORMAT
@@ -32,6 +30,8 @@ def write_table_json(source: Source, table: list[Figures], path: str) -> None:
 
 def tell_difference(one: str, other: str, path: Optional[str]) -> None:
     """Prints the first difference of two histories; the exit status shows whether they differ."""
+    from hinge.replays.parting import parting
+
     refuse_inputs((path,), (one, other))
     part = parting(one, other)
     if path:
@@ -49,6 +49,8 @@ def tell_of(source: Source, options: LookOptions, head: str) -> None:
     """Writes a source's files; then prints its table, as the reader may close the pipe."""
     table = table_of(source.replay, source.parts, options.by, options.top or TABLE_FLOWS)
     for name in options.files(*CAPTURES):
+        from hinge.captures.through import write_through
+
         say(write_through(source, options.capture or "", options.index or "", name))
     show(head, end="")
     (write_csv if options.csv else write_text)(table, standard_output())
@@ -81,5 +83,5 @@ def look(options: LookOptions, most_reports: int) -> None:
         tell_of(source, options, head)
     for remark in sources[0].remarks():
         say(remark)
-    if len(options.source) == 1:
+    if sources[0].words:  # as each run since version 2 has
         judge_run(options.source[0])

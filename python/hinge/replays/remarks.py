@@ -42,8 +42,8 @@ def seed_in(data: bytes) -> Optional[str]:
 
 
 def words_in(data: bytes) -> dict[str, str]:
-    """Returns the words of --up and --down, from the remarks `#,asked,OPTION,0,WORDS`."""
-    return {fields[0]: ",".join(fields[2:]) for fields in remarks_of(data, b"asked") if fields[0] in ("--up", "--down")}
+    """Returns each option's last words, from the remarks `#,asked,OPTION,LINE,WORDS`."""
+    return {fields[0]: ",".join(fields[2:]) for fields in remarks_of(data, b"asked")}
 
 
 def flips_in(data: bytes) -> dict[int, tuple[int, int]]:

@@ -76,7 +76,7 @@ class Replay:
 
 
 def dotted(address: int) -> str:
-    return ".".join(str(address >> shift & 255) for shift in (24, 16, 8, 0))
+    return f"{address >> 24}.{address >> 16 & 255}.{address >> 8 & 255}.{address & 255}"
 
 
 def packets_of(path: str, rows: Rows, moment: Integers, remarked: Mapping[str, str]) -> Packets:

@@ -29,7 +29,7 @@ class Source:
     cut: Optional[int] = None  # the last line of a history that has no end
     seed: Optional[str] = None  # of what a live host drew, if it told
     lateness: Lateness = field(default_factory=dict)  # of a live host, if it told
-    words: dict[str, str] = field(default_factory=dict)  # of a run's --up and --down
+    words: dict[str, str] = field(default_factory=dict)  # of a run's options
     whole: Optional[Source] = None  # with the rows that are left out here, and the places there of all others
     rows: Optional[Integers] = None
 

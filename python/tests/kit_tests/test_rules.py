@@ -70,7 +70,7 @@ def random_frame(rng: random.Random) -> Frame:
 def asked(frame: Frame) -> Asked:
     """The frame in the form that `hinge packets` compares with rules."""
     ends = [int(it) | (MAPPED if it.version == 4 else 0) for it in map(ipaddress.ip_address, (frame.src, frame.dst))]
-    return Asked(ends, [0], [1], [frame.proto], [frame.sport], [frame.dport], [frame.dscp])
+    return Asked(lambda: ends, [0], [1], [frame.proto], [frame.sport], [frame.dport], [frame.dscp])
 
 
 class Rules(unittest.TestCase):

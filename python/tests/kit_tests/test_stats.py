@@ -6,14 +6,21 @@ import csv
 import io
 import subprocess
 import unittest
+from typing import Optional, Union
 
 import numpy as np
 from kit import folder, mixed, needs_tshark, replay, rows_of, run, write
 
 from hinge.captures.packet_rows import HEADER
+from hinge.lazy import Integers
 from hinge.pictures.figures import exact_sum, jitter, jitter_after, mean, percentiles
 from hinge.program import dummynet
 from hinge.replays.units import packets, rows
+
+
+def jitter_of(took: Union[Integers, list[int]]) -> Optional[int]:
+    """Returns the jitter of packets that left in their order."""
+    return jitter(np.arange(len(took)), np.zeros(len(took), np.int64), np.array(took))
 
 
 def table(*words: object) -> dict[str, dict[str, str]]:
@@ -90,20 +97,28 @@ class ByHand(unittest.TestCase):
 
     def test_sums_beyond_63_bits(self) -> None:
         column = np.full(5, 2**62, np.int64)
-        assert (exact_sum(column), mean(column)) == (5 * 2**62, 2**62)
+        assert (exact_sum(column), exact_sum(-column), mean(5 * 2**62 + 4, 5), mean(0, 0)) == (
+            5 * 2**62,
+            -5 * 2**62,
+            2**62,
+            None,
+        )
 
     def test_jitter_of_a_step(self) -> None:
         """J += (|D| - J) / 16, rounded: a steady delay has none, a step of 16 ms leaves 1 ms, and 24 ns go to 0."""
-        assert jitter(np.array([5, 5, 5])) == 0
-        assert jitter(np.array([0, 16_000_000])) == 1_000_000
-        assert [jitter(np.array([0, *[24] * steady])) for steady in (1, 8, 9)] == [1, 1, 0]
-        assert jitter(np.array([7])) is None
+        assert jitter_of([5, 5, 5]) == 0
+        assert jitter_of([0, 16_000_000]) == 1_000_000
+        assert [jitter_of([0, *[24] * steady]) for steady in (1, 8, 9)] == [1, 1, 0]
+        assert jitter_of([7]) is None
 
     def test_jitter_of_many(self) -> None:
         """The last of many packets decide the jitter, or all packets if all matter."""
         random = np.random.default_rng(3).integers(0, 10**9, 30_000)
         for took in (random, np.arange(30_000), np.append(0, np.full(30_000, 24)), np.arange(30_000) % 2 * 10**9):
-            assert jitter(took) == jitter_after(0, took.tolist())
+            wanted = jitter_after(0, took.tolist())
+            assert jitter_of(took) == wanted
+            order = np.random.default_rng(5).permutation(len(took))  # of the rows; of packets that leave at once the number decides
+            assert jitter(np.arange(len(took))[order] // 3, np.arange(len(took))[order], took[order]) == wanted
 
 
 @needs_tshark
