@@ -26,7 +26,6 @@ from hingetulip import aio
 from hingetulip.aio import baton
 from hingetulip.aio.border import LIBRARY
 from hingetulip.aio.extra import whole
-from hingetulip.aio.refusals import NO_THREADS
 from test_aio_real import run_alone
 
 
@@ -189,22 +188,6 @@ class Threads(unittest.TestCase):
     def test_an_interpreter_that_is_not_known_is_refused(self) -> None:
         done = run_alone("import ctypes; del ctypes.PyDLL; import hingetulip")  # as with PyPy
         assert "ImportError: hingetulip needs CPython, and this is cpython" in done.stderr
-
-    def test_the_threads_of_python_3_13_are_refused(self) -> None:
-        done = run_alone(
-            """
-            import _thread, asyncio, ctypes, threading
-            from hingetulip import aio
-            from hingetulip.aio.switched import METHOD, Method, fields_of, new_function
-            if not hasattr(_thread, "start_joinable_thread"):  # which older Pythons get here
-                method = Method.from_buffer_copy(Method.from_address(fields_of(_thread.start_new_thread)[METHOD]))
-                method.name = b"start_joinable_thread"
-                made = new_function(ctypes.addressof(method), id(_thread), None)
-                _thread.start_joinable_thread = threading._start_new_thread = made
-            aio.run(asyncio.to_thread(print))
-            """
-        )
-        assert f"hingetulip.aio.refusals.RealTimeError: {NO_THREADS}" == done.stderr.splitlines()[-1]
 
     @unittest.skipIf(LIBRARY is None, "no hinge-clock.so")
     def test_a_thread_in_c_draws_while_another_keeps_pythons_lock(self) -> None:

@@ -6,8 +6,6 @@ import _thread
 import contextvars
 import math
 import os
-import socket
-import struct
 import sys
 import threading
 import time
@@ -19,52 +17,23 @@ from unittest import mock
 
 from hingetulip.aio.border import joining
 from hingetulip.aio.datagram import NS
-from hingetulip.aio.refusals import ALLOWED, BLOCKS, HANGS, NO_THREADS, SLEEP, RealTimeError
+from hingetulip.aio.member import PATIENCE, Ended, Member, Ready, bounded_pipe, quiet
+from hingetulip.aio.refusals import ALLOWED, BLOCKS, HANGS, SLEEP, RealTimeError
 from hingetulip.aio.switched import Either, Function, of_run, own_of, switched, switched_methods
 from hingetulip.library import NEVER
 
 if TYPE_CHECKING:
     from hingetulip.aio.loop import Loop
 
-Ready = Callable[[], bool]
 Really = Callable[[], Optional[bool]]
 
 MOST_TURNS = 100_000  # while the loop's own thread waits for the others
 LONGEST = 20.0  # real s that it waits for a thread of the system
-PATIENCE = 1  # real s that a thread has to end when its network is closed
 IDLE = 0.01  # s of a processor in each of these, below which the process waits, and doesn't work
 Lock: Any = _thread.LockType
 LockAgain: Any = type(threading.RLock())
-own_start = own_of(_thread, "start_new_thread")
+HANDLES = [getattr(_thread, name) for name in dir(_thread) if name == "_ThreadHandle"]  # of Python 3.13's threads
 own_process_time = own_of(time, "process_time")
-
-
-class Ended(SystemExit):
-    """Raised in a thread when its network ends."""
-
-
-def quiet(hook: Callable[[Any], object]) -> Callable[[Any], object]:
-    """Returns a hook for unhandled exceptions in threads that ignores `Ended`."""
-    return lambda words: None if words.exc_type is Ended else hook(words)
-
-
-def bounded_pipe() -> tuple[int, int]:
-    """Returns a pipe whose reads time out after PATIENCE. C code that waits for descriptors counts as real, but C code that reads
-    one doesn't."""
-    reader, writer = socket.socketpair()
-    reader.setsockopt(socket.SOL_SOCKET, socket.SO_RCVTIMEO, struct.pack("@ll", PATIENCE, 0))
-    return reader.detach(), writer.detach()
-
-
-class Member:
-    """A thread in a run, with its condition and its timeout in ns."""
-
-    def __init__(self) -> None:
-        self.ready: Ready = lambda: True
-        self.until = NEVER
-        self.is_ready = self.has_ended = False
-        self.sentinel: Any = None  # a lock that the system releases once the thread is gone
-        self.turn = os.pipe()
 
 
 class Baton:
@@ -75,9 +44,9 @@ class Baton:
         self.lost: Optional[str] = None  # why the run ends, if a thread goes on as one of the system; empty if it has ended
         self.members: dict[int, Member] = {}
 
-    def start(self, function: Callable[..., Any], words: Any = (), named: Any = {}) -> int:
-        """Starts a thread, whose first turn is in the loop's next step; returns its number."""
-        member, context, begun = Member(), contextvars.copy_context(), os.pipe()
+    def start(self, own: Function, member: Member, function: Function, words: Any = (), named: Any = {}) -> Any:
+        """Starts a thread, whose first turn is in the loop's next step; returns the result of the system's function."""
+        context, begun = contextvars.copy_context(), os.pipe()
 
         def body() -> None:
             of_run.add(threading.get_ident())
@@ -94,11 +63,11 @@ class Baton:
                 of_run.discard(threading.get_ident())
                 os.write(self.back[1], b".")
 
-        ident: int = own_start(body, ())
+        result = own(body)
         os.read(begun[0], 1)
         for end in begun:
             os.close(end)
-        return ident
+        return result
 
     def wait(self, ready: Ready, seconds: Optional[float] = None, really: Optional[Really] = None) -> bool:
         """Yields until a condition is true, for at most some seconds; returns whether it is true. The loop's thread can't yield:
@@ -181,10 +150,8 @@ class Baton:
             del self.members[ident]
             for end in member.turn:
                 os.close(end)
-            if member.sentinel is not None:
-                while not member.sentinel.acquire(False):
-                    os.stat("/")  # which lets the other thread go on and, unlike a wait for the lock, isn't counted as real
-                member.sentinel.release()
+            while not member.is_gone():
+                os.stat("/")  # which lets the other thread go on and, unlike a wait for a lock, isn't counted as real
         return True
 
     def until(self) -> int:
@@ -211,40 +178,57 @@ class Baton:
         return sleep
 
     def start_new_thread(self, own: Function) -> Function:
-        return self.start
+        return lambda *words: self.start(lambda body: own(body, ()), Member(), *words)
 
     def start_joinable_thread(self, own: Function) -> Function:
-        """Returns a function that refuses the threads of Python 3.13, which would be the system's."""
+        """Returns the function that starts `threading`'s threads from Python 3.13 on."""
 
-        def refuse(*_: Any, **__: Any) -> int:
-            raise RealTimeError(NO_THREADS)
+        def start(function: Function, handle: Any = None, daemon: bool = True) -> Any:
+            member = Member()
+            made = self.start(lambda body: own(body, handle=handle, daemon=daemon), member, function)
+            member.is_gone = made.is_done
+            return made
 
-        return refuse
+        return start
+
+    def join(self, own: Function) -> Function:
+        """Returns such a thread's `join`."""
+
+        def join(handle: Any, timeout: Optional[float] = None) -> None:
+            own(handle, 0)  # refuses a thread that never began
+            self.wait(handle.is_done, timeout, self.really(lambda most: bool(own(handle, most) or handle.is_done()), timeout))
+
+        return join
 
     def set_sentinel(self, own: Function) -> Function:
+        """Returns the function of older Pythons for a lock that the system releases once the thread is gone."""
+
         def sentinel() -> Any:
             lock = own()
             if threading.get_ident() in self.members:
-                self.members[threading.get_ident()].sentinel = lock
+                self.members[threading.get_ident()].is_gone = lambda: not lock.locked()
             return lock
 
         return sentinel
+
+    def really(self, wait: Callable[[float], bool], timeout: Optional[float]) -> Really:
+        """Returns a wait of the loop's thread for a thread of the system, if there is one."""
+
+        def really() -> Optional[bool]:
+            if _thread._count() <= len(self.members):
+                return None
+            is_bounded = timeout is not None and timeout < LONGEST
+            return wait(timeout if timeout is not None and is_bounded else LONGEST) or (False if is_bounded else None)
+
+        return really
 
     def acquire(self, own: Function) -> Function:
         """Returns a lock's `acquire` that waits for another thread's release."""
 
         def acquire(lock: Any, blocking: bool = True, timeout: float = -1) -> bool:
-            def really() -> Optional[bool]:
-                if _thread._count() <= len(self.members):
-                    return None  # and no thread of the system could release the lock
-                is_bounded = 0 <= timeout < LONGEST
-                return own(lock, True, timeout if is_bounded else LONGEST) or (False if is_bounded else None)
-
-            return (
-                bool(own(lock, False))
-                or blocking
-                and self.wait(lambda: bool(own(lock, False)), None if timeout == -1 else timeout, really)
-            )
+            seconds = None if timeout == -1 else timeout
+            really = self.really(lambda most: bool(own(lock, True, most)), seconds)
+            return bool(own(lock, False) or blocking and self.wait(lambda: bool(own(lock, False)), seconds, really))
 
         return acquire
 
@@ -284,6 +268,7 @@ class Baton:
             **dict.fromkeys(((Lock, "acquire_lock"), (Lock, "__enter__"), (LockAgain, "__enter__")), acquired),
             (LockAgain, "_acquire_restore"): lambda own: lambda lock, state: [lock.acquire() for _ in range(state[0])] and None,
             (SimpleQueue, "get"): self.get,
+            **{(kind, "join"): self.join for kind in HANDLES},
         }
         functions: dict[Any, Either] = {
             (_thread, "start_new_thread"): self.start_new_thread,
