@@ -6,6 +6,7 @@ import _thread
 import contextvars
 import math
 import os
+import posix
 import sys
 import threading
 import time
@@ -17,7 +18,7 @@ from unittest import mock
 
 from hingetulip.aio.border import joining
 from hingetulip.aio.datagram import NS
-from hingetulip.aio.member import PATIENCE, Ended, Member, Ready, bounded_pipe, quiet
+from hingetulip.aio.member import LONGEST, PATIENCE, Ended, Member, Ready, bounded_pipe, quiet
 from hingetulip.aio.refusals import ALLOWED, BLOCKS, HANGS, SLEEP, RealTimeError
 from hingetulip.aio.switched import Either, Function, of_run, own_of, switched, switched_methods
 from hingetulip.library import NEVER
@@ -28,12 +29,11 @@ if TYPE_CHECKING:
 Really = Callable[[], Optional[bool]]
 
 MOST_TURNS = 100_000  # while the loop's own thread waits for the others
-LONGEST = 20.0  # real s that it waits for a thread of the system
 IDLE = 0.01  # s of a processor in each of these, below which the process waits, and doesn't work
 Lock: Any = _thread.LockType
 LockAgain: Any = type(threading.RLock())
 HANDLES = [getattr(_thread, name) for name in dir(_thread) if name == "_ThreadHandle"]  # of Python 3.13's threads
-own_process_time = own_of(time, "process_time")
+own_process_time, own_sleep, own_read = own_of(time, "process_time"), own_of(time, "sleep"), own_of(posix, "read")
 
 
 class Baton:
@@ -54,7 +54,7 @@ class Baton:
             for join in joining:
                 join()
             os.write(begun[1], b".")
-            os.read(member.turn[0], 1)
+            own_read(member.turn[0], 1)
             try:
                 if not self.is_closing:
                     context.run(function, *words, **named)
@@ -64,7 +64,7 @@ class Baton:
                 os.write(self.back[1], b".")
 
         result = own(body)
-        os.read(begun[0], 1)
+        own_read(begun[0], 1)
         for end in begun:
             os.close(end)
         return result
@@ -77,7 +77,7 @@ class Baton:
             return True
         if seconds is not None and seconds <= 0:
             return False
-        member = self.members.get(threading.get_ident())
+        member = self.member()
         if member is not None:
             return self._given_way(member, ready, seconds)
         for _ in range(MOST_TURNS):
@@ -96,14 +96,21 @@ class Baton:
             member.until = self.loop.clock.now + (round(seconds * NS) or 1)  # the rest of a wait in floats may be less than a ns
         if not self.is_closing:
             os.write(self.back[1], b".")
-            os.read(member.turn[0], 1)
+            own_read(member.turn[0], 1)
         if self.is_closing:
             raise Ended
         return member.is_ready
 
-    def gives_way(self) -> bool:
-        """Returns whether this is one of the threads, rather than the loop's thread."""
-        return threading.get_ident() in self.members
+    def member(self) -> Optional[Member]:
+        """Returns the current thread's, and None in the loop's thread."""
+        return self.members.get(threading.get_ident())
+
+    def holds(self) -> bool:
+        """Lets real time pass if a thread waits for a process; returns whether one does."""
+        is_held = any(member.is_held() for member in self.members.values())
+        if is_held:
+            own_sleep(IDLE)
+        return is_held
 
     def step(self) -> bool:
         """Gives each thread that can go on a turn, if any. RealTimeError: a thread is lost."""
@@ -126,7 +133,7 @@ class Baton:
         while seconds < (PATIENCE if self.is_closing else LONGEST):
             worked = own_process_time()
             try:
-                return bool(os.read(self.back[0], 1))
+                return bool(own_read(self.back[0], 1))
             except BlockingIOError:
                 seconds += PATIENCE * (self.is_closing or own_process_time() - worked < IDLE)
         return False
@@ -171,7 +178,7 @@ class Baton:
 
     def sleep(self, own: Function) -> Function:
         def sleep(seconds: float) -> None:
-            if not self.gives_way():
+            if self.member() is None:
                 raise RealTimeError(SLEEP + ALLOWED)
             self.wait(lambda: False, max(seconds, 1 / NS))
 
@@ -204,9 +211,9 @@ class Baton:
         """Returns the function of older Pythons for a lock that the system releases once the thread is gone."""
 
         def sentinel() -> Any:
-            lock = own()
-            if threading.get_ident() in self.members:
-                self.members[threading.get_ident()].is_gone = lambda: not lock.locked()
+            lock, member = own(), self.member()
+            if member is not None:
+                member.is_gone = lambda: not lock.locked()
             return lock
 
         return sentinel
@@ -242,7 +249,7 @@ class Baton:
             until = math.inf if timeout == -1 else self.loop.clock.seconds + timeout
             while not own(lock, False):
                 left = until - self.loop.clock.seconds
-                if not self.gives_way():
+                if self.member() is None:
                     return bool(own(lock, blocking, *[timeout] * blocking))  # of a thread of the system
                 if not blocking or not self.wait(lambda: is_free(lock), None if left == math.inf else left):
                     return False

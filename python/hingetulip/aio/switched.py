@@ -9,6 +9,7 @@ from __future__ import annotations
 
 import functools
 import gc
+import os
 import sys
 import threading
 from contextlib import contextmanager
@@ -32,6 +33,7 @@ for count in (pythonapi.Py_IncRef, pythonapi.Py_DecRef, pythonapi.PyType_Modifie
 
 
 of_run: set[int] = set()  # the threads of the run that is under way
+os.register_at_fork(after_in_child=of_run.clear)  # or a forked process would take turns in the run, whose pipes it has
 
 
 class Method(Structure):
