@@ -20,7 +20,7 @@ from hingetulip.aio.border import joining
 from hingetulip.aio.datagram import NS
 from hingetulip.aio.member import LONGEST, PATIENCE, Ended, Member, Ready, bounded_pipe, quiet
 from hingetulip.aio.refusals import ALLOWED, BLOCKS, HANGS, SLEEP, RealTimeError
-from hingetulip.aio.switched import Either, Function, of_run, own_of, switched, switched_methods
+from hingetulip.aio.switched import Either, Function, of_run, own_of, switched
 from hingetulip.library import NEVER
 
 if TYPE_CHECKING:
@@ -269,15 +269,13 @@ class Baton:
     def held(self) -> Iterator[None]:
         """Makes threads of the run yield within the context."""
         acquired: Either = lambda own: lambda *words, **named: getattr(own, "__objclass__").acquire(*words, **named)
-        methods: dict[tuple[type, str], Either] = {
+        functions: dict[Any, Either] = {
             (Lock, "acquire"): self.acquire,
             (LockAgain, "acquire"): self.acquire_again,
             **dict.fromkeys(((Lock, "acquire_lock"), (Lock, "__enter__"), (LockAgain, "__enter__")), acquired),
             (LockAgain, "_acquire_restore"): lambda own: lambda lock, state: [lock.acquire() for _ in range(state[0])] and None,
             (SimpleQueue, "get"): self.get,
             **{(kind, "join"): self.join for kind in HANDLES},
-        }
-        functions: dict[Any, Either] = {
             (_thread, "start_new_thread"): self.start_new_thread,
             (_thread, "start_new"): self.start_new_thread,
             (_thread, "start_joinable_thread"): self.start_joinable_thread,
@@ -285,7 +283,7 @@ class Baton:
         }
         of_run.update({threading.get_ident(), *self.members})
         try:
-            with switched(functions), switched_methods(methods):
+            with switched(functions):
                 yield
         finally:
             of_run.clear()

@@ -13,14 +13,13 @@ import time
 from collections import Counter
 from contextlib import contextmanager
 from importlib import import_module
-from types import ModuleType
 from typing import TYPE_CHECKING, Any, Callable, Iterator, Optional
 
 from hingetulip.aio.addresses import FLAGS
 from hingetulip.aio.member import LONGEST
 from hingetulip.aio.border import LIBRARY, calls
 from hingetulip.aio.refusals import ALLOWED, NO_TCP, SOCKET, RealTimeError
-from hingetulip.aio.switched import Either, Function, note_all, of_run, switched, switched_methods
+from hingetulip.aio.switched import Either, Function, note_all, of_run, switched
 
 if TYPE_CHECKING:
     from hingetulip.aio.descriptors import Descriptors
@@ -210,22 +209,20 @@ class Selecting:
 def real_refused(uses: RealUses, descriptors: Descriptors) -> Iterator[None]:
     """Refuses real calls in this thread, or reports them, within the context."""
     selecting = Selecting(descriptors, uses)
-    functions: dict[tuple[ModuleType, str], Either] = {
+    functions: dict[tuple[Any, str], Either] = {
         (time, "sleep"): descriptors.loop.baton.sleep,
         (select, "select"): selecting.select,
+        (type(select.poll()), "poll"): selecting.poll,
+        (select.epoll, "poll"): selecting.epoll,
         **descriptors.functions(),
     }
     for name in UNHEARD:
         module, _, function = name.partition(".")
         functions[import_module(module), function] = uses.counted(name)
-    methods: dict[tuple[type, str], Either] = {
-        (type(select.poll()), "poll"): selecting.poll,
-        (select.epoll, "poll"): selecting.epoll,
-    }
     before = uses.all()
     installed().append(uses)
     try:
-        with switched(functions), switched_methods(methods):
+        with switched(functions):
             yield
     finally:
         uses.gather()
