@@ -150,6 +150,14 @@ class Threads(unittest.TestCase):
         aio.run(main(log))
         assert [(b"X", 0.04)] == log
 
+    def test_the_clock_stands_still_for_a_process(self) -> None:
+        def ask(log: list[Any]) -> None:
+            with subprocess.Popen(["sh", "-c", "sleep 0.1; echo late"], stdout=subprocess.PIPE) as process:
+                log.append(process.communicate(timeout=5)[0])
+
+        said, seconds = self.log_of(ask)
+        assert b"late\n" == said and seconds < 1
+
     def test_what_is_left_over_ends_with_the_network(self) -> None:
         ends = list[str]()
 

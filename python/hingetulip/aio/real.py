@@ -60,7 +60,14 @@ class RealUses:
             self.threads[threading.current_thread().name] = None
 
     def has_processes(self) -> bool:
-        return any(self.calls[name] for name in (*OF_PROCESSES, SPAWNED))
+        """Returns whether the run started processes, and a child of this process is left."""
+        if not any(self.calls[name] for name in (*OF_PROCESSES, SPAWNED)):
+            return False
+        try:
+            os.waitid(os.P_ALL, 0, os.WEXITED | os.WNOHANG | os.WNOWAIT)
+        except ChildProcessError:
+            return False
+        return True
 
     def counted(self, name: str) -> Either:
         """Returns the counted version of a function that no audit event tells, unless `subprocess` calls it, whose event was counted."""
