@@ -56,7 +56,8 @@ SEED = """random.getstate()[1][:9] | early_random() | random.Random().random() |
 OF_NUMPY = "numpy.random.random() | numpy.random.default_rng().random() | numpy.random.RandomState().random_sample()"
 PURE = """time.mktime time.strptime time.struct_time time.sleep time.tzset time.get_clock_info time.clock_getres time.clock_settime
     time.clock_settime_ns time.pthread_getcpuclockid random.Random secrets.compare_digest uuid.uuid3 uuid.uuid5 uuid.UUID
-    uuid.SafeUUID uuid.Enum uuid.main uuid.bytes_ uuid.int_ os.utime os.times_result"""
+    uuid.SafeUUID uuid.Enum uuid.main uuid.bytes_ uuid.int_ os.utime os.times_result
+    os.timerfd_create os.timerfd_gettime os.timerfd_gettime_ns os.timerfd_settime os.timerfd_settime_ns"""
 LIMITS = {"uuid.getnode": "uuid.getnode", "hash": "`hash` of texts"}  # and how TESTING names each
 
 

@@ -26,7 +26,6 @@ from hingetulip import aio
 from hingetulip.aio import baton
 from hingetulip.aio.border import LIBRARY
 from hingetulip.aio.extra import whole
-from hingetulip.aio.refusals import NO_THREADS
 from test_aio_real import run_alone
 
 
@@ -151,6 +150,14 @@ class Threads(unittest.TestCase):
         aio.run(main(log))
         assert [(b"X", 0.04)] == log
 
+    def test_the_clock_stands_still_for_a_process(self) -> None:
+        def ask(log: list[Any]) -> None:
+            with subprocess.Popen(["sh", "-c", "sleep 0.1; echo late"], stdout=subprocess.PIPE) as process:
+                log.append(process.communicate(timeout=5)[0])
+
+        said, seconds = self.log_of(ask)
+        assert b"late\n" == said and seconds < 1
+
     def test_what_is_left_over_ends_with_the_network(self) -> None:
         ends = list[str]()
 
@@ -189,22 +196,6 @@ class Threads(unittest.TestCase):
     def test_an_interpreter_that_is_not_known_is_refused(self) -> None:
         done = run_alone("import ctypes; del ctypes.PyDLL; import hingetulip")  # as with PyPy
         assert "ImportError: hingetulip needs CPython, and this is cpython" in done.stderr
-
-    def test_the_threads_of_python_3_13_are_refused(self) -> None:
-        done = run_alone(
-            """
-            import _thread, asyncio, ctypes, threading
-            from hingetulip import aio
-            from hingetulip.aio.switched import METHOD, Method, fields_of, new_function
-            if not hasattr(_thread, "start_joinable_thread"):  # which older Pythons get here
-                method = Method.from_buffer_copy(Method.from_address(fields_of(_thread.start_new_thread)[METHOD]))
-                method.name = b"start_joinable_thread"
-                made = new_function(ctypes.addressof(method), id(_thread), None)
-                _thread.start_joinable_thread = threading._start_new_thread = made
-            aio.run(asyncio.to_thread(print))
-            """
-        )
-        assert f"hingetulip.aio.refusals.RealTimeError: {NO_THREADS}" == done.stderr.splitlines()[-1]
 
     @unittest.skipIf(LIBRARY is None, "no hinge-clock.so")
     def test_a_thread_in_c_draws_while_another_keeps_pythons_lock(self) -> None:

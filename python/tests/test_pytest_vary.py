@@ -157,11 +157,20 @@ class OfTests(Runs):
 
             async def test_of_no_packet(sim_net):
                 pass
+
+            @pytest.mark.link("20ms")
+            async def test_of_a_clock(sim_net):
+                await session(sim_net, 1)
+                import time
+                async def ahead():
+                    return time.time() - sim_net.start - asyncio.get_running_loop().time()
+                assert await sim_net.host("10.0.0.2").create_task(ahead()) < 0.1
             """,
             "--link-search",
             "--link-runs=9",
         )
-        self.assertEqual({"passed": 2, "failed": 1}, done.counts, done.text)
+        self.assertEqual({"passed": 2, "failed": 2}, done.counts, done.text)
+        self.assertRegex(done.text, r"test_of_a_clock: at 0s skew 10.0.0.2 \+[\d.]+s: by seed \d .*, \d+ runs\n")
         self.assertRegex(done.text, r"- least faults -+\n10.0.0.\d > 10.0.0.\d packet \d lost\nfound by .* in \d+ runs\n")
         self.assertRegex(done.text, r"test_all_come\[9\]: 10.0.0.\d > 10.0.0.\d packet \d lost: by .*, \d+ runs\n")
         self.assertRegex(done.text, r"test_all_come\[0\]: no failure in \d+ runs\n")

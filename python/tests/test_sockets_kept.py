@@ -1,51 +1,15 @@
-"""Names of hosts and sockets bound to them, what libraries keep of the system's sockets and clock, and groups of multicast."""
+"""Names of hosts and sockets bound to them, and groups of multicast."""
 
 from __future__ import annotations
 
 import asyncio
 import socket
-import sys
-import types
 import unittest
 from typing import Any
-from unittest import mock
 
 from hingetulip import aio
 from simulated_hosts import Ends, opened
 from simulated_sockets import ONE, ONE_OF_6, OTHER, OTHER_OF_6, both, on, udp
-
-
-class Ip:
-    def __init__(self, ip: Any, network_prefix: int, nice_name: str) -> None:
-        self.ip = ip
-
-
-class Adapter:
-    def __init__(self, name: str, nice_name: str, ips: list[Ip], index: int) -> None:
-        self.name, self.ips = name, ips
-
-
-class Kept(unittest.TestCase):
-    def test_what_libraries_keep_of_the_system(self) -> None:
-        """Modules of those names that have what those libraries have."""
-        ifaddr, aioice = (types.ModuleType(name) for name in ("ifaddr", "aioice.ice"))
-        own = lambda *_: ["of the machine"]  # noqa: E731
-        ifaddr.IP, ifaddr.Adapter, ifaddr.get_adapters, aioice.get_host_addresses = Ip, Adapter, own, own
-        modules = {module.__name__: module for module in (ifaddr, aioice)}
-
-        async def main(net: aio.Network) -> list[Any]:
-            (adapter,) = ifaddr.get_adapters()
-            return [
-                adapter.name,
-                [it.ip for it in adapter.ips],
-                aioice.get_host_addresses(True, False),
-                aioice.get_host_addresses(use_ipv4=True, use_ipv6=True),
-            ]
-
-        with mock.patch.dict(sys.modules, modules), both() as net:
-            found = on(net, ONE, main(net))
-        self.assertEqual(["one", [ONE, (ONE_OF_6, 0, 0)], [ONE], [ONE, ONE_OF_6]], found)
-        self.assertEqual((own, own), (ifaddr.get_adapters, aioice.get_host_addresses))
 
 
 class Groups(unittest.TestCase):

@@ -115,6 +115,18 @@ ROWS = (
     Row("xmlrpc", REFUSED, "from xmlrpc.server import SimpleXMLRPCServer as Server", "Server(AT)", TCP),
     Row("socketserver", EXACT, "import socket, socketserver, threading", "SERVER", "(b'x', None) at 0.0"),
     Row("socketserver", REFUSED, "import socketserver", "socketserver.TCPServer(AT, None)", TCP),
+    Row(
+        "multiprocessing",
+        EXACT,
+        "import multiprocessing, queue, time; from multiprocessing import dummy",
+        "QUEUE",
+        "([1.0, 2.0, 4.0], 1) at 4.3",
+    ),
+    Row("multiprocessing", REAL, "import multiprocessing as m", "SPAWN", "fork_exec"),
+    Row("concurrent", REAL, "import concurrent.futures as c", "c.ProcessPoolExecutor(1).submit(abs, -1).result(9)", "os.fork"),
+    Row("signal", REAL, "import signal", "signal.alarm(0)", "_signal.alarm"),
+    Row("os", EXACT, "import os, socket, threading", "DESCRIPTORS", "(b'xyz', b'p') at 1.5"),
+    Row("os", REFUSED, "import os, socket", "os.sendfile(socket.socket(2, 2).fileno(), 0, 0, 1)", "one descriptor"),
     Row("graypy", EXACT, "import graypy, logging", "graypy.GELFUDPHandler(*AWAY).emit(logging.makeLogRecord({}))", "None at 0"),
     Row("rpyc", EXACT, "from rpyc.utils import registry", "registry.UDPRegistryClient('10.0.0.2').discover('X')", "() at 2.0"),
     Row("rpyc", REFUSED, "import rpyc", "rpyc.connect(*AT)", TCP),
@@ -159,6 +171,25 @@ LONGER = {  # calls of several statements, as functions
     asker = socket.socket(socket.AF_INET, socket.SOCK_DGRAM)
     asker.sendto(b'x', ('10.0.0.1', 9))
     return asker.recv(9), server.shutdown()""",
+    "QUEUE": """
+    made = multiprocessing.Queue()
+    with dummy.Pool(2) as pool:
+        moments = pool.map(lambda length: (time.sleep(length), time.monotonic())[1], [1, 2, 3], 1)
+    try:
+        made.get(timeout=0.3)
+    except queue.Empty:
+        made.put(1)
+    return moments, made.get()""",
+    "SPAWN": """
+    process = m.get_context('spawn').Process(target=len, args=('',))
+    return process.start(), process.join()""",
+    "DESCRIPTORS": """
+    sock, (reader, writer) = socket.socket(2, 2), os.pipe()
+    sock.bind(('10.0.0.1', 97))
+    sock.connect(('10.0.0.1', 97))
+    os.write(sock.fileno(), b'xyz')
+    threading.Timer(1.5, os.write, [writer, b'p']).start()
+    return os.read(sock.fileno(), 9), os.read(reader, 1)""",
     "INFLUX": """
     asker = influxdb.InfluxDBClient('127.0.0.1', use_udp=True, udp_port=7)
     return asker.write_points([{'measurement': 'x', 'fields': {'y': 1}}])""",

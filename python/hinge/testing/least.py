@@ -19,7 +19,7 @@ from hinge.testing.emulated import SimulatedPath
 from hinge.testing.marks import Variation, variation_of, vary_of
 
 LEAST, SEARCHED = "least faults", "hingetulip searched"  # of a section, and of a property
-ALL = {"delay": "5..100ms", "jitter": "80ms", "phase": "1s", "drift": "100ppm", "duplicates": "2%", "cuts": "1..3s"}
+ALL = {"delay": "5..100ms", "jitter": "80ms", "phase": "1s", "drift": "100ppm", "skew": "2s", "duplicates": "2%", "cuts": "1..3s"}
 VARIATIONS = variation_of({"jitter": "300ms"}), variation_of(ALL)  # of tests without a mark `vary`, in turn
 
 

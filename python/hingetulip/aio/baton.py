@@ -6,8 +6,7 @@ import _thread
 import contextvars
 import math
 import os
-import socket
-import struct
+import posix
 import sys
 import threading
 import time
@@ -19,52 +18,22 @@ from unittest import mock
 
 from hingetulip.aio.border import joining
 from hingetulip.aio.datagram import NS
-from hingetulip.aio.refusals import ALLOWED, BLOCKS, HANGS, NO_THREADS, SLEEP, RealTimeError
-from hingetulip.aio.switched import Either, Function, of_run, own_of, switched, switched_methods
+from hingetulip.aio.member import LONGEST, PATIENCE, Ended, Member, Ready, bounded_pipe, quiet
+from hingetulip.aio.refusals import ALLOWED, BLOCKS, HANGS, SLEEP, RealTimeError
+from hingetulip.aio.switched import Either, Function, of_run, own_of, switched
 from hingetulip.library import NEVER
 
 if TYPE_CHECKING:
     from hingetulip.aio.loop import Loop
 
-Ready = Callable[[], bool]
 Really = Callable[[], Optional[bool]]
 
 MOST_TURNS = 100_000  # while the loop's own thread waits for the others
-LONGEST = 20.0  # real s that it waits for a thread of the system
-PATIENCE = 1  # real s that a thread has to end when its network is closed
 IDLE = 0.01  # s of a processor in each of these, below which the process waits, and doesn't work
 Lock: Any = _thread.LockType
 LockAgain: Any = type(threading.RLock())
-own_start = own_of(_thread, "start_new_thread")
-own_process_time = own_of(time, "process_time")
-
-
-class Ended(SystemExit):
-    """Raised in a thread when its network ends."""
-
-
-def quiet(hook: Callable[[Any], object]) -> Callable[[Any], object]:
-    """Returns a hook for unhandled exceptions in threads that ignores `Ended`."""
-    return lambda words: None if words.exc_type is Ended else hook(words)
-
-
-def bounded_pipe() -> tuple[int, int]:
-    """Returns a pipe whose reads time out after PATIENCE. C code that waits for descriptors counts as real, but C code that reads
-    one doesn't."""
-    reader, writer = socket.socketpair()
-    reader.setsockopt(socket.SOL_SOCKET, socket.SO_RCVTIMEO, struct.pack("@ll", PATIENCE, 0))
-    return reader.detach(), writer.detach()
-
-
-class Member:
-    """A thread in a run, with its condition and its timeout in ns."""
-
-    def __init__(self) -> None:
-        self.ready: Ready = lambda: True
-        self.until = NEVER
-        self.is_ready = self.has_ended = False
-        self.sentinel: Any = None  # a lock that the system releases once the thread is gone
-        self.turn = os.pipe()
+HANDLES = [getattr(_thread, name) for name in dir(_thread) if name == "_ThreadHandle"]  # of Python 3.13's threads
+own_process_time, own_sleep, own_read = own_of(time, "process_time"), own_of(time, "sleep"), own_of(posix, "read")
 
 
 class Baton:
@@ -75,9 +44,9 @@ class Baton:
         self.lost: Optional[str] = None  # why the run ends, if a thread goes on as one of the system; empty if it has ended
         self.members: dict[int, Member] = {}
 
-    def start(self, function: Callable[..., Any], words: Any = (), named: Any = {}) -> int:
-        """Starts a thread, whose first turn is in the loop's next step; returns its number."""
-        member, context, begun = Member(), contextvars.copy_context(), os.pipe()
+    def start(self, own: Function, member: Member, function: Function, words: Any = (), named: Any = {}) -> Any:
+        """Starts a thread, whose first turn is in the loop's next step; returns the result of the system's function."""
+        context, begun = contextvars.copy_context(), os.pipe()
 
         def body() -> None:
             of_run.add(threading.get_ident())
@@ -85,7 +54,7 @@ class Baton:
             for join in joining:
                 join()
             os.write(begun[1], b".")
-            os.read(member.turn[0], 1)
+            own_read(member.turn[0], 1)
             try:
                 if not self.is_closing:
                     context.run(function, *words, **named)
@@ -94,11 +63,11 @@ class Baton:
                 of_run.discard(threading.get_ident())
                 os.write(self.back[1], b".")
 
-        ident: int = own_start(body, ())
-        os.read(begun[0], 1)
+        result = own(body)
+        own_read(begun[0], 1)
         for end in begun:
             os.close(end)
-        return ident
+        return result
 
     def wait(self, ready: Ready, seconds: Optional[float] = None, really: Optional[Really] = None) -> bool:
         """Yields until a condition is true, for at most some seconds; returns whether it is true. The loop's thread can't yield:
@@ -108,7 +77,7 @@ class Baton:
             return True
         if seconds is not None and seconds <= 0:
             return False
-        member = self.members.get(threading.get_ident())
+        member = self.member()
         if member is not None:
             return self._given_way(member, ready, seconds)
         for _ in range(MOST_TURNS):
@@ -127,14 +96,21 @@ class Baton:
             member.until = self.loop.clock.now + (round(seconds * NS) or 1)  # the rest of a wait in floats may be less than a ns
         if not self.is_closing:
             os.write(self.back[1], b".")
-            os.read(member.turn[0], 1)
+            own_read(member.turn[0], 1)
         if self.is_closing:
             raise Ended
         return member.is_ready
 
-    def gives_way(self) -> bool:
-        """Returns whether this is one of the threads, rather than the loop's thread."""
-        return threading.get_ident() in self.members
+    def member(self) -> Optional[Member]:
+        """Returns the current thread's, and None in the loop's thread."""
+        return self.members.get(threading.get_ident())
+
+    def holds(self) -> bool:
+        """Lets real time pass if a thread waits for a process; returns whether one does."""
+        is_held = any(member.is_held() for member in self.members.values())
+        if is_held:
+            own_sleep(IDLE)
+        return is_held
 
     def step(self) -> bool:
         """Gives each thread that can go on a turn, if any. RealTimeError: a thread is lost."""
@@ -157,7 +133,7 @@ class Baton:
         while seconds < (PATIENCE if self.is_closing else LONGEST):
             worked = own_process_time()
             try:
-                return bool(os.read(self.back[0], 1))
+                return bool(own_read(self.back[0], 1))
             except BlockingIOError:
                 seconds += PATIENCE * (self.is_closing or own_process_time() - worked < IDLE)
         return False
@@ -181,10 +157,8 @@ class Baton:
             del self.members[ident]
             for end in member.turn:
                 os.close(end)
-            if member.sentinel is not None:
-                while not member.sentinel.acquire(False):
-                    os.stat("/")  # which lets the other thread go on and, unlike a wait for the lock, isn't counted as real
-                member.sentinel.release()
+            while not member.is_gone():
+                os.stat("/")  # which lets the other thread go on and, unlike a wait for a lock, isn't counted as real
         return True
 
     def until(self) -> int:
@@ -204,47 +178,64 @@ class Baton:
 
     def sleep(self, own: Function) -> Function:
         def sleep(seconds: float) -> None:
-            if not self.gives_way():
+            if self.member() is None:
                 raise RealTimeError(SLEEP + ALLOWED)
             self.wait(lambda: False, max(seconds, 1 / NS))
 
         return sleep
 
     def start_new_thread(self, own: Function) -> Function:
-        return self.start
+        return lambda *words: self.start(lambda body: own(body, ()), Member(), *words)
 
     def start_joinable_thread(self, own: Function) -> Function:
-        """Returns a function that refuses the threads of Python 3.13, which would be the system's."""
+        """Returns the function that starts `threading`'s threads from Python 3.13 on."""
 
-        def refuse(*_: Any, **__: Any) -> int:
-            raise RealTimeError(NO_THREADS)
+        def start(function: Function, handle: Any = None, daemon: bool = True) -> Any:
+            member = Member()
+            made = self.start(lambda body: own(body, handle=handle, daemon=daemon), member, function)
+            member.is_gone = made.is_done
+            return made
 
-        return refuse
+        return start
+
+    def join(self, own: Function) -> Function:
+        """Returns such a thread's `join`."""
+
+        def join(handle: Any, timeout: Optional[float] = None) -> None:
+            own(handle, 0)  # refuses a thread that never began
+            self.wait(handle.is_done, timeout, self.really(lambda most: bool(own(handle, most) or handle.is_done()), timeout))
+
+        return join
 
     def set_sentinel(self, own: Function) -> Function:
+        """Returns the function of older Pythons for a lock that the system releases once the thread is gone."""
+
         def sentinel() -> Any:
-            lock = own()
-            if threading.get_ident() in self.members:
-                self.members[threading.get_ident()].sentinel = lock
+            lock, member = own(), self.member()
+            if member is not None:
+                member.is_gone = lambda: not lock.locked()
             return lock
 
         return sentinel
+
+    def really(self, wait: Callable[[float], bool], timeout: Optional[float]) -> Really:
+        """Returns a wait of the loop's thread for a thread of the system, if there is one."""
+
+        def really() -> Optional[bool]:
+            if _thread._count() <= len(self.members):
+                return None
+            is_bounded = timeout is not None and timeout < LONGEST
+            return wait(timeout if timeout is not None and is_bounded else LONGEST) or (False if is_bounded else None)
+
+        return really
 
     def acquire(self, own: Function) -> Function:
         """Returns a lock's `acquire` that waits for another thread's release."""
 
         def acquire(lock: Any, blocking: bool = True, timeout: float = -1) -> bool:
-            def really() -> Optional[bool]:
-                if _thread._count() <= len(self.members):
-                    return None  # and no thread of the system could release the lock
-                is_bounded = 0 <= timeout < LONGEST
-                return own(lock, True, timeout if is_bounded else LONGEST) or (False if is_bounded else None)
-
-            return (
-                bool(own(lock, False))
-                or blocking
-                and self.wait(lambda: bool(own(lock, False)), None if timeout == -1 else timeout, really)
-            )
+            seconds = None if timeout == -1 else timeout
+            really = self.really(lambda most: bool(own(lock, True, most)), seconds)
+            return bool(own(lock, False) or blocking and self.wait(lambda: bool(own(lock, False)), seconds, really))
 
         return acquire
 
@@ -258,7 +249,7 @@ class Baton:
             until = math.inf if timeout == -1 else self.loop.clock.seconds + timeout
             while not own(lock, False):
                 left = until - self.loop.clock.seconds
-                if not self.gives_way():
+                if self.member() is None:
                     return bool(own(lock, blocking, *[timeout] * blocking))  # of a thread of the system
                 if not blocking or not self.wait(lambda: is_free(lock), None if left == math.inf else left):
                     return False
@@ -278,14 +269,13 @@ class Baton:
     def held(self) -> Iterator[None]:
         """Makes threads of the run yield within the context."""
         acquired: Either = lambda own: lambda *words, **named: getattr(own, "__objclass__").acquire(*words, **named)
-        methods: dict[tuple[type, str], Either] = {
+        functions: dict[Any, Either] = {
             (Lock, "acquire"): self.acquire,
             (LockAgain, "acquire"): self.acquire_again,
             **dict.fromkeys(((Lock, "acquire_lock"), (Lock, "__enter__"), (LockAgain, "__enter__")), acquired),
             (LockAgain, "_acquire_restore"): lambda own: lambda lock, state: [lock.acquire() for _ in range(state[0])] and None,
             (SimpleQueue, "get"): self.get,
-        }
-        functions: dict[Any, Either] = {
+            **{(kind, "join"): self.join for kind in HANDLES},
             (_thread, "start_new_thread"): self.start_new_thread,
             (_thread, "start_new"): self.start_new_thread,
             (_thread, "start_joinable_thread"): self.start_joinable_thread,
@@ -293,7 +283,7 @@ class Baton:
         }
         of_run.update({threading.get_ident(), *self.members})
         try:
-            with switched(functions), switched_methods(methods):
+            with switched(functions):
                 yield
         finally:
             of_run.clear()

@@ -50,6 +50,8 @@ class Clock:
         waits = descriptors.readers or descriptors.writers
         if waits and descriptors.ready():
             timeout = 0
+        if timeout != 0 and baton.members and baton.holds():
+            return ()
         wake = net.wake() if net.changed else net.next_moment
         if baton.members:
             wake = min(wake, baton.until())

@@ -12,6 +12,7 @@ from hingetulip.aio.addresses import ANY, ANY_OF_6, OWN, any_of, is_group, plain
 from hingetulip.aio.datagram import NS, Datagram
 from hingetulip.aio.endpoint import Endpoint, fault
 from hingetulip.aio.host import Host, current_host, here
+from hingetulip.aio.refusals import NO_COPY
 from hingetulip.aio.socket_options import option, set_option
 
 if TYPE_CHECKING:
@@ -19,7 +20,6 @@ if TYPE_CHECKING:
     from hingetulip.aio.transport import Transport
 
 STAMPS = socket.SOL_SOCKET, 35  # SO_TIMESTAMPNS
-NO_COPY = "a socket of a simulated host has one descriptor: it isn't copied"
 Buffer = Any  # what a memoryview can be made of
 
 

@@ -3,19 +3,23 @@
 from __future__ import annotations
 
 import asyncio
-import os
+import posix
 import select
 import socket
+from types import ModuleType
 from typing import TYPE_CHECKING, Any, Callable, Union
 
 from hingetulip.aio.real import family_of
-from hingetulip.aio.refusals import ALLOWED, SOCKET, RealTimeError
+from hingetulip.aio.refusals import ALLOWED, NO_COPY, SOCKET, RealTimeError
+from hingetulip.aio.switched import Either, Function, own_of
 
 if TYPE_CHECKING:
     from hingetulip.aio.datagram_socket import DatagramSocket
     from hingetulip.aio.loop import Loop
 
 Descriptor = Union[int, Any]  # or what has a method `fileno`
+REFUSED = "dup", "dup2", "readv", "writev", "sendfile"
+own_read, own_write = own_of(posix, "read"), own_of(posix, "write")
 READABLE, WRITABLE = select.POLLIN | select.POLLHUP | select.POLLERR, select.POLLOUT
 
 
@@ -57,10 +61,40 @@ class Descriptors:
         for own, made in self.sockets.items():
             if (are_all or made.is_readable()) != (own in self._settled):
                 if own in self._settled:
-                    os.read(own, 1)
+                    own_read(own, 1)
                 else:
-                    os.write(self._ends[own], b"1")
+                    own_write(self._ends[own], b"1")
                 self._settled ^= {own}
+
+    def functions(self) -> dict[tuple[ModuleType, str], Either]:
+        """Returns the functions of descriptors that read and write simulated sockets, or refuse them."""
+        found = {"read": self.read, "write": self.write, **dict.fromkeys(REFUSED, self.refused)}
+        return {(posix, name): it for name, it in found.items()}
+
+    def read(self, own: Function) -> Function:
+        """Returns a function that reads a simulated socket, and waits in a yielding thread until another descriptor is readable."""
+
+        def read(descriptor: int, *words: Any) -> Any:
+            if descriptor in self.sockets:
+                return self.sockets[descriptor].recv(*words)
+            if self.loop.baton.member() is not None and posix.get_blocking(descriptor):
+                poll = select.poll()
+                poll.register(descriptor, READABLE)
+                poll.poll()
+            return own(descriptor, *words)
+
+        return read
+
+    def write(self, own: Function) -> Function:
+        return lambda descriptor, data: self.sockets[descriptor].send(data) if descriptor in self.sockets else own(descriptor, data)
+
+    def refused(self, own: Function) -> Function:
+        def refuse(*words: Any, **named: Any) -> Any:
+            if any(isinstance(it, int) and it in self.sockets for it in words[:2]):
+                raise RealTimeError(NO_COPY)
+            return own(*words, **named)
+
+        return refuse
 
     def close(self) -> None:
         for made in list(self.sockets.values()):

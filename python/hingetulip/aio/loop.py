@@ -113,7 +113,7 @@ class Loop(asyncio.BaseEventLoop):
         if self.net.real:
             call()
         else:
-            threading.Thread(target=call, name="to_thread").start()
+            threading.Thread(target=call, name="to_thread", daemon=True).start()  # which may wait for ever
         return future
 
     def add_reader(self, fd: Descriptor, callback: Callable[..., object], *args: Any) -> None:

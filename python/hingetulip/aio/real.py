@@ -12,13 +12,14 @@ import threading
 import time
 from collections import Counter
 from contextlib import contextmanager
+from importlib import import_module
 from typing import TYPE_CHECKING, Any, Callable, Iterator, Optional
 
 from hingetulip.aio.addresses import FLAGS
-from hingetulip.aio.baton import LONGEST
+from hingetulip.aio.member import LONGEST
 from hingetulip.aio.border import LIBRARY, calls
 from hingetulip.aio.refusals import ALLOWED, NO_TCP, SOCKET, RealTimeError
-from hingetulip.aio.switched import Either, Function, note_all, of_run, switched, switched_methods
+from hingetulip.aio.switched import Either, Function, note_all, of_run, switched
 
 if TYPE_CHECKING:
     from hingetulip.aio.descriptors import Descriptors
@@ -26,6 +27,12 @@ if TYPE_CHECKING:
 UNWATCHED = ["what C code did wasn't watched, without hinge-clock.so"] * (LIBRARY is None)
 REACHING = ("socket.connect", "socket.bind", "socket.sendto", "socket.sendmsg")
 OF_PROCESSES = ("subprocess.Popen", "os.system", "os.fork", "os.forkpty", "os.posix_spawn", "os.exec", "pty.spawn")
+SPAWNED = "_posixsubprocess.fork_exec"
+UNHEARD = (
+    SPAWNED,
+    "posix.timerfd_create",
+    *(f"_signal.{name}" for name in ("alarm", "setitimer", "pause", "sigwait", "sigwaitinfo", "sigtimedwait")),
+)
 
 
 class RealUses:
@@ -51,6 +58,28 @@ class RealUses:
             raise RealTimeError(why)
         else:
             self.threads[threading.current_thread().name] = None
+
+    def has_processes(self) -> bool:
+        """Returns whether the run started processes, and a child of this process is left."""
+        if not any(self.calls[name] for name in (*OF_PROCESSES, SPAWNED)):
+            return False
+        try:
+            os.waitid(os.P_ALL, 0, os.WEXITED | os.WNOHANG | os.WNOWAIT)
+        except ChildProcessError:
+            return False
+        return True
+
+    def counted(self, name: str) -> Either:
+        """Returns the counted version of a function that no audit event tells, unless `subprocess` calls it, whose event was counted."""
+
+        def in_run(own: Function) -> Function:
+            def call(*words: Any, **named: Any) -> Any:
+                self.calls[name] += name != SPAWNED or sys._getframe(2).f_globals.get("__name__") != "subprocess"
+                return own(*words, **named)
+
+            return call
+
+        return in_run
 
     def gather(self) -> None:
         """Adds C code's calls so far, if they belong to a run of this network."""
@@ -130,12 +159,12 @@ def installed() -> list[RealUses]:
 class Selecting:
     """Calls that wait until a descriptor is ready, where simulated sockets have descriptors."""
 
-    def __init__(self, descriptors: Descriptors) -> None:
-        self.descriptors, self.baton = descriptors, descriptors.loop.baton
+    def __init__(self, descriptors: Descriptors, uses: RealUses) -> None:
+        self.descriptors, self.baton, self.uses = descriptors, descriptors.loop.baton, uses
 
     def answer(self, ask: Callable[[Any], Any], timeout: Any, nothing: Any, scale: float = 1, has_own: bool = False) -> Any:
-        """Returns what is ready, now or (in a yielding thread) before the timeout. A call only for system descriptors, such as a
-        process's pipes, waits really, unless it `has_own` timers, like another event loop."""
+        """Returns what is ready, now or (in a yielding thread) before the timeout. A call only for system descriptors waits really in
+        the loop's thread, and elsewhere if the run has processes, unless it `has_own` timers, like another event loop."""
         answers = [nothing]
 
         def ready() -> bool:
@@ -144,17 +173,19 @@ class Selecting:
             return bool(answers[0] != nothing)
 
         def really() -> Optional[bool]:
-            is_bounded = seconds is not None and seconds < LONGEST or self.baton.gives_way()
+            is_bounded = seconds is not None and seconds < LONGEST
             answers[0] = ask(timeout if is_bounded else LONGEST * scale)
             return bool(answers[0] != nothing) or (False if is_bounded else None)
 
         seconds = None if timeout is None or timeout < 0 else timeout / scale
-        if has_own or self.is_simulated(ask, nothing):
-            self.baton.wait(ready, seconds)
-        elif not self.baton.gives_way():
-            self.baton.wait(ready, seconds, really)
-        elif not ready():
-            really()
+        member, is_own = self.baton.member(), has_own or self.is_simulated(ask, nothing)
+        if member is not None and seconds == 0 and not has_own:
+            seconds = member.again(self.baton.loop.clock.now)
+        if member is not None and not is_own and self.uses.has_processes():
+            member.hold(seconds)
+        self.baton.wait(ready, seconds, None if member is not None or is_own else really)
+        if member is not None:
+            member.held = 0
         return answers[0]
 
     def is_simulated(self, ask: Callable[[Any], Any], nothing: Any) -> bool:
@@ -184,16 +215,21 @@ class Selecting:
 @contextmanager
 def real_refused(uses: RealUses, descriptors: Descriptors) -> Iterator[None]:
     """Refuses real calls in this thread, or reports them, within the context."""
-    selecting = Selecting(descriptors)
-    functions = {(time, "sleep"): descriptors.loop.baton.sleep, (select, "select"): selecting.select}
-    methods: dict[tuple[type, str], Either] = {
+    selecting = Selecting(descriptors, uses)
+    functions: dict[tuple[Any, str], Either] = {
+        (time, "sleep"): descriptors.loop.baton.sleep,
+        (select, "select"): selecting.select,
         (type(select.poll()), "poll"): selecting.poll,
         (select.epoll, "poll"): selecting.epoll,
+        **descriptors.functions(),
     }
+    for name in UNHEARD:
+        module, _, function = name.partition(".")
+        functions[import_module(module), function] = uses.counted(name)
     before = uses.all()
     installed().append(uses)
     try:
-        with switched(functions), switched_methods(methods):
+        with switched(functions):
             yield
     finally:
         uses.gather()

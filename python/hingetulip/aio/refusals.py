@@ -7,8 +7,8 @@ NO_TCP = "simulated hosts have datagrams alone: `hinge run --simulated` takes pr
 SLEEP = "time.sleep stops no simulated clock: write `await asyncio.sleep(..)`, or `await asyncio.to_thread(function, ..)`"
 BLOCKS = "a call that waits stops the loop, and with it the simulated clock: write `await asyncio.to_thread(function, ..)`, or `await loop.sock_recv(..)`"
 HANGS = "a thread of the run has waited for something real for 20 s, and the simulated clock stood still: give that wait a timeout"
-NO_THREADS = "this Python starts threads by another function: those of a run need Python 3.9 to 3.12"
 NO_TRIO = "trio's sockets are the system's: use `socket.socket` with `trio.lowlevel.wait_readable`, or in `trio.to_thread.run_sync`"
+NO_COPY = "a socket of a simulated host has one descriptor, for select and the like: it isn't copied, and its data isn't scattered"
 ALLOWED = ", or set `real` of the network"
 
 

@@ -11,7 +11,6 @@ import threading
 import time
 import uuid
 from contextlib import ExitStack, contextmanager
-from types import ModuleType
 from typing import TYPE_CHECKING, Any, Iterator, Optional
 
 from hingetulip.aio.border import border
@@ -19,7 +18,7 @@ from hingetulip.aio.datagram import NS
 from hingetulip.aio.host import here
 from hingetulip.aio.openssl import random_of_openssl
 from hingetulip.aio.refusals import RealTimeError
-from hingetulip.aio.switched import Either, Function, own_of, switched, switched_methods
+from hingetulip.aio.switched import Either, Function, own_of, switched
 
 if TYPE_CHECKING:
     from hingetulip.aio.loop import Loop
@@ -114,7 +113,7 @@ class Told:
 
         return utcnow
 
-    def functions(self) -> dict[tuple[ModuleType, str], Either]:
+    def functions(self) -> dict[tuple[Any, str], Either]:
         found: dict[str, Either] = {
             "time": lambda own: self.seconds,
             "time_ns": lambda own: self.ns,
@@ -126,10 +125,8 @@ class Told:
             "strftime": self.formatted,
             "asctime": self.written,
         }
-        return {(time, name): of_run for name, of_run in found.items()}
-
-    def methods(self) -> dict[tuple[type, str], Either]:
-        return {(datetime.datetime, "now"): self.of_calendar, (datetime.datetime, "utcnow"): self.utcnow}
+        of_days = {(datetime.datetime, "now"): self.of_calendar, (datetime.datetime, "utcnow"): self.utcnow}
+        return {(time, name): of_run for name, of_run in found.items()} | of_days
 
 
 def drawn_from(source: random.Random) -> Either:
@@ -175,7 +172,6 @@ def _patched(loop: Loop, source: random.Random) -> Iterator[None]:
             functions[posix, "times"] = lambda own: lambda: posix.times_result((told.growing(), 0.0, 0.0, 0.0, told.growing()))
             functions.update({} if UUIDS is None else {(UUIDS, "generate_time_safe"): uuid_of(told, of_c)})
             stack.enter_context(switched(functions))
-            stack.enter_context(switched_methods(told.methods()))
             yield
     finally:
         random.setstate(state)

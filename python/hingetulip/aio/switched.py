@@ -9,6 +9,7 @@ from __future__ import annotations
 
 import functools
 import gc
+import os
 import sys
 import threading
 from contextlib import contextmanager
@@ -32,6 +33,7 @@ for count in (pythonapi.Py_IncRef, pythonapi.Py_DecRef, pythonapi.PyType_Modifie
 
 
 of_run: set[int] = set()  # the threads of the run that is under way
+os.register_at_fork(after_in_child=of_run.clear)  # or a forked process would take turns in the run, whose pipes it has
 
 
 class Method(Structure):
@@ -123,38 +125,17 @@ def of_thread(own: Function, in_run: Either) -> Function:
     return function
 
 
-@contextmanager
-def applied(change: Callable[[], None]) -> Iterator[None]:
-    """Makes a change now, and again when the run has loaded a copy of a module, within the context."""
-    changing.append(change)
-    try:
-        change()
-        yield
-    finally:
-        changing.remove(change)
+def switch_function(it: Changed, in_run: Either) -> Callable[[], None]:
+    """Replaces a C function by the run's; returns a function that puts it back."""
+    made = it.made = of_thread(it.own, in_run)
+    pythonapi.Py_IncRef(made)  # what the function refers to from now on, as to the object of a method
+    it.fields[METHOD], it.fields[OBJECT], it.fields[FAST] = addressof(it.method), id(made), None
 
+    def back() -> None:
+        it.fields[METHOD], it.fields[OBJECT], it.fields[FAST] = it.before[METHOD], it.before[OBJECT], it.before[FAST]
+        pythonapi.Py_DecRef(made)
 
-@contextmanager
-def switched(functions: Mapping[tuple[ModuleType, str], Either]) -> Iterator[None]:
-    """Replaces modules' C functions by the run's in this thread, within the context."""
-    kept: dict[int, tuple[Changed, Function]] = {}
-
-    def change() -> None:
-        for (module, name), in_run in functions.items():
-            for it in changed(module, name):
-                if id(it) not in kept:
-                    made = it.made = of_thread(it.own, in_run)
-                    pythonapi.Py_IncRef(made)  # what the function refers to from now on, as to the object of a method
-                    it.fields[METHOD], it.fields[OBJECT], it.fields[FAST] = addressof(it.method), id(made), None
-                    kept[id(it)] = it, made
-
-    try:
-        with applied(change):
-            yield
-    finally:
-        for it, made in kept.values():
-            it.fields[METHOD], it.fields[OBJECT], it.fields[FAST] = it.before[METHOD], it.before[OBJECT], it.before[FAST]
-            pythonapi.Py_DecRef(made)
+    return back
 
 
 def bound(own: ClassMethodDescriptorType, kind: type, *words: Any, **named: Any) -> Any:
@@ -162,32 +143,48 @@ def bound(own: ClassMethodDescriptorType, kind: type, *words: Any, **named: Any)
     return own.__get__(None, kind)(*words, **named)
 
 
+def switch_method(kind: type, name: str, in_run: Either) -> Callable[[], None]:
+    """Replaces a method of a C type likewise."""
+    (names,) = gc.get_referents(kind.__dict__)
+    own = names[name]
+    of_class = isinstance(own, ClassMethodDescriptorType)
+    made = of_thread(functools.partial(bound, own) if of_class else own, in_run)
+
+    def put(method: Any) -> None:
+        names[name] = method
+        pythonapi.PyType_Modified(kind)
+
+    put(classmethod(made) if of_class else made)
+    return functools.partial(put, own)
+
+
 @contextmanager
-def switched_methods(methods: Mapping[tuple[type, str], Either]) -> Iterator[None]:
-    """Replaces methods of C types likewise."""
-    kept: dict[tuple[type, str], tuple[dict[str, Any], Any]] = {}
+def switched(functions: Mapping[tuple[Any, str], Either]) -> Iterator[None]:
+    """Replaces the C functions of modules, and the methods of C types, by the run's in its threads, within the context. Copies of modules
+    that the run loads change, too."""
+    backs: dict[object, Callable[[], None]] = {}
     wanted = [  # of the type in C, and not of a subclass in its place
-        (next(it for it in kind.__mro__ if isinstance(vars(it).get(name), IN_C)), name, in_run)
-        for (kind, name), in_run in methods.items()
+        (next((it for it in getattr(place, "__mro__", ()) if isinstance(vars(it).get(name), IN_C)), place), name, in_run)
+        for (place, name), in_run in functions.items()
     ]
 
     def change() -> None:
         note_all()
-        for kind, name, in_run in wanted:
-            for it in {kind, *kinds.get((kind.__module__, kind.__name__), ())}:
-                if (it, name) not in kept:
-                    (names,) = gc.get_referents(it.__dict__)
-                    own = names[name]
-                    kept[it, name] = names, own
-                    of_class = isinstance(own, ClassMethodDescriptorType)
-                    made = of_thread(functools.partial(bound, own) if of_class else own, in_run)
-                    names[name] = classmethod(made) if of_class else made
-                    pythonapi.PyType_Modified(it)
+        for place, name, in_run in wanted:
+            if isinstance(place, ModuleType):
+                for it in changed(place, name):
+                    if id(it) not in backs:
+                        backs[id(it)] = switch_function(it, in_run)
+            else:
+                for kind in {place, *kinds.get((place.__module__, place.__name__), ())}:
+                    if (kind, name) not in backs:
+                        backs[kind, name] = switch_method(kind, name, in_run)
 
+    changing.append(change)
     try:
-        with applied(change):
-            yield
+        change()
+        yield
     finally:
-        for (kind, name), (names, own) in kept.items():
-            names[name] = own
-            pythonapi.PyType_Modified(kind)
+        changing.remove(change)
+        for back in backs.values():
+            back()

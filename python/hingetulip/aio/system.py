@@ -12,6 +12,7 @@ from hingetulip.aio.addresses import FLAGS
 from hingetulip.aio.datagram_socket import DatagramSocket
 from hingetulip.aio.kept import given_anew
 from hingetulip.aio.real import real_refused
+from hingetulip.aio.refusals import NO_COPY, RealTimeError
 from hingetulip.aio.switched import of_run, switched
 
 if TYPE_CHECKING:
@@ -33,6 +34,8 @@ def simulated_system(net: Network) -> Iterator[None]:
     def make(
         cls: type[socket.socket], family: int = -1, type: int = -1, proto: int = -1, fileno: Any = None, **more: Any
     ) -> socket.socket:
+        if fileno in net.loop.descriptors.sockets:
+            raise RealTimeError(NO_COPY)
         if cls is not socket.socket or threading.get_ident() not in of_run or not is_virtual(family, type, fileno):
             return own(cls)  # type: ignore[no-any-return]
         return own(type_of_socket)  # type: ignore[no-any-return]
