@@ -204,3 +204,18 @@ class Ended(unittest.TestCase):
             socket = transport.get_extra_info("socket")
         with self.assertRaisesRegex(RuntimeError, "a socket of one at port 5 outlives its run"):
             socket.send(b"")
+
+    def test_a_network_in_a_coroutine(self) -> None:
+        async def main() -> bool:
+            async with aio.network() as net:
+                task = net.host("10.0.0.1").create_task(asyncio.sleep(99))
+                await asyncio.sleep(1)
+            return task.cancelled()
+
+        async def beside() -> None:
+            async with aio.Network():
+                pass
+
+        self.assertTrue(aio.run(main()))
+        with self.assertRaisesRegex(RuntimeError, "a network has a loop of its own: write `with"):
+            asyncio.run(beside())

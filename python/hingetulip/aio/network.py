@@ -228,6 +228,19 @@ class Network(Disturbed, Traffic):
     def __repr__(self) -> str:
         return f"<Network of {len(set(self.hosts.values()))} hosts at {self.loop.time():g} s>"
 
+    async def __aenter__(self) -> Network:
+        """RuntimeError: the network's own loop doesn't run."""
+        if asyncio.get_running_loop() is not self.loop:
+            raise RuntimeError("a network has a loop of its own: write `with Network() as net: net.run(main())`")
+        return self
+
+    async def __aexit__(self, *_: object) -> None:
+        """Cancels the tasks of hosts, and waits for their ends."""
+        tasks = [task for task in self.loop.pending() if task.host is not None]
+        for task in tasks:
+            task.cancel()
+        await asyncio.gather(*tasks, return_exceptions=True)
+
     def __enter__(self) -> Network:
         return self
 
