@@ -4,7 +4,7 @@ from __future__ import annotations
 
 from bisect import bisect_right
 from collections import defaultdict
-from dataclasses import dataclass
+from dataclasses import dataclass, replace
 from typing import Iterator, NamedTuple, Optional, Sequence, Union
 
 from hinge.events.forms import ACTS, WORDS
@@ -132,6 +132,11 @@ class Act(NamedTuple):
     host: str
     fault: int = 0  # the number of a kill, a crash or a stop, which its end has too
     more: str = ""  # of `skew`, for the kernel
+
+
+def kept(event: Event) -> Event:
+    """Returns an event without the links of its words, of which a plan has the lines."""
+    return replace(event, links=(), ends="") if isinstance(event, NewWords) else event
 
 
 class Ends:

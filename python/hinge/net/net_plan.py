@@ -6,12 +6,13 @@ import os
 import re
 from contextlib import contextmanager
 from itertools import count
+from operator import itemgetter
 from typing import Iterator
 
 from hinge.border.files import MOST_SAID, Budget, untrusted
 from hinge.captures.rule_words import NETS
 from hinge.checks.lines import judged_lines
-from hinge.events.kinds import Act, Event, HostAct, Moment, NewLine, NewWords, TimedEvent, fault_ends
+from hinge.events.kinds import Act, Event, HostAct, Moment, NewLine, NewWords, TimedEvent, fault_ends, kept
 from hinge.events.parsed import read_event
 from hinge.net.description import Description
 from hinge.net.nemesis import FORM, MOST_DRAWS, OF_MOMENTS, SPAN, Draw, drawn_events, read_nemesis, read_span
@@ -164,7 +165,7 @@ class NetPlan:
     def add(self, timed: TimedEvent, statement: Statement) -> None:
         moment, event, _ = timed
         self.rest.spend(len({of // 2 if isinstance(of, int) else of for of in event.of}))
-        self.events.append(timed)
+        self.events.append(timed._replace(event=kept(event)))
         self.lines_at.append(statement)
         if isinstance(event, HostAct):
             self.acts += self.acts_of(event, moment)
@@ -198,8 +199,8 @@ class NetPlan:
 
     def judge(self) -> None:
         """Lets the emulator check all lines in order before anything starts. Unobeyed: it rejects a line."""
-        sequence = sorted(self.places, key=lambda place: place[:2])
-        for verdict in judged_lines([line.encode() for _, _, line, _ in sequence]):
+        sequence = sorted(sorted(self.places, key=itemgetter(1)), key=itemgetter(0))  # by keys of which none is made
+        for verdict in judged_lines([line for _, _, line, _ in sequence]):
             _, _, line, statement = sequence[verdict.line - 1]
             where = f"{statement.path} line {statement.number}"
             if verdict.name == "bad":

@@ -8,7 +8,7 @@ from operator import itemgetter
 from typing import Iterable, Iterator, NamedTuple, Sequence, Union
 
 from hinge.run.traces import Rates
-from hinge.run.words import LAST_MOMENT, Target, Wrong, around_bandwidth, configures, target_of
+from hinge.run.words import LAST_MOMENT, LINES, Wrong, around_bandwidth, configures, target_of
 
 
 class Change(NamedTuple):
@@ -16,13 +16,14 @@ class Change(NamedTuple):
     line: str  # that the host follows, of a configuration or of cuts.h, or `outage PIPE LENGTH` as an outage begins
 
 
-def refuse_second(new: Sequence[Change], before: set[tuple[int, Target]]) -> None:
+def refuse_second(new: Sequence[Change], before: set[tuple[int, str, int]]) -> None:
     """Wrong: a change configures the target of another change at the same moment, which would have no effect."""
     for one in new:
-        subject = one.moment, target_of(one.line)
+        _, kind, number = subject = (one.moment, *target_of(one.line))
         if configures(one.line) and subject in before:
-            raise Wrong(f"a line before changes {subject[1].kind} {subject[1].number} at this moment too; leave one of them out")
-        before.add(subject)
+            raise Wrong(f"a line before changes {kind} {number} at this moment too; leave one of them out")
+        if kind in LINES:  # and not a cut's
+            before.add(subject)
 
 
 class Outage(NamedTuple):

@@ -223,10 +223,10 @@ class Plan:
 
     def happen(self, event: Event, moment: int, text: str) -> None:
         """Adds an event of a run."""
-        from hinge.events.kinds import Moment, TimedEvent
+        from hinge.events.kinds import Moment, TimedEvent, kept
 
         self.changes.add(self.happenings(event, moment, self.changes))
-        self.events.append(TimedEvent(Moment(moment, False, ""), event))
+        self.events.append(TimedEvent(Moment(moment, False, ""), kept(event)))
         self.moments.append((moment, text))
 
     def awaited(self) -> Awaited:
@@ -355,7 +355,7 @@ class Plan:
             raise Wrong(f"--timeline is a file of lines: {self.as_file(path)}, and --timeline changes")
         with untrusted(path):
             plain = dict[str, int]()  # the configuration lines, each with the number of the first one that is alike
-            before, is_empty = set[tuple[int, Target]](), True
+            before, is_empty = set[tuple[int, str, int]](), True
             for number, line in enumerate(self.noted("--timeline", read_lines(path)), 1):
                 word, _, text = bare(line).partition(" ")
                 count = len(self.changes.lines)
