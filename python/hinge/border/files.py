@@ -115,6 +115,13 @@ def read_bytes(name: Name, most: int) -> bytes:
         return file.read()
 
 
+def is_beside(path: Name) -> bool:
+    """Returns whether there is a file that the user didn't name. Fault: a FIFO or a device is there, which could keep a reader for ever."""
+    if os.path.exists(path) and not os.path.isfile(path):
+        raise Fault(f"{path}: it isn't a file", FILES)
+    return os.path.isfile(path)
+
+
 def read_front(name: Name, most: int) -> bytes:
     """Returns at most `most` bytes of a file's beginning."""
     with untrusted(name), opened(name, None) as file:

@@ -87,16 +87,23 @@ def end_of(words: Sequence[str], status: int, statuses: Iterable[int], complaint
 
 
 def lines_from(words: Sequence[str], file: IO[bytes], statuses: Iterable[int] = NOUGHT) -> Iterator[bytes]:
-    """Yields the lines of a program's answer to a file, without keeping them. Fault (after the last line): like `asked`."""
+    """Yields the lines of a program's answer to a file, without keeping them. Fault (after the last whole line): like `asked`."""
+    part = b""
     with begun(words, stdin=file, stdout=PIPE, stderr=PIPE) as process:
         try:
             assert process.stdout and process.stderr
-            yield from process.stdout
+            for line in process.stdout:
+                if line.endswith(b"\n"):
+                    yield line
+                else:
+                    part = line  # which may be cut, and then says nothing
             complaints = process.stderr.read()
         except BaseException:
             process.kill()
             raise
     end_of(words, process.returncode, statuses, complaints)
+    if part:
+        yield part
 
 
 def forked(work: Callable[[], Optional[int]]) -> int:

@@ -270,6 +270,9 @@ class Server:
         if not is_own(line) or is_crowded and not self.shed():
             line.close()
             return
+        if is_crowded:  # it takes the place of the dropped client, since each new one would otherwise go beyond
+            with line as high:
+                line = high.dup()
         line.setblocking(False)
         self.clients.append(Client(line, time.monotonic() + PATIENCE))
 

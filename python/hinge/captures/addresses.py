@@ -7,7 +7,7 @@ import ipaddress
 from pathlib import Path
 from typing import Callable, Container
 
-from hinge.border.files import read_front, lines_in, untrusted
+from hinge.border.files import is_beside, lines_in, read_front, untrusted
 from hinge.command import FILES, ROWS, Fault
 from hinge.outputs import written
 
@@ -61,7 +61,7 @@ def read_addresses(packets: str, used: Callable[[], Container[str]]) -> dict[str
     """Returns the IPv6 address for each stand-in that is used, so that no other takes memory; an empty dict without a file.
     Fault: a line is malformed."""
     path = addresses_file(packets)
-    if not path.is_file():
+    if not is_beside(path):
         return {}
     table, wanted = dict[str, str](), used()
     with untrusted(path):

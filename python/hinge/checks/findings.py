@@ -4,7 +4,7 @@ from __future__ import annotations
 
 from dataclasses import dataclass
 
-from hinge.border.terminal import show
+from hinge.border.terminal import printable, show
 
 MOST_FAULTS = 20  # of one file that are told
 
@@ -18,10 +18,10 @@ class Findings:
     status: int = 0
 
     def fault(self, where: str, what: str, status: int) -> None:
-        show(f"{where}: {what}")
+        show(printable(f"{where}: {what}"))
         self.faults += 1
         self.status = self.status or status
 
     def warn(self, where: str, what: str) -> None:
-        show(f"{where}: warning: {what}")
+        show(printable(f"{where}: warning: {what}"))
         self.warnings += 1

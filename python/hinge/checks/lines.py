@@ -7,7 +7,7 @@ import re
 from collections import Counter
 from dataclasses import dataclass, field
 from fractions import Fraction
-from typing import Iterable, Iterator, NamedTuple, Optional, Sequence
+from typing import Iterable, Iterator, NamedTuple, Optional, Sequence, Union
 
 from hinge.arguments import is_number
 from hinge.border.files import Exceeded, untrusted
@@ -36,15 +36,16 @@ class Verdict(NamedTuple):
     source: bytes  # the judged part of the line
 
 
-def judged_part(line: bytes) -> bytes:
+def judged_part(line: Union[bytes, str]) -> bytes:
     """Returns the part of a line that a live session accepts; in a file the comment may be longer. Exceeded: a command is."""
-    text = re.sub(rb" +", b" ", line) if b"  " in line else line
+    text = os.fsencode(line)
+    text = re.sub(rb" +", b" ", text) if b"  " in text else text
     if len(text) > MOST_LINE_BYTES and b"#" not in text[:MOST_LINE_BYTES]:
         raise Exceeded(MOST_LINE_BYTES, "bytes in a line")
     return text[:MOST_LINE_BYTES]
 
 
-def session_of(lines: Iterable[bytes]) -> Iterator[str]:
+def session_of(lines: Iterable[Union[bytes, str]]) -> Iterator[str]:
     """Yields the program's replies to lines in a single session, in which earlier lines affect later ones."""
     with unnamed() as (inputs, _):
         inputs.writelines(b" " + judged_part(line) + b"\n" for line in lines)  # with a blank before it no line is a call
@@ -54,7 +55,7 @@ def session_of(lines: Iterable[bytes]) -> Iterator[str]:
                 yield record.decode("utf-8", "replace").rstrip("\n")
 
 
-def judged_lines(lines: Iterable[bytes]) -> Iterator[Verdict]:
+def judged_lines(lines: Iterable[Union[bytes, str]]) -> Iterator[Verdict]:
     """Yields the verdict of each line with a command, on demand; the lines are read twice. Fault: the program's verdict is missing."""
     records = session_of(lines)
     record = next(records, "")
@@ -75,7 +76,7 @@ def judged_lines(lines: Iterable[bytes]) -> Iterator[Verdict]:
 def corrected(line: str) -> Optional[str]:
     """Returns the line with its wrong words replaced as their errors advise, if the program then accepts the line."""
     for _ in range(MOST_CORRECTIONS):
-        verdict = next(judged_lines([os.fsencode(line)]), None)
+        verdict = next(judged_lines([line]), None)
         if verdict is None or verdict.name != "bad":
             return line
         other = replaced(line, verdict.text)
@@ -98,10 +99,10 @@ def refuse_wrong(texts: Sequence[str], numbers: Sequence[int], file: str, option
     first = ""
     for at, text in enumerate(texts):
         with untrusted(place(at), CONFIGURATION):
-            judged_part(os.fsencode(text))
+            judged_part(text)
     try:
         # the whole answer, as a program that was ended says nothing of the lines
-        for record in session_of(map(os.fsencode, texts)) if texts else ():
+        for record in session_of(texts) if texts else ():
             first = first or record * (record[0] == "#")
     except Fault as fault:
         if fault.status != MISSING:

@@ -6,7 +6,7 @@ from __future__ import annotations
 import sys
 from typing import Hashable, Iterator, Optional
 
-from hinge.border.terminal import several, show, tell
+from hinge.border.terminal import printable, several, show, tell
 from hinge.checks.findings import MOST_FAULTS, Findings
 from hinge.checks.operations import MODELS, Model, Operation, Places, Queue, operations_of
 from hinge.checks.queues import first_breach
@@ -139,7 +139,7 @@ def check_operations(name: str, data: bytes, model: str, findings: Findings) -> 
         if last:
             bad[key] = last
     for key in list(bad)[:MOST_FAULTS]:
-        show(f"{name}: key {key}: {several(len(keys[key]), 'operation')} without an order")
+        show(printable(f"{name}: key {key}: {several(len(keys[key]), 'operation')} without an order"))
     findings.faults += len(bad)
     if bad:
         findings.status = findings.status or NO_ORDER
@@ -147,7 +147,7 @@ def check_operations(name: str, data: bytes, model: str, findings: Findings) -> 
         show(f"key {key} fails by these alone:")
         fewest = least(keys[key], kind, bad[key])
         for one in fewest:
-            show(f"{name}:{one.line}: {one.told()}")
+            show(printable(f"{name}:{one.line}: {one.told()}"))
     sys.stdout.flush()
     unknown, orders = (
         sum(not one.is_over for one in operations),

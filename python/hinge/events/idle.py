@@ -4,11 +4,11 @@ A line that a seed drew may replace its nemesis, so such lines aren't refused: t
 
 from __future__ import annotations
 
-from bisect import bisect_left
+from bisect import bisect_left, bisect_right
 from collections import defaultdict
-from typing import NamedTuple, Sequence, Tuple, Union
+from typing import Container, NamedTuple, Sequence, Tuple, Union
 
-from hinge.events.kinds import HoldingOutage, TimedEvent, is_end
+from hinge.events.kinds import Ends, HoldingOutage, TimedEvent
 from hinge.run.words import LAST_MOMENT
 
 GONE_ON = {"kill": ("kill", "crash"), "crash": ("crash",), "stop": ("stop",), "cut": ("cut",), "hold": ("hold",)}
@@ -31,59 +31,103 @@ def kind_of(timed: TimedEvent) -> str:
     return "hold" if is_hold else of_port if event.ending == "heal" else event.word if event.ending else ""
 
 
+class Course:
+    """The faults of a kind of a way or a host, in order."""
+
+    def __init__(self) -> None:
+        self.spans, self.latest = list[Span](), list[int]()  # with the latest end up to each
+        self.begins, self.joined = (
+            list[int](),
+            list[Span](),
+        )  # of those that aren't idle, from the last one on; begins below 0 ascend
+
+    def add(self, span: Span) -> None:
+        self.spans.append(span)
+        self.latest.append(max([span.end, *self.latest[-1:]]))
+
+    def keep(self, span: Span) -> None:
+        """Joins a fault that isn't idle with those behind it."""
+        if span.begin < span.end:
+            while self.joined and self.joined[-1].begin < span.end:
+                span = span._replace(end=max(span.end, self.joined.pop().end))
+                self.begins.pop()
+            self.joined.append(span)
+            self.begins.append(-span.begin)
+
+    def before(self, span: Span) -> list[Span]:
+        """Returns the first fault before another that lasts beyond its beginning, up to the latest end of all those; or nothing."""
+        count = bisect_left(self.spans, span)
+        first = bisect_right(self.latest, span.begin, 0, count)
+        return [self.spans[first]._replace(end=self.latest[count - 1])] if first < count else []
+
+    def around(self, moment: int) -> list[Span]:
+        """Returns the last of the joined faults that begin before a moment, or nothing."""
+        at = bisect_right(self.begins, -moment)
+        return self.joined[at : at + 1]
+
+
 class Faults:
-    """The faults of a net, for each way and host."""
+    """The faults of a net, for each way and host, but for idle ones."""
 
-    def __init__(self, events: Sequence[TimedEvent]) -> None:
-        self.events = events
-        self.ends, self.spans = defaultdict[Key, "list[tuple[int, int]]"](list), defaultdict[Key, "list[Span]"](list)
-        places = sorted(range(len(events)), key=lambda place: (events[place].moment.ns, place))
+    def __init__(self, events: Sequence[TimedEvent], places: Sequence[int], idle: Container[int]) -> None:
+        self.events, self.ends, self.courses = events, Ends(events), defaultdict[Key, Course](Course)
         for place in places:
-            for one in events[place].event.of:
-                self.ends[events[place].moment.of_main, events[place].event.word, one].append((events[place].moment.ns, place))
-        for place in places:
-            for one in events[place].event.of if kind_of(events[place]) else ():
-                self.add(place, one)
+            if place not in idle and kind_of(events[place]):
+                for one in events[place].event.of:
+                    self.courses[self.key(place, one)].add(self.span(place, one))
 
-    def add(self, place: int, one: Union[int, str]) -> None:
-        """Adds a way's or host's fault, up to the first event that ends the fault."""
+    def key(self, place: int, one: Union[int, str]) -> Key:
+        return self.events[place].moment.of_main, kind_of(self.events[place]), one
+
+    def span(self, place: int, one: Union[int, str]) -> Span:
+        """Returns the time of a way's or host's fault, up to the first event that ends the fault."""
         (begin, of_main, _), event, _ = self.events[place]
-        ends = self.ends[of_main, event.ending, one]
-        behind = ends[bisect_left(ends, (begin, place)) :]
-        first = [end for end, other in behind if is_end(self.events[other].event, event)][:1]
-        end = min([begin + event.length, LAST_MOMENT, *first])
-        self.spans[of_main, kind_of(self.events[place]), one].append(Span(begin, place, end))
+        ends = self.ends.first(of_main, event, one, (begin, place))
+        return Span(begin, place, min([begin + event.length, LAST_MOMENT, *(end for end, _ in ends)]))
 
-    def covering(self, place: int, kinds: Sequence[str], idle: set[int]) -> list[int]:
-        """Returns the places of other faults of these kinds that together last as long as a fault, for each of its ways or its host;
-        nothing if one way has none. Idle faults cover nothing."""
-        of_main, own, result = self.events[place].moment.of_main, kind_of(self.events[place]), list[int]()
+    def covering(self, place: int, kinds: Sequence[str]) -> list[int]:
+        """Returns the first of other faults of these kinds that together last as long as a fault, for each of its ways or its host;
+        nothing if one way has none."""
+        result = list[int]()
         for one in self.events[place].event.of:
-            _, _, end = span = next(span for span in self.spans[of_main, own, one] if span.place == place)
-            reach, found = span.begin, list[int]()
-            for other in sorted(other for kind in kinds for other in self.spans[of_main, kind, one]):
-                if other.place not in {place, *idle} and other.begin < reach + (not found) and other.end > reach < end:
-                    reach = other.end
-                    found.append(other.place)
+            begin, _, end = span = self.span(place, one)
+            courses = [self.courses[self.events[place].moment.of_main, kind, one] for kind in kinds]
+            found = [first for course in courses for first in course.before(span)]
+            found = found or [joined for course in courses for joined in course.around(begin + 1)]
+            reach = more = max([begin, *(other.end for other in found)])
+            while reach < end and more:
+                more = max((joined.end for course in courses for joined in course.around(reach) if joined.end > reach), default=0)
+                reach = max(reach, more)
             if reach < end:
                 return []
-            result += found
+            result += [min(found).place] if begin < end else []
         return result
+
+    def keep(self, place: int) -> None:
+        for one in self.events[place].event.of:
+            self.courses[self.key(place, one)].keep(self.span(place, one))
+
+
+def repeated(events: Sequence[TimedEvent]) -> dict[int, int]:
+    """Returns the place of each event that says what another one says at its moment, with the first such place."""
+    before = dict[Tuple[bool, int, str], int]()
+    firsts = (before.setdefault((moment.of_main, moment.ns, event.words), place) for place, (moment, event, _) in enumerate(events))
+    return {place: first for place, first in enumerate(firsts) if first != place}
 
 
 def idle_events(events: Sequence[TimedEvent], is_open: bool) -> "list[tuple[TimedEvent, TimedEvent]]":
     """Returns each event without effect, with an ongoing or equal event. If the net is open to `hinge exec`, something may run on a
     dead host, so a stop changes that."""
-    faults, before = Faults(events), dict[str, int]()
-    why = dict[int, int]()  # by places of idle events, the latest first, so that the first of two equal faults counts
-    for place, timed in enumerate(events):
-        first = before.setdefault(f"{timed.moment.of_main} {timed.moment.ns} {timed.event.words}", place)
-        why |= {place: first} if first != place else {}
-    for place in sorted(range(len(events)), key=lambda place: (events[place].moment.ns, place), reverse=True):
+    why = repeated(events)  # by places, the latest first, so that the first of two equal faults counts
+    places = sorted(range(len(events)), key=lambda place: events[place].moment.ns)
+    faults = Faults(events, places, why)
+    for place in reversed(places):
         kind = kind_of(events[place])
         if kind and place not in why:
             kinds = ("cut", kind) if events[place].event.port else GONE_ON[kind]
             kinds += GONE_ON["kill"] if kind == "stop" and not is_open else ()
-            found = faults.covering(place, kinds, {*why})
-            why |= {place: found[0]} if found else {}
+            if found := faults.covering(place, kinds):
+                why[place] = found[0]
+            else:
+                faults.keep(place)
     return [(events[place], events[why[place]]) for place in sorted(why)]

@@ -2,13 +2,17 @@
 
 from __future__ import annotations
 
+from bisect import bisect_right
 from collections import defaultdict
-from dataclasses import dataclass
+from dataclasses import dataclass, replace
 from typing import Iterator, NamedTuple, Optional, Sequence, Union
 
-from hinge.events.forms import ACTS
+from hinge.events.forms import ACTS, WORDS
 from hinge.run.words import LAST_MOMENT, SECOND
 from hingetulip_words.link import Link
+
+
+ENDINGS = {word.ending for word in WORDS.values() if word.ending}
 
 
 def spelled_ns(ns: int) -> str:
@@ -130,25 +134,41 @@ class Act(NamedTuple):
     more: str = ""  # of `skew`, for the kernel
 
 
+def kept(event: Event) -> Event:
+    """Returns an event without the links of its words, of which a plan has the lines."""
+    return replace(event, links=(), ends="") if isinstance(event, NewWords) else event
+
+
+class Ends:
+    """The moments and places of events that end faults, in order, for each base, word, way or host, and port."""
+
+    def __init__(self, events: Sequence[TimedEvent]) -> None:
+        self.table = defaultdict[tuple[bool, str, Union[int, str], Optional[Port]], list[tuple[int, int]]](list)
+        for place, (moment, event, _) in enumerate(events):
+            for one in event.of if event.word in ENDINGS else ():
+                self.table[moment.of_main, event.word, one, event.port].append((moment.ns, place))
+        for places in self.table.values():
+            places.sort()
+
+    def first(self, of_main: bool, fault: Event, one: Union[int, str], after: tuple[int, int]) -> list[tuple[int, int]]:
+        """Returns the first event behind another that ends such faults of a way or host, if there is one. One without a port ends
+        the faults of each port."""
+        found = list[tuple[int, int]]()
+        for port in {None, fault.port}:
+            places = self.table.get((of_main, fault.ending, one, port), [])
+            at = bisect_right(places, after)
+            found += places[at : at + 1]
+        return [min(found)] if found else []
+
+
 def fault_ends(events: Sequence[TimedEvent]) -> Iterator[tuple[int, int]]:
-    """Pairs each fault's place with that of the event that ends the fault early, for each way or host."""
-    ends = defaultdict[tuple[str, Union[int, str]], list[int]](list)
-    for place, (_, event, _) in sorted(enumerate(events), key=lambda one: one[1].moment.ns):
-        for one in event.of:
-            ends[event.word, one].append(place)
-    for place, (_, event, _) in enumerate(events):
-        of = [ends[event.ending, one] for one in event.of if event.ending]
-        firsts = (next((end for end in places if ends_fault(events, end, place)), None) for places in of)
-        yield from ((place, first) for first in firsts if first is not None)
-
-
-def is_end(end: Event, fault: Event) -> bool:
-    """Returns whether an event ends such faults on the ways or the host that they share. One without a port ends those of each port."""
-    return bool(fault.ending) and end.word == fault.ending and end.port in (None, fault.port)
-
-
-def ends_fault(events: Sequence[TimedEvent], end_place: int, place: int) -> bool:
-    """Returns whether an event ends a fault that goes on then. Moments with different bases can't be compared, and count as such."""
-    (end, end_event, _), (start, fault, _) = events[end_place], events[place]
-    is_within = (start.ns, place) < (end.ns, end_place) and end.ns < start.ns + fault.length
-    return is_end(end_event, fault) and (end.of_main != start.of_main or is_within)
+    """Pairs each fault's place with that of the event that ends the fault early, for each way or host. Moments with different bases
+    can't be compared, and each such event counts as early."""
+    ends = Ends(events)
+    for place, (moment, event, _) in enumerate(events):
+        for one in event.of if event.ending else ():
+            firsts = ends.first(not moment.of_main, event, one, (-1, -1))
+            behind = ends.first(moment.of_main, event, one, (moment.ns, place))
+            firsts += [end for end in behind if end[0] < moment.ns + event.length]
+            if firsts:
+                yield place, min(firsts)[1]

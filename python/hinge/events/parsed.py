@@ -2,7 +2,7 @@
 
 from __future__ import annotations
 
-from typing import TYPE_CHECKING
+from typing import TYPE_CHECKING, Container
 
 from hinge.events.forms import ACTS, ENDS, OF_LINKS, OUTAGE, PROTOCOLS, WORDS
 from hinge.events.kinds import Cut, Event, Heal, HostAct
@@ -35,7 +35,8 @@ def read_event(statement: Statement, net: Description) -> Event:
     whole = statement.rest
     link, is_back = net.between(statement, f"at TIME {OF_LINK}")
     ends = " ".join(whole[: len(whole) - len(statement.rest)].split())
-    return link_event(statement.rest, statement.place, ends, link, is_back, statement.both_ways)
+    text, statement.rest = statement.rest, ""
+    return link_event(text, statement.place, ends, link, is_back, statement.both_ways)
 
 
 def read_length(statement: Statement, form: str) -> int:
@@ -70,6 +71,11 @@ def refuse_act(statement: Statement, net: Description, word: str, host: str, end
         raise statement.wrong(host, f"it has no disk: {DISK}")
 
 
+def is_word(statement: Statement, words: Container[str], net: Description) -> bool:
+    """Returns whether the next word is one of these, and no host."""
+    return statement.peek() in words and statement.peek() not in net.hosts
+
+
 def read_cut(statement: Statement, net: Description) -> Event:
     """Returns the cut or the heal of a statement."""
     word, typed = statement.peek(), bare(statement.rest)
@@ -84,14 +90,14 @@ def read_cut(statement: Statement, net: Description) -> Event:
         statement.refuse_twice(others)
         if lonely := [other for other in others if not net.ways_between(host, (other,))]:
             raise statement.wrong(lonely[0], f"{host} has no link to it")
-    side = statement.take(form) if statement.peek() in {*WAYS} - {*net.hosts} else ""
+    side = statement.take(form) if is_word(statement, WAYS, net) else ""
     ways = net.ways_between(host, others, side)
     if not ways:
         raise statement.wrong(host, "it has no such link")
     if statement.peek() in net.hosts:
         raise statement.wrong(statement.peek(), f"write `from {statement.peek()}`: {form}")
     with placed(statement.place):
-        port = port_of([statement.take(form) for _ in range(3)] if statement.peek() in {*PROTOCOLS} - {*net.hosts} else [])
+        port = port_of([statement.take(form) for _ in range(3)] if is_word(statement, PROTOCOLS, net) else [])
     length = read_length(statement, form) if WORDS[word].ending else LAST_MOMENT
     statement.done(form)
     return Cut(ways, typed, port, length) if WORDS[word].ending else Heal(ways, typed, port)

@@ -34,7 +34,7 @@ from hinge.run.rooms import leave_the_system
 from hinge.run.settings import NetOptions
 from hinge.run.system import is_simulated
 from hinge.run.transcripts import refuse_lost, refuse_own_input
-from hinge.run.words import Target, Wrong, placed
+from hinge.run.words import Wrong, placed
 from hinge.simulated import start
 
 
@@ -58,7 +58,7 @@ def with_files(options: NetOptions) -> NetOptions:
 def refuse_idle_lines(net_plan: NetPlan, is_open: bool) -> None:
     """Refuses idle lines. Wrong: other lines leave a line of the file without effect. Unobeyed: a line repeats an option. If the
     net is open to others, a later change may need the line."""
-    before = dict[bool, set[tuple[int, Target]]]()
+    before = dict[bool, set[tuple[int, str, int]]]()
     for of_main, moment, line, statement in net_plan.places:
         if statement.word == "at":
             with placed(statement.place):

@@ -71,6 +71,7 @@ class Description:
     main: Optional[str] = None
     has_shell: bool = False  # which is the main command
     has_routes: bool = True  # to hosts that aren't neighbours
+    links_of: dict[str, dict[str, list[int]]] = field(default_factory=dict)  # the numbers of each host's links, by the other end
 
     def between(self, statement: Statement, form: str) -> tuple[int, bool]:
         """Reads a link from the next words, `A B`, or `A B N` for the N-th link between both.
@@ -78,7 +79,7 @@ class Description:
         Returns the link's number, and whether A is the second end.
         """
         one, two = self.host(statement, form), self.host(statement, form)
-        result = [number for number, link in enumerate(self.links) if set(link.ends) == {one, two} and one != two]
+        result = self.links_of.get(one, {}).get(two, [])
         place = int(statement.take(form)) if is_number(statement.peek()) else 1
         if not 1 <= place <= len(result):
             raise statement.wrong(
@@ -89,12 +90,10 @@ class Description:
     def ways_between(self, host: str, others: tuple[str, ...], side: str = "") -> tuple[int, ...]:
         """Returns the ways of a host's links, or only its links to some hosts: both, `up` (from the host) or `down` (to the
         host)."""
-        ways = [(2 * number + way, link) for number, link in enumerate(self.links) if host in link.ends for way in (0, 1)]
-        return tuple(
-            way
-            for way, link in ways
-            if (not others or link.other(host) in others) and side != ("down" if link.ends[way % 2] == host else "up")
-        )
+        table = self.links_of.get(host, {})
+        numbers = sorted(number for other in {*others} or table for number in table.get(other, ()))
+        ways = (2 * number + way for number in numbers for way in (0, 1))
+        return tuple(way for way in ways if side != ("down" if self.links[way // 2].ends[way % 2] == host else "up"))
 
     def host(self, statement: Statement, form: str) -> str:
         name = statement.take(form)
@@ -142,6 +141,8 @@ class Description:
             raise statement.wrong(two, "a link has two ends")
         if len(self.links) == MOST_LINKS:
             raise statement.wrong("", f"more than {MOST_LINKS} links")
+        for end, other in ((one, two), (two, one)):
+            self.links_of.setdefault(end, {}).setdefault(other, []).append(len(self.links))
         self.links.append(NetLink((one, two), statement.both_ways(words), statement))
 
     def link(self, statement: Statement) -> None:

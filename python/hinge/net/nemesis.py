@@ -5,6 +5,7 @@ from __future__ import annotations
 from dataclasses import dataclass, replace
 from typing import Callable, Iterator, NamedTuple, Optional, Union
 
+from hinge.border.files import Budget
 from hinge.captures.random_words import word
 from hinge.events.kinds import Cut, Event, HostAct, spelled_ns
 from hinge.events.parsed import refuse_act
@@ -15,6 +16,7 @@ from hinge.run.words import SECOND, Wrong, duration, placed
 FORM = "nemesis KIND every TIME for TIME [from TIME] [until TIME] [of HOST ..]"
 LASTING = 3600 * SECOND  # without `until`
 MOST_ACTS = 10_000
+MOST_DRAWS = 1 << 22  # random numbers of a net
 STREAM, OF_MOMENTS = 3 << 20, 1 << 19  # of random words, apart from those of the links; that of single moments
 SPAN = ".."
 MS = 10**6  # ns
@@ -39,11 +41,12 @@ def read_span(text: str) -> Span:
 class Draw:
     """The random choices for one nemesis."""
 
-    def __init__(self, seed: int, place: int) -> None:
-        self.seed, self.stream, self.count = seed, STREAM + place, 0
+    def __init__(self, seed: int, place: int, budget: Budget) -> None:
+        self.seed, self.stream, self.count, self.budget = seed, STREAM + place, 0, budget
 
     def below(self, limit: int) -> int:
         self.count += 1
+        self.budget.spend(1)
         return word(self.seed, self.count, self.stream) % limit
 
     def some(self, names: list[str], count: int) -> list[str]:
@@ -76,54 +79,56 @@ class Nemesis:
     hosts: list[str]
 
 
-def linked(net: Description, name: str, others: list[str]) -> list[str]:
-    """Returns those hosts among the others that share a link with the host."""
-    ends = {link.other(name) for link in net.links if name in link.ends}
-    return [other for other in others if other in ends]
+def linked(net: Description, name: str, others: dict[str, int]) -> list[str]:
+    """Returns those hosts among the others that share a link with the host, by their places."""
+    return sorted((other for other in net.links_of.get(name, ()) if other in others), key=others.__getitem__)
+
+
+def placed_hosts(hosts: list[str]) -> dict[str, int]:
+    return {name: place for place, name in enumerate(hosts)}
 
 
 def cut(net: Description, one: str, *others: str) -> Cut:
     return Cut(net.ways_between(one, others), " ".join(["cut", one, *["from"] * bool(others), *others]))
 
 
-def cuts(net: Description, pairs: Callable[[str], list[str]], hosts: list[str]) -> list[Fault]:
-    """Returns the cuts between each host and those that `pairs` returns for it, each link once."""
-    faults, before = list[Fault](), list[str]()
-    for one in hosts:
-        others = linked(net, one, [other for other in pairs(one) if other not in before])
-        before.append(one)
+def cuts(net: Description, are_parted: Callable[[str, str], bool], ones: list[str], hosts: list[str]) -> list[Fault]:
+    """Returns the cuts between each of some hosts and those from which it is parted, each link once."""
+    faults, rest = list[Fault](), placed_hosts(hosts)
+    for one in ones:
+        del rest[one]
+        others = [other for other in linked(net, one, rest) if are_parted(one, other)]
         faults += [cut(net, one, *others)] * bool(others)
     return faults
 
 
 def halves(net: Description, hosts: list[str], draw: Draw) -> list[Fault]:
     ones = draw.some(hosts, len(hosts) // 2)
-    others = [name for name in hosts if name not in ones]
-    return cuts(net, lambda one: others, ones)
+    own = {*ones}
+    return cuts(net, lambda _, other: other not in own, ones, hosts)
 
 
 def one_apart(net: Description, hosts: list[str], draw: Draw) -> list[Fault]:
-    (one,) = draw.some(hosts, 1)
-    return cuts(net, lambda _: [name for name in hosts if name != one], [one])
+    return cuts(net, lambda *_: True, draw.some(hosts, 1), hosts)
 
 
 def ring(net: Description, hosts: list[str], draw: Draw) -> list[Fault]:
     """Arranges the hosts in a random ring, in which each reaches only its two neighbours."""
     order = draw.shuffled(hosts)
     near = {one: {order[at - 1], order[(at + 1) % len(order)], one} for at, one in enumerate(order)}
-    return cuts(net, lambda one: [name for name in hosts if name not in near[one]], hosts)
+    return cuts(net, lambda one, other: other not in near[one], hosts, hosts)
 
 
 def majorities(net: Description, hosts: list[str], draw: Draw) -> list[Fault]:
     """Cuts links in random order while each host still reaches a majority, counting itself."""
-    table: dict[str, list[str]] = {name: [] for name in hosts}
-    spare = len(hosts) - (len(hosts) // 2 + 1)
+    table: dict[str, set[str]] = {name: set() for name in hosts}
+    spare, places = len(hosts) - (len(hosts) // 2 + 1), placed_hosts(hosts)
     for one in draw.shuffled(hosts):
-        for two in draw.shuffled([name for name in linked(net, one, hosts) if name not in table[one]]):
+        for two in draw.shuffled([name for name in linked(net, one, places) if name not in table[one]]):
             if len(table[one]) < spare and len(table[two]) < spare:
-                table[one].append(two)
-                table[two].append(one)
-    return cuts(net, lambda one: [name for name in hosts if name in table[one]], hosts)
+                table[one].add(two)
+                table[two].add(one)
+    return cuts(net, lambda one, other: other in table[one], hosts, hosts)
 
 
 def isolated(net: Description, hosts: list[str], draw: Draw) -> list[Fault]:
@@ -177,7 +182,8 @@ def named_hosts(net: Description, statement: Statement, kind: str) -> list[str]:
     statement.refuse_twice(items)
     if len(items) < least:
         raise statement.wrong(kind, f"it takes {least} host{'s' * (least > 1)} or more")
-    if kind in LEAST and not any(linked(net, name, items) for name in items):
+    places = placed_hosts(items)
+    if kind in LEAST and not any(linked(net, name, places) for name in items):
         raise statement.wrong(
             kind, "no link leads from one of its hosts to another one; `isolate-one` is for hosts behind a switch"
         )
@@ -212,9 +218,8 @@ def read_nemesis(net: Description, statement: Statement) -> Nemesis:
     return Nemesis(kind, every, lasting, first, until, named_hosts(net, statement, kind))
 
 
-def drawn_events(net: Description, nemesis: Nemesis, seed: int, place: int) -> Iterator[tuple[int, Event]]:
-    """Draws a nemesis's events from its place in the file; yields them with their moments in ns."""
-    draw = Draw(seed, place)
+def drawn_events(net: Description, nemesis: Nemesis, draw: Draw) -> Iterator[tuple[int, Event]]:
+    """Draws a nemesis's events; yields them with their moments in ns."""
     start = draw.time(nemesis.first)
     while start <= nemesis.until:
         lasting = draw.time(nemesis.lasting)

@@ -6,15 +6,16 @@ import os
 import re
 from contextlib import contextmanager
 from itertools import count
+from operator import itemgetter
 from typing import Iterator
 
-from hinge.border.files import untrusted
+from hinge.border.files import MOST_SAID, Budget, untrusted
 from hinge.captures.rule_words import NETS
 from hinge.checks.lines import judged_lines
-from hinge.events.kinds import Act, Event, HostAct, Moment, NewLine, NewWords, TimedEvent, fault_ends
+from hinge.events.kinds import Act, Event, HostAct, Moment, NewLine, NewWords, TimedEvent, fault_ends, kept
 from hinge.events.parsed import read_event
 from hinge.net.description import Description
-from hinge.net.nemesis import FORM, OF_MOMENTS, SPAN, Draw, drawn_events, read_nemesis, read_span
+from hinge.net.nemesis import FORM, MOST_DRAWS, OF_MOMENTS, SPAN, Draw, drawn_events, read_nemesis, read_span
 from hinge.net.net_rooms import own_addresses
 from hinge.net.statements import Statement, Unobeyed
 from hinge.run.changes import Change, Changes, Happening
@@ -54,7 +55,8 @@ class NetPlan:
         self.lines_at: list[Statement] = []  # where each was said
         self.acts: list[Act] = []
         self.host_faults = count(1)
-        self.seed, self.moments = seed, Draw(seed, OF_MOMENTS)
+        self.seed, self.draws, self.nemeses = seed, Budget(MOST_DRAWS, "random numbers"), count()
+        self.moments, self.rest = Draw(seed, OF_MOMENTS, self.draws), Budget(MOST_SAID, "events of links and hosts")
         for number, link in enumerate(net.links):
             for way, text in enumerate(link.ways):
                 words = link_of(text, link.statement.place, Place.KERNELS)
@@ -157,13 +159,13 @@ class NetPlan:
     def nemesis(self, statement: Statement) -> None:
         read = read_nemesis(self.net, statement)
         statement.done(FORM)
-        place = [one.number for one in self.net.of_links if one.word == "nemesis"].index(statement.number)
-        for moment, event in drawn_events(self.net, read, self.seed, place):
+        for moment, event in drawn_events(self.net, read, Draw(self.seed, next(self.nemeses), self.draws)):
             self.add(TimedEvent(Moment(moment, self.has_main, ""), event, True), statement)
 
     def add(self, timed: TimedEvent, statement: Statement) -> None:
         moment, event, _ = timed
-        self.events.append(timed)
+        self.rest.spend(len({of // 2 if isinstance(of, int) else of for of in event.of}))
+        self.events.append(timed._replace(event=kept(event)))
         self.lines_at.append(statement)
         if isinstance(event, HostAct):
             self.acts += self.acts_of(event, moment)
@@ -197,8 +199,8 @@ class NetPlan:
 
     def judge(self) -> None:
         """Lets the emulator check all lines in order before anything starts. Unobeyed: it rejects a line."""
-        sequence = sorted(self.places, key=lambda place: place[:2])
-        for verdict in judged_lines([line.encode() for _, _, line, _ in sequence]):
+        sequence = sorted(sorted(self.places, key=itemgetter(1)), key=itemgetter(0))  # by keys of which none is made
+        for verdict in judged_lines([line for _, _, line, _ in sequence]):
             _, _, line, statement = sequence[verdict.line - 1]
             where = f"{statement.path} line {statement.number}"
             if verdict.name == "bad":

@@ -4,6 +4,7 @@ from __future__ import annotations
 
 import difflib
 from itertools import chain
+from sys import intern
 from typing import Iterable, Iterator, Sequence
 
 from hinge.command import CONFIGURATION
@@ -28,7 +29,8 @@ class Statement:
 
     def __init__(self, path: str, number: int, text: str) -> None:
         self.path, self.number, self.text = path, number, text
-        self.word, self.rest = first_word(text)
+        word, self.rest = first_word(text)
+        self.word = intern(word)
 
     @property
     def place(self) -> str:

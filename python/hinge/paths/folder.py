@@ -5,7 +5,7 @@ from __future__ import annotations
 import os
 from typing import NamedTuple, Optional
 
-from hinge.border.files import read_object, untrusted
+from hinge.border.files import is_beside, read_object, untrusted
 from hinge.command import ROWS, Fault
 from hinge.paths.passages import Topology
 from hinge.run.transcripts import files_of
@@ -24,9 +24,9 @@ def session_of(path: str, summary: Optional[str] = None) -> Session:
     if not os.path.isdir(path):
         return Session(files_of(path), summary)
     history, beside = os.path.join(path, HISTORY), os.path.join(path, SUMMARY)
-    if not os.path.exists(history):
+    if not is_beside(history):
         raise Fault(f"{path}: there is no {HISTORY} in it, as hinge net --transcripts makes it", ROWS)
-    return Session(files_of(history), summary or (beside if os.path.exists(beside) else None))
+    return Session(files_of(history), summary or (beside if is_beside(beside) else None))
 
 
 def told_drops(path: Optional[str], topology: Topology) -> dict[int, int]:

@@ -7,7 +7,7 @@ import sys
 from typing import Any, Iterator, Optional
 
 from hinge.arguments import LookOptions
-from hinge.border.files import read_front, untrusted
+from hinge.border.files import is_beside, read_front, untrusted
 from hinge.border.terminal import show
 from hinge.command import ROWS, Fault, say
 from hinge.outputs import CAPTURES, Format, format_of, refuse_inputs, write_json, written
@@ -134,7 +134,7 @@ def draw_net(view: Looked, options: LookOptions, files: list[str], seed: Optiona
 def judge_of(path: str) -> Optional[Judge]:
     """Returns a judge for the net's file in its folder, if a readable copy exists."""
     try:
-        return judged(path, otherwise=NS_PER_S) if os.path.exists(os.path.join(path, NET)) else None
+        return judged(path, otherwise=NS_PER_S) if is_beside(os.path.join(path, NET)) else None
     except Fault as fault:
         say(str(fault))
         return None

@@ -3,11 +3,15 @@ and a stopped or killed host sent no packet."""
 
 from __future__ import annotations
 
-from typing import Iterator, NamedTuple
+from bisect import bisect_left
+from collections import defaultdict
+from typing import Iterator, NamedTuple, Tuple
 
 from hinge.plans.meaning import ENDS, NEVER, SECOND, Event, Meaning
 
 MS = 10**6
+Key = Tuple[str, str]  # a host and the word that ends a fault
+Place = Tuple[int, int]  # a moment and the order of the lines
 UDP = "17"  # the protocol of what no kernel sends by itself
 
 
@@ -62,19 +66,23 @@ class OfHosts:
         """Yields the acts that a transcript must contain, with their moments. A fault's end counts only when no other fault of the
         same kind continues."""
         acts = sorted(one for one in self.meaning.events if one.host and one.kind != "skew")
-
-        def lasts(one: Event, until: tuple[int, int]) -> bool:
-            """Returns whether no other event has ended a fault before a moment, at which acts follow the order of their places."""
-            ends = (end[:2] for end in acts if (end.host, end.kind) == (one.host, ENDS[one.kind]))
-            return not any(one[:2] < end < until for end in ends)
-
+        ends, same = defaultdict[Key, list[Place]](list), defaultdict[Key, list[Place]](list)  # by host and the word that ends
+        latest = defaultdict[Key, list[Place]](list)  # the ends of the faults up to each of `same`, behind the last of `ends`
+        for one in acts:
+            ends[one.host, one.kind].append(one[:2])
+            if word := ENDS.get(one.kind):
+                key = one.host, word
+                goes_on = same[key] and (not ends[key] or ends[key][-1] < same[key][-1])
+                latest[key].append(max([(one.end, one.place), *latest[key][-1:]]) if goes_on else (one.end, one.place))
+                same[key].append(one[:2])
         for one in acts:
             yield one.moment, one.kind, one.host, one
-            until = one.end, one.place
-            if one.kind in ENDS and one.end < NEVER and lasts(one, until):
-                same = [other for other in acts if other.host == one.host and ENDS.get(other.kind) == ENDS[one.kind]]
-                behind = [other for other in same if other[:2] < until < (other.end, other.place)]
-                if not any(lasts(other, until) for other in behind):
+            until, key = (one.end, one.place), (one.host, ENDS.get(one.kind, ""))
+            if one.kind in ENDS and one.end < NEVER:
+                before = bisect_left(ends[key], until)
+                last = ends[key][before - 1] if before else (-1, -1)
+                behind = bisect_left(same[key], until)
+                if last <= one[:2] and (not behind or latest[key][behind - 1] <= until):
                     yield one.end, ENDS[one.kind], one.host, one
 
     def note_act(self, moment: int, word: str, host: str) -> None:

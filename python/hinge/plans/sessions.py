@@ -6,7 +6,7 @@ import io
 import os
 from typing import Callable, Iterator, Optional
 
-from hinge.border.files import MOST_TABLE, lines_of, opened, read_front, read_object, untrusted
+from hinge.border.files import MOST_TABLE, is_beside, lines_of, opened, read_front, read_object, untrusted
 from hinge.command import ROWS, Fault
 from hinge.paths.folder import NET, NO_SUMMARY, session_of
 from hinge.plans.asked import OfRun, asked_of
@@ -32,7 +32,7 @@ def judged(session: str, path: Optional[str] = None, limit: Optional[int] = None
     `otherwise`. Fault: the net can't be judged."""
     files, summary = session_of(session)
     file = path or os.path.join(os.path.dirname(files[0]), NET)
-    if not os.path.exists(file):
+    if not (os.path.exists(file) if path else is_beside(file)):
         raise Fault(f"{session}: name the net's file before it: hinge check FILE.net {session}", ROWS)
     told = read_object(summary, NO_SUMMARY) if summary else {}
     if limit is None:

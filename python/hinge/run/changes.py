@@ -8,7 +8,7 @@ from operator import itemgetter
 from typing import Iterable, Iterator, NamedTuple, Sequence, Union
 
 from hinge.run.traces import Rates
-from hinge.run.words import LAST_MOMENT, Target, Wrong, around_bandwidth, configures, target_of
+from hinge.run.words import LAST_MOMENT, LINES, Wrong, around_bandwidth, configures, target_of
 
 
 class Change(NamedTuple):
@@ -16,13 +16,14 @@ class Change(NamedTuple):
     line: str  # that the host follows, of a configuration or of cuts.h, or `outage PIPE LENGTH` as an outage begins
 
 
-def refuse_second(new: Sequence[Change], before: set[tuple[int, Target]]) -> None:
+def refuse_second(new: Sequence[Change], before: set[tuple[int, str, int]]) -> None:
     """Wrong: a change configures the target of another change at the same moment, which would have no effect."""
     for one in new:
-        subject = one.moment, target_of(one.line)
+        _, kind, number = subject = (one.moment, *target_of(one.line))
         if configures(one.line) and subject in before:
-            raise Wrong(f"a line before changes {subject[1].kind} {subject[1].number} at this moment too; leave one of them out")
-        before.add(subject)
+            raise Wrong(f"a line before changes {kind} {number} at this moment too; leave one of them out")
+        if kind in LINES:  # and not a cut's
+            before.add(subject)
 
 
 class Outage(NamedTuple):
@@ -77,14 +78,19 @@ class Changes:
         self.longest, self.latest = longest, first - 1
         self.lines: list[Change] = []
         self.traces: list[tuple[int, Bandwidths]] = []  # each behind so many lines
-        self.outages: list[Outage] = []
+        self.outages: dict[int, tuple[list[Outage], list[Bandwidths]]] = {}  # of each pipe, from lines and from traces
 
     def add(self, happenings: Iterable[Happening]) -> None:
         for one in happenings:
             if isinstance(one, Outage):
-                self.outages.append(one)
+                self.outages.setdefault(one.pipe, ([], []))[0].append(one)
             else:
                 self.lines.append(one)
+
+    def follow(self, trace: Bandwidths) -> None:
+        self.traces.append((len(self.lines), trace))
+        if 0 in trace.rates.rates:
+            self.outages.setdefault(trace.pipe, ([], []))[1].append(trace)
 
     def in_order(self) -> Iterator[Iterable[Change]]:
         """Yields the lines before each trace, and its changes."""
@@ -105,21 +111,11 @@ class Changes:
         end = [Change(moment + length, f"open {pipe} {self.latest}")] * (moment + length < LAST_MOMENT)
         return [Change(moment, f"cut {pipe} {self.latest}{port}"), *end]
 
-    def outages_by_pipe(self) -> dict[int, tuple[list[Outage], list[Bandwidths]]]:
-        """Returns each pipe's outages from lines, and its traces with outages."""
-        result: dict[int, tuple[list[Outage], list[Bandwidths]]] = {}
-        for one in self.outages:
-            result.setdefault(one.pipe, ([], []))[0].append(one)
-        for _, trace in self.traces:
-            if 0 in trace.rates.rates:
-                result.setdefault(trace.pipe, ([], []))[1].append(trace)
-        return result
-
     def held(self) -> dict[int, Iterator[tuple[int, int]]]:
         """Returns the starts and ends of each pipe's outages."""
         return {
             pipe: joined(merge(sorted(own), *(trace.outages() for trace in traces)))
-            for pipe, (own, traces) in sorted(self.outages_by_pipe().items(), key=itemgetter(0))
+            for pipe, (own, traces) in sorted(self.outages.items(), key=itemgetter(0))
         }
 
     def holds(self) -> Iterator[tuple[int, int, int]]:

@@ -23,7 +23,7 @@ def idle_queues(plan: Plan) -> Iterator[tuple[int, str]]:
             continue
         all_changes = [plan.changes, plan.behind_main]
         is_slowed = any(text.startswith(f"slots {way + 1} ") for text in plan.rest)
-        is_held = any(way + 1 in changes.outages_by_pipe() for changes in all_changes)
+        is_held = any(way + 1 in changes.outages for changes in all_changes)
         if not (is_slowed or is_held or any(target_of(one.line) == target for changes in all_changes for one in changes.every())):
             yield way, f"queue {value(line, 'queue')} does nothing, as no packet waits without a bandwidth; write 10Mbit/s beside it"
 

@@ -34,11 +34,12 @@ from hinge.run.words import (
     placed,
     read_as_change,
     read_lines,
+    read_once,
     target_of,
     with_bandwidth,
 )
 from hingetulip_words.advice import CHANGES, line_meant
-from hingetulip_words.link import Extra, Link, WordError, read_link, refusal
+from hingetulip_words.link import Extra, Link, Place, WordError, refusal
 
 if TYPE_CHECKING:
     from hinge.events.kinds import Event, NewWords, TimedEvent
@@ -83,6 +84,7 @@ class Plan:
         self.masks: set[int] = set()  # pipes of which a line has a mask
         self.mapped: dict[int, set[Target]] = {}  # where rules send packets of each way
         self.rules: list[str] = []  # the words of each line of a rule
+        self.ruled: set[str] = set()  # the lines themselves
         self.events: list[TimedEvent] = []  # of a run, in which they change the link
         self.last_free = LAST_PIPE
         self.has_moments = self.has_bins = False  # of mahimahi's traces, and whether they are counted over bins
@@ -102,7 +104,7 @@ class Plan:
     def begun(self, way: int) -> dict[str, str]:
         """Returns the options of a way's pipe at the beginning; empty for a wrong line, which is refused separately."""
         try:
-            return read_link(self.current.get(Target("pipe", way + 1), "").partition(" config")[2])
+            return read_once(self.current.get(Target("pipe", way + 1), "").partition(" config")[2], Place.DUMMYNET).options
         except WordError:
             return {}
 
@@ -123,7 +125,7 @@ class Plan:
             self.silent.add(target)
         elif target.kind == "pipe" and "mask" in line.split():
             self.masks.add(target.number)
-            if target.number in {*self.changes.outages_by_pipe(), *self.behind_main.outages_by_pipe()}:
+            if target.number in self.changes.outages or target.number in self.behind_main.outages:
                 self.refuse_unheld(target.number, "write `outage LENGTH lossy`")
 
     @staticmethod
@@ -221,10 +223,10 @@ class Plan:
 
     def happen(self, event: Event, moment: int, text: str) -> None:
         """Adds an event of a run."""
-        from hinge.events.kinds import Moment, TimedEvent
+        from hinge.events.kinds import Moment, TimedEvent, kept
 
         self.changes.add(self.happenings(event, moment, self.changes))
-        self.events.append(TimedEvent(Moment(moment, False, ""), event))
+        self.events.append(TimedEvent(Moment(moment, False, ""), kept(event)))
         self.moments.append((moment, text))
 
     def awaited(self) -> Awaited:
@@ -278,9 +280,10 @@ class Plan:
         if way is None:
             raise Wrong(f"--map {text}: say `up` or `down`, since {rule.target.kind} {rule.target.number} isn't of pipe 1 or 2")
         lines = rule.lines(way)
-        if {*lines} <= {*self.rest}:
+        if {*lines} <= self.ruled:
             raise Wrong(f"--map {text}: the same rule stands before it; leave one of them out")
         self.rest += lines
+        self.ruled |= {*lines}
         self.rules += [said or f"--map {text}"] * len(lines)
         self.mapped.setdefault(way, set()).add(rule.target)
         self.refuse_unlost(self.losses.get(way, "0"), {rule.target} & self.silent)
@@ -352,7 +355,7 @@ class Plan:
             raise Wrong(f"--timeline is a file of lines: {self.as_file(path)}, and --timeline changes")
         with untrusted(path):
             plain = dict[str, int]()  # the configuration lines, each with the number of the first one that is alike
-            before, is_empty = set[tuple[int, Target]](), True
+            before, is_empty = set[tuple[int, str, int]](), True
             for number, line in enumerate(self.noted("--timeline", read_lines(path)), 1):
                 word, _, text = bare(line).partition(" ")
                 count = len(self.changes.lines)
@@ -406,7 +409,7 @@ class Plan:
             if 0 in result.rates.rates:
                 with placed(path):
                     self.refuse_unheld(way + 1, "write a rate above 0, as 1000")
-            self.changes.traces.append((len(self.changes.lines), Bandwidths(way + 1, line, result.rates)))
+            self.changes.follow(Bandwidths(way + 1, line, result.rates))
 
     def bins(self, line: str, path: str, moments: Moments, bin_ns: int, lasting: int) -> None:
         self.has_bins = True

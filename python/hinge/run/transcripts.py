@@ -5,6 +5,7 @@ from __future__ import annotations
 import os
 from typing import Iterable, Iterator, Optional
 
+from hinge.border.files import is_beside
 from hinge.outputs import is_file, is_planted, place
 from hinge.run.words import Wrong
 
@@ -43,7 +44,7 @@ def parts_of(transcript: str, count: int) -> list[str]:
 def files_of(transcript: str) -> list[str]:
     """Returns the existing files of a transcript. The first is always included, and reported as missing when it is read."""
     result = [transcript]
-    while os.path.exists(following := f"{transcript}.{len(result)}"):
+    while is_beside(following := f"{transcript}.{len(result)}"):
         result.append(following)
     return result
 

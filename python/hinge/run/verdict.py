@@ -3,7 +3,8 @@
 from __future__ import annotations
 
 import time
-from typing import TYPE_CHECKING, Callable, Iterator, NamedTuple, Optional, Sequence
+from itertools import islice
+from typing import TYPE_CHECKING, Callable, Iterable, Iterator, NamedTuple, Optional, Sequence
 
 from hinge.border.files import read_text
 from hinge.run.cgroups import Cgroup
@@ -35,11 +36,12 @@ def late_acts(acts: Sequence[Done], main: Optional[int], limit: float) -> Iterat
             yield f"{behind} came behind {first}, which was to come {(before - moment) / 1e6:g} ms later"
 
 
-def some(kind: str, texts: Sequence[str]) -> Iterator[str]:
-    """Yields a line about the first of some texts, if there are any."""
-    if texts:
-        more = f" and {len(texts) - MOST_TOLD} more" * (len(texts) > MOST_TOLD)
-        yield f"{kind}: {', '.join(texts[:MOST_TOLD])}{more}"
+def some(kind: str, texts: Iterable[str]) -> Iterator[str]:
+    """Yields a line about the first of some texts, if there are any; keeps no others."""
+    rest = iter(texts)
+    if first := [*islice(rest, MOST_TOLD)]:
+        more = sum(1 for _ in rest)
+        yield f"{kind}: {', '.join(first)}" + f" and {more} more" * bool(more)
 
 
 class Awaited(NamedTuple):
@@ -54,19 +56,19 @@ class Awaited(NamedTuple):
 
     def missed(self, counts: Counts, names: Sequence[str]) -> Iterator[str]:
         """Returns the requested events that never happened, or had no effect."""
-        late = [f"`{text}`" for moment, text in self.moments if moment > counts["moment"]]
-        packets = [f"packet {packet} of {names[way]}" for way, packet in self.packets if packet > counts.ways[way]["came"]]
+        late = (f"`{text}`" for moment, text in self.moments if moment > counts["moment"])
+        packets = (f"packet {packet} of {names[way]}" for way, packet in self.packets if packet > counts.ways[way]["came"])
         yield from some("not yet when the run ended", late)
         yield from some("chosen, but never came", packets)
-        yield from some("changed nothing", [f"`{one}`, beside `{other}`" for one, other in self.idle if not one.is_drawn])
-        yield from some(NOTHING_RAN, [words for words, is_drawn in self.faults if not is_drawn])
+        yield from some("changed nothing", (f"`{one}`, beside `{other}`" for one, other in self.idle if not one.is_drawn))
+        yield from some(NOTHING_RAN, (words for words, is_drawn in self.faults if not is_drawn))
 
     def remarks(self, counts: Counts) -> Iterator[str]:
         """Returns remarks that aren't mistakes: drawn faults without effect, and rules and queues that no packet reached."""
-        yield from some("changed nothing", [f"`{one}`, beside `{other}`" for one, other in self.idle if one.is_drawn])
-        yield from some(NOTHING_RAN, [words for words, is_drawn in self.faults if is_drawn])
+        yield from some("changed nothing", (f"`{one}`, beside `{other}`" for one, other in self.idle if one.is_drawn))
+        yield from some(NOTHING_RAN, (words for words, is_drawn in self.faults if is_drawn))
         met = {text for place, text in enumerate(self.rules) if counts.has_met(place)}
-        yield from some("met no packet", [f"`{text}`" for text in dict.fromkeys(self.rules) if text not in met])
+        yield from some("met no packet", (f"`{text}`" for text in dict.fromkeys(self.rules) if text not in met))
         yield from some("no rule names", self.queues)
 
 

@@ -15,6 +15,7 @@ from with_folder import WithFolder
 from hinge.border.files import LONGEST_LINE, MOST_LINES, MOST_OBJECT, MOST_SAID, MOST_TABLE, MOST_TEXT, Unpacked
 from hinge.checks.lines import MOST_LINE_BYTES
 from hinge.command import Fault
+from hinge.net.nemesis import MOST_DRAWS
 from hinge.paths.folder import NET
 from hinge.program import HINGE
 from hinge.replays import parting
@@ -76,20 +77,46 @@ OF_READER = {  # texts whose lines differ and say something, by a word of the co
 OF_TWO = "host a\nhost b\nlink a b 1Mbit/s\n"
 DRY, CONFIGURED = ["net", "x", "--dry-run"], ["run", "--config", "x", "--", "true"]
 SAYING = {  # a command, and what its text begins with and says again and again
-    "acts of a net": (DRY, OF_TWO, "at {}ms a b 1Mbit/s\n"),
     "hosts of a net": (DRY, "", "host h{}\n"),
     "links of a net": (DRY, OF_TWO, "link a b\n"),
-    "changes": (["run", "--link", "1ms", "--timeline", "x", "--", "true"], "", "{}ms pipe 1 config bw 1Mbit/s\n"),
+    "changes": (["run", "--link", "1ms", "--timeline", "x", "--", "true"], "", "{}ms outage {}ns lossy\n"),
     "lines of ipfw": (["ipfw", "x"], "", "ipfw pipe {} config\n"),
 }
+EVENTS = 12_000
+OF_AN_EVENT = 1600  # bytes of memory for each line that is taken, which leaves room below OF_A_LINE
+TAKEN = {  # nets that are taken: what one begins with, and what it says EVENTS times
+    "words": (OF_TWO, "at {0}ms a b {0}bit/s\n"),
+    "several words": (OF_TWO, "at {0}ms a b {0}bit/s 5ms queue 50 loss 1%\n"),
+    "long names": (OF_TWO.replace("a\n", f"{'a' * 60}\n").replace(" a ", f" {'a' * 60} "), f"at {{0}}ms {'a' * 60} b 1Mbit/s\n"),
+    "words behind the main command": ("main m true\n" + OF_TWO, "at main+{0}ms a b preset dsl\n"),
+    "lines": (OF_TWO, "at {0}ms a b pipe 1 config bw {0}bit/s\n"),
+    "outages": (OF_TWO, "at {0}ms a b outage {0}ns\n"),
+    "outages of a port": (OF_TWO, "at {0}ms a b outage {0}ns lossy tcp port 5\n"),
+    "cuts in one another": (OF_TWO, "at {0}ms cut a from b up udp port 5 {0}s\n"),
+    "cuts and heals": (OF_TWO, "at {0}ms cut a\nat {0}.5ms heal a\n"),
+    "kills and restarts": (OF_TWO.replace("host a", "host a true"), "at {0}ms kill a\nat {0}.5ms restart a\n"),
+    "stops and steps": (OF_TWO, "at {0}ms stop a {0}ns\nat {0}ms skew b +1s\n"),
+    "cuts of many hosts": ("router r\n", "host h{0}\nlink r h{0} 1ms\n", "at {0}ms cut h1 1ms\n"),
+    "words of many links": (OF_TWO, "link a b 1Mbit/s\n", "at {0}ms a b 9 1Mbit/s\n"),
+    "sizes of many links": (OF_TWO, "link a b 1Mbit/s\n", "mtu a b {0} 1400\n"),
+    "masks and outages": (OF_TWO + "link a b 1Mbit/s\n", "at {0}ms a b outage 1ns\nat {0}ms a b 2 pipe 1 config mask proto 255\n"),
+    "rules": (OF_TWO + "line a b queue 1 config pipe 1\n", "map a b src-port {0} => queue 1\n"),
+}
+NEMESIS = "nemesis isolate-one every 1s for 1s until 9999s\n"
 BEYOND = {  # one step over a limit of SECURITY.md: the command, its text, and what is more than it may be
     "lines of a text": (DRY, b"\n" * (MOST_LINES + 1), f"{MOST_LINES:,} lines"),
     "lines that say something": (CONFIGURED, b"x\n" * (MOST_SAID + 1), f"{MOST_SAID:,} lines that say something"),
     "a line of rows": (["why", "1", "c", "x", "x"], HEADER + b"x" * LONGEST_LINE + b"x\n", f"{LONGEST_LINE:,} letters in a line"),
     "a line of a configuration": (["check", "x"], b"pipe 1 config " + b"delay 1 " * 9000, f"{MOST_LINE_BYTES:,} bytes in a line"),
     "JSON": (["look", "net"], b" " * (MOST_OBJECT + 1), f"{MOST_OBJECT:,} bytes"),
+    "events": (DRY, (OF_TWO + NEMESIS * 14).encode(), f"{MOST_SAID:,} events of links and hosts"),
+    "draws": (
+        DRY,
+        ("router r\n" + "".join(f"host h{n}\nlink r h{n} 1ms\n" for n in range(999)) + NEMESIS).encode(),
+        f"{MOST_DRAWS:,} random",
+    ),
 }
-LIMITS = (MOST_TEXT, MOST_LINES, MOST_SAID, MOST_TABLE, LONGEST_LINE, MOST_LINE_BYTES, MOST_OBJECT, Unpacked.FREE)
+LIMITS = (MOST_TEXT, MOST_LINES, MOST_SAID, MOST_TABLE, LONGEST_LINE, MOST_LINE_BYTES, MOST_OBJECT, MOST_DRAWS, Unpacked.FREE)
 OF_A_LINE = 2048  # bytes of memory for each that says something, of MOST_SAID
 PLACES = ("p.addresses", "net/net.json", f"net/{NET}")  # at which the text stands too
 READERS = {  # by what each module of the kit that reads a text is reached; tools/gate/border.py asks for a row of each
@@ -184,12 +211,21 @@ class OfFiles(WithFolder):
 
     def test_lines_that_say_something(self) -> None:
         for name, (words, front, line) in SAYING.items():
-            data = (front + "".join(map(line.format, range(1, MOST_SAID + 1)))).encode() + b"x\n"
+            data = (front + "".join(line.replace("{}", str(n)) for n in range(1, MOST_SAID + 1))).encode() + b"x\n"
             with self.subTest(name):
                 done = self.of_text(words, data)
                 self.assertIn(done.status, {2, 4}, done.told[-500:])
                 self.assertLessEqual(done.told.count("\n"), 2, done.told[-500:])
                 self.assertLess(done.memory, self.start + MORE + TIMES * len(data) + OF_A_LINE * MOST_SAID)
+
+    def test_nets_that_are_taken(self) -> None:
+        for name, (front, *lines) in TAKEN.items():
+            text = front + "".join(line.format(n) for line in lines for n in range(1, EVENTS + 1))
+            with self.subTest(name):
+                done = self.of_text(DRY, text.encode())
+                self.assertEqual(done.status, 0, done.told[-500:])
+                self.assertLess(done.memory, self.start + MORE + TIMES * len(text) + OF_AN_EVENT * text.count("\n"))
+                self.assertLess(done.seconds, LONGEST)
 
     def test_beyond_each_limit(self) -> None:
         for name, (words, data, what) in BEYOND.items():

@@ -88,6 +88,12 @@ class Ipfw(unittest.TestCase):
             done = run("ipfw", write("none.sh", text))
             assert (done.returncode, done.stdout) == (3, ""), (text, done.stderr)
 
+    def test_no_program_of_a_script_runs(self) -> None:
+        made = folder() / "made"
+        for words in (f"$(touch {made})", f"`touch {made}`", f"1; touch {made}", f"1 && touch {made}", f"<(touch {made})"):
+            run("ipfw", write("runs.sh", f"A={words}\ntouch {made}\nipfw pipe 1 config bw {words}\nipfw pipe 1 config bw $A\n"))
+            assert not made.exists(), words
+
     def test_many_lines_are_judged_by_one_session(self) -> None:
         script = write(
             "many.sh", "".join(f"ipfw pipe {n} config bw {n}Kbit/s\n" for n in range(1, 2001)) + "ipfw pipe 1 config delay x\n"

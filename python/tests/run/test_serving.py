@@ -135,15 +135,16 @@ class OfServers(WithFolder):
 
     def test_idle_clients_leave_descriptors_to_the_run(self) -> None:
         self.assertTrue(self.is_answered())
+        lines = [socket.socket(socket.AF_UNIX) for _ in range(MOST_CLIENTS - 4)]  # whose own descriptors are taken before
         held = [os.dup(0) for _ in range(4 * LEFT)]  # so that a quarter of the limit is no less than what is left
         self.addCleanup(lambda: [os.close(one) for one in held])
         os.close(free := held.pop())
         most = free + 8 + LEFT
         with contextlib.ExitStack() as idle, mock.patch("resource.getrlimit", return_value=(most, most)):
-            for _ in range(MOST_CLIENTS // 2):
-                idle.enter_context(socket.socket(socket.AF_UNIX)).connect(self.path)
+            for line in lines:
+                idle.enter_context(line).connect(self.path)
             self.assertTrue(self.is_answered())
-            self.assertLess(len(self.server.clients), 8)
+            self.assertLess(len(self.server.clients), 10)
 
     def test_it_has_two_threads_however_many_clients_there_are(self) -> None:
         count = threading.active_count()
