@@ -230,15 +230,15 @@ def answer_of(words: Sequence[str]) -> Optional[Answer]:
     return answer._replace(notes=(EXAMPLE,)) if line is None and answer is not None and words[1:] and first in EXAMPLES else answer
 
 
-def of_options(typed: Sequence[tuple[str, str]], given: Mapping[str, Sequence[str]], known: Collection[str]) -> str:
-    """Returns the replacement for all of these options and their values, by options that the command knows, with the link's
+def of_options(typed: Sequence[tuple[str, str]], given: Mapping[str, Sequence[str]], names: Collection[str]) -> str:
+    """Returns the replacement for all of these options and their values, with options that the command knows, and the link's
     existing words."""
     meant = Meant("ours", [word for option, value in typed if option not in OPTIONS for word in (option, value)])
     more = [*meant.options()[1:], *filter(None, map(corrected, meant.rest))]
     meant.rest = [words for words in meant.rest if not corrected(words)]
     name = " ".join(given.get("--preset", ())) if more else ""
-    named = either_way(name) if name else ("", "")
-    before = [" ".join(given.get(way, given.get("--link", ()))) or words for way, words in zip(BOTH, named)]
+    ways = either_way(name) if name else ("", "")
+    before = [" ".join(given.get(way, given.get("--link", ()))) or words for way, words in zip(BOTH, ways)]
     links = [" ".join([words, *more]).strip() for words in before]
     for words, link in zip(before, links):
         if words and corrected(words) and not corrected(link):
@@ -252,7 +252,7 @@ def of_options(typed: Sequence[tuple[str, str]], given: Mapping[str, Sequence[st
     for option, value in ((option, value) for option, value in typed if option in OPTIONS):
         forms = OPTIONS[option][0].split(", or ")
         words = shlex.quote((corrected(value) or value) if forms[0].startswith(("--link", "--up ", "--down ")) else value)
-        own = [form for form in forms if {*re.findall(r"(?<!\S)--[\w-]+", form.partition("hinge ")[0])} <= {*known}]
+        own = [form for form in forms if {*re.findall(r"(?<!\S)--[\w-]+", form.partition("hinge ")[0])} <= {*names}]
         meant.left += [f"{option} here"] * (not own)
         parts += ["; write " * bool(parts and form[0] != "-") + form.format(words) for form in filter(None, [", or ".join(own)])]
     notes = [f"write {' '.join(parts)}".replace(" ; ", "; ")] * bool(parts)

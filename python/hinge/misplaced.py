@@ -169,7 +169,7 @@ def in_place(command: str, before: str, word: str) -> str:
 
 
 def advised(command: str, words: Sequence[str], refusal: str) -> str:
-    """Returns a refusal of a command line, with what to type if one of its words belongs elsewhere."""
+    """Returns a refusal for a command line, with the line to type if a word belongs elsewhere."""
     own = words[: words.index("--")] if "--" in words else words
     if command == "try" and own and (name := near(own[0])):
         return f"{refusal}; write --preset {name}"

@@ -41,7 +41,7 @@ NAMES = {  # of each module, by which others' files, programs, threads and strea
     "threading": "Thread Timer",
     "logging": "FileHandler basicConfig config handlers",
     "pty": "spawn",
-    "select": "select",  # which takes no descriptor from 1,024 on: border/waits.py has another
+    "select": "select",  # which takes no descriptor from 1,024 on: border/programs.py has another wait
 }
 REFUSED = [f"{module}.{name}".removeprefix("builtins.") for module, names in NAMES.items() for name in names.split()]
 REFUSED += ["subprocess", "multiprocessing"]

@@ -5,13 +5,17 @@ from __future__ import annotations
 
 import errno
 import os
+import select
 import signal
 import subprocess
 from os.path import basename
-from typing import IO, Any, Callable, Iterable, Iterator, Mapping, NamedTuple, Optional, Sequence, Union
+from typing import IO, TYPE_CHECKING, Any, Callable, Iterable, Iterator, Mapping, NamedTuple, Optional, Sequence, Union
 
 from hinge.border.terminal import tell
 from hinge.command import FILES, MOST_TOLD, NOT_FOUND, Fault, say
+
+if TYPE_CHECKING:
+    from _typeshed import HasFileno
 
 Process = subprocess.Popen
 CompletedProcess = subprocess.CompletedProcess
@@ -137,3 +141,11 @@ def become(words: Sequence[str], why: Callable[[OSError], str] = lambda error: s
     except OSError as error:
         say(f"{error.filename or words[0]}: {why(error)}")
         return NOT_FOUND if error.errno == errno.ENOENT else CANNOT_EXECUTE
+
+
+def can_be_read(descriptor: Union[int, HasFileno], seconds: float) -> bool:
+    """Waits at most this long until a pipe, socket or process descriptor can be read; returns whether it can. select(2) refuses
+    descriptors from 1,024 on."""
+    poll = select.poll()
+    poll.register(descriptor, select.POLLIN)
+    return bool(poll.poll(seconds * 1000))

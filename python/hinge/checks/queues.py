@@ -15,7 +15,7 @@ END = attrgetter("end")
 
 
 class Rules:
-    """The puts by value, the gets that returned one, and the gets without a result, each of which may have got any value."""
+    """The puts, with their values as keys, the gets that returned a value, and the gets without a result, which may have received any value."""
 
     def __init__(self, operations: list[Operation]) -> None:
         self.puts = {one.value: one for one in operations if one.op == "put"}
@@ -55,7 +55,7 @@ class Rules:
                 yield one  # nobody is left who might have got the value that came before
 
     def due(self) -> list[tuple[str, Operation]]:
-        """Returns values that nobody is known to have got, each with the first get by whose end it has to be gone."""
+        """Returns the values that no known get returned, each with the first get at whose end the value must have left."""
         later = [(self.puts[one.result].begin, one) for one in self.gets if one.result in self.puts]
         later = sorted(later + [(one.begin, one) for one in self.empty], key=lambda pair: pair[0])
         begins = [begin for begin, _ in later]

@@ -41,7 +41,7 @@ def page_rows(folder: Path) -> Iterator[str]:
 
 
 def page_named(folder: Path, name: str) -> str:
-    """Returns a page's text, by its current or former name, regardless of case and extension. Fault: there is no such page."""
+    """Returns the text of the page with this current or former name, regardless of case and extension. Fault: there is no such page."""
     pages = {page.stem: page for page in folder.rglob("*.md")}
     key = name.rpartition("/")[2].upper().removesuffix(".MD")
     key = MOVED.get(key, key)

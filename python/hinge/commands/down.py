@@ -4,7 +4,7 @@ from __future__ import annotations
 
 
 from hinge.border.asking import ask, process_at
-from hinge.border.waits import can_be_read
+from hinge.border.programs import can_be_read
 from hinge.command import Fault, parser
 from hinge.run.names import socket_of
 

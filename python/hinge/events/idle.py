@@ -32,11 +32,11 @@ def kind_of(timed: TimedEvent) -> str:
 
 
 class Course:
-    """The faults of a kind of a way or a host, in order."""
+    """Faults with the same kind and the same way or host, in order."""
 
     def __init__(self) -> None:
         self.spans, self.latest = list[Span](), list[int]()  # with the latest end up to each
-        self.begins, self.joined = (
+        self.begins, self.stretches = (
             list[int](),
             list[Span](),
         )  # of those that aren't idle, from the last one on; begins below 0 ascend
@@ -46,28 +46,28 @@ class Course:
         self.latest.append(max([span.end, *self.latest[-1:]]))
 
     def keep(self, span: Span) -> None:
-        """Joins a fault that isn't idle with those behind it."""
+        """Joins an effective fault with later faults that overlap."""
         if span.begin < span.end:
-            while self.joined and self.joined[-1].begin < span.end:
-                span = span._replace(end=max(span.end, self.joined.pop().end))
+            while self.stretches and self.stretches[-1].begin < span.end:
+                span = span._replace(end=max(span.end, self.stretches.pop().end))
                 self.begins.pop()
-            self.joined.append(span)
+            self.stretches.append(span)
             self.begins.append(-span.begin)
 
     def before(self, span: Span) -> list[Span]:
-        """Returns the first fault before another that lasts beyond its beginning, up to the latest end of all those; or nothing."""
+        """Returns the first earlier fault that lasts into this fault, extended to the latest end of such faults, or an empty list."""
         count = bisect_left(self.spans, span)
         first = bisect_right(self.latest, span.begin, 0, count)
         return [self.spans[first]._replace(end=self.latest[count - 1])] if first < count else []
 
     def around(self, moment: int) -> list[Span]:
-        """Returns the last of the joined faults that begin before a moment, or nothing."""
+        """Returns the last joined fault that begins before a moment, or an empty list."""
         at = bisect_right(self.begins, -moment)
-        return self.joined[at : at + 1]
+        return self.stretches[at : at + 1]
 
 
 class Faults:
-    """The faults of a net, for each way and host, but for idle ones."""
+    """A net's effective faults, for each way and host."""
 
     def __init__(self, events: Sequence[TimedEvent], places: Sequence[int], idle: Container[int]) -> None:
         self.events, self.ends, self.courses = events, Ends(events), defaultdict[Key, Course](Course)
@@ -86,21 +86,23 @@ class Faults:
         return Span(begin, place, min([begin + event.length, LAST_MOMENT, *(end for end, _ in ends)]))
 
     def covering(self, place: int, kinds: Sequence[str]) -> list[int]:
-        """Returns the first of other faults of these kinds that together last as long as a fault, for each of its ways or its host;
-        nothing if one way has none."""
+        """Returns faults of these kinds that cover the whole time of another fault, one for each way or host; an empty list if they leave
+        a way uncovered."""
         result = list[int]()
         for one in self.events[place].event.of:
             begin, _, end = span = self.span(place, one)
             courses = [self.courses[self.events[place].moment.of_main, kind, one] for kind in kinds]
-            found = [first for course in courses for first in course.before(span)]
-            found = found or [joined for course in courses for joined in course.around(begin + 1)]
-            reach = more = max([begin, *(other.end for other in found)])
+            firsts = [first for course in courses for first in course.before(span)]
+            firsts = firsts or [stretch for course in courses for stretch in course.around(begin + 1)]
+            reach = more = max([begin, *(other.end for other in firsts)])
             while reach < end and more:
-                more = max((joined.end for course in courses for joined in course.around(reach) if joined.end > reach), default=0)
+                more = max(
+                    (stretch.end for course in courses for stretch in course.around(reach) if stretch.end > reach), default=0
+                )
                 reach = max(reach, more)
             if reach < end:
                 return []
-            result += [min(found).place] if begin < end else []
+            result += [min(firsts).place] if begin < end else []
         return result
 
     def keep(self, place: int) -> None:
@@ -109,7 +111,7 @@ class Faults:
 
 
 def repeated(events: Sequence[TimedEvent]) -> dict[int, int]:
-    """Returns the place of each event that says what another one says at its moment, with the first such place."""
+    """Returns the places of repeated events, with the first event that uses the same words at the same moment."""
     before = dict[Tuple[bool, int, str], int]()
     firsts = (before.setdefault((moment.of_main, moment.ns, event.words), place) for place, (moment, event, _) in enumerate(events))
     return {place: first for place, first in enumerate(firsts) if first != place}

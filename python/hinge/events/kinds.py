@@ -135,7 +135,7 @@ class Act(NamedTuple):
 
 
 def kept(event: Event) -> Event:
-    """Returns an event without the links of its words, of which a plan has the lines."""
+    """Returns an event without links, since the plan keeps their lines."""
     return replace(event, links=(), ends="") if isinstance(event, NewWords) else event
 
 
@@ -151,7 +151,7 @@ class Ends:
             places.sort()
 
     def first(self, of_main: bool, fault: Event, one: Union[int, str], after: tuple[int, int]) -> list[tuple[int, int]]:
-        """Returns the first event behind another that ends such faults of a way or host, if there is one. One without a port ends
+        """Returns the first later event that ends such faults on a way or host, if any. One without a port ends
         the faults of each port."""
         found = list[tuple[int, int]]()
         for port in {None, fault.port}:

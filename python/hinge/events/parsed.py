@@ -72,7 +72,7 @@ def refuse_act(statement: Statement, net: Description, word: str, host: str, end
 
 
 def is_word(statement: Statement, words: Container[str], net: Description) -> bool:
-    """Returns whether the next word is one of these, and no host."""
+    """Returns whether these words, but no host, include the next word."""
     return statement.peek() in words and statement.peek() not in net.hosts
 
 

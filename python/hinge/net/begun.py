@@ -12,7 +12,7 @@ import sys
 from typing import NoReturn
 
 from hinge.border.terminal import show
-from hinge.border.waits import can_be_read
+from hinge.border.programs import can_be_read
 from hinge.checks.lines import twice
 from hinge.command import NAME, say
 from hinge.command import run as run_command

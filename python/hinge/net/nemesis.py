@@ -93,7 +93,7 @@ def cut(net: Description, one: str, *others: str) -> Cut:
 
 
 def cuts(net: Description, are_parted: Callable[[str, str], bool], ones: list[str], hosts: list[str]) -> list[Fault]:
-    """Returns the cuts between each of some hosts and those from which it is parted, each link once."""
+    """Returns the cuts between hosts and the hosts on the other side, each link once."""
     faults, rest = list[Fault](), placed_hosts(hosts)
     for one in ones:
         del rest[one]

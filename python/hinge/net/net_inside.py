@@ -13,7 +13,7 @@ from typing import Callable, Optional
 
 from hinge.border.files import opened_log
 from hinge.border.terminal import silence
-from hinge.border.waits import can_be_read
+from hinge.border.programs import can_be_read
 from hinge.command import say
 from hinge.events.kinds import Act
 from hinge.net.acts import Acts, GroupProcesses, HostProcesses, line_of, sees_own_processes
@@ -124,7 +124,7 @@ class NetInside:
         return see_there
 
     def see_gone(self, host: str) -> None:
-        """Waits for the end of a killed host's processes. A late restart may have come behind the kill: its command is killed here."""
+        """Waits for the end of a killed host's processes. A late restart may follow the kill: this call then kills the new command."""
         before, kill = [0, *(one.moment for one in self.acts.done if one.act.host == host)][-2:]
         if before > kill:
             self.linked[host].empty()

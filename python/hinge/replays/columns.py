@@ -247,7 +247,7 @@ def read_sums(path: str) -> Sums:
 
 
 def read_lines(path: str, rows: int) -> tuple[int, Optional[dict[str, Integers]]]:
-    """Returns a report's number of lines and its columns; None instead of columns if the number of rows differs."""
+    """Returns a report's line count and columns; None instead of columns if the number of rows differs."""
 
     def take(answer: Answer) -> tuple[int, Optional[dict[str, Integers]]]:
         count, is_whole = answer.numbers(2)

@@ -47,7 +47,7 @@ def words_in(data: bytes) -> dict[str, str]:
 
 
 def flips_in(data: bytes) -> dict[int, tuple[int, int]]:
-    """Returns each flipped bit by its packet, with the number of bits, from the remarks `#,corrupt,PACKET,BIT,BITS,CONTENT`."""
+    """Returns each packet with flipped bits, and the number of bits, from the remarks `#,corrupt,PACKET,BIT,BITS,CONTENT`."""
     flips = (fields[:3] for fields in remarks_of(data, b"corrupt") if all(map(is_number, fields[:3])) and len(fields) == 4)
     return {int(packet): (int(bit), int(bits)) for packet, bit, bits in flips if int(bits)}
 

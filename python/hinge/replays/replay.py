@@ -80,7 +80,7 @@ def dotted(address: int) -> str:
 
 
 def packets_of(path: str, rows: Rows, moment: Integers, remarked: Mapping[str, str]) -> Packets:
-    """Rows with these moments, and with the IPv6 addresses of remarks and of the file beside them."""
+    """Rows with these moments, and with IPv6 addresses from remarks and from the neighbouring file."""
     columns, five = rows.columns, rows.tuples
 
     def used() -> set[str]:

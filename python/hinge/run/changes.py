@@ -38,7 +38,7 @@ Happening = Union[Change, Outage]
 
 
 class Bandwidths(NamedTuple):
-    """The changes of a pipe's bandwidth by a trace, with the pipe's line; each is made when it is read. A rate of 0 is an outage until
+    """A trace's changes to a pipe's bandwidth, with the pipe's line; a change is made when a caller reads the change. A rate of 0 is an outage until
     the next rate."""
 
     pipe: int

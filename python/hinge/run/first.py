@@ -7,9 +7,8 @@ import signal
 import sys
 from typing import Callable, NoReturn, Optional
 
-from hinge.border.programs import forked
+from hinge.border.programs import can_be_read, forked
 from hinge.border.scratch import remove_all_left
-from hinge.border.waits import can_be_read
 from hinge.command import say
 from hinge.run.processes import SIGNALLED
 from hinge.run.system import die_with_parent, is_simulated
@@ -44,8 +43,8 @@ def status_of(first: int, leash: Optional[int] = None) -> int:
         if came.si_signo == signal.SIGCHLD:
             process, status = os.waitpid(first, os.WNOHANG)
             if process:
-                ended = os.waitstatus_to_exitcode(status)
-                return INTERRUPTED if is_interrupted and ended in (SIGNALLED + signal.SIGTERM, -signal.SIGTERM) else ended
+                code = os.waitstatus_to_exitcode(status)
+                return INTERRUPTED if is_interrupted and code in (SIGNALLED + signal.SIGTERM, -signal.SIGTERM) else code
         elif came.si_signo == signal.SIGIO:
             if leash is not None and can_be_read(leash, 0):
                 if not os.read(leash, 1):

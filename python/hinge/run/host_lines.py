@@ -8,7 +8,7 @@ import threading
 import time
 from typing import Callable, NamedTuple, Optional
 
-from hinge.border.waits import can_be_read
+from hinge.border.programs import can_be_read
 from hinge.run.words import Wrong
 
 PATIENCE = 10.0  # s within which the host takes a line

@@ -426,7 +426,7 @@ class Plan:
         return f"outage {moment} {line.partition(' ')[2]}" if line.startswith("outage ") else f"at {moment} {self.lossy(line)}"
 
     def lines(self, seed: int) -> Iterator[str]:
-        """Yields the lines behind the remarks one by one, since traces make many."""
+        """Yields the lines after the remarks, since traces make many."""
         yield from self.rest
         yield from self.extra_lines(seed)
         of_bases = ("", self.changes), ("main ", self.behind_main)

@@ -11,8 +11,7 @@ from pathlib import Path
 from typing import NamedTuple, Optional
 
 from hinge.border.files import read_system
-from hinge.border.programs import NOTHING, SAME, Process, begun
-from hinge.border.waits import can_be_read
+from hinge.border.programs import NOTHING, SAME, Process, begun, can_be_read
 from hinge.run.host import program
 from hinge.run.system import Missing, die_with_parent
 from hinge.simulated.interrupts import Interrupts

@@ -41,7 +41,7 @@ class Pauses(NamedTuple):
     given: "tuple[Given, ...]"
 
     def lines(self) -> Iterator[str]:
-        """Yields the lines for the kernel, which itself draws none: 0 in 1 call, by the seed 0."""
+        """Yields the lines for the kernel, which draws no pauses: 0 in 1 call, with the seed 0."""
         yield "0 1 0"
         for one in self.given:
             yield f"{one.call} {one.where} {one.ns}" + f" {one.steps}" * bool(one.steps)

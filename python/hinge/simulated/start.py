@@ -74,7 +74,7 @@ def inside(options: NetOptions, seed: int) -> NetOptions:
 
 
 def transcript_of(options: SimulatedOptions) -> Optional[str]:
-    """Returns the path of the transcript in the machine, if the run has one."""
+    """Returns the path of the run's transcript in the machine, if any."""
     return f"{KEPT}/{HISTORY}" if options.transcript or options.twice else None
 
 

@@ -8,8 +8,7 @@ from abc import ABC, abstractmethod
 from pathlib import Path
 from typing import TYPE_CHECKING, Collection, Iterator, Optional
 
-from hinge.border.programs import PIPE, begun
-from hinge.border.waits import can_be_read
+from hinge.border.programs import PIPE, begun, can_be_read
 from hinge.command import Fault
 from hinge.fault_lines import IS_LOST, Faults
 from hinge.program import HINGE, audit_of

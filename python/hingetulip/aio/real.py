@@ -70,7 +70,7 @@ class RealUses:
         return True
 
     def counted(self, name: str) -> Either:
-        """Returns the counted version of a function that no audit event tells, unless `subprocess` calls it, whose event was counted."""
+        """Returns the counted version of a function without an audit event, unless `subprocess` calls it, whose event was counted."""
 
         def in_run(own: Function) -> Function:
             def call(*words: Any, **named: Any) -> Any:

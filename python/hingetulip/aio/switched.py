@@ -91,7 +91,7 @@ def note_all() -> None:
 
 
 def switch_copy(name: str) -> None:
-    """Gives the run's functions to a module that the run has loaded, if it is a copy of a known one."""
+    """Gives the run's functions to a newly loaded module, if the module is a copy."""
     if any(name == module for module, _ in (*known, *kinds)):
         note_all.cache_clear()
         for change in changing:
@@ -160,7 +160,7 @@ def switch_method(kind: type, name: str, in_run: Either) -> Callable[[], None]:
 
 @contextmanager
 def switched(functions: Mapping[tuple[Any, str], Either]) -> Iterator[None]:
-    """Replaces the C functions of modules, and the methods of C types, by the run's in its threads, within the context. Copies of modules
+    """Replaces modules' C functions and C types' methods in the run's threads, within the context. Copies of modules
     that the run loads change, too."""
     backs: dict[object, Callable[[], None]] = {}
     wanted = [  # of the type in C, and not of a subclass in its place

@@ -19,7 +19,7 @@ from typing import Iterator
 from linked import found, hinge, matching, needs_rooms, stopped, until
 from test_control import InAFolder
 
-from hinge.border.waits import can_be_read
+from hinge.border.programs import can_be_read
 from hinge.run.cgroups import name_of, own_folder, remove_left
 from hinge.run.control import Control
 from hinge.run.host_lines import UNTAKEN, Answer
