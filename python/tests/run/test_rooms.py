@@ -26,6 +26,8 @@ from hinge.border.files import read_system
 from hinge.run.rooms import put_over
 from hinge.run.steps import Steps
 
+NO_MODEL = "none of gilbert:P,R[,B[,G]] and list:N,N-M (examples: gilbert:0.01,0.3 and list:3,17-20)"
+
 
 CHROOTED = """mount --make-rshared / && cd "$0" || exit 99
 for each in /*; do
@@ -71,7 +73,7 @@ class OfCommands(WithFolder):
     def test_what_is_wrong_is_told_before_anything_starts(self) -> None:
         for words, status, told in (
             (["--up", "10Mbps"], 2, "hinge run: --up: '10Mbps': not a bandwidth; write 10Mbit/s\n"),
-            (["--loss", "ge"], 2, "hinge run: --loss ge: none of gilbert:P,R[,B[,G]] and list:N,N-M\n"),
+            (["--loss", "ge"], 2, f"hinge run: --loss ge: {NO_MODEL}\n"),
             (["--line", "queue 1 config pipe 9"], 3, "hinge: queue 1 config pipe 9: no-such-pipe\n"),
             (["--late", "soon"], 2, "hinge run: --late soon: not a duration (example: 600ms)\n"),
             *(
