@@ -92,7 +92,7 @@ class Look(unittest.TestCase):
             (("look", packets, report, "--capture", "c", "--index", "i"), 2, "go together"),
             (("look", history_of("dsl"), "--config", config), 2, "is alone: a history has its configuration"),
             (("why", 1, packets, report), 2, "a paragraph needs the configuration: --config FILE"),
-            (("why", 1), 2, "behind the rows comes a history, or a packet file and its report"),
+            (("why", 1), 2, "behind the rows comes a history or the transcript of a live session, or a packet file and the report"),
             (("why", 0, history_of("dsl")), 2, "'0' isn't a number from 1"),
         ):
             done = run(*words)
