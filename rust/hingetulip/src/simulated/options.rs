@@ -106,7 +106,7 @@ impl<'a> Reader<'a> {
         let is_number = |text: &str| behind_digits(text) == Some("");
         let is_joined = is_number(word) && is_unit(&next.to_ascii_lowercase())
             || matches!(next, "loss" | "duplicate") && part_of_one(word).is_some()
-            || word == "rtt" && !next.is_empty();
+            || matches!(word, "rtt" | "corrupt") && !next.is_empty();
         if is_joined {
             format!("{word} {next}")
         } else if is_number(before) && is_unit(&word.to_ascii_lowercase()) {
