@@ -3,11 +3,13 @@
 from __future__ import annotations
 
 import argparse
+import os
 import signal
 import sys
 from typing import NoReturn, Optional, Sequence
 
 from hinge.arguments import bounded
+from hinge.border.programs import CANNOT_EXECUTE
 from hinge.command import NOT_FOUND, Fault, parser, say
 from hinge.command_line import Parser
 from hinge.run.options import add_link, add_run, mtu
@@ -86,7 +88,7 @@ def command_line(words: Optional[Sequence[str]] = None) -> RunOptions:
         line.error(link)
     missing = lacking(arguments.command) if arguments.root is None else None
     if missing is not None:
-        raise Fault(missing, NOT_FOUND)
+        raise Fault(missing, CANNOT_EXECUTE if os.path.isfile(arguments.command[0]) else NOT_FOUND)
     if arguments.container is not None:
         from hinge.run.containers import process_of
 
