@@ -200,7 +200,8 @@ class OfNets(InAFolder):
             ]
             assert found(r"s: (.*)$", self.change("c", "b", "up", "9ms").stdout) == ["pipe 6 config delay 9"]
             refused = self.change("c", "d", "9ms")
-            assert (refused.returncode, refused.stderr) == (2, "hinge change: 'c d 9ms': 'd': no host of this net; it has a, b, c\n")
+            told = "hinge change: 'c d 9ms': 'd': no host of this net; it has a, b, c\n"
+            assert (refused.returncode, refused.stderr) == (2, told)
             assert [way["pipe"] for way in json.loads(hinge("status", self.socket).stdout)["ways"]] == [1, 2, 3, 4, 5, 6]
         assert self.obeyed()[6:] == ["pipe 3 config delay 2 plr 1", "pipe 4 config delay 2 plr 1", "pipe 6 config delay 9"]
 
