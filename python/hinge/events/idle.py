@@ -36,10 +36,8 @@ class Course:
 
     def __init__(self) -> None:
         self.spans, self.latest = list[Span](), list[int]()  # with the latest end up to each
-        self.begins, self.stretches = (
-            list[int](),
-            list[Span](),
-        )  # of those that aren't idle, from the last one on; begins below 0 ascend
+        # Effective faults, joined, from the last one on, and their beginnings as numbers below 0, which ascend.
+        self.stretches, self.begins = list[Span](), list[int]()
 
     def add(self, span: Span) -> None:
         self.spans.append(span)
