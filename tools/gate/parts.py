@@ -130,7 +130,7 @@ def parts(fresh: Optional[int], program: str) -> list[Part]:
         Part("the command line", [python, "tools/gate/command_line.py", program], least=169),
         Part("what is inherited", [python, "tools/gate/inherited.py", program], "git", least=100, by_clock=True),
         Part("the wrapper and ./build", [python, "tools/gate/wrapper.py", program], least=28, by_clock=True),
-        Part("examples", [python, "tools/gate/examples.py", program], least=16),
+        Part("examples", [python, "tools/gate/examples.py", program], least=13),
         Part("pictures of the pages", [kit, "tools/gate/pictures.py"], MATPLOTLIB, least=5),
         Part("the release", [python, "tools/gate/release.py", program], least=6),
         Part("a bare root", [python, "tools/gate/bare_root.py", program], "debootstrap", True, least=5),
