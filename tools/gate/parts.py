@@ -88,7 +88,7 @@ def growths() -> list[Part]:
         **{f"test_{crate} memory::": least for crate, least in (("files", 4), ("replay", 2), ("live", 1))},
         "test_replay callers_memory::": 1,
         **{f"test_shaper {part}::": 4 for part in ("refused_growths", "reserve")},
-        **{f"test_parts {part}::": least for part, least in (("scheduler", 4), ("heap", 3), ("placed_heap", 2))},
+        **{f"test_parts {part}::": least for part, least in (("scheduler", 3), ("heap", 3), ("placed_heap", 2))},
         **{f"test_parts {part}::a_refused_growth_changes_nothing": 1 for part in ("link", "flows")},
         **{f"test_service one_caller::a_{call}_that_memory_refuses_leaves_no_trace": 1 for call in ("call", "try")},
     }
