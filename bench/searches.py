@@ -17,7 +17,7 @@ from pathlib import Path
 from typing import NamedTuple
 
 sys.path.insert(0, str(Path(__file__).resolve().parents[1] / "python"))
-from hinge.searches.runs import Asked, Runner  # noqa: E402
+from hinge.searches.runs import Runner, SearchSettings  # noqa: E402
 
 QUIET = {"stdin": subprocess.DEVNULL, "stdout": subprocess.DEVNULL, "stderr": subprocess.DEVNULL}
 
@@ -39,7 +39,7 @@ def used() -> float:
 
 def searched(words: "list[str]", seeds: int) -> Price:
     """As `hinge search run` makes its runs, without the shrinking."""
-    runner, before = Runner(Asked(["run"], "drawn", None, "1h", words)), used()
+    runner, before = Runner(SearchSettings(["run"], "drawn", None, "1h", words)), used()
     return Price(sum(runner.run(["run"], seed, "drawn").failed for seed in range(1, seeds + 1)), seeds, used() - before)
 
 

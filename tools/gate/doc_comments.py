@@ -19,7 +19,7 @@ ITEM = re.compile(r'\s*pub (?:extern "C" )?(?:fn|struct|enum|trait|const|static|
 ATTRIBUTE = re.compile(r"\s*#")
 SENTENCE = re.compile(r"[A-Z0-9`\[].*\.$")
 # Crates that users don't call.
-OWN = ("bench_", "check_", "test_")
+OWN = ("bench_", "test_")
 
 
 class Comment(NamedTuple):

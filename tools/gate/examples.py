@@ -1,4 +1,4 @@
-"""The scenes: the program writes each report of the reference, including the kept scene, and the page contains first.txt's scene.
+"""The scenes: the program writes each report of the reference, and the page contains first.txt's scene.
 
     python3 tools/gate/examples.py PROGRAM
 """
@@ -21,9 +21,6 @@ def main(tally: Tally, program: str) -> None:
             same = (done.returncode, done.stdout, done.stderr) == (0, report.read_bytes(), b"")
             tally.note(name, "" if same else f"another report: status {done.returncode} {done.stderr!r}")
         tally.note("the count of scenes", "" if len(list(scenes.glob("*.report"))) >= 10 else "fewer than ten have a report")
-        for kept in sorted(EXAMPLES.glob("dsl.*")):
-            is_same = kept.read_bytes() == (scenes / kept.name).read_bytes()
-            tally.note(f"{kept.name} by tools/release/examples.py", "" if is_same else "differs")
     with open(EXAMPLES / "first.txt", "rb") as first:
         done = subprocess.run([program], stdin=first, capture_output=True, text=True)
     tally.note(

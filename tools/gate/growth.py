@@ -37,7 +37,7 @@ FINE = {
     "habits in pages": 2,
 }  # no reason to refuse a change
 GROWS = re.compile(r"(?P<name>.+?) (?P<most>\d+(?:\.\d+)?): \S.*")
-TESTS = "test_|check_|bench_|many_"  # how the names of crates begin that are no part of the product
+TESTS = "test_|bench_|many_"  # how the names of crates begin that are no part of the product
 IN_A_ROW = 8  # lines that are the same in two places
 PASSED_OVER = re.compile(r"\s*(?:use|from|import|//|#) ")
 AREAS = {  # by the first pattern that fits

@@ -1,4 +1,4 @@
-"""The limits of input, at the last byte and one beyond it, and inputs that never end.
+"""The limits of input, at the last byte and one beyond it, inputs that never end, and the memory that plain input takes.
 
     python3 tools/gate/limit_checks.py PROGRAM
 
@@ -14,6 +14,7 @@ from pathlib import Path
 from tempfile import TemporaryDirectory
 from typing import Iterator, NamedTuple
 
+from hostile import inputs, peak
 from tally import Tally, judge
 
 from files import LIMITS, PACKET_HEADER, REPORT_HEADER
@@ -54,6 +55,9 @@ ENDLESS = (
     ("packets", ["replay", "empty", "/dev/zero"]),
     ("history", ["audit", "/dev/zero"]),
 )
+MIB = 1 << 20
+# What keeps neither the text nor its entries or rows: the kind of an input, its MiB, the command, and the most MiB of memory it may take.
+KEPT = (("entries", 64, ["audit", "history"], 32), ("rows", 32, ["replay", "config", "packets"], 80))
 
 
 def too_long(source: str) -> Outcome:
@@ -80,8 +84,18 @@ def checks(program: list[str], folder: str) -> Iterator[tuple[str, Outcome, Outc
         yield f"endless {source}", too_long(source), outcome(program, words, stdin, folder)
 
 
+def kept(tally: Tally, program: list[str]) -> None:
+    """Checks the most memory of inputs that hold the most for their bytes (tools/hostile/inputs.py)."""
+    for kind, size, words, most in KEPT:
+        with TemporaryDirectory() as folder:
+            inputs.write(kind, size * MIB, Path(folder))
+            taken = peak([*program, words[0], *(f"{folder}/{word}" for word in words[1:])]) // 1024
+        tally.note(f"{words[0]} of {size} MiB", "" if taken <= most else f"takes {taken} MiB, more than {most}")
+
+
 def main(tally: Tally, program_text: str) -> None:
     program = [os.path.abspath(w) if os.path.isfile(w) else w for w in shlex.split(program_text)]
+    kept(tally, program)  # first, since a process begins with the memory of its parent
     with TemporaryDirectory() as folder:
         for name, want, got in checks(program, folder):
             tally.note(name, "" if want == got else f"want {want}, got {[got[0][:200], got[1][:200], got[2]]}")

@@ -52,11 +52,9 @@ class Plant(NamedTuple):
 # fmt: off
 PLANTS = [
     Plant("live sessions", "a delivery has another number", ("gate/live.py", PROGRAM, "1", "20"), "o = o.replace(b'd,7,', b'd,8,')"),
-    Plant("replays cut by pipes", "a row is due a nanosecond later", ("oracle/cut_replay.py", PROGRAM, "0", "4"),
-          "o = re.sub(rb'(?m)^(out,5,.*,)(\\d+)$', lambda m: m[1] + str(int(m[2]) + 1).encode(), o)"),
     Plant("the command line", "a usage fault ends with 1", ("gate/command_line.py", PROGRAM), "s = 1 if s == 2 else s"),
     Plant("examples", "a packet has another number", ("gate/examples.py", PROGRAM), "o = o.replace(b'out,1,', b'out,2,')"),
-    Plant("what is kept of an input", "an audit takes 300 MB", ("gate/kept.py", PROGRAM),
+    Plant("limits of input", "an audit takes 300 MB", ("gate/limit_checks.py", PROGRAM),
           "if 'audit' in a:\n    kept = bytearray(300 << 20)\n    kept[::4096] = bytes(len(kept[::4096]))"),
     Plant("the version", "a file has another", ("gate/version.py", PROGRAM), file="CITATION.cff", old="version: ", new="version: 1"),
     Plant("the manual pages", "an option has another name", ("gate/manual.py", PROGRAM), file="docs/dummynet.1", old="callers", new="cllrs"),

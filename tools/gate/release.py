@@ -19,7 +19,7 @@ from tempfile import TemporaryDirectory
 
 from tally import TOP, Tally, judge, ran
 
-from hinge.simulated.kernel import kept
+from hinge.simulated.kernel import current_kernels
 from link_library import SHARED, STATIC
 
 RELEASE = TOP / "release"
@@ -74,7 +74,7 @@ def compare_library(tally: Tally, sum: str, anew: str) -> None:
 
 def kernel(tally: Tally) -> list[str]:
     """Returns the kernel's files in the list of checksums. tools/gate/simulated.py compares the kernel's bytes."""
-    whole = [it for it in kept(RELEASE / "kernels") if it.is_whole]
+    whole = [it for it in current_kernels(RELEASE / "kernels") if it.is_whole]
     there = sorted((RELEASE / "kernels").glob("*"))
     tally.equal("kernels of the present patch and first process", there, [it.folder for it in whole])
     for it in whole:

@@ -20,7 +20,7 @@ from tally import TOP, Tally, judge
 from edits.kept import folder
 from hinge.command import MISSING
 from hinge.simulated.opened_files import sha256_of
-from hinge.simulated.kernel import Kernel, cache, kept
+from hinge.simulated.kernel import Kernel, cache, current_kernels
 
 
 def keep_beside() -> None:
@@ -49,7 +49,7 @@ def build(tally: Tally) -> None:
         return
     print(done.stderr, end="", flush=True)
     tally.equal("hinge kernel", 0, done.returncode)
-    kernels = [next(kept(place), None) for place in (cache(), TOP / "release" / "kernels")]
+    kernels = [next(current_kernels(place), None) for place in (cache(), TOP / "release" / "kernels")]
     tally.note("a kernel of the present patch", "" if all(kernels) else "the release has none: tools/release/release puts it there")
     if all(kernels):
         compare(tally, *(kernel for kernel in kernels if kernel))

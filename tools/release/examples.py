@@ -2,8 +2,7 @@
 
     python3 tools/release/examples.py FOLDER
 
-Of them dsl is kept in examples/. The random words and the jitter come from a generator that is seeded by the example's name and SEED,
-so they are the same in each run.
+The random words and the jitter come from a generator that is seeded by the example's name and SEED, so they are the same in each run.
 """
 
 from __future__ import annotations

@@ -6,7 +6,7 @@ mod parts;
 mod room;
 mod sink;
 
-pub use packets::{example_packet, no_bits, no_tuple, one_started};
+pub use packets::{example_packet, no_bits, one_started};
 pub use parts::Parts;
 pub use room::with_room;
 pub use sink::{Sink, WhenFull};

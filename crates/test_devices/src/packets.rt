@@ -14,7 +14,7 @@ pub fn no_bits() -> Mask {
 }
 
 /// What a mask that keeps no bit leaves of a tuple.
-pub fn no_tuple() -> FiveTuple {
+fn no_tuple() -> FiveTuple {
     FiveTuple {
         src: 0,
         dst: 0,

@@ -9,60 +9,11 @@ use std::test::Fail;
 
 const HEADER: &str = "moment,target,number,src,dst,proto,sport,dport,len,word\n";
 
-// Packet files below their header, with the count of their rows or the fault that the page on packet files tells.
-static FILES: [(&str, Result<usize, ReplayFault>); 8] = [
-    ("", Ok(0)),
-    ("0,queue,9,10.0.0.1,10.0.0.2,17,1000,2000,1000,0\n", Ok(1)),
-    (
-        "4611686018427387904,pipe,1,0.0.0.0,255.255.255.255,0,0,0,1,4294967295",
-        Ok(1),
-    ),
-    (
-        "0,pipe,1,10.0.0.1,10.0",
-        Err(ReplayFault::BadRow { row: 1, field: 0 }),
-    ),
-    (
-        "4611686018427387905,pipe,1,10.0.0.1,10.0.0.2,17,1000,2000,1000,0",
-        Err(ReplayFault::BadRow { row: 1, field: 1 }),
-    ),
-    (
-        "0,link,0,10.0.0.1,10.0.0.2,17,1000,2000,1000,0",
-        Err(ReplayFault::BadRow { row: 1, field: 2 }),
-    ),
-    (
-        "0,pipe,0,10.0.0.1,10.0.0,17,1000,2000,1000,0",
-        Err(ReplayFault::BadRow { row: 1, field: 3 }),
-    ),
-    (
-        "0,pipe,1,10.0.0.1,10.0.0.2,17,1000,2000,1000,0\n0,pipe,1,10.0.0.1,10.0.0.2,17,1000,2000,0,0",
-        Err(ReplayFault::BadRow { row: 2, field: 9 }),
-    ),
-];
-
 // How many rows a packet file has, and whether reading it failed.
 fn count_rows(alloc: Global, text: &[u8]) -> (Result<usize, ReplayFault>, bool) {
     let mut input = FromReader::new(text);
     let count = read_packets(alloc, &mut input).map(|rows| rows.len());
     (count, input.failed())
-}
-
-fn check_rows(
-    rt: &impl Abort,
-    alloc: Global,
-    below: &str,
-    answer: &Result<usize, ReplayFault>,
-) -> Result<(), AllocError> {
-    let text = format!(in alloc; "{HEADER}{below}")?;
-    assert!(rt; count_rows(alloc, text.as_bytes()) == (*answer, false));
-    Ok(())
-}
-
-#[test]
-fn packet_files_have_rows(rt: HostRuntime) -> Result<(), Fail> {
-    for (below, answer) in FILES.iter() {
-        check_rows(&rt, rt.alloc(), below, answer)?;
-    }
-    Ok(())
 }
 
 #[test]

@@ -37,37 +37,6 @@ pub fn moment(value: u64) -> Result<Moment, Fail> {
     Ok(Moment::new(value).ok_or("a moment")?)
 }
 
-// A state with a value of its own in each field.
-pub fn flow_state() -> Result<FlowStatus, Fail> {
-    Ok(FlowStatus {
-        flow: 1,
-        key: FlowKey {
-            target: Target::Queue(number(3)?),
-            pipe: number(4)?,
-            mask: Mask {
-                src: 0xffff_ff00,
-                dst: 0x0000_00ff,
-                proto: 255,
-                sport: 65_535,
-                dport: 1,
-            },
-            tuple: FiveTuple {
-                src: 0x0a00_0000,
-                dst: 9,
-                proto: 6,
-                sport: 40_000,
-                dport: 1,
-            },
-        },
-        queued: 5,
-        bytes: 6,
-        lost: 7,
-        full: 8,
-        started: 9,
-        discarded: 10,
-    })
-}
-
 // A list of these. What is refused memory is tried twice more, so that a call under test is made all the same.
 fn list_of<T: Drop, const N: usize>(alloc: Global, items: [T; N]) -> Result<Vec<T>, AllocError> {
     let items = match Vec::from_array(alloc, items) {

@@ -106,57 +106,6 @@ fn a_cut_history_is_refused(rt: HostRuntime) -> Result<(), Fail> {
     Ok(())
 }
 
-// Records in the place of one of the file, by its number, and what the file then is.
-static OTHERS: [(usize, &str, Result<(Rule, usize), ReplayFault>); 18] = [
-    // No room is taken by this count.
-    (
-        7,
-        "r,delivered,1000000,18446744073709551615\n",
-        Err(ReplayFault::BadRecord(9)),
-    ),
-    (7, "r,delivered,1000000,0\n", Err(ReplayFault::BadRecord(8))),
-    (12, "", Err(ReplayFault::BadRecord(12))),
-    (12, "end,3\n", Err(ReplayFault::BadRecord(12))),
-    (12, "end,4,4\n", Err(ReplayFault::BadRecord(12))),
-    (12, "end,4\nend,4\n", Err(ReplayFault::BadRecord(13))),
-    (12, "end,3\nend,4\n", Err(ReplayFault::BadRecord(12))),
-    (1, "dummynet-history,1\n", Err(ReplayFault::BadRecord(11))),
-    (1, "dummynet-history,2\n", Ok((Rule::Free, 4))),
-    (1, "dummynet-history,4\n", Err(ReplayFault::BadRecord(1))),
-    (1, "", Err(ReplayFault::BadRecord(1))),
-    (
-        2,
-        "c,15,configure, # no line\n",
-        Err(ReplayFault::BadRecord(2)),
-    ),
-    (
-        2,
-        "c,15,configure,ipfw queue 1 delete # a line\n",
-        Ok((Rule::Ordered, 4)),
-    ),
-    (
-        2,
-        "c,16,configure,pipe 1 config\n",
-        Err(ReplayFault::BadRecord(2)),
-    ),
-    (
-        3,
-        "r,lost,18446744073709551615,18446744073709551615\n",
-        Ok((Rule::Ordered, 4)),
-    ),
-    (
-        3,
-        "r,lost,18446744073709551616,0\n",
-        Err(ReplayFault::BadRecord(3)),
-    ),
-    (3, "r,exhausted\n", Ok((Rule::Ordered, 4))),
-    (
-        6,
-        "c,0,advance,4611686018427387905\n",
-        Err(ReplayFault::BadRecord(6)),
-    ),
-];
-
 // What stands before many commas in the place of the third record, and what stands behind them.
 static WIDE: [(&str, &str); 4] = [
     ("r,configured", "\n"),
@@ -184,48 +133,12 @@ fn a_wide_record_is_a_bad_one(rt: HostRuntime) -> Result<(), Fail> {
     Ok(())
 }
 
+// No room is taken by the count of a reply's items.
 #[test]
-fn other_records_are_judged(rt: HostRuntime) -> Result<(), Fail> {
+fn a_great_count_is_a_bad_record(rt: HostRuntime) -> Result<(), Fail> {
     let alloc = rt.alloc();
-    for (number, record, answer) in OTHERS.iter() {
-        let text = text_with(alloc, *number, record)?;
-        assert!(rt; read(alloc, text.as_bytes()) == *answer, "{record}");
-    }
-    Ok(())
-}
-
-// Version 1 has no deletes, no replies to them, and no count of discarded packets.
-static OF_VERSION_ONE: [(&str, Result<(Rule, usize), ReplayFault>); 6] = [
-    (
-        "c,0,configure,pipe 1 config\nr,configured\n",
-        Ok((Rule::Free, 1)),
-    ),
-    (
-        "c,0,show\nr,status,1\nf,0,queue,1,1,0.0.0.0,0.0.0.0,0,0,0,0.0.0.0,0.0.0.0,0,0,0,0,0,0,0,1\n",
-        Ok((Rule::Free, 1)),
-    ),
-    (
-        "c,0,configure,pipe 1 delete\nr,deleted\n",
-        Err(ReplayFault::BadRecord(2)),
-    ),
-    ("c,0,show\nr,deleted\n", Err(ReplayFault::BadRecord(3))),
-    (
-        "c,0,show\nr,pipe-has-queues\n",
-        Err(ReplayFault::BadRecord(3)),
-    ),
-    (
-        "c,0,show\nr,no-such-queue\n",
-        Err(ReplayFault::BadRecord(3)),
-    ),
-];
-
-#[test]
-fn old_histories_are_read(rt: HostRuntime) -> Result<(), Fail> {
-    let alloc = rt.alloc();
-    for (records, answer) in OF_VERSION_ONE.iter() {
-        let text = format!(in alloc; "dummynet-history,1\n{records}end,1\n")?;
-        assert!(rt; read(alloc, text.as_bytes()) == *answer, "{records}");
-    }
+    let text = text_with(alloc, 7, "r,delivered,1000000,18446744073709551615\n")?;
+    assert!(rt; read(alloc, text.as_bytes()) == Err(ReplayFault::BadRecord(9)));
     Ok(())
 }
 

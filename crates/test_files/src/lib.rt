@@ -4,25 +4,17 @@
 #[cfg(test)]
 mod audit;
 #[cfg(test)]
-mod audit_limits;
-#[cfg(test)]
 mod audit_parts;
-#[cfg(test)]
-mod closed;
 #[cfg(test)]
 mod devices;
 #[cfg(test)]
 mod file_audits;
-#[cfg(test)]
-mod file_texts;
 #[cfg(test)]
 mod files;
 #[cfg(test)]
 mod histories;
 #[cfg(test)]
 mod history;
-#[cfg(test)]
-mod history_entries;
 #[cfg(test)]
 mod history_files;
 #[cfg(test)]

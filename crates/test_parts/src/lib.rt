@@ -2,25 +2,13 @@
 #![tactic(auto)]
 
 #[cfg(test)]
-mod active;
-#[cfg(test)]
 mod beside;
-#[cfg(test)]
-mod config;
-#[cfg(test)]
-mod discards;
 #[cfg(test)]
 mod flows;
 #[cfg(test)]
-mod flows_in_room;
-#[cfg(test)]
 mod given;
 #[cfg(test)]
-mod heads;
-#[cfg(test)]
 mod heap;
-#[cfg(test)]
-mod homes;
 #[cfg(test)]
 mod keys;
 #[cfg(test)]
@@ -41,9 +29,3 @@ mod readme;
 mod replies;
 #[cfg(test)]
 mod scheduler;
-#[cfg(test)]
-mod second;
-#[cfg(test)]
-mod text;
-#[cfg(test)]
-mod types;

@@ -4,27 +4,8 @@ ghost use Rattle.dn_wf2q.specs.Schedule.{room_at};
 use crate::on_new::on_new;
 use dn_types::{Len, Weight};
 use dn_wf2q::Sched;
-use std::alloc::{AllocError, Global};
-use std::mem;
+use std::alloc::AllocError;
 use std::process::Abort;
-
-/// A step of an example, with values that were worked by hand from Bennett and Zhang's rules, and by an independent reference.
-///
-/// A packet has 1,000 bytes, and a slot's flow the weight beside it.
-enum Step {
-    /// An example begins: a packet arrives at a slot of a new scheduler, with which a busy period begins.
-    New(usize, u8),
-    /// A packet arrives at an idle scheduler, with which a busy period begins.
-    Begin(usize, u8),
-    /// A packet arrives.
-    Arrive(usize, u8),
-    /// The backlog at the slot is discarded.
-    Discard(usize),
-    /// The slot is picked, after which virtual time is this.
-    Pick(usize, u128),
-    /// The same of the last packet: no slot is picked after it, at the same virtual time.
-    Last(usize, u128),
-}
 
 /// What a scheduler tells of itself: whether it is idle, virtual time, arrivals, picks and pushes.
 fn told(sched: &Sched) -> (bool, u128, u64, u64, u64) {
@@ -52,12 +33,7 @@ fn reserved_again(rt: &impl Abort, sched: &mut Sched, slot: usize) -> Result<(),
 }
 
 /// A packet of 1,000 bytes arrives.
-pub(crate) fn arrive(
-    rt: &impl Abort,
-    sched: &mut Sched,
-    slot: usize,
-    weight: u8,
-) -> Result<(), AllocError> {
+fn arrive(rt: &impl Abort, sched: &mut Sched, slot: usize, weight: u8) -> Result<(), AllocError> {
     reserved_again(rt, sched, slot)?;
     if let (Some(len), Some(weight)) = (Len::new(1000), Weight::new(weight)) {
         if sched.arrivals() < 1 << 62 {
@@ -73,52 +49,10 @@ fn begin(sched: &mut Sched) {
     }
 }
 
-fn begin_with(
-    rt: &impl Abort,
-    sched: &mut Sched,
-    slot: usize,
-    weight: u8,
-) -> Result<(), AllocError> {
-    begin(sched);
-    arrive(rt, sched, slot, weight)
-}
-
 fn check_pick(rt: &impl Abort, sched: &mut Sched, slot: Option<usize>, virtual_time: u128) {
     let picked = sched.pick();
     assert!(rt; picked == slot);
     assert!(rt; sched.virtual_time() == virtual_time);
-}
-
-fn check_last(rt: &impl Abort, sched: &mut Sched, slot: usize, virtual_time: u128) {
-    check_pick(rt, sched, Some(slot), virtual_time);
-    check_pick(rt, sched, None, virtual_time);
-}
-
-fn take_step(
-    rt: &impl Abort,
-    alloc: Global,
-    sched: &mut Sched,
-    step: &Step,
-) -> Result<(), AllocError> {
-    match step {
-        Step::New(slot, weight) => {
-            drop(mem::replace(sched, Sched::new(alloc)));
-            begin_with(rt, sched, *slot, *weight)?;
-        }
-        Step::Begin(slot, weight) => begin_with(rt, sched, *slot, *weight)?,
-        Step::Arrive(slot, weight) => arrive(rt, sched, *slot, *weight)?,
-        Step::Discard(slot) => sched.discard(*slot),
-        Step::Pick(slot, virtual_time) => check_pick(rt, sched, Some(*slot), *virtual_time),
-        Step::Last(slot, virtual_time) => check_last(rt, sched, *slot, *virtual_time),
-    }
-    Ok(())
-}
-
-fn take_steps(rt: &impl Abort, alloc: Global, sched: &mut Sched) -> Result<(), AllocError> {
-    for step in STEPS.iter() {
-        take_step(rt, alloc, sched, step)?;
-    }
-    Ok(())
 }
 
 fn check_parts(rt: &impl Abort, sched: &mut Sched) -> Result<(), AllocError> {
@@ -134,68 +68,6 @@ fn check_parts(rt: &impl Abort, sched: &mut Sched) -> Result<(), AllocError> {
 #[test]
 fn parts_by_themselves(rt: HostRuntime) -> Result<(), AllocError> {
     on_new(Sched::new(rt.alloc()), |sched| check_parts(&rt, sched))
-}
-
-static STEPS: [Step; 48] = [
-    // Shares by weight.
-    Step::New(0, 1),
-    Step::Pick(0, 65_536_000),
-    Step::Arrive(0, 1),
-    Step::Arrive(1, 3),
-    Step::Arrive(1, 3),
-    Step::Arrive(1, 3),
-    Step::Pick(1, 81_920_000),
-    Step::Pick(0, 98_304_000),
-    Step::Pick(1, 120_149_333),
-    Step::Last(1, 141_994_666),
-    // Virtual time is raised to the start tag of the last packet, 131,072,000.
-    Step::New(0, 1),
-    Step::Pick(0, 65_536_000),
-    Step::Arrive(0, 1),
-    Step::Arrive(1, 3),
-    Step::Arrive(1, 3),
-    Step::Pick(1, 81_920_000),
-    Step::Pick(0, 98_304_000),
-    Step::Pick(1, 120_149_333),
-    Step::Arrive(0, 1),
-    Step::Last(0, 196_608_000),
-    // A new busy period.
-    Step::New(0, 1),
-    Step::Arrive(0, 1),
-    Step::Pick(0, 65_536_000),
-    Step::Pick(0, 131_072_000),
-    Step::Begin(1, 1),
-    Step::Pick(1, 65_536_000),
-    Step::Arrive(1, 1),
-    Step::Arrive(0, 1),
-    Step::Pick(0, 98_304_000),
-    Step::Last(1, 163_840_000),
-    // A discarded backlog: with the finish tag of a discarded packet kept, slot 0 would go twice before slot 1.
-    Step::New(0, 1),
-    Step::Pick(0, 65_536_000),
-    Step::Arrive(0, 1),
-    Step::Arrive(1, 1),
-    Step::Arrive(1, 1),
-    Step::Discard(1),
-    Step::Discard(7),
-    Step::Arrive(1, 1),
-    Step::Arrive(0, 1),
-    Step::Pick(0, 98_304_000),
-    Step::Pick(1, 131_072_000),
-    Step::Last(0, 196_608_000),
-    // Ties go by flow number.
-    Step::New(0, 1),
-    Step::Pick(0, 65_536_000),
-    Step::Arrive(1, 1),
-    Step::Arrive(0, 1),
-    Step::Pick(0, 98_304_000),
-    Step::Last(1, 163_840_000),
-];
-
-#[test]
-fn worked_examples(rt: HostRuntime) -> Result<(), AllocError> {
-    let alloc = rt.alloc();
-    on_new(Sched::new(alloc), |sched| take_steps(&rt, alloc, sched))
 }
 
 /// What a scan over 100 flows picks.

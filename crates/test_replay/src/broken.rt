@@ -1,4 +1,3 @@
-use crate::headers::PACKET_HEADER;
 use crate::replays::{replay_files, replay_joined_reader, replay_readers, replay_text};
 use dn_config::LineFault;
 use dn_records::{FromReader, FromWriter, Inlet, Outlet};
@@ -8,6 +7,9 @@ use std::io;
 use std::io::Read;
 use std::test::Fail;
 use test_devices::{Parts, Sink, WhenFull};
+
+/// The first record of a packet file.
+pub const PACKET_HEADER: &str = "moment,target,number,src,dst,proto,sport,dport,len,word\n";
 
 pub const FULL_QUEUE: &str = "pipe 1 config bw 8Mbit/s queue 1\n--\n\
     moment,target,number,src,dst,proto,sport,dport,len,word\n\

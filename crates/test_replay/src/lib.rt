@@ -14,18 +14,8 @@ mod fed;
 #[cfg(test)]
 mod gates;
 #[cfg(test)]
-mod headers;
-#[cfg(test)]
-mod limits;
-#[cfg(test)]
 mod memory;
 #[cfg(test)]
 mod parts;
 #[cfg(test)]
-mod passing;
-#[cfg(test)]
 mod replays;
-#[cfg(test)]
-mod reports;
-#[cfg(test)]
-mod untargeted;

@@ -1,5 +1,4 @@
-use crate::broken::{FULL_QUEUE, REPORT};
-use crate::headers::PACKET_HEADER;
+use crate::broken::{FULL_QUEUE, PACKET_HEADER, REPORT};
 use dn_config::split_joined;
 use dn_records::{FromReader, FromWriter};
 use dn_replay::{HashKey, Manner, PACKET_LIMIT, ReplayFault, Source, replay_files, replay_input};

@@ -6,8 +6,6 @@ mod calls;
 #[cfg(test)]
 mod lasting;
 #[cfg(test)]
-mod lasting_threads;
-#[cfg(test)]
 mod one_caller;
 #[cfg(test)]
 mod order;

@@ -2,11 +2,11 @@
 ghost use Rattle.std.specs.Prelude.{◌≡◌, All, length};
 ghost use Rattle.dn_service.specs.Callers.{IsOf, IsSameCaller};
 
-use crate::calls::{collect, history_of, made, packet, pipe};
+use crate::calls::{collect, history_of, packet, pipe};
 use crate::replies::{check_delivered, check_queued};
 use dn_service::{Caller, OpenFault, Service, TryFault};
 use dn_types::{Call, Delivery, Entry, Reply};
-use std::alloc::{AllocError, Global};
+use std::alloc::Global;
 use std::process::Abort;
 use std::sync::Wait;
 use std::test::Fail;
@@ -54,49 +54,6 @@ fn check_status<R: Abort>(rt: &R, reply: &Reply) {
     };
     let started = one_started().expect(rt, "numbers in range");
     assert!(rt; list.as_slice() == [started].as_slice());
-}
-
-/// Makes the four calls by `call`.
-fn call_four<R: Wait>(rt: &R, caller: &mut Caller, calls: &[Call; 4]) -> Result<(), AllocError>
-    ensures { IsSameCaller caller.old caller.new }
-{
-    let [pipe, packet, collect, show] = calls;
-    caller.call(rt, *pipe)?;
-    caller.call(rt, *packet)?;
-    caller.call(rt, *collect)?;
-    caller.call(rt, *show)?;
-    Ok(())
-}
-
-#[test]
-fn one_caller_history_by_call(rt: HostRuntime) -> Result<(), Fail> {
-    let calls = four_calls().ok_or("calls")?;
-    let (service, mut callers) = Service::open(rt.alloc(), 1)?;
-    call_four(&rt, &mut callers[0], &calls)?;
-    let history = history_of(service, callers)?;
-    check_four(&rt, history.as_slice());
-    Ok(())
-}
-
-/// Makes the four calls by one try each.
-fn try_four<R: Abort>(rt: &R, caller: &mut Caller, calls: &[Call; 4])
-    ensures { IsSameCaller caller.old caller.new }
-{
-    let [pipe, packet, collect, show] = calls;
-    let _ = made(rt, caller, Some(*pipe));
-    let _ = made(rt, caller, Some(*packet));
-    let _ = made(rt, caller, Some(*collect));
-    let _ = made(rt, caller, Some(*show));
-}
-
-#[test]
-fn one_caller_history_by_try_call(rt: HostRuntime) -> Result<(), Fail> {
-    let calls = four_calls().ok_or("calls")?;
-    let (service, mut callers) = Service::open(rt.alloc(), 1)?;
-    try_four(&rt, &mut callers[0], &calls);
-    let history = history_of(service, callers)?;
-    check_four(&rt, history.as_slice());
-    Ok(())
 }
 
 /// Tries the call again if memory was refused, three times at most.

@@ -72,33 +72,6 @@ fn tries_of_two_callers_in_threads(rt: HostRuntime) -> Result<(), Fail> {
     Ok(())
 }
 
-/// What each thread does in the program of docs/EMBEDDING.md.
-fn submit<R: Wait>(rt: &R, mut caller: Caller, packet: Call) -> Caller
-    ensures { result.service ≡ caller.service }
-{
-    let _ = caller.call(rt, packet);
-    caller
-}
-
-#[test]
-fn two_threads_share_a_pipe(rt: HostRuntime) -> Result<(), Fail> {
-    let (pipe, packet) = (pipe(8_000_000).ok_or("pipe")?, packet(0).ok_or("packet")?);
-    let (service, mut callers) = Service::open(rt.alloc(), 2)?;
-    callers[0].call(&rt, pipe)?;
-    let one = callers.pop().ok_or("one")?;
-    let zero = callers.pop().ok_or("zero")?;
-    let (zero, one) = thread::join(
-        &rt,
-        || submit(&rt, zero, packet),
-        || submit(&rt, one, packet),
-    );
-    callers.push(zero)?;
-    callers.push(one)?;
-    let history = history_of(service, callers)?;
-    assert!(rt; history.len() == 3);
-    Ok(())
-}
-
 /// Submits 1,000 packets, the i-th of them at moment i.
 fn submit_thousand<R: Wait + Abort>(rt: &R, mut caller: Caller) -> Caller
     ensures { result.service ≡ caller.service }

@@ -4,8 +4,6 @@
 #[cfg(test)]
 mod asked;
 #[cfg(test)]
-mod deletes;
-#[cfg(test)]
 mod destination;
 #[cfg(test)]
 mod emulator;
@@ -22,8 +20,6 @@ mod links;
 #[cfg(test)]
 mod refused_growths;
 #[cfg(test)]
-mod reply_room;
-#[cfg(test)]
 mod reserve;
 #[cfg(test)]
 mod sent;
@@ -33,7 +29,5 @@ mod shown_step;
 mod step;
 #[cfg(test)]
 mod trial;
-#[cfg(test)]
-mod wake;
 #[cfg(test)]
 mod wanted;

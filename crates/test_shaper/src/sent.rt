@@ -42,11 +42,3 @@ pub fn sized(len: u16) -> Sent {
         ..to_host(0x0a00_0002)
     }
 }
-
-/// A packet of 1,000 bytes to 10.0.0.2 with a random word.
-pub fn worded(word: u32) -> Sent {
-    Sent {
-        word,
-        ..to_host(0x0a00_0002)
-    }
-}

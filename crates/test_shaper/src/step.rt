@@ -59,13 +59,8 @@ pub fn advance<'a>(at: u64) -> Step<'a> {
 
 /// A Collect at a moment that no call before it has passed.
 pub fn collect(at: u64, list: &[Delivery]) -> Step<'_> {
-    collect_at(at, at, list)
-}
-
-/// A Collect with a moment, and the effective moment in its reply.
-pub fn collect_at(asked: u64, at: u64, list: &[Delivery]) -> Step<'_> {
     Step {
-        asked: Asked::Collect(asked),
+        asked: Asked::Collect(at),
         wanted: Wanted::Delivered { at, list },
     }
 }

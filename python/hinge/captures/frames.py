@@ -38,7 +38,7 @@ class Frame(NamedTuple):
     dscp: int
 
 
-class Asked(NamedTuple):
+class FrameColumns(NamedTuple):
     """The properties of many frames in columns. Addresses are indices into a list of IPv6 numbers, which `addresses` returns."""
 
     addresses: Callable[[], Sequence[int]]
@@ -59,7 +59,7 @@ class Packet(NamedTuple):
     headers: int
 
 
-class Counts(NamedTuple):
+class FrameCounts(NamedTuple):
     """The counts of packets by result."""
 
     rows: int
@@ -71,7 +71,7 @@ class Counts(NamedTuple):
     meetings: int  # pairs of hosts with both directions in one pipe or queue
 
 
-class Plan(NamedTuple):
+class RowPlan(NamedTuple):
     """How rows are written: `mtu` is the longest packet that a card cuts from a segment, in bytes, or 0 without segmentation;
     `rate` is the card's rate in bit/s, or 0 if the card sends the packets at once; the link adds `l2` bytes."""
 
@@ -123,19 +123,19 @@ class Capture:
         for low, high, number, flow, length in FRAME.iter_unpack(self.items or b""):
             yield Packet(self.frame(number & (1 << 48) - 1, flow), (high << 64) + low, length, number >> 48)
 
-    def asked(self) -> Asked:
+    def asked(self) -> FrameColumns:
         """Returns a frame of each flow."""
         flows, halves, words = self.flows, array("H", self.flows), array("I", self.flows)
-        return Asked(lambda: self.keys, words[0::4], words[1::4], flows[12::16], halves[4::8], halves[5::8], flows[13::16])
+        return FrameColumns(lambda: self.keys, words[0::4], words[1::4], flows[12::16], halves[4::8], halves[5::8], flows[13::16])
 
-    def write(self, targets: "array[int]") -> tuple[Counts, list[str], list[tuple[int, str, str]]]:
+    def write(self, targets: "array[int]") -> tuple[FrameCounts, list[str], list[tuple[int, str, str]]]:
         """Writes the rows of `frames` for these targets (0: no target). Returns the counts, the stand-ins' IPv6 addresses, and the
         meetings: a target, the host that sends first, and the other host."""
         questions = cast(BinaryIO, self.program.stdin)
         with suppress(BrokenPipeError):
             questions.write(targets.tobytes())
             questions.close()
-        counts = Counts(*COUNTS.unpack(self.whole(COUNTS.size)))
+        counts = FrameCounts(*COUNTS.unpack(self.whole(COUNTS.size)))
         originals = array("I", self.whole(4 * counts.stand_ins))
         meetings = MEETING.iter_unpack(self.whole(MEETING.size * counts.meetings))
         hosts = [(target, self.address(first), self.address(second)) for target, first, second in meetings]
@@ -143,7 +143,7 @@ class Capture:
 
 
 @contextmanager
-def read(capture: Input, plan: Plan, out: int, index: Optional[int] = None, by_frame: bool = False) -> Iterator[Capture]:
+def read_capture(capture: Input, plan: RowPlan, out: int, index: Optional[int] = None, by_frame: bool = False) -> Iterator[Capture]:
     """Reads a capture; writes its rows to a descriptor, and their frame numbers to another."""
     with ExitStack() as files:
         with untrusted(capture.name, what=NOT_VALID):
@@ -166,6 +166,6 @@ def read(capture: Input, plan: Plan, out: int, index: Optional[int] = None, by_f
 
 def frame_count(capture: Input) -> int:
     """Returns a capture's number of frames, up to its truncation."""
-    with unnamed() as (nothing, _), read(capture, Plan(), nothing.fileno()) as result:
+    with unnamed() as (nothing, _), read_capture(capture, RowPlan(), nothing.fileno()) as result:
         count: int = result.frame_count
     return count

@@ -7,8 +7,8 @@ from typing import IO, Iterable, Iterator, NamedTuple, Optional, TextIO
 from hinge.border.files import Input
 from hinge.border.scratch import unnamed
 from hinge.captures.addresses import StandIns
-from hinge.captures.frames import Counts, Plan, read
-from hinge.captures.random_words import direction_of, name_of
+from hinge.captures.frames import FrameCounts, RowPlan, read_capture
+from hinge.captures.random_words import direction_name, direction_of
 from hinge.captures.targets import Targets
 from hinge.loss import Maker, Words
 
@@ -24,7 +24,7 @@ def warnings(meetings: Iterable[tuple[int, str, str]]) -> Iterator[str]:
         first, second = min(pairs)
         others = f" and of {len(pairs) - 1:,} other pairs" if len(pairs) > 1 else ""
         yield (
-            f"both directions of {first} and {second}{others} go to {name_of(target)}, where they wait for each other; "
+            f"both directions of {first} and {second}{others} go to {direction_name(target)}, where they wait for each other; "
             f"--from {first} gives each direction a pipe"
         )
 
@@ -59,7 +59,7 @@ class ModelWords:
 class Product(NamedTuple):
     """The result of a conversion."""
 
-    counts: Counts
+    counts: FrameCounts
     frames: int
     packets: int
     long: int  # packets that are longer than on most links
@@ -67,10 +67,10 @@ class Product(NamedTuple):
     meetings: list[str]
 
 
-def write_random(capture: Input, targets: Targets, plan: Plan, out: int, index: Optional[int]) -> Product:
+def write_random(capture: Input, targets: Targets, plan: RowPlan, out: int, index: Optional[int]) -> Product:
     """Writes the rows with random words; returns the summary's content."""
     addresses = StandIns()
-    with read(capture, plan, out, index) as reader:
+    with read_capture(capture, plan, out, index) as reader:
         counts, originals, meetings = reader.write(targets.of(reader.asked()))
     for address in originals:
         addresses.of(address)
@@ -78,7 +78,7 @@ def write_random(capture: Input, targets: Targets, plan: Plan, out: int, index: 
 
 
 def write_rows(
-    capture: Input, targets: Targets, plan: Plan, models: dict[str, Maker], out: TextIO, index: Optional[TextIO]
+    capture: Input, targets: Targets, plan: RowPlan, models: dict[str, Maker], out: TextIO, index: Optional[TextIO]
 ) -> Product:
     """Writes a row for each packet with a target, and its frame in the index. Returns the summary's content."""
     numbers = None if index is None else index.fileno()

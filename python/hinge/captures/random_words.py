@@ -17,7 +17,7 @@ def direction_of(kind: str, number: Union[int, str]) -> int:
     return int(number) + QUEUES * (kind == "queue")
 
 
-def name_of(direction: int) -> str:
+def direction_name(direction: int) -> str:
     """Returns a name such as `pipe 1`."""
     return f"{'queue' if direction >= QUEUES else 'pipe'} {direction % QUEUES}"
 

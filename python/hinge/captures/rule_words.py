@@ -34,19 +34,19 @@ class RuleTarget(NamedTuple):
     number: int
 
 
-class Span(NamedTuple):
+class PortSpan(NamedTuple):
     """Ports, both ends included."""
 
     low: int
     high: int
 
-    def both(self, other: Span) -> Optional[Span]:
+    def both(self, other: PortSpan) -> Optional[PortSpan]:
         """Returns the ports that two spans share, or None."""
         low, high = max(self.low, other.low), min(self.high, other.high)
-        return Span(low, high) if low <= high else None
+        return PortSpan(low, high) if low <= high else None
 
 
-EVERY_PORT = Span(0, MOST_NUMBER)
+EVERY_PORT = PortSpan(0, MOST_NUMBER)
 
 
 @dataclass
@@ -61,7 +61,7 @@ class Short:
     protocols: tuple[int, ...] = ()
     dscp: Optional[int] = None
     nets: dict[str, Net] = field(default_factory=dict)
-    ports: dict[str, Span] = field(default_factory=dict)
+    ports: dict[str, PortSpan] = field(default_factory=dict)
 
 
 def address_net(text: str) -> Net:
@@ -71,9 +71,9 @@ def address_net(text: str) -> Net:
         raise BadRule(str(error)) from None
 
 
-def port_span_of(text: str) -> Span:
+def port_span_of(text: str) -> PortSpan:
     match = re.fullmatch(r"(\d{1,5})(?:-(\d{1,5}))?", text, re.ASCII)
-    span = Span(int(match[1]), int(match[2] or match[1])) if match else Span(1, 0)
+    span = PortSpan(int(match[1]), int(match[2] or match[1])) if match else PortSpan(1, 0)
     if not span.low <= span.high <= MOST_NUMBER:
         raise BadRule(f"'{text}': no port from 0 to 65535 and no range of them, as 5201 or 5201-5210")
     return span

@@ -6,12 +6,12 @@ from array import array
 from dataclasses import dataclass
 from typing import Callable, Optional
 
-from hinge.captures.frames import MAPPED, PORTED, Asked
+from hinge.captures.frames import MAPPED, PORTED, FrameColumns
 from hinge.captures.random_words import direction_of
-from hinge.captures.rule_words import BadRule, Net, Short, Span, address_net, parted, short_of
+from hinge.captures.rule_words import BadRule, Net, PortSpan, Short, address_net, parted, short_of
 
 Mask = list[bool]  # whether each frame passes
-Test = Callable[[Asked], Mask]
+Test = Callable[[FrameColumns], Mask]
 UP, DOWN = 0, 1
 
 
@@ -29,7 +29,7 @@ def is_within(name: str, network: Net) -> Test:
     base = int(network.network_address) | (MAPPED if network.version == 4 else 0)
     shift = network.max_prefixlen - network.prefixlen
 
-    def test(frames: Asked) -> Mask:
+    def test(frames: FrameColumns) -> Mask:
         is_one = [address >> shift == base >> shift for address in frames.addresses()]
         if name == "host":
             return [is_one[src] or is_one[dst] for src, dst in zip(frames.src, frames.dst)]
@@ -38,11 +38,11 @@ def is_within(name: str, network: Net) -> Test:
     return test
 
 
-def has_port(name: str, span: Span) -> Test:
+def has_port(name: str, span: PortSpan) -> Test:
     """Returns a test whether the source port, the destination port, or either of them (`port`) is in a range."""
     ports = range(span.low, span.high + 1)
 
-    def test(frames: Asked) -> Mask:
+    def test(frames: FrameColumns) -> Mask:
         if name == "port":
             return [
                 proto in PORTED and (one in ports or other in ports)
@@ -66,7 +66,7 @@ def tests_of(short: Short) -> tuple[Test, ...]:
     return tuple(tests)
 
 
-def first_of_two(frames: Asked) -> Mask:
+def first_of_two(frames: FrameColumns) -> Mask:
     """Returns whether each frame's sender sent the first packet between both hosts; frames are in time order."""
     firsts: dict[tuple[int, int], int] = {}
     return [firsts.setdefault((min(src, dst), max(src, dst)), src) == src for src, dst in zip(frames.src, frames.dst)]
@@ -98,11 +98,11 @@ class Targets:
         self.rules = [*rules, *sender] or [MapRule("pipe,1")]
         self.up = sender[0] if sender else None
 
-    def matching(self, rule: MapRule, frames: Asked) -> Mask:
+    def matching(self, rule: MapRule, frames: FrameColumns) -> Mask:
         first, *more = [test(frames) for test in rule.tests] or [[True] * len(frames.src)]
         return list(map(all, zip(first, *more))) if more else first
 
-    def of(self, frames: Asked) -> array[int]:
+    def of(self, frames: FrameColumns) -> array[int]:
         """Returns the target of each frame; 0 if no rule matches."""
         directions = array("I", [0]) * len(frames.src)
         is_up = self.matching(self.up, frames) if self.up else []

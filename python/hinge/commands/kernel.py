@@ -13,7 +13,7 @@ from hinge.border.terminal import show
 from hinge.command import parser, say
 from hinge.program import clock
 from hinge.simulated import build, trial
-from hinge.simulated.kernel import cache, found, kept
+from hinge.simulated.kernel import cache, current_kernels, found
 
 WHAT = """\
 Builds a kernel in which `hinge run --simulated` runs programs, in place of the
@@ -66,7 +66,7 @@ def made(source: Optional[Path], compilers: int) -> Path:
 
 def main() -> None:
     arguments = command_line()
-    there = [] if arguments.again or arguments.source else list(kept(cache()))
+    there = [] if arguments.again or arguments.source else list(current_kernels(cache()))
     if arguments.clock:
         show(clock())
     elif arguments.path:

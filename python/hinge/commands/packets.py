@@ -12,7 +12,7 @@ from typing import Optional
 from hinge.arguments import bounded
 from hinge.border.files import Input, read_again
 from hinge.captures.addresses import addresses_file, write_addresses
-from hinge.captures.frames import Plan
+from hinge.captures.frames import RowPlan
 from hinge.captures.packet_rows import write_rows
 from hinge.captures.rule_words import HELP, TARGET, BadRule
 from hinge.captures.targets import MapRule, Targets, directions, read_rule
@@ -171,7 +171,7 @@ def write_packets(options: PacketsOptions, capture: Input) -> None:
     except BadRule as bad:
         raise Fault(f"--map: {bad}", USAGE) from None
     with writing(options.o) as out, writing(options.index) if options.index else contextlib.nullcontext() as index:
-        plan = Plan(options.mtu, options.rate, options.l2, options.seed)
+        plan = RowPlan(options.mtu, options.rate, options.l2, options.seed)
         product = write_rows(capture, targets, plan, dict(options.loss), out, index)
         if options.o is not None and options.o != "-":
             write_addresses(options.o, product.addresses)

@@ -14,7 +14,7 @@ from hinge.command import NOT_FOUND, Fault, parser, say
 from hinge.command_line import Parser
 from hinge.run.options import add_link, add_run, mtu
 from hinge.run.settings import RunOptions
-from hinge.simulated.failures import repeated
+from hinge.simulated.failures import failure_command
 from hinge.simulated.time_options import add_simulated
 
 OF_OWN_HOSTS = ("server", "to", "outside", "outside_loopback", "net", "simulated")  # options that --netns excludes
@@ -76,7 +76,7 @@ def options() -> Parser:
 
 def command_line(words: Optional[Sequence[str]] = None) -> RunOptions:
     line = options()
-    arguments = line.parse_args(repeated(sys.argv[1:] if words is None else [*words], "run"))
+    arguments = line.parse_args(failure_command(sys.argv[1:] if words is None else [*words], "run"))
     from hinge.run.hints import lacking, link_as_command  # as all below, behind the command line, since a help has to come at once
 
     if arguments.command[:1] == ["--"]:

@@ -53,10 +53,10 @@ def command_line() -> argparse.Namespace:
     arguments.command = words[at + 1 :]
     if arguments.what[0] == "run":
         from hinge.commands.run import options as of_run
-        from hinge.searches.runs import Asked, words_of
+        from hinge.searches.runs import SearchSettings, command_words
 
-        settings = Asked(arguments.what, arguments.pauses, arguments.real_limit, arguments.limit, arguments.command)
-        of_run().parse_args(["--json", "FILE", *words_of(settings, arguments.what, 1, arguments.pauses)[1:]])
+        settings = SearchSettings(arguments.what, arguments.pauses, arguments.real_limit, arguments.limit, arguments.command)
+        of_run().parse_args(["--json", "FILE", *command_words(settings, arguments.what, 1, arguments.pauses)[1:]])
     return arguments
 
 
@@ -74,7 +74,7 @@ def failure_file(line: argparse.Namespace) -> Path:
 def main() -> None:
     line = command_line()
     from hinge.border.scratch import scratch  # as the next, behind the command line, since a help has to come at once
-    from hinge.searches.runs import Asked
+    from hinge.searches.runs import SearchSettings
     from hinge.searches.search import search
     from hinge.simulated.kernel import found
 
@@ -83,5 +83,5 @@ def main() -> None:
     file = failure_file(line)
     with scratch() as place:
         found()  # a kernel, before anything starts
-        settings = Asked(line.what, line.pauses, line.real_limit, line.limit, line.command)
+        settings = SearchSettings(line.what, line.pauses, line.real_limit, line.limit, line.command)
         sys.exit(search(settings, line.seeds, line.P, file, line.runs or place))

@@ -15,7 +15,7 @@ GONE_ON = {"kill": ("kill", "crash"), "crash": ("crash",), "stop": ("stop",), "c
 Key = Tuple[bool, str, Union[int, str]]  # the base, and the kind of a fault of a way or a host
 
 
-class Span(NamedTuple):
+class FaultSpan(NamedTuple):
     """A fault from its beginning to its end, in ns."""
 
     begin: int
@@ -23,7 +23,7 @@ class Span(NamedTuple):
     end: int
 
 
-def kind_of(timed: TimedEvent) -> str:
+def fault_kind(timed: TimedEvent) -> str:
     """Returns the kind of a fault; an empty text for another event."""
     event = timed.event
     is_hold = isinstance(event, HoldingOutage) and not event.ending
@@ -31,19 +31,19 @@ def kind_of(timed: TimedEvent) -> str:
     return "hold" if is_hold else of_port if event.ending == "heal" else event.word if event.ending else ""
 
 
-class Course:
+class FaultCourse:
     """Faults with the same kind and the same way or host, in order."""
 
     def __init__(self) -> None:
-        self.spans, self.latest = list[Span](), list[int]()  # with the latest end up to each
+        self.spans, self.latest = list[FaultSpan](), list[int]()  # with the latest end up to each
         # Effective faults, joined, from the last one on, and their beginnings as numbers below 0, which ascend.
-        self.stretches, self.begins = list[Span](), list[int]()
+        self.stretches, self.begins = list[FaultSpan](), list[int]()
 
-    def add(self, span: Span) -> None:
+    def add(self, span: FaultSpan) -> None:
         self.spans.append(span)
         self.latest.append(max([span.end, *self.latest[-1:]]))
 
-    def keep(self, span: Span) -> None:
+    def keep(self, span: FaultSpan) -> None:
         """Joins an effective fault with later faults that overlap."""
         if span.begin < span.end:
             while self.stretches and self.stretches[-1].begin < span.end:
@@ -52,36 +52,36 @@ class Course:
             self.stretches.append(span)
             self.begins.append(-span.begin)
 
-    def before(self, span: Span) -> list[Span]:
+    def before(self, span: FaultSpan) -> list[FaultSpan]:
         """Returns the first earlier fault that lasts into this fault, extended to the latest end of such faults, or an empty list."""
         count = bisect_left(self.spans, span)
         first = bisect_right(self.latest, span.begin, 0, count)
         return [self.spans[first]._replace(end=self.latest[count - 1])] if first < count else []
 
-    def around(self, moment: int) -> list[Span]:
+    def around(self, moment: int) -> list[FaultSpan]:
         """Returns the last joined fault that begins before a moment, or an empty list."""
         at = bisect_right(self.begins, -moment)
         return self.stretches[at : at + 1]
 
 
-class Faults:
+class NetFaults:
     """A net's effective faults, for each way and host."""
 
     def __init__(self, events: Sequence[TimedEvent], places: Sequence[int], idle: Container[int]) -> None:
-        self.events, self.ends, self.courses = events, Ends(events), defaultdict[Key, Course](Course)
+        self.events, self.ends, self.courses = events, Ends(events), defaultdict[Key, FaultCourse](FaultCourse)
         for place in places:
-            if place not in idle and kind_of(events[place]):
+            if place not in idle and fault_kind(events[place]):
                 for one in events[place].event.of:
                     self.courses[self.key(place, one)].add(self.span(place, one))
 
     def key(self, place: int, one: Union[int, str]) -> Key:
-        return self.events[place].moment.of_main, kind_of(self.events[place]), one
+        return self.events[place].moment.of_main, fault_kind(self.events[place]), one
 
-    def span(self, place: int, one: Union[int, str]) -> Span:
+    def span(self, place: int, one: Union[int, str]) -> FaultSpan:
         """Returns the time of a way's or host's fault, up to the first event that ends the fault."""
         (begin, of_main, _), event, _ = self.events[place]
         ends = self.ends.first(of_main, event, one, (begin, place))
-        return Span(begin, place, min([begin + event.length, LAST_MOMENT, *(end for end, _ in ends)]))
+        return FaultSpan(begin, place, min([begin + event.length, LAST_MOMENT, *(end for end, _ in ends)]))
 
     def covering(self, place: int, kinds: Sequence[str]) -> list[int]:
         """Returns faults of these kinds that cover the whole time of another fault, one for each way or host; an empty list if they leave
@@ -120,9 +120,9 @@ def idle_events(events: Sequence[TimedEvent], is_open: bool) -> "list[tuple[Time
     dead host, so a stop changes that."""
     why = repeated(events)  # by places, the latest first, so that the first of two equal faults counts
     places = sorted(range(len(events)), key=lambda place: events[place].moment.ns)
-    faults = Faults(events, places, why)
+    faults = NetFaults(events, places, why)
     for place in reversed(places):
-        kind = kind_of(events[place])
+        kind = fault_kind(events[place])
         if kind and place not in why:
             kinds = ("cut", kind) if events[place].event.port else GONE_ON[kind]
             kinds += GONE_ON["kill"] if kind == "stop" and not is_open else ()

@@ -7,7 +7,7 @@ from typing import TYPE_CHECKING, Container
 from hinge.events.forms import ACTS, ENDS, OF_LINKS, OUTAGE, PROTOCOLS, WORDS
 from hinge.events.kinds import Cut, Event, Heal, HostAct
 from hinge.events.link_words import link_event, port_of
-from hinge.net.clocks import MOST_CLOCKS, number_of, read_skew
+from hinge.net.clocks import MOST_CLOCKS, clock_number, read_skew
 from hinge.net.disks import DISK
 from hinge.net.statements import NO_HOST, Statement
 from hinge.run.words import LAST_MOMENT, WAYS, bare, placed
@@ -51,7 +51,7 @@ def read_act(statement: Statement, net: Description) -> Event:
     statement.take(form)
     host = net.room(statement, form)
     if word == "skew":
-        if not number_of(host, net.hosts):
+        if not clock_number(host, net.hosts):
             raise statement.wrong(host, f"the first {MOST_CLOCKS} hosts have clocks of their own")
         skew = read_skew(statement).text()
     length = 0 if word == "crash" and not statement.peek() else read_length(statement, form) if word in ENDS else LAST_MOMENT

@@ -41,7 +41,7 @@ def read_skew(statement: Statement) -> Skew:
     return Skew(ahead, round(float(match[1]) * 1000))
 
 
-def number_of(host: str, hosts: Iterable[str]) -> int:
+def clock_number(host: str, hosts: Iterable[str]) -> int:
     """Returns the number of a host's clock. Hosts after the last clock share the machine's clock, which is 0."""
     number = list(hosts).index(host) + 1
     return number if number <= MOST_CLOCKS else 0

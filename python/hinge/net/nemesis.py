@@ -22,17 +22,17 @@ SPAN = ".."
 MS = 10**6  # ns
 
 
-class Span(NamedTuple):
+class TimeSpan(NamedTuple):
     """The least and greatest time to draw, in ns."""
 
     least: int
     most: int
 
 
-def read_span(text: str) -> Span:
+def read_span(text: str) -> TimeSpan:
     """Reads `5s`, or a range such as `5s..20s`. Wrong: the span starts after its end."""
     least, dots, most = text.partition(SPAN)
-    span = Span(duration(least), duration(most if dots else least))
+    span = TimeSpan(duration(least), duration(most if dots else least))
     if span.least > span.most:
         raise Wrong(f"{text}: the first time is the greater one")
     return span
@@ -58,7 +58,7 @@ class Draw:
         rest = list(names)
         return [rest.pop(self.below(len(rest))) for _ in names]
 
-    def time(self, span: Span) -> int:
+    def time(self, span: TimeSpan) -> int:
         """Draws a time, in whole milliseconds after the least time if the range allows several."""
         length = span.most - span.least
         step = MS if length >= MS else 1
@@ -72,9 +72,9 @@ Kind = Callable[[Description, list[str], Draw], list[Fault]]
 @dataclass(frozen=True)
 class Nemesis:
     kind: str
-    every: Span
-    lasting: Span
-    first: Span  # when the first fault starts
+    every: TimeSpan
+    lasting: TimeSpan
+    first: TimeSpan  # when the first fault starts
     until: int  # ns
     hosts: list[str]
 
@@ -190,7 +190,7 @@ def named_hosts(net: Description, statement: Statement, kind: str) -> list[str]:
     return items
 
 
-def span_behind(statement: Statement, key: str, otherwise: Optional[Span] = None) -> Span:
+def span_behind(statement: Statement, key: str, otherwise: Optional[TimeSpan] = None) -> TimeSpan:
     """Returns the times after a key word."""
     if statement.peek() != key:
         if otherwise is not None:
@@ -206,7 +206,7 @@ def read_nemesis(net: Description, statement: Statement) -> Nemesis:
     if kind not in KINDS:
         raise statement.unknown(kind, KINDS, "not a nemesis", f"write one of {', '.join(KINDS)}")
     every, lasting = span_behind(statement, "every"), span_behind(statement, "for")
-    first, until = span_behind(statement, "from", every), span_behind(statement, "until", Span(LASTING, LASTING)).most
+    first, until = span_behind(statement, "from", every), span_behind(statement, "until", TimeSpan(LASTING, LASTING)).most
     if not 0 < lasting.least <= lasting.most <= every.least:
         raise statement.wrong(
             spelled_ns(lasting.most), f"write more than 0s, and at most {spelled_ns(every.least)}, the least time to the next fault"

@@ -18,12 +18,12 @@ from hinge.command import say
 from hinge.events.kinds import Act
 from hinge.net.acts import Acts, GroupProcesses, HostProcesses, line_of, sees_own_processes
 from hinge.run.cgroups import OF_LINKS, Cgroups
-from hinge.net.clocks import number_of, set_clock, take_clock
+from hinge.net.clocks import clock_number, set_clock, take_clock
 from hinge.net.description import Wait
 from hinge.net.disks import Disks
 from hinge.net.net_control import opened_control
 from hinge.net.net_rooms import NetRooms
-from hinge.net.net_summary import NetRan, report, silent, status_without
+from hinge.net.net_summary import NetRan, report_net, silent, status_without
 from hinge.net.order import LinksPlan, NetOrder
 from hinge.run.host import Link
 from hinge.run.host_lines import HostLines
@@ -93,7 +93,7 @@ class NetInside:
     def act(self, act: Act) -> Callable[[], None]:
         """Carries out an act on a host's processes or clock, except the links' part. Returns the remaining work, which may wait."""
         if act.word == "skew":
-            set_clock(number_of(act.host, self.net.hosts), act.more)
+            set_clock(clock_number(act.host, self.net.hosts), act.more)
         elif self.is_of_links(act):
             rest: Callable[[], None] = partial(self.see_gone, act.host)
             return rest if act.word == "kill" else nothing
@@ -140,7 +140,7 @@ class NetInside:
 
     def enter(self, name: str) -> None:
         self.rooms.enter(name)
-        take_clock(number_of(name, self.net.hosts))
+        take_clock(clock_number(name, self.net.hosts))
         os.environ.update(self.variables(name))
 
     def begin(self, name: str, entry: Optional[int] = None) -> None:
@@ -280,7 +280,7 @@ class NetInside:
         link.end()
         counts, drops, unforwarded = self.page.read(), self.rooms.dropped(), self.rooms.unforwarded()
         ran = NetRan(status, counts, drops, endings, unforwarded, self.acts.done, self.main_moment, self.missing)
-        return report(self.order, ran, None if is_simulated() else self.waits)
+        return report_net(self.order, ran, None if is_simulated() else self.waits)
 
     def ended(self) -> dict[str, Ended]:
         """Ends the hosts' commands and returns their endings. Stopped processes continue first, so that they can end."""

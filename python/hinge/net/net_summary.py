@@ -50,7 +50,7 @@ def act_records(acts: Sequence[TimedEvent], result: Sequence[Done], main: Option
     return sorted([*links, *hosts], key=lambda one: one["moment"])  # type: ignore[arg-type, return-value]
 
 
-def some(acts: Sequence[TimedEvent]) -> str:
+def acts_text(acts: Sequence[TimedEvent]) -> str:
     lines = [f"`{one}`" for one in acts[:MOST_SHOWN]]
     return ", ".join(lines) + f" and {len(acts) - MOST_SHOWN} more" * (len(acts) > MOST_SHOWN)
 
@@ -65,7 +65,7 @@ def of_plan(acts: Sequence[TimedEvent], main: Optional[int], end: int) -> Iterat
         return
     early = [one for one in acts if not one.moment.of_main and one.moment.ns < main]
     if early:
-        yield f"before the main command, which began at {main / 1e9:.3f} s: {some(early)}"
+        yield f"before the main command, which began at {main / 1e9:.3f} s: {acts_text(early)}"
 
 
 def net_lines(net: Description, counts: Counts, drops: Sequence[int]) -> Iterator[str]:
@@ -125,7 +125,7 @@ def of_nothing(order: NetOrder, acts: Sequence[Done]) -> Iterator[tuple[str, boo
         yield f"`{act.word} {act.host}`", (act.moment, act.word, (act.host,)) in drawn
 
 
-def report(order: NetOrder, ran: NetRan, waits: Optional[Waits], tell: Callable[[str], None] = say) -> int:
+def report_net(order: NetOrder, ran: NetRan, waits: Optional[Waits], tell: Callable[[str], None] = say) -> int:
     """Reports the run, and writes the file that --json names; returns the status, or that for a void run. In simulated time nothing
     waits."""
     net, counts, names = order.net, ran.counts, order.net.ways()

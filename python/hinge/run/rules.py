@@ -5,7 +5,7 @@ from __future__ import annotations
 from itertools import product
 from typing import Iterator, Optional
 
-from hinge.captures.rule_words import EVERY_PORT, BadRule, Net, Span, parted, short_of
+from hinge.captures.rule_words import EVERY_PORT, BadRule, Net, PortSpan, parted, short_of
 from hinge.run.words import Target, Wrong
 
 MAPPED = 0xFFFF << 32  # where IPv4 lies in the addresses of IPv6
@@ -54,7 +54,7 @@ class Rule:
             if both[end] is not None:
                 yield both.get("src"), both.get("dst")
 
-    def spans(self) -> Iterator[tuple[Span, Span]]:
+    def spans(self) -> Iterator[tuple[PortSpan, PortSpan]]:
         """Yields the ports of both ends, for each way to satisfy `port`."""
         inputs, either = {end: self.short.ports.get(end, EVERY_PORT) for end in ENDS[1]}, self.short.ports.get("port")
         if either is None:

@@ -46,7 +46,7 @@ class Case:
     def lines_left(self) -> "list[str]":
         lossy = [part.what[0] for part in self.of_kind("losses")]
         lines = [line if line in lossy else lossless(line) for line in self.lines]
-        return [line for line in [*lines, *joined(line for line in lossy if line not in self.lines)] if line]
+        return [line for line in [*lines, *joined_losses(line for line in lossy if line not in self.lines)] if line]
 
     def faults(self) -> "list[str]":
         """Returns the lines that disturb a net or lose packets."""
@@ -76,7 +76,7 @@ def lossless(line: str) -> str:
     return "" if LOSSES.match(line) else LOSS.sub("", line) if LINKS.match(line) else line
 
 
-def joined(losses: Iterable[str]) -> "list[str]":
+def joined_losses(losses: Iterable[str]) -> "list[str]":
     """Joins lines that lose single packets of a way into one line."""
     ways = dict[str, list[str]]()
     for line in losses:
@@ -98,7 +98,7 @@ def faults_of(events: "list[TimedEvent]") -> Iterator[Part]:
             yield Part("faults", tuple(str(events[one]) for one in sorted(part)))
 
 
-def options_of(words: "list[str]") -> "tuple[str, ...]":
+def options_with_values(words: "list[str]") -> "tuple[str, ...]":
     """Splits the words into options for `hinge run`, each with its value."""
     lines = list[str]()
     for word in words:
@@ -106,7 +106,7 @@ def options_of(words: "list[str]") -> "tuple[str, ...]":
     return tuple(lines)
 
 
-def lines_of(path: str) -> "tuple[str, ...]":
+def lines_without_faults(path: str) -> "tuple[str, ...]":
     """Returns a net's lines, without faults."""
     texts = [statement.text for statement in statements(path)]
     return tuple(text for text in texts if text.partition(" ")[0] not in ("at", "nemesis"))
@@ -115,7 +115,7 @@ def lines_of(path: str) -> "tuple[str, ...]":
 def case_of(what: "list[str]", seed: int, record: "dict[str, Any]", lost: "Optional[Sequence[str]]" = None) -> Case:
     """Returns a run's case from its summary. Losses are words of links, or lines for each lost packet."""
     is_net = what[0] == "net"
-    lines = lines_of(what[1]) if is_net else options_of(what[1:])
+    lines = lines_without_faults(what[1]) if is_net else options_with_values(what[1:])
     faults = faults_of(NetPlan(read_description(what[1]), LONGEST_PACKET, seed).events) if is_net else ()
     words = [line for line in lines if lossless(line) != line]
     losses = [Part("losses", (line,)) for line in (words if lost is None else lost)]

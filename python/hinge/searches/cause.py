@@ -6,9 +6,9 @@ from __future__ import annotations
 from typing import Iterator, NamedTuple
 
 from hinge.searches.case import Case
-from hinge.searches.losses import Lost, losses_in, ways_of
-from hinge.searches.runs import Ran, Runner, Watch
-from hinge.simulated.calls_kept import KEPT, Row, around, pauses_in, rows_of
+from hinge.searches.losses import Lost, losses_in, way_names
+from hinge.searches.runs import RunFiles, Runner, SummarizedRun
+from hinge.simulated.calls_kept import KEPT, CallRow, around, call_rows, pauses_in
 from hinge.simulated.machine import ALL, BOOTED, NONE, OF_DEADLOCKS, Machine
 from hinge.simulated.pauses import given
 from hinge.simulated.places import has_debugger, innermost
@@ -17,26 +17,26 @@ from hinge.simulated.start import HISTORY
 MOST = 4  # lost packets and pauses that are told
 
 
-class Looked(NamedTuple):
+class Repetition(NamedTuple):
     """The least run's repetition, with its calls."""
 
-    ran: Ran
-    rows: "list[Row]"
+    ran: SummarizedRun
+    rows: "list[CallRow]"
     losses: "list[Lost]"
 
 
-def looked(runner: Runner, case: Case) -> Looked:
+def repetition_of(runner: Runner, case: Case) -> Repetition:
     """Looks at the lost packets in a run with a transcript, which would change the summary."""
-    rows, losses = list[Row](), list[Lost]()
+    rows, losses = list[CallRow](), list[Lost]()
     cores = OF_DEADLOCKS if has_debugger() else NONE
-    ran = runner.case(case, Watch((f"keep {KEPT}",), cores), lambda machine: rows.extend(rows_of(machine.folder / "calls")))
+    ran = runner.case(case, RunFiles((f"keep {KEPT}",), cores), lambda machine: rows.extend(call_rows(machine.folder / "calls")))
     if case.of_kind("losses"):
         what = runner.asked.what
-        runner.case(case, Watch(transcript=HISTORY), lambda machine: losses.extend(losses_in(what, machine) or ()))
-    return Looked(ran, rows, losses)
+        runner.case(case, RunFiles(transcript=HISTORY), lambda machine: losses.extend(losses_in(what, machine) or ()))
+    return Repetition(ran, rows, losses)
 
 
-def place_of(runner: Runner, case: Case, call: int, process: int) -> str:
+def pause_place(runner: Runner, case: Case, call: int, process: int) -> str:
     """Returns the place at which the thread paused at this call, from a run that ends there; empty if no debugger finds the
     place."""
     texts = list[str]()
@@ -45,19 +45,19 @@ def place_of(runner: Runner, case: Case, call: int, process: int) -> str:
         texts.append(innermost(machine.folder, process, machine.root))
 
     if has_debugger():
-        runner.case(case, Watch((f"core {call}",), ALL), look)
+        runner.case(case, RunFiles((f"core {call}",), ALL), look)
     return "".join(texts)
 
 
-def told(runner: Runner, case: Case, look: Looked) -> Iterator[str]:
+def cause_lines(runner: Runner, case: Case, look: Repetition) -> Iterator[str]:
     """Yields the cause as text."""
-    names = ways_of(runner.asked.what)
+    names = way_names(runner.asked.what)
     yield from (one.text(names[one.way]) for one in look.losses[:MOST])
     if len(look.losses) > MOST:
         yield f"and {len(look.losses) - MOST} more lost packets"
     pauses = given(case.pauses() or "")
     for one, place in list(zip(pauses, pauses_in(look.rows)))[:MOST]:
-        text = place_of(runner, case, one.call, look.rows[place].process)
+        text = pause_place(runner, case, one.call, look.rows[place].process)
         yield f"pause {one.word()}{f', in {text}' if text else ''}:"
         yield from (f"  {line}" for line in around(look.rows, place, BOOTED * 10**9))
     if len(pauses) > MOST:

@@ -34,7 +34,7 @@ class Lost(NamedTuple):
         return f"lost: {name} packet {self.packet} at {int(moment) / 1e9:.9f} s, {what} {ends[port + to != '00']}, {length} bytes"
 
 
-def ways_of(what: "list[str]") -> "list[str]":
+def way_names(what: "list[str]") -> "list[str]":
     """Returns the names of a net's ways, or both ways of `hinge run`."""
     return read_description(what[1]).ways() if what[0] == "net" else [*LINKS]
 
@@ -56,9 +56,9 @@ def packets_lost(paths: "list[Path]", ways: int) -> "Optional[list[Lost]]":
     return losses if len(losses) <= MOST else None
 
 
-def lines_of(what: "list[str]", losses: "list[Lost]") -> Iterator[str]:
+def lines_of_losses(what: "list[str]", losses: "list[Lost]") -> Iterator[str]:
     """Yields an option or a net's line for each packet."""
-    names = ways_of(what)
+    names = way_names(what)
     for one in losses:
         begin = f"loss {names[one.way].replace(' > ', ' ')} up:list:" if what[0] == "net" else WORDS[one.way]
         yield f"{begin}{one.packet}"
@@ -67,4 +67,4 @@ def lines_of(what: "list[str]", losses: "list[Lost]") -> Iterator[str]:
 def losses_in(what: "list[str]", machine: Machine) -> "Optional[list[Lost]]":
     """Returns the lost packets of a machine's transcript."""
     paths = sorted(machine.room.kept.glob(f"{HISTORY}*"), key=lambda path: (len(path.name), path.name))
-    return packets_lost(paths, len(ways_of(what)))
+    return packets_lost(paths, len(way_names(what)))

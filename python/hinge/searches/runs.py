@@ -26,7 +26,7 @@ WELL = "status 0"
 LONGEST = "86400s"  # of simulated time, after which a run goes on for ever, where --limit says nothing
 
 
-class Asked(NamedTuple):
+class SearchSettings(NamedTuple):
     """The parameters that all runs of a search share."""
 
     what: "list[str]"  # `net FILE`, or `run` with its options
@@ -40,7 +40,7 @@ class Asked(NamedTuple):
         return Path(self.what[1]) if self.what[0] == "net" else None
 
 
-class Watch(NamedTuple):
+class RunFiles(NamedTuple):
     """A run's files, beside its summary, for a look into its machine."""
 
     more: "tuple[str, ...]" = ()  # as in Settings
@@ -48,10 +48,10 @@ class Watch(NamedTuple):
     transcript: Optional[str] = None
 
 
-PLAIN = Watch()
+PLAIN = RunFiles()
 
 
-class Ran(NamedTuple):
+class SummarizedRun(NamedTuple):
     """A run and its summary."""
 
     status: int
@@ -91,7 +91,7 @@ class Ran(NamedTuple):
         return (self.output.splitlines() or [""])[-1]
 
 
-def words_of(settings: Asked, what: "Sequence[str]", seed: int, pauses: Optional[str]) -> "list[str]":
+def command_words(settings: SearchSettings, what: "Sequence[str]", seed: int, pauses: Optional[str]) -> "list[str]":
     """Returns the command line that runs this net or these options."""
     options = ["--simulated", "--scratch", "--seed", str(seed)]
     options += ["--pauses", pauses] if pauses else []
@@ -103,7 +103,7 @@ def words_of(settings: Asked, what: "Sequence[str]", seed: int, pauses: Optional
 Look = Callable[[Machine], None]  # at one that is over, before its folder goes
 
 
-def options_of(words: "Sequence[str]") -> SimulatedOptions:
+def simulated_options(words: "Sequence[str]") -> SimulatedOptions:
     """Returns the options in a `hinge` command line."""
     return run.command_line(words[1:]) if words[0] == "run" else net.command_line(words[1:])
 
@@ -111,14 +111,14 @@ def options_of(words: "Sequence[str]") -> SimulatedOptions:
 class Runner:
     """Makes runs, each in a separate machine. No machine outlives the runner."""
 
-    def __init__(self, options: Asked) -> None:
+    def __init__(self, options: SearchSettings) -> None:
         self.asked, self.kernel, self.running, self.is_over = options, found(), set[Machine](), False
 
     def run(
-        self, what: "Sequence[str]", seed: int, pauses: Optional[str], watch: Watch = PLAIN, look: Optional[Look] = None
-    ) -> Ran:
-        name, *words = words_of(self.asked, what, seed, pauses)
-        options = options_of([name, "--quiet", *words])
+        self, what: "Sequence[str]", seed: int, pauses: Optional[str], watch: RunFiles = PLAIN, look: Optional[Look] = None
+    ) -> SummarizedRun:
+        name, *words = command_words(self.asked, what, seed, pauses)
+        options = simulated_options([name, "--quiet", *words])
         options = options.but(limit=options.limit or LONGEST, transcript=watch.transcript)
         refuse_outside(options, False)
         plan = planned(options)
@@ -138,7 +138,7 @@ class Runner:
             finally:
                 self.running.discard(machine)
                 machine.remove()
-        return Ran(result.status, output[-OUTPUT:], result.record)
+        return SummarizedRun(result.status, output[-OUTPUT:], result.record)
 
     def end(self) -> None:
         """Ends the runs in progress, which then don't count."""
@@ -146,7 +146,7 @@ class Runner:
         for machine in list(self.running):
             machine.end(SIGNALLED)
 
-    def case(self, case: Case, watch: Watch = PLAIN, look: Optional[Look] = None) -> Ran:
+    def case(self, case: Case, watch: RunFiles = PLAIN, look: Optional[Look] = None) -> SummarizedRun:
         if self.asked.net is None:
             return self.run(["run", *case.options()], case.seed, case.pauses(), watch, look)
         with file_beside(self.asked.net, case.net()) as file:
@@ -184,10 +184,10 @@ class Runs:
     def made(self, seeds: "list[int]") -> "list[int]":
         return [seed for seed in seeds if self.path(seed).exists()]
 
-    def of(self, seed: int) -> Ran:
+    def of(self, seed: int) -> SummarizedRun:
         record = read_object(self.path(seed), NO_RUN)
         try:
-            return Ran(int(record["status"]), str(record["output"]), dict(record["record"]))
+            return SummarizedRun(int(record["status"]), str(record["output"]), dict(record["record"]))
         except (KeyError, TypeError, ValueError):
             raise Fault(f"{self.path(seed)}: {NO_RUN}", ROWS) from None
 

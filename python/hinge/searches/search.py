@@ -12,9 +12,9 @@ from hinge.border.terminal import several, show
 from hinge.command import Fault, say
 from hinge.outputs import writing
 from hinge.searches.case import Case, case_of
-from hinge.searches.cause import looked, told
-from hinge.searches.losses import Lost, lines_of, losses_in
-from hinge.searches.runs import Asked, Runner, Runs, Watch, words_of
+from hinge.searches.cause import cause_lines, repetition_of
+from hinge.searches.losses import Lost, lines_of_losses, losses_in
+from hinge.searches.runs import RunFiles, Runner, Runs, SearchSettings, command_words
 from hinge.searches.shrinking import least
 from hinge.simulated.failures import NET, WORDS
 from hinge.simulated.start import HISTORY
@@ -51,9 +51,9 @@ def cases_of(runner: Runner, seed: int, record: "dict[str, Any]") -> "Iterator[C
     """Yields a failing seed's cases: with a line for each lost packet, and with the words for losses."""
     losses: "list[Optional[list[Lost]]]" = []
     what, pauses = runner.asked.what, runner.asked.pauses
-    runner.run(what, seed, pauses, Watch(transcript=HISTORY), lambda machine: losses.append(losses_in(what, machine)))
+    runner.run(what, seed, pauses, RunFiles(transcript=HISTORY), lambda machine: losses.append(losses_in(what, machine)))
     if losses[0] is not None:
-        yield case_of(what, seed, record, list(lines_of(what, losses[0])))
+        yield case_of(what, seed, record, list(lines_of_losses(what, losses[0])))
     yield case_of(what, seed, record)
 
 
@@ -77,19 +77,19 @@ def smallest(runs: Runs, seed: int) -> "tuple[Case, int]":
     return least(whole, fails), len(trial)
 
 
-def command_of(options: Asked, what: "list[str]", seed: int, pauses: Optional[str]) -> str:
-    return shlex.join(["hinge", *words_of(options, what, seed, pauses)])
+def command_of(options: SearchSettings, what: "list[str]", seed: int, pauses: Optional[str]) -> str:
+    return shlex.join(["hinge", *command_words(options, what, seed, pauses)])
 
 
 def tell_least(runner: Runner, name: str, case: Case, count: int, file: Path) -> None:
     """Prints the least case, its cause, and the file that repeats it."""
-    options, look = runner.asked, looked(runner, case)
+    options, look = runner.asked, repetition_of(runner, case)
     what = ["run", *case.options()] if options.net is None else ["net", str(options.net), "--quiet"]  # which a net is told inside
     net = None if options.net is None else case.net()
-    write_failure(str(file), words_of(options, what, case.seed, case.pauses()), net, look.ran.record)
+    write_failure(str(file), command_words(options, what, case.seed, case.pauses()), net, look.ran.record)
     for line in [command_of(options, what, case.seed, case.pauses())] if net is None else case.faults():
         show(line)
-    for line in told(runner, case, look):
+    for line in cause_lines(runner, case, look):
         show(line)
     show(f"seed {case.seed} fails by {name} with {case.told()}, found in {several(count, 'run')}")
     sure = (
@@ -98,7 +98,7 @@ def tell_least(runner: Runner, name: str, case: Case, count: int, file: Path) ->
     show(f"hinge {what[0]} --like {shlex.quote(str(file))} {sure}")
 
 
-def search(options: Asked, seeds: list[int], at_a_time: int, failure: Path, folder: Path) -> int:
+def search(options: SearchSettings, seeds: list[int], at_a_time: int, failure: Path, folder: Path) -> int:
     """Searches the seeds; returns the exit status, which shows whether a run failed."""
     runs = Runs(folder, Runner(options))
     try:

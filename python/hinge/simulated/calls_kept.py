@@ -5,7 +5,7 @@ from __future__ import annotations
 from pathlib import Path
 from typing import Iterator, NamedTuple
 
-from hinge.simulated.calls_of_linux import name_of
+from hinge.simulated.calls_of_linux import call_name
 
 KEPT = 50_000  # calls of a run that is looked at
 PAUSES, GOES_ON = -2, -3  # in place of a call's number, as the kernel has them
@@ -13,7 +13,7 @@ RESTARTED = range(-516, -511)  # in place of the result of a call that a signal 
 AROUND = 3  # calls before a pause, at its beginning, at its end and behind it that are told
 
 
-class Row(NamedTuple):
+class CallRow(NamedTuple):
     at: int  # ns of the machine
     end: int  # 0 where it didn't return
     process: int
@@ -27,25 +27,25 @@ class Row(NamedTuple):
         number = self.result if abs(self.result) < 1 << 31 else f"{self.result & (1 << 64) - 1:#x}"
         has_returned = self.end and self.result not in RESTARTED
         what = {
-            PAUSES: f"pauses at {name_of(self.of)}",
+            PAUSES: f"pauses at {call_name(self.of)}",
             GOES_ON: "goes on",
-        }.get(self.call, f"{name_of(self.call)}{f' = {number}' if has_returned else ''}")
+        }.get(self.call, f"{call_name(self.call)}{f' = {number}' if has_returned else ''}")
         thread = f", thread {self.thread}" if self.thread != self.process else ""
         return f"{max(0, self.at - start) / 1e9:.9f} s: process {self.process}{thread} ({self.program}): {what}"
 
 
-def row_of(line: str) -> Row:
+def call_row(line: str) -> CallRow:
     *numbers, program = line.split(" ", 7)
     at, end, process, thread, call, of, result = map(int, numbers)
-    return Row(at, end, process, thread, call, of, result, program)
+    return CallRow(at, end, process, thread, call, of, result, program)
 
 
-def rows_of(path: Path) -> "list[Row]":
+def call_rows(path: Path) -> "list[CallRow]":
     """Returns the rows that a machine wrote to this file, or no rows if the machine was killed early."""
-    return [row_of(line) for line in path.read_text(errors="replace").splitlines()] if path.exists() else []
+    return [call_row(line) for line in path.read_text(errors="replace").splitlines()] if path.exists() else []
 
 
-def around(rows: "list[Row]", place: int, start: int) -> Iterator[str]:
+def around(rows: "list[CallRow]", place: int, start: int) -> Iterator[str]:
     """Yields the calls around a pause: earlier calls, other threads' first and last calls during the pause, and later calls."""
     thread = rows[place].thread
     ends = (later for later in range(place + 1, len(rows)) if rows[later].thread == thread and rows[later].call == GOES_ON)
@@ -60,6 +60,6 @@ def around(rows: "list[Row]", place: int, start: int) -> Iterator[str]:
         yield row.text(start)
 
 
-def pauses_in(rows: "list[Row]") -> "list[int]":
+def pauses_in(rows: "list[CallRow]") -> "list[int]":
     """Returns the places at which pauses begin."""
     return [place for place, row in enumerate(rows) if row.call == PAUSES]

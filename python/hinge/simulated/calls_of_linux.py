@@ -27,5 +27,5 @@ NAMES = {
 # fmt: on
 
 
-def name_of(call: int) -> str:
+def call_name(call: int) -> str:
     return NAMES.get(call, f"call {call}")

@@ -61,7 +61,7 @@ def file_beside(path: Path, text: str) -> Iterator[Path]:
                 file.unlink()
 
 
-def file_of(words: "list[str]") -> Optional[str]:
+def like_file(words: "list[str]") -> Optional[str]:
     """Returns the file for --like, if among the options."""
     front = words[: words.index("--")] if "--" in words else words
     values = [word.partition("=")[2] for word in front if word.startswith(f"{LIKE}=")]
@@ -70,7 +70,7 @@ def file_of(words: "list[str]") -> Optional[str]:
 
 def failure_in(words: "list[str]") -> "dict[str, Any]":
     """Returns the failure that these words repeat; an empty dict without --like, or for an ordinary summary."""
-    path = file_of(words)
+    path = like_file(words)
     if not path:
         return {}
     from hinge.border.files import read_object
@@ -82,7 +82,7 @@ def failure_in(words: "list[str]") -> "dict[str, Any]":
     return record if isinstance(record.get(WORDS), list) else {}
 
 
-def repeated(words: "list[str]", command: str) -> "list[str]":
+def failure_command(words: "list[str]", command: str) -> "list[str]":
     """Returns a command line, with the failure's words in front. Fault: the line contains another command, or the failure is of
     another `hinge` command."""
     record = failure_in(words)
@@ -90,9 +90,9 @@ def repeated(words: "list[str]", command: str) -> "list[str]":
         return words
     first, *others = map(str, record[WORDS])
     if first != command:
-        raise Fault(f"{LIKE} {file_of(words)}: it is a failure of `hinge {first}`: hinge {first} {LIKE} {file_of(words)}", USAGE)
+        raise Fault(f"{LIKE} {like_file(words)}: it is a failure of `hinge {first}`: hinge {first} {LIKE} {like_file(words)}", USAGE)
     if "--" in words:
-        raise Fault(f"{LIKE} {file_of(words)}: it has a command of its own; leave out yours", USAGE)
+        raise Fault(f"{LIKE} {like_file(words)}: it has a command of its own; leave out yours", USAGE)
     place = others.index("--") if "--" in others else len(others)
     return [*others[:place], *words, *others[place:]]
 
@@ -100,11 +100,11 @@ def repeated(words: "list[str]", command: str) -> "list[str]":
 @contextmanager
 def repeated_net(words: "list[str]") -> "Iterator[list[str]]":
     """Yields the same for `hinge net`. The net is in the file, and is written beside the file for the duration."""
-    lines, result = failure_in(words).get(NET), repeated(words, "net")
+    lines, result = failure_in(words).get(NET), failure_command(words, "net")
     if not isinstance(lines, list):
         yield result
         return
     from pathlib import Path
 
-    with file_beside(Path(os.path.abspath(str(file_of(words)))), "".join(f"{line}\n" for line in lines)) as net:
+    with file_beside(Path(os.path.abspath(str(like_file(words)))), "".join(f"{line}\n" for line in lines)) as net:
         yield [str(net), *result[1:]]

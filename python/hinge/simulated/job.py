@@ -40,22 +40,22 @@ class Job(NamedTuple):
         """Returns strings that end in 0, for the machine's first process."""
         user = [str(os.getuid()), str(os.getgid()), " ".join(map(str, os.getgroups())), f"{mask():o}"]
         words = [*settings, *user, folder(), str(len(self.words)), *self.words, *self.names, "", *(self.rooms or ["command"])]
-        return joined(words)
+        return words_in_bytes(words)
 
     def given(self) -> "dict[str, str]":
         """Returns checksums of the data in the programs' memory. Only runs with equal checksums are the same."""
         parts = {
-            "words": joined(self.words),
-            "environment": joined(self.names),
-            "user": joined([str(os.getuid()), str(os.getgid())]),
-            "folder": joined([folder()]),
+            "words": words_in_bytes(self.words),
+            "environment": words_in_bytes(self.names),
+            "user": words_in_bytes([str(os.getuid()), str(os.getgid())]),
+            "folder": words_in_bytes([folder()]),
             "input": self.input.read_bytes(),
-            **({"link": joined([text for text in self.rooms if text != may_ping()])} if self.rooms else {}),
+            **({"link": words_in_bytes([text for text in self.rooms if text != may_ping()])} if self.rooms else {}),
         }
         return {name: hashlib.sha256(part).hexdigest()[:16] for name, part in parts.items()}
 
 
-def joined(words: Sequence[str]) -> bytes:
+def words_in_bytes(words: Sequence[str]) -> bytes:
     return b"".join(os.fsencode(word) + b"\0" for word in words)
 
 
@@ -81,7 +81,7 @@ def folder() -> str:
     return place
 
 
-def words_of(options: NetOptions) -> list[str]:
+def words_of_net(options: NetOptions) -> list[str]:
     """Returns the words that run a net inside with these options. They don't depend on Python's variables, and write no byte code."""
     return [sys.executable, "-I", "-S", "-B", "-c", BEGIN, PACKAGES, json.dumps(vars(options))]
 
@@ -114,7 +114,7 @@ def root_of(options: SimulatedOptions) -> Optional[str]:
     return place
 
 
-def limit_of(options: SimulatedOptions) -> int:
+def limit_in_ns(options: SimulatedOptions) -> int:
     """Returns --limit in ns, or 0."""
     return 0 if options.limit is None else duration(options.limit, "--limit")
 

@@ -79,7 +79,7 @@ def version_numbers(folder: Path) -> list[int]:
     return [int(part) if part.isdecimal() else 0 for part in folder.name.partition("-")[0].split(".")]
 
 
-def kept(*places: Path) -> Iterator[Kernel]:
+def current_kernels(*places: Path) -> Iterator[Kernel]:
     """Yields the kernels with the current configuration and patch, the newest Linux of each place first."""
     for place in places:
         for folder in sorted(place.glob(f"*-{checksum_of_inputs()}"), key=version_numbers, reverse=True):
@@ -94,7 +94,7 @@ def found() -> Kernel:
         if not Kernel(Path(path)).is_whole:
             raise Missing(f"HINGE_KERNEL: {path} has no kernel and first process of this version of hinge")
         return Kernel(Path(path).resolve())
-    for kernel in kept(cache(), *RELEASED):
+    for kernel in current_kernels(cache(), *RELEASED):
         if kernel.is_whole:
             return kernel
     raise Missing("there is no kernel for simulated time of this version: `hinge kernel` builds one")

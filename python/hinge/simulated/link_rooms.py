@@ -17,7 +17,7 @@ from hinge.run.steps import Steps
 from hinge.run.two_hosts import ends_of
 from hinge.run.words import duration
 from hinge.simulated.job import root_of
-from hinge.simulated.verdict import Verdict, of_wait
+from hinge.simulated.verdict import MachineVerdict, of_wait
 
 LINK = "/run/hinge/link"  # a copy in the machine's folder, whose name is the same wherever hinge is installed
 TERMINATED = SIGNALLED + 15
@@ -51,7 +51,7 @@ def nanoseconds(seconds: float) -> str:
     return str(round(seconds * 1e9))
 
 
-def told(folder: Path) -> "list[str]":
+def first_process_lines(folder: Path) -> "list[str]":
     """Returns the first process's lines, or an empty list if there was no program to report."""
     try:
         return (folder / "ran").read_text().splitlines()
@@ -72,14 +72,14 @@ class LinkRun(NamedTuple):
         texts = rooms_texts("run", steps, rooms.interfaces, self.order.plan, 1)
         return [*texts, self.options.server or "", *map(nanoseconds, (self.order.server_wait, self.order.server_end))]
 
-    def ended(self, folder: Path) -> Optional[Verdict]:
+    def ended(self, folder: Path) -> Optional[MachineVerdict]:
         """Returns how the program ended, or None if it didn't end."""
-        words = "".join(told(folder)).split()
+        words = "".join(first_process_lines(folder)).split()
         return of_wait(int(words[1])) if words and int(words[0]) else None
 
-    def report(self, folder: Path, summary: Path, verdict: Optional[Verdict], tell: Tell) -> int:
+    def report(self, folder: Path, summary: Path, verdict: Optional[MachineVerdict], tell: Tell) -> int:
         """Tells how the links went, and writes the summary; the status."""
-        _, _, by, server, after = "".join(told(folder)).split()
+        _, _, by, server, after = "".join(first_process_lines(folder)).split()
         endings = None if by == "none" else Ended(of_wait(int(server)).status, round(int(after) / 1e9, 3), by)
         drops = [all_dropped(counts_of(folder, network)).get(NAME, 0) for network in (0, 1)]
         order = self.order._replace(options=self.order.options.but(json=str(summary)))

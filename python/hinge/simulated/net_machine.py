@@ -6,25 +6,25 @@ from pathlib import Path
 from typing import NamedTuple, Optional
 
 from hinge.net.acts import Done
-from hinge.net.clocks import number_of
+from hinge.net.clocks import clock_number
 from hinge.net.net_rooms import NetEnds, NetRooms
-from hinge.net.net_summary import NetRan, report, silent, status_without
+from hinge.net.net_summary import NetRan, report_net, silent, status_without
 from hinge.net.order import LinksPlan, NetOrder, net_of, net_order
 from hinge.run.interfaces import all_dropped, unforwarded
 from hinge.run.processes import Ended
 from hinge.run.settings import NetOptions
 from hinge.run.steps import Steps
 from hinge.simulated.job import root_of
-from hinge.simulated.link_rooms import TERMINATED, Tell, counts_of, nanoseconds, page_of, rooms_texts, told
-from hinge.simulated.verdict import ITSELF, Verdict, of_wait
+from hinge.simulated.link_rooms import TERMINATED, Tell, counts_of, first_process_lines, nanoseconds, page_of, rooms_texts
+from hinge.simulated.verdict import ITSELF, MachineVerdict, of_wait
 
 
-class Told(NamedTuple):
+class MachineMessages(NamedTuple):
     """The first process's messages on a net."""
 
     main: Optional[int]  # ns, at which the main command began
     endings: "dict[str, Ended]"
-    verdicts: "dict[str, Verdict]"  # how the commands ended
+    verdicts: "dict[str, MachineVerdict]"  # how the commands ended
     missing: str  # the port without which the main command didn't begin
     silent: "list[str]"
     acts: "list[Done]"
@@ -50,7 +50,7 @@ class NetRun(NamedTuple):
         texts += [nanoseconds(order.end_wait), order.folder, "main" if net.main else "all", str(len(self.rooms))]
         for name in self.rooms:
             log = str(Path(options.logs, f"{name}.log").absolute()) if options.logs else ""
-            texts += [name, str(rooms.network[name]), net.hosts[name].command, str(number_of(name, net.hosts)), log]
+            texts += [name, str(rooms.network[name]), net.hosts[name].command, str(clock_number(name, net.hosts)), log]
         texts.append(str(len(net.waits)))
         for wait in net.waits:
             kind = "optional" if wait.is_optional else "needed"
@@ -61,9 +61,9 @@ class NetRun(NamedTuple):
             texts += [base, str(act.moment.ns), act.word, host, str(act.fault), act.more]
         return texts
 
-    def told(self, folder: Path) -> Optional[Told]:
+    def told(self, folder: Path) -> Optional[MachineMessages]:
         """Nothing where the links ended at once."""
-        rows = [line.split() for line in told(folder)]
+        rows = [line.split() for line in first_process_lines(folder)]
         if not rows:
             return None
         main, net = int(rows[0][2]), self.order.net
@@ -73,7 +73,7 @@ class NetRun(NamedTuple):
         ]
         waits = [(net.waits[int(row[1])], int(row[2])) for row in rows if row[0] == "silent"]
         lines = [silent(net, wait, None if status < 0 else status) for wait, status in waits]
-        return Told(
+        return MachineMessages(
             main if main >= 0 else None,
             {name: Ended(verdict.status, round(after / 1e9, 3), by) for name, verdict, after, by in hosts},
             {name: verdict for name, verdict, _, by in hosts if by == "itself"},
@@ -82,18 +82,18 @@ class NetRun(NamedTuple):
             [Done(int(row[2]), self.order.made.acts[int(row[1])], row[3] == "1") for row in rows if row[0] == "act"],
         )
 
-    def ended(self, folder: Path) -> Optional[Verdict]:
+    def ended(self, folder: Path) -> Optional[MachineVerdict]:
         """As the main command did, or where there is none as the first that didn't end well."""
         result = self.told(folder)
         if result is None:
             return None
         if result.missing:
-            return Verdict(ITSELF, status_without(result.missing))
+            return MachineVerdict(ITSELF, status_without(result.missing))
         if self.order.net.main:
             return result.verdicts.get(self.order.net.main)
-        return next((one for one in result.verdicts.values() if one.status), Verdict(ITSELF, 0))
+        return next((one for one in result.verdicts.values() if one.status), MachineVerdict(ITSELF, 0))
 
-    def report(self, folder: Path, summary: Path, verdict: Optional[Verdict], tell: Tell) -> int:
+    def report(self, folder: Path, summary: Path, verdict: Optional[MachineVerdict], tell: Tell) -> int:
         result, ends = self.told(folder), NetEnds(self.order.net)
         if result is None:
             raise ValueError(folder)
@@ -104,7 +104,7 @@ class NetRun(NamedTuple):
         rest = {name: some for name, place in places.items() if (some := unforwarded(place))}
         status, counts = verdict.status if verdict else TERMINATED, page_of(folder).read()
         ran = NetRan(status, counts, drops, result.endings, rest, result.acts, result.main, result.missing)
-        return report(self.order._replace(options=self.order.options.but(transcript=None, json=str(summary))), ran, None, tell)
+        return report_net(self.order._replace(options=self.order.options.but(transcript=None, json=str(summary))), ran, None, tell)
 
 
 def net_run(options: NetOptions, seed: int, transcript: Optional[str]) -> Optional[NetRun]:

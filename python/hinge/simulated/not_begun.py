@@ -18,7 +18,7 @@ NO_MEMORY = re.compile(r"errno = -12\b|Cannot allocate memory")
 NO_ROOM = re.compile(r"No space left on device|errno = -28\b")
 
 
-def limit_of(kind: int) -> Optional[int]:
+def system_limit(kind: int) -> Optional[int]:
     """Returns a limit on this process, or None."""
     soft, _ = resource.getrlimit(kind)
     return None if soft == resource.RLIM_INFINITY else soft
@@ -43,7 +43,7 @@ def too_few() -> Optional[str]:
 
 def why(log: str, memory: int) -> Optional[str]:
     """Returns the cause, if it is known; `memory` is the machine's size in bytes."""
-    size, addresses = limit_of(resource.RLIMIT_FSIZE), limit_of(resource.RLIMIT_AS)
+    size, addresses = system_limit(resource.RLIMIT_FSIZE), system_limit(resource.RLIMIT_AS)
     if TRACED.search(log):
         return (
             "the system keeps a process from tracing another one (ptrace), by which a machine runs programs: "

@@ -28,7 +28,7 @@ HISTORY, REPORTS = "link.history", "reports"
 OF_THE_LINK = re.compile(r"hinge run: (up|down): .*")
 
 
-class Ran(NamedTuple):
+class MachineResult(NamedTuple):
     """The result from a test's machine: its status, its output, and the reports on the test's phases."""
 
     status: int
@@ -57,7 +57,7 @@ def options_of_mark(mark: pytest.Mark) -> Iterator[str]:
                 yield str(one)
 
 
-def ran(item: pytest.Item, words: list[str], seed: int, folder: Path) -> Ran:
+def ran(item: pytest.Item, words: list[str], seed: int, folder: Path) -> MachineResult:
     """Runs a test in a machine with these options; the folder contains the files that it wrote."""
     part = folder / "kept"
     part.mkdir()
@@ -80,10 +80,10 @@ def ran(item: pytest.Item, words: list[str], seed: int, folder: Path) -> Ran:
     with begun(whole, text=True, errors="replace", **how) as process:
         output = process.communicate()[1].strip()
     text = (part / REPORTS).read_text().replace(f"{KEPT}/", f"{part}/") if (part / REPORTS).exists() else ""
-    return Ran(process.returncode, output, [json.loads(line) for line in text.splitlines()])
+    return MachineResult(process.returncode, output, [json.loads(line) for line in text.splitlines()])
 
 
-def read(config: pytest.Config, data: dict[str, Any]) -> pytest.TestReport:
+def report_from(config: pytest.Config, data: dict[str, Any]) -> pytest.TestReport:
     """Returns a report from its JSON form, which lacks tuples."""
     report: pytest.TestReport = config.hook.pytest_report_from_serializable(config=config, data=data)
     if isinstance(report.longrepr, list):
@@ -107,7 +107,7 @@ def reports(item: pytest.Item, mark: pytest.Mark, links: list[str], seed: int) -
     """Runs a test in a machine; returns its reports. A failed test's report describes the link, and the transcript remains."""
     folder = Path(tempfile.mkdtemp(prefix="hinge-test-", dir=temporary_place()))
     run = ran(item, [*links, *options_of_mark(mark)], seed, folder)
-    result = [read(item.config, data) for data in run.reports]
+    result = [report_from(item.config, data) for data in run.reports]
     if all(report.when == "setup" and report.passed for report in result):
         result.append(failed(item, f"the simulated machine ended with {run.status} before the test had"))
     wrong = [report for report in result if report.failed]

@@ -58,7 +58,7 @@ def paths_told(folder: Path, root: Optional[str]) -> "Iterator[tuple[str, bool]]
             yield place, not text.startswith(os.fsencode(ABSENT))
 
 
-def name_of(path: str) -> str:
+def portable_name(path: str) -> str:
     """Returns the path as another user's run in another folder would name the file: `./` for the present folder, `~/` for HOME."""
     for place, begin in ((os.getcwd(), "./"), (os.environ.get("HOME", ""), "~/")):
         if len(place) > 1 and path.startswith(f"{place}/"):
@@ -70,5 +70,5 @@ def files_record(folder: Path, root: Optional[str] = None) -> "dict[str, Any]":
     """Returns the summary's `files`, in the order of opening, and `absent`."""
     paths, start = dict.fromkeys(paths_told(folder, root)), os.stat(folder / "job").st_ctime_ns
     records = ((path, file_record(f"{root or ''}{path}", start)) for path, is_there in paths if is_there)
-    files = {name_of(path): record for path, record in records if record is not None}
-    return {"files": files, "absent": [name_of(path) for path, is_there in paths if not is_there]}
+    files = {portable_name(path): record for path, record in records if record is not None}
+    return {"files": files, "absent": [portable_name(path) for path, is_there in paths if not is_there]}

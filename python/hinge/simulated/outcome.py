@@ -8,7 +8,7 @@ from hinge.border.files import read_system
 from hinge.simulated.interrupts import LONG, NEAR
 from hinge.simulated.kernel import Kernel
 from hinge.simulated.machine import MachineEnded, Machine, Settings
-from hinge.simulated.own_random import programs
+from hinge.simulated.own_random import random_programs
 from hinge.simulated.pauses import SHOWN, PausesMade, pauses_made
 
 Record = dict[str, Any]
@@ -28,7 +28,11 @@ class Outcome(NamedTuple):
     @classmethod
     def of(cls, machine: Machine, endings: MachineEnded, settings: Settings) -> Outcome:
         real, interrupts, hides = machine.real(), machine.interrupts, machine.hides_the_processor
-        given, pauses, random = machine.job.given(), pauses_made(machine.folder / "paused"), programs(machine.folder, machine.root)
+        given, pauses, random = (
+            machine.job.given(),
+            pauses_made(machine.folder / "paused"),
+            random_programs(machine.folder, machine.root),
+        )
         return cls(endings, real, interrupts.count, interrupts.longest, hides, settings, given, pauses, random)
 
     def differences(self) -> Iterator[str]:

@@ -39,7 +39,7 @@ def segments(file: BinaryIO) -> Iterator[tuple[int, int]]:
             yield begin, length
 
 
-def parts(file: BinaryIO, begin: int, length: int) -> Iterator[bytes]:
+def segment_parts(file: BinaryIO, begin: int, length: int) -> Iterator[bytes]:
     """Yields the bytes of a segment in parts. Each instruction is complete in some part, with the following byte."""
     file.seek(begin)
     part = b""
@@ -53,7 +53,7 @@ def parts(file: BinaryIO, begin: int, length: int) -> Iterator[bytes]:
 def taken_by(file: BinaryIO) -> str:
     """Returns the direct processor uses in this file's code, or an empty text."""
     draws, asks = False, False
-    for part in (part for begin, length in [*segments(file)] for part in parts(file, begin, length)):
+    for part in (part for begin, length in [*segments(file)] for part in segment_parts(file, begin, length)):
         if NUMBER.search(part):
             return OF_NUMBER
         asks, draws = asks or CPUID in part, draws or RANDOM.search(part) is not None
@@ -73,7 +73,7 @@ def taken(path: str) -> str:
         return ""
 
 
-def programs(folder: Path, root: Optional[str]) -> "list[str]":
+def random_programs(folder: Path, root: Optional[str]) -> "list[str]":
     """Those that the machine in this folder read, each as `PATH takes ..`."""
     names = dict.fromkeys(name for name, is_there in paths_told(folder, root) if is_there)
     return [f"{name} takes {what}" for name in names for what in [taken(f"{root or ''}{name}")] if what]

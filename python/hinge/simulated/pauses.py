@@ -11,7 +11,7 @@ from typing import Iterator, NamedTuple, Optional
 
 from hinge.border.terminal import several
 from hinge.run.words import duration
-from hinge.simulated.calls_of_linux import name_of
+from hinge.simulated.calls_of_linux import call_name
 
 DRAWN = "drawn"
 RAREST, OFTENEST = 14, 4  # powers of two: of calls between two pauses at most, where the seed draws them
@@ -89,25 +89,25 @@ def given(text: str) -> "tuple[Given, ...]":
     return tuple(sorted(items)) if len({one.call for one in items}) == len(words) <= MOST_GIVEN else ()
 
 
-def number_of(text: str) -> int:
+def number_from_text(text: str) -> int:
     """Returns a 64-bit number derived from a text."""
     import hashlib  # which few runs need
 
     return int.from_bytes(hashlib.sha256(text.encode()).digest()[:8], "big")
 
 
-def drawn(seed: int) -> Iterator[Given]:
+def drawn_pauses(seed: int) -> Iterator[Given]:
     """Pauses that get rarer, so that few calls have some, until they are as rare as the seed says."""
-    rare, longest, are_long = (number_of(f"{what} {seed}") for what in ("how often", "longest", "how long"))
+    rare, longest, are_long = (number_from_text(f"{what} {seed}") for what in ("how often", "longest", "how long"))
     most = 2 ** (rare % (RAREST - OFTENEST + 1) + OFTENEST)
-    are_stepped = number_of(f"between {seed}") % 2  # by half of the seeds pauses are between calls
+    are_stepped = number_from_text(f"between {seed}") % 2  # by half of the seeds pauses are between calls
     longest = longest % (LONGEST - GENTLE + 1) + GENTLE
     shortest, call = are_long % 2 * (longest - LONG), 0
     for _ in range(MOST_GIVEN):
-        place, power, more, where = (number_of(f"{what} {call} {seed}") for what in ("place", "length", "more", "where"))
+        place, power, more, where = (number_from_text(f"{what} {call} {seed}") for what in ("place", "length", "more", "where"))
         call += 1 + place % min(call // 4 + 3 if are_stepped else call * 2 // 3 + 2**OFTENEST // 2, most)
         span = 1000 << shortest + power % (longest - shortest + 1)
-        steps, is_before = number_of(f"steps {call} {seed}"), where % (4 if are_stepped else 2) == 0
+        steps, is_before = number_from_text(f"steps {call} {seed}"), where % (4 if are_stepped else 2) == 0
         least = 0 if is_before or not are_stepped else 1 << steps % (STEPS + 1)
         yield Given(call, "before" if is_before else "behind", span + more % span, least + (steps >> 8) % max(least, 1))
 
@@ -115,12 +115,12 @@ def drawn(seed: int) -> Iterator[Given]:
 def pauses_of(word: Optional[str], seed: int) -> Optional[Pauses]:
     if word is None:
         return None
-    return Pauses(word, tuple(drawn(seed)) if word == DRAWN else given(word))
+    return Pauses(word, tuple(drawn_pauses(seed)) if word == DRAWN else given(word))
 
 
 def paused(line: str) -> Paused:
     at, number, length, call, process, where, steps, program = line.split(" ", 7)
-    return Paused(int(at), int(number), int(length), name_of(int(call)), int(process), where, int(steps), program)
+    return Paused(int(at), int(number), int(length), call_name(int(call)), int(process), where, int(steps), program)
 
 
 def pauses_made(path: Path) -> Optional[PausesMade]:

@@ -35,7 +35,7 @@ def debugger(root: Optional[str], core: Path, *commands: str) -> str:
         return ""
 
 
-def place(lines: "list[str]") -> str:
+def innermost_place(lines: "list[str]") -> str:
     """Returns the innermost functions of a backtrace in the program, with their lines, or otherwise in its libraries."""
     frames = [(one[1], one[2] or "", one[3]) for line in lines if (one := FRAME.match(line)) and one[1] != "??"]
     own = [frame for frame in frames if not frame[2] and not frame[1].startswith(("../", "./"))]
@@ -53,7 +53,7 @@ def backtraces(folder: Path, process: int, root: Optional[str]) -> "Iterator[tup
     text = debugger(root, core, f"file {path}", f"core-file {core}", "thread apply all -ascending bt 20")
     _, *parts = THREAD.split(text)
     for number, lines in zip(parts[::2], parts[1::2]):
-        yield int(number), place(lines.splitlines())
+        yield int(number), innermost_place(lines.splitlines())
 
 
 def innermost(folder: Path, process: int, root: Optional[str]) -> str:

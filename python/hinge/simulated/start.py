@@ -22,7 +22,7 @@ from hinge.run.words import Wrong
 from hinge.run.processes import SIGNALLED
 from hinge.run.summary import FORMAT
 from hinge.run.transcripts import KEPT, parts_of, told
-from hinge.simulated.job import Job, environment, limit_of, real_limit_of, refuse_outside, root_of, words_of
+from hinge.simulated.job import Job, environment, limit_in_ns, real_limit_of, refuse_outside, root_of, words_of_net
 from hinge.simulated.kernel import Kernel, found
 from hinge.simulated.likeness import earlier, remarks
 from hinge.simulated.link_rooms import LinkRun, link_run
@@ -43,7 +43,7 @@ from hinge.simulated.verdict import (
     OUTSIDE,
     REAL_LIMIT,
     SIGNAL,
-    Verdict,
+    MachineVerdict,
     signal_name,
     waits,
 )
@@ -61,7 +61,7 @@ def settings_of(options: SimulatedOptions, seed: int) -> Settings:
     memory, cpu = options.memory or size(MEMORY), options.cpu or "stable"
     scratch, pauses = options.scratch or options.twice, pauses_of(options.pauses, seed)
     cores = OF_DEADLOCKS if has_debugger() else NONE
-    return Settings(seed, at, memory, cpu, scratch, pauses, limit_of(options), root_of(options), cores=cores)
+    return Settings(seed, at, memory, cpu, scratch, pauses, limit_in_ns(options), root_of(options), cores=cores)
 
 
 def inside(options: NetOptions, seed: int) -> NetOptions:
@@ -91,7 +91,7 @@ class Planned(NamedTuple):
         if self.rooms:
             return Job(self.options.command, inputs, is_one_stream, names, self.rooms.texts())
         assert isinstance(self.options, NetOptions)
-        return Job(words_of(inside(self.options, self.seed)), inputs, is_one_stream, names)
+        return Job(words_of_net(inside(self.options, self.seed)), inputs, is_one_stream, names)
 
 
 def planned(options: SimulatedOptions) -> Planned:
@@ -138,30 +138,30 @@ def hand_over(machine: Machine, transcript: Optional[str]) -> None:
             say(line)
 
 
-def verdict_of(machine: Machine, rooms: Optional[InRooms], summary: "dict[str, Any]") -> Optional[Verdict]:
+def verdict_of(machine: Machine, rooms: Optional[InRooms], summary: "dict[str, Any]") -> Optional[MachineVerdict]:
     """Returns the program's verdict; None if it didn't start."""
     endings, start = machine.ended(), BOOTED * 10**9
     if machine.cut is not None:
         stood = machine.stood()
         by, name = (REAL_LIMIT, None) if machine.cut == TIMED_OUT else (OUTSIDE, signal_name(machine.cut - SIGNALLED))
-        return Verdict(by, machine.cut, name, stood.now / 1e9 if stood else None)
+        return MachineVerdict(by, machine.cut, name, stood.now / 1e9 if stood else None)
     if endings and endings.cut:
         moment, threads = waits(machine.folder / "waits", start)
         if endings.cut == NO_LIFE:
-            return Verdict(DEADLOCK, DEADLOCKED, None, moment, with_places(threads, machine.folder, machine.root))
-        return Verdict(LIMIT, LIMITED, None, endings.simulated / 1e9, threads)
+            return MachineVerdict(DEADLOCK, DEADLOCKED, None, moment, with_places(threads, machine.folder, machine.root))
+        return MachineVerdict(LIMIT, LIMITED, None, endings.simulated / 1e9, threads)
     if rooms:
         return rooms.ended(machine.folder)
-    return Verdict(ITSELF, summary["status"]) if isinstance(summary.get("status"), int) else None
+    return MachineVerdict(ITSELF, summary["status"]) if isinstance(summary.get("status"), int) else None
 
 
-def told_simulated(endings: MachineEnded, verdict: Optional[Verdict]) -> MachineEnded:
+def told_simulated(endings: MachineEnded, verdict: Optional[MachineVerdict]) -> MachineEnded:
     """Returns the machine's result, up to a deadlock if there was one."""
     is_dead = verdict is not None and verdict.by == DEADLOCK and verdict.at is not None
     return endings._replace(simulated=round(verdict.at * 1e9)) if is_dead else endings  # type: ignore[union-attr, operator]
 
 
-def told_cut(verdict: Verdict, options: SimulatedOptions) -> Iterator[str]:
+def told_cut(verdict: MachineVerdict, options: SimulatedOptions) -> Iterator[str]:
     """Yields messages about a program that didn't end, unless the user ended the run."""
     if verdict.by == REAL_LIMIT:
         yield f"it was ended after {real_limit_of(options):g} s of real time, by --real-limit"
@@ -173,11 +173,11 @@ class Reported(NamedTuple):
     """A run's result: its status and its record for programs."""
 
     status: int
-    verdict: Optional[Verdict]
+    verdict: Optional[MachineVerdict]
     record: Record
 
 
-def has_begun(machine: Machine, options: SimulatedOptions, verdict: Verdict) -> bool:
+def has_begun(machine: Machine, options: SimulatedOptions, verdict: MachineVerdict) -> bool:
     """Returns whether the command could be executed. A shell executes a net's commands, and reports a failure by its status."""
     is_of_shell = isinstance(options, NetOptions) and verdict.by == ITSELF
     return machine.has_begun and not (is_of_shell and verdict.status in (CANNOT_EXECUTE, NOT_FOUND))

@@ -6,7 +6,7 @@ import struct
 from pathlib import Path
 from typing import NamedTuple, Optional
 
-from hinge.simulated.calls_of_linux import name_of
+from hinge.simulated.calls_of_linux import call_name
 
 NAME, PLACE = "stood", struct.Struct("=5Q16s")
 MANY = 10_000  # calls without a wait that are worth a word
@@ -40,4 +40,4 @@ def stood(folder: Path, start: int) -> Optional[Stood]:
     if not now:
         return None
     program = name.partition(b"\0")[0].decode(errors="replace")
-    return Stood(max(0, now - start), max(0, since - start), calls, process, name_of(call), program)
+    return Stood(max(0, now - start), max(0, since - start), calls, process, call_name(call), program)

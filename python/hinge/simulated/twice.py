@@ -16,7 +16,7 @@ COMPARED = (("out", "standard output"), ("err", "standard error"), ("kept/histor
 SHOWN = 200  # bytes of a line
 
 
-def shown(line: Optional[bytes]) -> str:
+def printable_line(line: Optional[bytes]) -> str:
     return "the end" if line is None else repr(line[:SHOWN].decode(errors="replace").rstrip("\n"))
 
 
@@ -31,7 +31,7 @@ def difference(one: Path, other: Path, what: str) -> Optional[str]:
     whole = what == TRANSCRIPT and one.stat().st_size and other.stat().st_size
     part = parting(one, other) if whole else None
     if part is None:
-        return f"{what} parts in line {number:,}: {shown(line)} and {shown(beside)}"
+        return f"{what} parts in line {number:,}: {printable_line(line)} and {printable_line(beside)}"
     return f"{what} parts in call {part.number:,}{part.at()}: {part.reason()}\n{part.text()}"
 
 

@@ -6,7 +6,7 @@ import signal
 from pathlib import Path
 from typing import Any, Iterator, NamedTuple, Optional
 
-from hinge.simulated.calls_of_linux import name_of
+from hinge.simulated.calls_of_linux import call_name
 
 ITSELF, SIGNAL, DEADLOCK, LIMIT, REAL_LIMIT, OUTSIDE = "itself", "signal", "deadlock", "limit", "real limit", "outside"
 DEADLOCKED, LIMITED = 77, 78  # the status of a run that the kernel ended since nothing would wake, and of one by --limit
@@ -41,7 +41,7 @@ class Waiting(NamedTuple):
         )
 
 
-class Verdict(NamedTuple):
+class MachineVerdict(NamedTuple):
     by: str
     status: int  # the run's, which is the program's own where it ended by itself
     signal: Optional[str] = None  # that ended the program
@@ -88,10 +88,10 @@ def signal_name(number: int) -> str:
         return f"signal {number}"
 
 
-def of_wait(status: int) -> Verdict:
+def of_wait(status: int) -> MachineVerdict:
     """Returns the verdict for a status of wait(2)."""
     number = status & 0x7F
-    return Verdict(SIGNAL, SIGNALLED + number, signal_name(number)) if number else Verdict(ITSELF, status >> 8 & 0xFF)
+    return MachineVerdict(SIGNAL, SIGNALLED + number, signal_name(number)) if number else MachineVerdict(ITSELF, status >> 8 & 0xFF)
 
 
 def waits(path: Path, start: int) -> "tuple[float, tuple[Waiting, ...]]":
@@ -101,7 +101,7 @@ def waits(path: Path, start: int) -> "tuple[float, tuple[Waiting, ...]]":
 
     def row(line: str) -> Waiting:
         process, thread, call, of, since, state, program = line.split(" ", 6)
-        name = name_of(int(call)) if int(call) >= 0 else ""
+        name = call_name(int(call)) if int(call) >= 0 else ""
         return Waiting(
             int(process), int(thread), program, name, int(of), max(0, int(since) - start) / 1e9, STATES.get(state, state)
         )

@@ -6,7 +6,7 @@ import ipaddress
 import random
 import unittest
 
-from hinge.captures.frames import MAPPED, Asked, Frame
+from hinge.captures.frames import MAPPED, Frame, FrameColumns
 from hinge.captures.random_words import direction_of
 from hinge.captures.rule_words import BadRule
 from hinge.captures.targets import UP, Targets, directions, read_rule
@@ -67,10 +67,10 @@ def random_frame(rng: random.Random) -> Frame:
     return Frame(1, src, dst, proto, *ports, rng.choice((0, 46)))
 
 
-def asked(frame: Frame) -> Asked:
+def asked(frame: Frame) -> FrameColumns:
     """The frame in the form that `hinge packets` compares with rules."""
     ends = [int(it) | (MAPPED if it.version == 4 else 0) for it in map(ipaddress.ip_address, (frame.src, frame.dst))]
-    return Asked(lambda: ends, [0], [1], [frame.proto], [frame.sport], [frame.dport], [frame.dscp])
+    return FrameColumns(lambda: ends, [0], [1], [frame.proto], [frame.sport], [frame.dport], [frame.dscp])
 
 
 class Rules(unittest.TestCase):

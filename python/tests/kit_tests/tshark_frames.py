@@ -7,7 +7,7 @@ import subprocess
 from typing import Iterator, Optional
 
 from hinge.border.files import Input
-from hinge.captures.frames import Frame, Packet, Plan, read
+from hinge.captures.frames import Frame, Packet, RowPlan, read_capture
 
 PREFERENCES = (
     "ip.defragment:FALSE ipv6.defragment:FALSE tcp.desegment_tcp_streams:FALSE "
@@ -97,7 +97,9 @@ def frame_by_fields(number: int, value: dict[str, str]) -> Optional[Packet]:
 
 def frames_by_kit(capture: str) -> Iterator[tuple[int, Optional[Packet]]]:
     """The same by the program of the kit."""
-    with open("/dev/null", "wb") as nowhere, read(Input.as_it_is(capture), Plan(), nowhere.fileno(), by_frame=True) as reader:
+    with open("/dev/null", "wb") as nowhere, read_capture(
+        Input.as_it_is(capture), RowPlan(), nowhere.fileno(), by_frame=True
+    ) as reader:
         packets = {packet.frame.number: packet for packet in reader.packets()}
         yield from ((number, packets.get(number)) for number in range(1, reader.frame_count + 1))
 

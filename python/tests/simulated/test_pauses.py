@@ -7,7 +7,7 @@ import sys
 import unittest
 from collections.abc import Iterable
 
-from hinge.simulated.pauses import MOST_GIVEN, Paused, drawn, given, pauses_of
+from hinge.simulated.pauses import MOST_GIVEN, Paused, drawn_pauses, given, pauses_of
 from hinge.simulated.time_options import pauses_word
 from machines import HERE, LINK, Simulated, needs
 from packets import packets_of
@@ -34,15 +34,15 @@ class OfWords(unittest.TestCase):
     def test_what_is_drawn_is_the_seeds(self) -> None:
         self.assertIsNone(pauses_of(None, 1))
         self.assertEqual(pauses_of("drawn", 1), pauses_of("drawn", 1))
-        self.assertEqual(len({tuple(drawn(seed)) for seed in SEEDS}), len(SEEDS))
+        self.assertEqual(len({tuple(drawn_pauses(seed)) for seed in SEEDS}), len(SEEDS))
 
     def test_drawn_pauses_are_for_programs_of_any_size(self) -> None:
         """Some are among few calls, some seeds reach a million, and all can be given one by one."""
-        for pauses in map(tuple, map(drawn, SEEDS)):
+        for pauses in map(tuple, map(drawn_pauses, SEEDS)):
             self.assertEqual(given(",".join(one.word() for one in pauses)), pauses)
             self.assertTrue(4 <= sum(one.call <= 100 for one in pauses) <= 45)  # many where they are between calls
             self.assertEqual(len(pauses), MOST_GIVEN)
-        self.assertGreater(max(max(drawn(seed)).call for seed in SEEDS), 10**6)
+        self.assertGreater(max(max(drawn_pauses(seed)).call for seed in SEEDS), 10**6)
 
 
 START = """import json, os, sys

@@ -17,12 +17,12 @@ from typing import Any
 from hinge.command import Fault
 from hinge.net.description import read_description
 from hinge.net.net_plan import NetPlan
-from hinge.searches.case import KINDS, Case, Part, faults_of, joined, lossless
+from hinge.searches.case import KINDS, Case, Part, faults_of, joined_losses, lossless
 from hinge.searches.losses import packets_lost
 from hinge.searches.shrinking import least
-from hinge.simulated.calls_kept import GOES_ON, PAUSES, Row, around
+from hinge.simulated.calls_kept import GOES_ON, PAUSES, CallRow, around
 from hinge.simulated.failures import file_beside
-from hinge.simulated.places import place
+from hinge.simulated.places import innermost_place
 from machines import HINGE, Simulated, below_of, environment, left, running
 
 # The check fails where c was killed: it begins a second time.
@@ -62,13 +62,13 @@ TAKEN = """\
 import pathlib, sys
 from types import SimpleNamespace
 from hinge.searches import runs
-from hinge.searches.runs import PLAIN, Ran, Runs
+from hinge.searches.runs import PLAIN, Runs, SummarizedRun
 def refused(path, record):
     if sys.argv[2] == "another": pathlib.Path(path).write_text("another user's run")
     raise PermissionError(path)
 class Runner:
     is_over, asked = False, SimpleNamespace(what=["run"], pauses=None)
-    def run(self, *words): return Ran(0, "", {"ended": {"name": "status 0"}})
+    def run(self, *words): return SummarizedRun(0, "", {"ended": {"name": "status 0"}})
 runs.write_json = refused
 Runs(pathlib.Path(sys.argv[1]), Runner()).make(1)
 """
@@ -144,13 +144,15 @@ class OfCases(unittest.TestCase):
             path.write_text(lost.join(["", *lines, ""]))
             self.assertEqual([one[:2] for one in packets_lost([path], 2) or ()], [(0, 1), (0, 2), (0, 4)])  # the third is a cut's
         self.assertEqual(
-            joined(["--loss up:list:2", "--loss up:list:4", "loss a b 2 up:list:1"]), ["--loss up:list:2,4", "loss a b 2 up:list:1"]
+            joined_losses(["--loss up:list:2", "--loss up:list:4", "loss a b 2 up:list:1"]),
+            ["--loss up:list:2,4", "loss a b 2 up:list:1"],
         )
 
     def test_calls_around_a_pause(self) -> None:
         """Three earlier calls, three by other threads at the pause's beginning and end, and three later calls."""
         rows = [
-            Row(1000 + n, 1000 + n, 7, 7 + (n == 5 or n == 20), {5: PAUSES, 20: GOES_ON}.get(n, 39), 39, n, "it") for n in range(30)
+            CallRow(1000 + n, 1000 + n, 7, 7 + (n == 5 or n == 20), {5: PAUSES, 20: GOES_ON}.get(n, 39), 39, n, "it")
+            for n in range(30)
         ]
         told = [line.rpartition(": ")[2] for line in around(rows, 5, 1000)]
         calls = [f"getpid = {n}" for n in range(30)]
@@ -164,7 +166,10 @@ class OfCases(unittest.TestCase):
             "#2  0x0055 in move (a=1) at it.c:8",
             "#3  0x00 in ?? ()",
         ]
-        self.assertEqual([place(frames), place(frames[:2]), place([])], ["move (it.c:8)", "__futex (futex.c:57) < lock", ""])
+        self.assertEqual(
+            [innermost_place(frames), innermost_place(frames[:2]), innermost_place([])],
+            ["move (it.c:8)", "__futex (futex.c:57) < lock", ""],
+        )
 
     def test_the_least(self) -> None:
         """Of each kind the parts that the failure needs are left, and none else."""
