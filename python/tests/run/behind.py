@@ -1,4 +1,4 @@
-"""A command that runs behind `hinge run`, and the summary of it."""
+"""A command behind `hinge run`, and its summary."""
 
 from __future__ import annotations
 
@@ -14,7 +14,7 @@ CERTIFICATE = ["openssl", "req", "-x509", "-newkey", "rsa:2048", "-nodes", "-sub
 
 class Behind(WithFolder):
     def summary(self, *words: str, seconds: float = 60) -> tuple[Done[str], dict[str, Any]]:
-        """Runs a command, and reads the summary too."""
+        """Runs a command; returns its summary, too."""
         done = run("--json", self.folder / "json", *words, seconds=seconds)
         return done, json.loads((self.folder / "json").read_text())
 

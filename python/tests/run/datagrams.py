@@ -1,4 +1,4 @@
-"""`hinge udp` that runs, and datagrams that go there and back through it."""
+"""A running `hinge udp`, and datagrams that pass through it in both directions."""
 
 from __future__ import annotations
 
@@ -23,7 +23,7 @@ class Path:
     """A running `hinge udp`: its address, and finally its status and output."""
 
     def __init__(self, *words: object, files: Optional[int] = None) -> None:
-        """With `files`, so many descriptors at most."""
+        """With `files`, the process may open at most that many descriptors."""
         limit = (lambda: resource.setrlimit(resource.RLIMIT_NOFILE, (files, files))) if files else None
         self.process = subprocess.Popen(
             [*HINGE, "udp", *map(str, words)],
@@ -47,7 +47,7 @@ class Path:
 
 @contextlib.contextmanager
 def sockets(count: int, family: int = socket.AF_INET) -> Iterator[list[socket.socket]]:
-    """UDP sockets at free ports of this machine."""
+    """Returns UDP sockets at free ports of this machine."""
     with contextlib.ExitStack() as stack:
         made = [stack.enter_context(socket.socket(family, socket.SOCK_DGRAM)) for _ in range(count)]
         for one in made:
@@ -61,7 +61,7 @@ def port_of(one: socket.socket) -> int:
 
 
 def rounds(client: socket.socket, server: socket.socket, path: Path, count: int) -> list[float]:
-    """Seconds of so many rounds, one after the other, through the path and back; 0 where another datagram came."""
+    """Returns the seconds of consecutive round trips through the path, with 0 for a round that brought another datagram."""
     took = []
     for number in range(count):
         sent, begun = number.to_bytes(4, "big") + bytes(SIZE - 4), time.monotonic()

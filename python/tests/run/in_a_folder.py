@@ -16,16 +16,16 @@ class InAFolder(WithFolder):
         self.file, self.logs = self.folder / "x.net", self.folder / "logs"
 
     def net(self, text: str, *words: str, seconds: float = 60) -> Done[str]:
-        """A run, whose transcript and summary are in `out`."""
+        """Runs a net, whose transcript and summary are then in `out`."""
         self.file.write_text(text)
         return hinge("net", self.file, "--transcripts", self.folder / "out", *words, seconds=seconds)
 
     def logged(self, text: str, *words: str, seconds: float = 60) -> Done[str]:
-        """The same, with what hosts print in `logs`."""
+        """Runs a net, with the hosts' output in `logs`."""
         return self.net(text, "--logs", str(self.logs), *words, seconds=seconds)
 
     def script(self, name: str, text: str) -> str:
-        """A command for a program in Python, which it writes."""
+        """Writes a Python program; returns its command."""
         (self.folder / name).write_text(text)
         return f"{sys.executable} {self.folder / name}"
 
@@ -37,10 +37,10 @@ class InAFolder(WithFolder):
         return (self.folder / "out" / "net.history").read_text()
 
     def assert_lawful(self) -> None:
-        """Its links are, and so is what is between them."""
+        """Asserts that the links are lawful, and so is the path between them."""
         self.history()
         self.assertEqual(hinge("look", self.folder / "out").stdout.splitlines()[-1], "lawful between links")
 
     def packets(self) -> dict[str, int]:
-        """How many came, by the ways that had any."""
+        """Returns the number of packets by way, for ways with packets."""
         return {f"{way['from']} > {way['to']}": way["came"] for way in self.summary()["ways"] if way["came"]}

@@ -1,4 +1,4 @@
-"""Packets of UDP, and the plan of a link between two sockets."""
+"""UDP packets, and the plan of a link between two sockets."""
 
 from __future__ import annotations
 

@@ -1,4 +1,4 @@
-"""What the tests share: the host between two sockets, which takes no privilege; packets; and `hinge` itself."""
+"""The host between two sockets, which needs no privilege, packets, and `hinge` itself, for all tests of this folder."""
 
 from __future__ import annotations
 
@@ -64,13 +64,13 @@ def hinge(command: str, *words: Word, seconds: float = 60, folder: Optional[Word
 
 
 def run(*words: Word, seconds: float = 60) -> Done[str]:
-    """`hinge run`."""
+    """Runs `hinge run`."""
     return hinge("run", *words, seconds=seconds)
 
 
 @lru_cache(maxsize=None)
 def no_rooms() -> str:
-    """Why this machine or this user can't have namespaces, or nothing."""
+    """Returns why this machine or user can't create namespaces, or an empty text."""
     if no_host():
         return no_host()
     tried = run("--quiet", "--", "true")
@@ -78,7 +78,7 @@ def no_rooms() -> str:
 
 
 def no_mounts() -> str:
-    """Why a test can't mount what it needs, or nothing."""
+    """Returns why a test can't mount what it needs, or an empty text."""
     if os.geteuid() != 0 or shutil.which("unshare") is None or shutil.which("setpriv") is None:
         return "only root can mount, and take its rights away, by unshare and setpriv"
     tried = subprocess.run(["unshare", "-m", "true"], capture_output=True, text=True)
@@ -91,7 +91,7 @@ only_long = unittest.skipUnless(os.environ.get("HINGE_LONG"), "takes long: HINGE
 
 
 def needs(*programs: str) -> Callable[[type], type]:
-    """Skips a test where a program isn't there."""
+    """Skips a test if this machine lacks a program."""
     lacking = [name for name in programs if shutil.which(name) is None]
     return unittest.skipIf(bool(lacking), f"there is no {', '.join(lacking)}")
 
@@ -119,14 +119,14 @@ def until(holds: Callable[[], object], seconds: float = 60) -> None:
 
 
 def with_sigterm(process: int) -> bool:
-    """Whether SIGTERM waits at a process."""
+    """Returns whether SIGTERM is pending for a process."""
     masks = re.findall(r"^S[a-z]+Pnd:\s+(\w+)$", Path(f"/proc/{process}/status").read_text(), re.M)
     return any(int(mask, 16) >> signal.SIGTERM - 1 & 1 for mask in masks)
 
 
 @contextmanager
 def web_server(folder: Word, address: str) -> Iterator[str]:
-    """The port of a server of this folder's files, outside of every link."""
+    """Returns the port of a server for this folder's files, outside all links."""
     words = [sys.executable, "-u", "-m", "http.server", "0", "--bind", address]
     with subprocess.Popen(words, cwd=folder, stdout=subprocess.PIPE, stderr=subprocess.DEVNULL, text=True) as server:
         assert server.stdout
@@ -137,18 +137,18 @@ def web_server(folder: Word, address: str) -> Iterator[str]:
 
 
 def state_of(process: int) -> str:
-    """A letter: S where it sleeps, T where it is stopped."""
+    """Returns a process's state as a letter: S while it sleeps, T while it is stopped."""
     return Path(f"/proc/{process}/stat").read_text().rpartition(")")[2].split()[0]
 
 
 def matching(*words: str) -> list[int]:
-    """The processes that pgrep finds."""
+    """Returns the processes that pgrep finds."""
     return [int(word) for word in subprocess.run(["pgrep", *words], stdout=subprocess.PIPE, text=True).stdout.split()]
 
 
 @contextmanager
 def crowded(process: int) -> Iterator[None]:
-    """Makes a process share a processor with four programs that do nothing but reckon, as the least of them."""
+    """Makes a process share a processor with four programs that compute, at the lowest priority."""
     one = min(os.sched_getaffinity(0))
     os.sched_setaffinity(process, {one})
     os.setpriority(os.PRIO_PROCESS, process, 19)
@@ -163,7 +163,7 @@ def crowded(process: int) -> Iterator[None]:
 
 @contextmanager
 def stopped(process: int) -> Iterator[None]:
-    """Stops a process meanwhile, so that what comes to it waits."""
+    """Stops a process during the block, so that its input waits."""
     os.kill(process, signal.SIGSTOP)
     try:
         until(lambda: state_of(process) == "T")
@@ -180,12 +180,14 @@ class Ended:
 
 
 class Linked:
-    """The host between two sockets, or between the two of each of some links, which runs until `end`."""
+    """The host between two sockets, or between two sockets for each of several links, until `end`."""
 
     def __init__(
         self, plan: str, most: int = 10**9, carrier: Optional[str] = None, links: int = 1, descriptors: Sequence[int] = ()
     ) -> None:
-        """With the carrier `tun` each packet is behind a note. It gets these descriptors too, which the plan names."""
+        """With the carrier `tun` each packet follows a header. The plan names the additional descriptors, which the process
+        inherits.
+        """
         self.folder = tempfile.TemporaryDirectory()
         self.transcript = f"{self.folder.name}/session.history"
         pairs = [socket.socketpair(socket.AF_UNIX, socket.SOCK_SEQPACKET) for _ in range(2 * links)]
@@ -212,14 +214,14 @@ class Linked:
         return self.page.read().ways[0]["came"]
 
     def ended(self) -> Ended:
-        """Waits for an end that comes by itself."""
+        """Waits until the host ends by itself."""
         status = self.process.wait(60)
         assert self.process.stderr
         with self.process.stderr as said, open(self.transcript) as history:
             return Ended(status, self.page.read(), history.read(), said.read().decode())
 
     def end(self) -> Ended:
-        """Ends it. What it did is lawful."""
+        """Ends the host, and asserts that its transcript is lawful."""
         self.process.send_signal(signal.SIGTERM)
         ended = self.ended()
         assert re.fullmatch(r"lawful \d+", told := audited(self.transcript)), told
@@ -227,14 +229,14 @@ class Linked:
 
 
 def with_lines(plan: str, links: int = 1) -> tuple[Linked, HostLines]:
-    """A host that takes lines while it runs."""
+    """Returns a host that accepts lines while it runs."""
     lines = HostLines()
     os.set_inheritable(lines.descriptor(), True)
     return Linked(plan + lines.line(), links=links, descriptors=[lines.descriptor()]), lines
 
 
 def run_in_time(case: unittest.TestCase, *words: Word) -> Done[str]:
-    """Returns the first of some runs that kept its time by its verdict; rates in other runs describe the machine, not the link."""
+    """Returns the first of several runs that was in time by its verdict; other runs' rates describe the machine, not the link."""
     for _ in range(4):
         done = run("--late", "5ms", *words)
         if done.returncode != VOID:

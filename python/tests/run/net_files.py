@@ -1,4 +1,4 @@
-"""Files of `hinge net` that are read, planned and refused."""
+"""Reads, plans and refuses files for `hinge net`."""
 
 from __future__ import annotations
 
@@ -22,7 +22,7 @@ class OfFiles(WithFolder):
         return read_description(str(self.path))
 
     def plan(self, text: str) -> list[str]:
-        """The lines of its plan that aren't seeds."""
+        """Returns the lines of a net's plan, without seeds."""
         return [line for line in NetPlan(self.net(text), 1500).plan.text(1).splitlines() if not line.startswith("seed")]
 
     def wrong(self, text: str) -> str:

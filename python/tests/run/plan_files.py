@@ -1,4 +1,4 @@
-"""Files that a plan is made of."""
+"""Files from which a test makes a plan."""
 
 from __future__ import annotations
 

@@ -1,4 +1,4 @@
-"""The control socket, to clients that are idle, speak otherwise, are gone or are another user's."""
+"""The control socket, with clients that are idle, send garbage, disappear or belong to another user."""
 
 from __future__ import annotations
 
@@ -61,7 +61,7 @@ print(flush=True), signal.pause()
 
 class OfCgroups(unittest.TestCase):
     def test_those_of_a_killed_run_go_and_no_others(self) -> None:
-        """What holds a process stays, and so does what has a name without the right checksum."""
+        """Folders in use by a process stay, and so do folders whose name lacks the right checksum."""
         above = own_folder()
         if above is None or not os.access(above, os.W_OK):
             self.skipTest("this user may make no cgroup")
@@ -89,7 +89,7 @@ class OfCgroups(unittest.TestCase):
 @needs_rooms
 class OfDescriptors(unittest.TestCase):
     def test_one_of_any_number_is_waited_for(self) -> None:
-        """A net of hundreds of hosts has more than select(2) takes."""
+        """A net of several hundred hosts opens more descriptors than select(2) accepts."""
         limits = resource.getrlimit(resource.RLIMIT_NOFILE)
         self.addCleanup(resource.setrlimit, resource.RLIMIT_NOFILE, limits)
         resource.setrlimit(resource.RLIMIT_NOFILE, (3000, limits[1]))
@@ -193,7 +193,7 @@ def plan_of_two() -> Plan:
 
 
 def hosts_of(process: int) -> list[int]:
-    """The host of a run and the writer of its transcript."""
+    """Returns a run's host and the writer of its transcript."""
     return [one for one in matching("-x", "hinge-link") if descends(one, process)]
 
 
@@ -216,7 +216,7 @@ while True:
 
 
 def descends(process: int, above: int) -> bool:
-    """Whether a process descends from another one."""
+    """Returns whether a process descends from another one."""
     with contextlib.suppress(OSError):  # it has ended
         while process > 1 and process != above:
             process = int(Path(f"/proc/{process}/stat").read_text().rpartition(")")[2].split()[1])

@@ -1,4 +1,4 @@
-"""What a change of a link leaves out, in each of the five ways to say one: LINKS.md has the rule once."""
+"""A change that leaves out a link's word, in each of the five forms of a change. LINKS.md states the rule."""
 
 from __future__ import annotations
 
@@ -34,7 +34,7 @@ LACKING = (  # words that leave out some of it, and what is to be written
 
 
 def options_of(lines: list[str]) -> str:
-    """Those of the one line for pipe 1, as the program reads it."""
+    """Returns the options of the only line for pipe 1, as the program reads it."""
     [line] = [line for line in lines if line.startswith("pipe 1 config ")]
     return spelled_lines(line.encode())[0].removeprefix("pipe 1 config ")
 

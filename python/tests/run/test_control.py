@@ -1,4 +1,4 @@
-"""A link that is changed and asked while it runs, by `--control`."""
+"""Changes of a running link, and questions to it, through `--control`."""
 
 from __future__ import annotations
 
@@ -49,7 +49,7 @@ class InAFolder(WithFolder):
 
     @contextlib.contextmanager
     def running(self, *words: object) -> Iterator["subprocess.Popen[str]"]:
-        """A run with a socket, which lasts until the file `go` is there."""
+        """Starts a run with a socket, which lasts until the file `go` exists."""
         command = [*HINGE, *map(str, words), *f"--control {self.socket} --transcript {self.history} --quiet".split()]
         command += ["--no-realtime"] * (words[0] == "net")  # of which a user without rights is told
         loop = ["--", "sh", "-c", f"until [ -e {self.go} ]; do sleep 0.05; done"] if words[0] != "udp" else []
@@ -140,7 +140,7 @@ class OfRuns(InAFolder):
             until(lambda: not matching("-f", f"^sleep {mark}"))
 
     def test_a_signal_while_a_process_ends_does_not_cut_the_wait(self) -> None:
-        """As a ^C of which the launcher tells the first process, while the link ends because its command has."""
+        """The launcher reports a ^C to the first process while the link ends, because its command ended."""
         done = subprocess.run([sys.executable, "-c", SLOW_END], capture_output=True, text=True)
         assert (done.stdout, done.stderr) == ("5\n", "")
 
@@ -254,7 +254,7 @@ class OfHosts(InAFolder):
 
     @contextlib.contextmanager
     def endless(self, *user: str) -> Iterator["subprocess.Popen[str]"]:
-        """A net that runs until it is ended, as this user's."""
+        """Starts this user's net, which runs until something ends it."""
         (net := self.folder / "x.net").write_text("host a\nmain c exec sleep 1h\nlink a c 1ms\n")
         net.chmod(0o644)
         words = [*user, *HINGE, "net", net, "--control", self.socket, "--quiet"]
@@ -267,7 +267,7 @@ class OfHosts(InAFolder):
             run.communicate(timeout=60)
 
     def ended(self, end: Callable[["subprocess.Popen[str]", "subprocess.Popen[str]"], None]) -> "subprocess.Popen[str]":
-        """A command on a host, which something ends, and what it began is gone."""
+        """Asserts that the command on a host ends, with all processes that it started."""
         mark = f"{7000 + os.getpid() % 1000}.{self.id().count('t')}{len(self.id())}"
         words = [*HINGE, "exec", str(self.socket), "a", "--", "sh", "-c", f"setsid sleep {mark} & exec sleep {mark}"]
         with self.endless() as run:

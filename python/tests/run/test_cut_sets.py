@@ -37,7 +37,7 @@ class OfNets(WithFolder):
         return NetPlan(read_description(str(file)), 1500)
 
     def drawn(self, number: int) -> tuple[list[str], list[str]]:
-        """The hosts and links of a plan that a seed draws, and its lines `at`, without the heals of what isn't cut."""
+        """Draws the hosts and links of a plan, and its lines `at`, without heals of links that aren't cut."""
         draw, hosts = random.Random(number), [f"{letter}{number}" for letter in "abcd"]
         net = [f"host {name}" for name in hosts]
         net += [f"link {one} {two} 3ms" for place, one in enumerate(hosts) for two in hosts[place + 1 :]]
@@ -65,7 +65,7 @@ class OfNets(WithFolder):
 @needs_host
 class ByTheHost(OfNets):
     def obeyed(self, made: NetPlan, has_main: bool) -> Judge:
-        """What a second reading of the file says of what a host makes of its plan."""
+        """Returns what hinge.plans says of the host's response to its plan."""
         link, lines = with_lines(made.plan.text(1), len(made.net.links))
         base = lines.ask("main").moment if has_main else 0
         until(lambda: link.page.read()["moment"] >= base + END)
@@ -91,7 +91,7 @@ class ByOtherWays(OfNets):
     """The same words by the control socket and from Python."""
 
     def taken(self, made: NetPlan, plan: list[str]) -> list[tuple[int, str]]:
-        """Returns the host's input if a plan's lines arrive through the socket, each at its moment."""
+        """Returns the host's input if the plan's lines arrive through the socket, each at its moment."""
         moment, taken = 0, list[tuple[int, str]]()
 
         class Lines(HostLines):

@@ -1,4 +1,4 @@
-"""Cuts of a link, which are counted: a way opens as the last of them ends, or by `heal`."""
+"""Cuts of a link are counted: a direction opens when the last cut ends, or by `heal`."""
 
 from __future__ import annotations
 
@@ -15,7 +15,7 @@ from hinge.run.page import Way
 @needs_host
 class OfPlans(unittest.TestCase):
     def obeyed(self, plan: str, end: int = 60_000_000) -> list[str]:
-        """The lines that a link follows, all but the first."""
+        """Returns the lines that a link obeys, without the first."""
         link = Linked("line pipe 1 config delay 5 plr 0.5\nline pipe 2 config\n" + plan + f"at {end} remark end\n")
         until(lambda: link.page.read()["moment"] >= end)
         ended = link.end()
@@ -70,7 +70,9 @@ class OfPlans(unittest.TestCase):
             ]
 
     def test_acts_are_writes_in_the_order_of_the_plan(self) -> None:
-        """What is in force is a set: a stop ends with its own number, or all end with 0. What is killed stands still for that."""
+        """Stops form a set: a stop ends by its own number, and the number 0 ends all stops. A kill freezes the processes
+        meanwhile.
+        """
         ends = {name: os.pipe() for name in ("freeze", "kill")}
         for end in (one for pair in ends.values() for one in pair):
             self.addCleanup(os.close, end)
@@ -99,7 +101,7 @@ class OfPlans(unittest.TestCase):
 
 @needs_host
 class OfRules(unittest.TestCase):
-    """What rules send to queues, to other pipes or to the other way's is lost as well."""
+    """Cuts also lose packets that rules send to queues, to other pipes or in the other direction."""
 
     def test_a_cut_is_of_all_packets_of_its_way(self) -> None:
         plan = plan_of("pipe 1 config", "pipe 2 config", "queue 1 config pipe 1 weight 3", "pipe 7 config")
@@ -119,7 +121,7 @@ class OfRules(unittest.TestCase):
         assert found("^c,0,submit,(.*?,.*?),.*,1,4,", ended.history) == ["pipe,1", "pipe,2", "pipe,2"]
 
     def test_a_cut_of_a_port_is_of_its_packets(self) -> None:
-        """Also of those that rules send to a queue, both to the port and from it; the others keep their rules."""
+        """The cut also loses the port's packets in queues of rules, in both directions. All other packets keep their rules."""
         plan = plan_of("pipe 1 config", "pipe 2 config", "queue 1 config pipe 1 weight 3")
         plan.rule("up udp => queue 1")
         link = Linked(plan.text(1) + "at 1 cut 1 1 17 2\nat 2 cut 2 1 17 1\nat 3 cut 1 2 6 3\nat 400000000 open 1 1\n")
@@ -161,7 +163,7 @@ class OfTheMainCommand(unittest.TestCase):
 
 @needs_host
 class OfStops(unittest.TestCase):
-    """The host looks round each second at least, and tells at which moment it did so."""
+    """The host checks for late turns at least each second, and reports the moment of each check."""
 
     def setUp(self) -> None:
         self.epoch = time.monotonic_ns()
@@ -169,7 +171,7 @@ class OfStops(unittest.TestCase):
         until(lambda: state_of(self.link.process.pid) == "S")  # a stop is one of its sleep
 
     def lain(self, looked: int) -> Way:
-        """The way up of a link at its end, whose packet was not there as the host had looked."""
+        """Returns the upward counts at the link's end. The unread packet waited at most since the moment of the host's check."""
         self.link.far.recv(2000)
         now, up = time.monotonic_ns() - self.epoch, self.link.end().counts.ways[0]
         assert up.unread.most <= now - looked

@@ -21,8 +21,7 @@ from linked import AS_IN_A_CONTAINER, HINGE, audited_as_lawful, found, needs, ne
 class OfDownloads(Behind):
     @needs("curl")
     def test_a_download_from_a_server_beside_it(self) -> None:
-        """1,000,000 bytes at 8 Mbit/s take 1.036 s with their headers, after two round trips of 40 ms. They come as
-        they are."""
+        """1,000,000 bytes and headers take 1.036 s at 8 Mbit/s, after two round trips of 40 ms. The content is unchanged."""
         data = os.urandom(10**6)
         (self.folder / "data").write_bytes(data)
         serve = f"cd {self.folder} && exec {sys.executable} -m http.server 8080 2>/dev/null >&2"
@@ -37,8 +36,9 @@ class OfDownloads(Behind):
 
     @needs("curl")
     def test_a_fast_download_comes_as_packets_of_the_link(self) -> None:
-        """What the system hands over in one piece is cut to the interface's longest packets, in either family, and is
-        whole at the end."""
+        """The kernel's large segments are cut to packets of the interface's greatest length, in both families, and the content
+        is complete.
+        """
         data = os.urandom(2 * 10**7)
         (self.folder / "data").write_bytes(data)
         serve = f"cd {self.folder} && exec {sys.executable} -m http.server 8080 --bind :: 2>/dev/null >&2"
@@ -57,7 +57,7 @@ class OfDownloads(Behind):
 
     @needs("dnsmasq", "dig")
     def test_a_name_is_asked_for(self) -> None:
-        """dig's clock goes by steps of 4 ms."""
+        """dig's clock has a resolution of 4 ms."""
         serve = (
             "exec dnsmasq -k --port=5353 --no-resolv --no-hosts --conf-file=/dev/null --pid-file= --user="
             " --address=/here.test/10.1.2.3"
@@ -70,7 +70,7 @@ class OfDownloads(Behind):
 
     @needs("openssl")
     def test_tls_handshakes_under_losses(self) -> None:
-        """Twenty handshakes, in which each packet is lost with 5 of 100; those that lose none take two round trips."""
+        """Of twenty handshakes with a loss of 5 %, those without a lost packet take two round trips."""
         key, certificate = self.certificate()
         serve = f"exec openssl s_server -quiet -accept 4433 -key {key} -cert {certificate}"
         ask = (
@@ -102,7 +102,7 @@ class OfDownloads(Behind):
 
     @needs("mosh-server", "mosh-client", "script")
     def test_mosh(self) -> None:
-        """A line typed through the link comes back: the server's shell prints what no client knows."""
+        """A line typed through the link returns: the server's shell prints a text that the client can't know."""
         inside = f"{self.folder}/inside"
         serve = (
             "LC_ALL=C.UTF-8 mosh-server new -i 10.8.0.2 -p 60001 -- sh -c 'echo $((6 * 7))-there; sleep 3' >"
@@ -121,10 +121,10 @@ class OfDownloads(Behind):
 @needs_rooms
 @needs("curl")
 class OfOutside(Behind):
-    """Both programs lead some address to the loopback interface of the system."""
+    """Both programs map an address to the system's loopback interface."""
 
     def asked(self, path: str, own: str, gateway: str, *before: str) -> None:
-        """The command reaches the system's loopback where the option opens it, and else doesn't."""
+        """Asserts that the command reaches the system's loopback only with the option that opens it."""
         self.assertEqual("", self.answer(path, own, gateway, "--outside", *before).partition(" ")[0])
         answer = self.answer(path, own, gateway, "--outside-loopback", *before)
         self.assertRegex(answer, r"^from outside \d+\.\d+$")

@@ -56,7 +56,7 @@ def run_options(words: list[str]) -> RunOptions:
 
 
 def refused(words: list[str]) -> str:
-    """What the command line says of words that it doesn't take."""
+    """Returns the command line's message on words that it refuses."""
     said = io.StringIO()
     with contextlib.redirect_stderr(said), contextlib.suppress(SystemExit):
         options().parse_args(words)
@@ -65,7 +65,9 @@ def refused(words: list[str]) -> str:
 
 class Lines(unittest.TestCase):
     def test_a_whole_line_gets_a_whole_line_or_why_there_is_none(self) -> None:
-        """Each line to type is accepted as it is: the words after `hinge run` by the parser, and the links by their readers."""
+        """Each advised line is accepted unchanged: the parser reads the words after `hinge run`, and the readers of links read
+        the links.
+        """
         assert len(FOREIGN) > 100
         for line, wanted in FOREIGN:
             with self.subTest(line):

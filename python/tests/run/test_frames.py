@@ -1,4 +1,4 @@
-"""The host as an Ethernet switch between sockets: the ports that a frame leaves by, and its row."""
+"""The host as an Ethernet switch between sockets: a frame's outgoing ports, and its row."""
 
 from __future__ import annotations
 
@@ -35,7 +35,7 @@ class Case(NamedTuple):
 
 
 def hello(port: int, by: int) -> Sent:
-    """What lets the switch know where an address is."""
+    """Returns a frame from which the switch learns the port of an address."""
     return Sent(port, frame(OWN_SWITCH, by))
 
 
@@ -67,7 +67,7 @@ CASES = [
 
 
 def received(port: socket.socket, ends: int) -> list[bytes]:
-    """All frames up to so many last ones."""
+    """Returns all frames up to this number of last ones."""
     got = list[bytes]()
     while got.count(LAST) < ends:
         got.append(port.recv(65536))
@@ -77,7 +77,7 @@ def received(port: socket.socket, ends: int) -> list[bytes]:
 @needs_host
 class OfSwitches(unittest.TestCase):
     def switched(self, sent: list[Sent], plan: str = "") -> tuple[list[list[bytes]], Ended]:
-        """What each port gets."""
+        """Returns the frames that each port receives."""
         open_pipes = "".join(f"line pipe {pipe} config\n" for pipe in range(1, 2 * PORTS + 1))
         link = Linked(f"{SEEDS}{open_pipes}{plan}switch 0 2 4\ncontents\n", links=PORTS)
         ports = link.ends[::2]
@@ -121,7 +121,7 @@ class OfSwitches(unittest.TestCase):
         ]
 
     def test_each_port_has_its_own_link(self) -> None:
-        """Its losses and its delay: of two frames to all one is lost on the way to port 1."""
+        """Each port has its own loss and delay: of two broadcast frames, one is lost on the way to port 1."""
         sent = [Sent(0, frame(ALL, 0, b"one")), Sent(0, frame(ALL, 0, b"two"))]
         plan = "line pipe 1 config delay 5\nline pipe 6 config delay 7\nline pipe 4 config plr 0.5\nlist 3 2\n"
         got, ended = self.switched(sent, plan)

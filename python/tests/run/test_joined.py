@@ -1,4 +1,4 @@
-"""`hinge run --netns`: a link inside a network that is there already, as a container's."""
+"""`hinge run --netns`: a link inside an existing network, such as a container's."""
 
 from __future__ import annotations
 
@@ -30,7 +30,7 @@ def ip(*words: str) -> str:
 @needs("ip", "ping", "curl")
 @unittest.skipIf(os.geteuid() != 0, "only root can make a network that others enter")
 class OfNetworks(WithFolder):
-    """A network with one interface towards another network, as between a container and its machine."""
+    """A network with an interface towards another network, like a container and its machine."""
 
     def setUp(self) -> None:
         super().setUp()
@@ -53,7 +53,7 @@ class OfNetworks(WithFolder):
         return subprocess.run(["ip", "netns", "exec", self.outer, *words], capture_output=True, text=True)
 
     def state(self) -> list[str]:
-        """Rules, routes, interfaces and settings."""
+        """Returns the rules, routes, interfaces and settings."""
         settings = self.inside(
             "sh", "-c", "cd /proc/sys/net/ipv4/conf; grep . */rp_filter */accept_local */forwarding */proxy_arp ../ip_early_demux"
         ).stdout
@@ -63,7 +63,7 @@ class OfNetworks(WithFolder):
         ] + [settings]
 
     def took(self, done: Done[str]) -> float:
-        """s of the fastest ping."""
+        """Returns the time of the fastest ping, in s."""
         return float(re.findall(r"min/avg/max/mdev = ([0-9.]+)/", done.stdout)[0]) / 1000
 
     def test_a_command_there_goes_through_the_link(self) -> None:
@@ -150,7 +150,7 @@ NO_DAEMON = "#!/bin/sh\necho no daemon >&2; exit 1\n"
 
 
 class Containers(WithFolder):
-    """By the command line of docker and podman, which print here what theirs print."""
+    """Containers through the command lines of docker and podman; scripts print the answers of these programs."""
 
     def of(self, name: str, **engines: str) -> str:
         for engine in ("docker", "podman"):

@@ -1,4 +1,4 @@
-"""The host between two sockets: packets, the map, losses, changes, outages and its end."""
+"""The host between two sockets: packets, the map, losses, changes, outages and the end."""
 
 from __future__ import annotations
 
@@ -20,7 +20,7 @@ from link_packets import CLIENT, SERVER, plan_of, udp
 @needs_host
 class OfPackets(unittest.TestCase):
     def run_link(self, plan: str, packets: list[bytes], expected: int) -> tuple[list[bytes], Ended]:
-        """Sends packets up and takes those that come; the transcript is lawful."""
+        """Sends packets up; returns the packets that arrive. The transcript is lawful."""
         link = Linked(SEEDS + plan)
         for packet in packets:
             link.near.send(packet)
@@ -101,7 +101,7 @@ class OfPackets(unittest.TestCase):
 @needs_host
 class OfLosses(unittest.TestCase):
     def fates(self, seed: int, back: int = 0) -> list[str]:
-        """What becomes of 200 packets up, with so many down beside them."""
+        """Returns the fates of 200 packets up, with this number of packets down beside them."""
         plan = plan_of("pipe 1 config")
         plan.loss("gilbert:0.1,0.3")
         link = Linked(plan.text(seed))
@@ -133,8 +133,9 @@ class OfLosses(unittest.TestCase):
         self.assertEqual((got, link.end().counts.ways[0]["lost"]), (list(range(1, 600, 2)), 300))
 
     def test_words_and_losses_are_those_of_the_models(self) -> None:
-        """hinge.captures.random_words draws the words of a loss rate, and hinge.loss decides by the same seed what a
-        burst loses."""
+        """hinge.captures.random_words draws the words of a loss rate, and hinge.loss decides by the same seed which packets a
+        burst loses.
+        """
         link = Linked("seed 0 9\nseed 1 9\nline pipe 1 config plr 0.3\nline pipe 2 config\n")
         for number in range(30):
             link.near.send(udp(1))
@@ -153,8 +154,9 @@ class OfLosses(unittest.TestCase):
         self.assertNotEqual(first, self.fates(6))
 
     def test_the_share_of_losses_is_that_of_the_model(self) -> None:
-        """To bad 0.25, to good 0.75: a quarter of all packets; five standard deviations of 4,000 that are drawn one by
-        one are 0.034."""
+        """With 0.25 to the bad state and 0.75 to the good one, a quarter of all packets is lost, within 0.034: five standard
+        deviations for 4,000 separate draws.
+        """
         plan = plan_of("pipe 1 config")
         plan.loss("gilbert:0.25,0.75")
         link = Linked(plan.text(3))
@@ -179,7 +181,7 @@ WRONG = """transcript|transcript x|at|at x pipe 1 config|outage 5 1|outage 5 0 9
 @needs_host
 class OfTheEnd(unittest.TestCase):
     def test_it_ends_while_packets_wait(self) -> None:
-        """Beside a signal the host reads no more waiting packets than in a single turn."""
+        """After a signal, the host reads at most as many waiting packets as in a single turn."""
         link = Linked(SEEDS + "line pipe 1 config\n")
         link.near.setsockopt(socket.SOL_SOCKET, socket.SO_SNDBUF, 2**20)
         with stopped(link.process.pid):
@@ -235,7 +237,7 @@ class OfTheEnd(unittest.TestCase):
             self.assertEqual((ended.status, told in ended.said), (3, True))
 
     def test_a_plan_has_no_other_lines(self) -> None:
-        """Each is told whole, and no packet is taken."""
+        """The host refuses each line with its whole text, and accepts no packet."""
         for text in f"{WRONG}map 0 0 1 -1 -1 {'x ' * 4}0 65535 0 65535".split("|"):
             ended = Linked(text + "\n").ended()
             line = text.rpartition("at 5 ")[2]

@@ -1,4 +1,4 @@
-"""The host of a link by the clock: moments, and a machine that does other work."""
+"""The host of a link by the clock: moments, and a machine with other work."""
 
 from __future__ import annotations
 
@@ -38,7 +38,7 @@ class OfTime(unittest.TestCase):
         assert int(found(r"^d,1,.*,(\d+)$", ended.history)[0]) >= 2_200_000_000
 
     def test_each_change_is_made_at_its_moment(self) -> None:
-        """No packet that is read in between takes the links beyond a change."""
+        """No packet that the host reads in between moves the links past a change."""
         moments = [300_000_000 + 500_000 * number for number in range(600)]
         changes = "".join(f"at {moment} pipe 2 config delay {number}\n" for number, moment in enumerate(moments, 1))
         link = Linked(f"{SEEDS}line pipe 1 config\nline pipe 2 config\n{changes}")
@@ -53,7 +53,7 @@ class OfTime(unittest.TestCase):
         assert [int(moment) for moment in made] == moments
 
     def test_its_lateness_is_remarked(self) -> None:
-        """A host that was stopped is late, and a remark has the most that the page has. The audit passes over it."""
+        """A stopped host is late, and the greatest value of its page appears in a remark, which the audit ignores."""
         link = Linked(SEEDS + "line pipe 1 config delay 20\n")
         link.near.send(udp(1))
         until(lambda: link.came() == 1)
@@ -97,7 +97,7 @@ class OfTime(unittest.TestCase):
         assert sorted(os.listdir(link.folder.name)) == sorted(map(os.path.basename, parts))
 
     def test_a_deleted_queue_is_in_no_later_part(self) -> None:
-        """By both forms of the line, and a number that another line has with a pipe."""
+        """Both forms of the line delete a queue. One number belongs to a pipe, too, which stays."""
         queues = "".join(f"line queue {number} config pipe 1 weight {number}\n" for number in (1, 2, 23))
         deletes = "at 100000000 queue delete 2\nat 110000000 ipfw queue 23 delete\n"
         link = Linked(f"{SEEDS}line pipe 1 config delay 5\nline pipe 2 config\n{queues}{deletes}", most=1)

@@ -1,4 +1,4 @@
-"""The words of a link mean the same wherever they stand: in options, nets, timelines, changes, marks of tests, hingetulip.aio and lines."""
+"""A link's words mean the same in options, nets, timelines, changes, marks of tests, hingetulip.aio and lines."""
 
 from __future__ import annotations
 
@@ -225,7 +225,7 @@ def test_presets_are_words_of_a_link() -> None:
 
 
 def test_the_program_takes_what_the_reader_takes_and_its_advice_is_the_readers() -> None:
-    """A line has the options in full; what is said of a wrong value is the same."""
+    """A line contains the options in full, and gets the same message on a wrong value."""
     options = r"(bw|delay|queue|plr|buckets|mask|weight|red|latency|BW)\b"
     texts = [text for text in SAME if re.match(options, text) and ": a second " not in SAME[text]]
     told = {verdict.line: verdict for verdict in judged_lines([f"pipe 1 config {text}".encode() for text in texts])}

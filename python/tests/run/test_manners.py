@@ -16,7 +16,7 @@ from with_folder import WithFolder
 @needs_rooms
 class OfServers(WithFolder):
     def server(self, command: str, *words: str) -> tuple[int, str, Any]:
-        """The status, what is said, and what the summary has of the server."""
+        """Returns the status, the messages, and the server's part of the summary."""
         done = run("--quiet", "--server", command, "--json", self.folder / "json", *words)
         return done.returncode, done.stderr, json.loads((self.folder / "json").read_text())["server"]
 
@@ -117,7 +117,7 @@ class OfFiles(WithFolder):
         assert begun.wait(60) == 143
 
     def test_a_signal_while_its_files_are_read(self) -> None:
-        """A FIFO into which nothing is written puts off the plan for ever."""
+        """An empty FIFO that nobody writes to holds up the plan for ever."""
 
         def reader() -> Optional[int]:
             with contextlib.suppress(OSError):

@@ -69,7 +69,7 @@ class OfManyLinks(unittest.TestCase):
         self.assertEqual([(way["came"], way["sent"], sum(way.unread.bins)) for way in ended.counts.ways], [(1, 1, 1)] * 6)
 
     def test_what_a_plan_says_of_a_link_is_of_that_alone(self) -> None:
-        """A loss, an outage and a change of the second link, of three."""
+        """Of three links, the second has a loss, an outage and a change."""
         plan = Plan(1500, 3)
         for number in range(3):
             plan.link("pipe 1 config", number), plan.link("pipe 2 config", number)
@@ -96,7 +96,7 @@ class OfManyLinks(unittest.TestCase):
         self.assertTrue(5 * 10**9 < int(moment) < after, moment)
 
     def test_a_packet_is_known_again(self) -> None:
-        """After a host the time to live, class and checksums differ, and no other field."""
+        """Behind a host only the time to live, the class and the checksums differ."""
         link = Linked("contents\nremark pipe,1,a,b\nline pipe 1 config\n")
         first, second = udp(1, 60), udp(1, 59) + b"x"
         again = bytes([0x45, 3]) + first[2:8] + bytes([63]) + first[9:10] + b"?!" + first[12:26] + b"?!" + first[28:]
@@ -113,8 +113,7 @@ class OfManyLinks(unittest.TestCase):
 @needs("cc")
 class OfItsClock(unittest.TestCase):
     def counted(self, *plan: str) -> tuple[int, int, int]:
-        """Of 100 packets that come one after the other: the readings of the clock, the waits with a timeout, and the
-        turns."""
+        """Sends 100 packets one after the other; returns the numbers of clock readings, of waits with a timeout, and of turns."""
         with tempfile.TemporaryDirectory() as name:
             counter, told = Path(name, "counter.so"), Path(name, "reads")
             subprocess.run(["cc", "-shared", "-fPIC", "-x", "c", "-", "-o", str(counter)], input=COUNTER, text=True, check=True)
@@ -144,5 +143,7 @@ class OfItsClock(unittest.TestCase):
         self.assertEqual((timed, turns < 500), (0, True))
 
     def test_before_all_others_it_polls_before_a_moment(self) -> None:
-        """Without that a packet that comes alone has a turn to come and one to leave; how many more, the machine's load decides."""
+        """Without polling, a packet that arrives by itself needs a turn to arrive and a turn to leave. The machine's load
+        decides how many turns are added.
+        """
         self.assertGreater(self.counted("realtime")[2], self.counted()[2])

@@ -1,4 +1,4 @@
-"""`hinge net`: rooms of many hosts, their ways and names, what runs there, and its end."""
+"""`hinge net`: rooms of many hosts, their links and names, their commands, and the end."""
 
 from __future__ import annotations
 

@@ -1,4 +1,4 @@
-"""What happens to hosts of `hinge net`, and moments by the main command's beginning."""
+"""Acts on the hosts of `hinge net`, and moments counted from the main command's start."""
 
 from __future__ import annotations
 
@@ -22,7 +22,7 @@ class OfHosts(InAFolder):
         return (self.folder / "told").read_text().splitlines()
 
     def test_a_kill_and_a_restart(self) -> None:
-        """Also of what is in no group of the command any more."""
+        """The kill also ends processes that left the command's group."""
         command = f"setsid sleep 77.3 & echo begun >> {self.folder}/told; exec sleep 1000"
         done = self.net(
             f"host a {command}\nhost b exec sleep 1000\nmain c sleep 4; cat /proc/[0-9]*/cmdline | tr '\\0' ' '\n{TWO}"
@@ -39,7 +39,7 @@ class OfHosts(InAFolder):
         self.assertRegex(done.stderr, r"net: a: killed by an act after [0-9.]+ s, and not begun again\n")
 
     def test_a_kill_just_behind_a_restart_ends_its_command(self) -> None:
-        """Also where the restart comes late, behind the kill."""
+        """The kill ends the command even if the restart is late, behind the kill."""
         names = [f"h{number}" for number in range(8)]
         lines = [f"host {name} exec sleep 78.3\nlink {name} m 1ms\nat 500ms kill {name} 500ms\n" for name in names]
         lines += [f"at {1001 + 2 * place}ms kill {name}\n" for place, name in enumerate(names)]
@@ -59,7 +59,7 @@ class OfHosts(InAFolder):
         self.assertEqual(self.summary()["hosts"]["a"]["by"], "SIGTERM")
 
     def test_faults_with_a_length_end_by_themselves(self) -> None:
-        """Each ends for itself: the stop that ends first doesn't end the other, and a host is begun again once."""
+        """Each fault ends separately: the first stop's end doesn't end the other stop, and a host restarts once."""
         command = f"echo begun >> {self.folder}/told; while :; do echo on; sleep 0.02; done"
         done = self.logged(
             f"host a {command}\nmain c sleep 3\n{TWO}at 200ms stop a 1s\nat 300ms stop a 200ms\nat 1500ms kill a 200ms\n"
@@ -73,7 +73,7 @@ class OfHosts(InAFolder):
         self.assertGreaterEqual(moments[2], self.summary()["main"] + 1_190_000_000)
 
     def test_a_fault_of_a_host_on_which_nothing_runs(self) -> None:
-        """Its command had ended by itself; a stop of a host that a kill has ended changes something, as it lasts longer."""
+        """The host's command had ended. A stop of a host that a kill ended has an effect, since the stop lasts longer."""
         lines = "host a true\nhost b exec sleep 99\nmain c sleep 2\nlink a c 5ms\nlink b c 5ms\nat 1s kill a\n"
         more = "at 1s kill b 300ms\nat 1200ms stop b 300ms\n"
         why = "changed nothing, as the host's command had ended by itself: `kill a`"
@@ -83,7 +83,7 @@ class OfHosts(InAFolder):
         assert done.returncode == 75 and why in found("void: (.*)", done.stderr), done.stderr
 
     def test_a_stop_lasts_over_a_restart(self) -> None:
-        """What begins on a stopped host waits until the host goes on; other hosts' acts don't wait for that."""
+        """A command that starts on a stopped host waits until the stop ends, and other hosts' acts don't wait for that."""
         count = f"wc -l < {self.folder}/told"
         done = self.net(
             f"host a echo begun >> {self.folder}/told; exec sleep 1000\nmain c sleep 1.2; {count}; sleep 3; {count}\n{TWO}"
@@ -94,7 +94,9 @@ class OfHosts(InAFolder):
         self.assertEqual([one["words"] for one in self.summary()["acts"]], words)
 
     def test_a_stop_of_the_first_process_ends_nothing(self) -> None:
-        """It is stopped beyond the second at which it looks at the hosts. The links' acts come meanwhile, and each is told of its moment."""
+        """The first process is stopped for longer than its period of a second. Meanwhile the links carry out their acts, and
+        report each moment.
+        """
         self.file.write_text(
             f"main a echo begun > {self.folder}/told; sleep 2; echo ended\nhost b exec sleep 99\n{TWO.replace('c', 'b')}"
             "at 500ms stop b 300ms\n"
@@ -109,7 +111,7 @@ class OfHosts(InAFolder):
         self.assertGreaterEqual(end - begin, 0.2 * 10**9)
 
     def test_the_main_command_begins_behind_all_others(self) -> None:
-        """So a kill at the main command's start reaches every host, and no host starts later."""
+        """A kill at the main command's start therefore reaches every host, and no host starts later."""
         hosts = [f"h{number}" for number in range(40)]
         lines = [*(f"host {host} exec sleep 1000" for host in hosts), "main m sleep 1", *(f"link {host} m 5ms" for host in hosts)]
         done = self.net("\n".join([*lines, *(f"at main+1ms kill {host}" for host in hosts), ""]))
@@ -117,7 +119,7 @@ class OfHosts(InAFolder):
         self.assertEqual({self.summary()["hosts"][host]["by"] for host in hosts}, {"kill"})
 
     def test_no_program_sees_a_stop(self) -> None:
-        """With cgroups, a shell isn't told that its child stopped, as it is after a signal."""
+        """With cgroups a shell doesn't learn that its child stopped, unlike with a signal."""
         if own_folder() is None or not os.access(str(own_folder()), os.W_OK):
             self.skipTest("this user may make no cgroup")
         told = f"import os; print(os.waitpid(-1, os.WUNTRACED)[1], file=open('{self.folder}/told', 'w'), flush=True)"

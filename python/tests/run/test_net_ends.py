@@ -1,4 +1,4 @@
-"""`hinge net` with the world outside, and at its end."""
+"""`hinge net` with the outside world, and its end."""
 
 from __future__ import annotations
 
@@ -21,7 +21,7 @@ class OfOutside(InAFolder):
     """A server on the system's loopback stands for the rest of the network."""
 
     def answers(self, option: str, host: str) -> list[str]:
-        """What each host gets of a server outside."""
+        """Returns each host's answer from a server outside."""
         with web_server(self.folder, "127.0.0.1") as port:
             ask = f"curl -s -o /dev/null -m 3 -w '%{{http_code}} %{{time_total}}' http://{GATEWAY}:{port}/"
             done = self.net(
@@ -50,7 +50,7 @@ class OfOutside(InAFolder):
 @needs("pgrep")
 class OfTheWayOut(unittest.TestCase):
     def test_what_is_told_first_does_not_matter(self) -> None:
-        """The launcher and the first process write to one pipe, and nothing orders them."""
+        """The launcher and the first process write to one pipe in any order."""
         for parts in ((b"7 True", b"!"), (b"!", b"7 True")):
             told: "list[tuple[object, ...]]" = []
             read_end, write_end = os.pipe()
@@ -71,7 +71,7 @@ class OfTheWayOut(unittest.TestCase):
 
 class OfTheEnd(InAFolder):
     def test_signals_leave_nothing(self) -> None:
-        """In the run and while a port is waited for."""
+        """Signals arrive during the run and during the wait for a port."""
         for number, status in ((signal.SIGTERM, 143), (signal.SIGINT, 130), (signal.SIGKILL, -9)):
             for wait in ("", "wait a port 9 1h\n"):
                 mark = f"{7000 + os.getpid() % 1000}.{int(number)}{len(wait)}"
@@ -86,7 +86,7 @@ class OfTheEnd(InAFolder):
                     begun.kill()
 
     def test_what_is_killed_is_told(self) -> None:
-        """The links, and the first process, which can say nothing then."""
+        """The test kills the links, and then the first process, which can report nothing itself."""
         broken = "void: the links broke off before the end"
         ended = "hinge net: SIGKILL ended the run's first process, and with it all programs, before a summary"
         mark = f"{7000 + os.getpid() % 1000}.5"

@@ -1,4 +1,4 @@
-"""What a file of `hinge net` becomes: lines of a plan, cuts, and the faults that a nemesis draws."""
+"""The meaning of a file for `hinge net`: lines of a plan, cuts, and the faults that a nemesis draws."""
 
 from __future__ import annotations
 
@@ -109,14 +109,14 @@ class OfPlans(OfFiles):
             assert {pipe: ", ".join(found) for pipe, found in moments.items()} == wanted, text
 
     def drawn(self, kind: str, count: int, seed: int) -> list[str]:
-        """The lines of a nemesis on a mesh of so many hosts."""
+        """Returns the lines of a nemesis on a mesh of this many hosts."""
         names = "abcdefg"[:count]
         mesh = "".join(f"link {one} {two}\n" for one in names for two in names if one < two)
         text = "".join(f"host {name} x\n" for name in names) + mesh + f"nemesis {kind} every 2s for 1s until 5s\n"
         return NetPlan(self.net(text), 1500, seed).drawn
 
     def apart(self, lines: list[str], moment: str) -> set[frozenset[str]]:
-        """The pairs of hosts that are cut from each other at a moment; no pair is named twice."""
+        """Returns the pairs of hosts that are cut from each other at a moment; each pair appears once."""
         pairs = [
             frozenset((words[3], other))
             for words in map(str.split, lines)

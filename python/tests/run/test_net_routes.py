@@ -1,5 +1,4 @@
-"""`hinge net`: hosts that should hand packets on, routes and groups for routing daemons, names of both families, and
-the MTU of a link."""
+"""`hinge net`: forwarding hosts, routes and groups for routing daemons, names of both families, and a link's MTU."""
 
 from __future__ import annotations
 
@@ -53,8 +52,9 @@ class OfRoutes(InAFolder):
         assert done.stderr.splitlines()[0] == "hinge net: c has no way to a: r hands nothing on; write router r"
 
     def test_what_a_router_rightly_doesnt_forward(self) -> None:
-        """Nothing leads there, or it is too long, of which the sender learns, or the router rejects it. An interface that the
-        router's program adds forwards too."""
+        """No route exists, or the packet is too long and its sender learns this, or the router rejects the packet. A new
+        interface of the router's program forwards too.
+        """
         done = self.logged(
             "host b\nrouter r ip route add unreachable 10.78.0.0/24; ip tuntap add own mode tun; cat /proc/sys/net/ipv4/conf/own/forwarding; exec sleep 1000\n"
             "main a ip route add 10.77.0.0/24 dev to-r; ping -q -c 3 -i 0.2 -W 1 10.77.0.1; ping -q -c 2 -i 0.2 -W 1 -M do -s 1400 b;"
@@ -67,14 +67,14 @@ class OfRoutes(InAFolder):
         self.assert_lawful()
 
     def test_jitter_hands_on_what_no_host_may(self) -> None:
-        """A packet whose time to live is 1, and one to a group of the link."""
+        """The packets: one with a time to live of 1, and one to a group of the link."""
         asker = self.script("asker.py", ASKER.partition("print")[0])
         done = self.net(f"host a\nmain c {PING} -t 1 a && {asker} && {PING} a\nlink a c 1ms jitter 3ms\n")
         assert (done.returncode, self.packets()) == (0, {"c > a": 3, "a > c": 2}), done.stderr
         self.assert_lawful()
 
     def test_a_packet_to_a_group_changes_no_later_one(self) -> None:
-        """Its time to live, 1, is not that of the next packet to a host by the same interface."""
+        """The next packet to a host through the same interface doesn't inherit the group packet's time to live of 1."""
         asker = self.script("asker.py", ASKER.partition("print")[0])
         done = self.net(f"host a\nrouter r\nmain c {asker} && {PING} a >/dev/null && {PING} a\nlink a r 1ms\nlink r c 1ms\n")
         assert (done.returncode, self.packets()["c > r"]) == (0, 3), done.stdout
@@ -122,7 +122,7 @@ class OfRoutes(InAFolder):
         assert done.stdout == "10.8.0.2 fd08::2\n", done.stderr
 
     def test_the_mtu_of_a_link(self) -> None:
-        """A router says what is too long for its next link."""
+        """A router rejects packets that are too long for its next link."""
         done = self.net(
             "host a\nrouter r\nmain c ip -o link show to-r; ping -M do -s 8972 -c 1 -W 5 -q r && ping -M do -s 2000 -c 1 -W 5"
             " a\nlink a r 1ms\nlink r c 1ms\nlink r c 2ms\nmtu r c 9000\nmtu c r 2 3000\n"
@@ -147,7 +147,7 @@ class OfRoutes(InAFolder):
 @needs("bird", "ping", "ip")
 class OfOspf(InAFolder):
     def test_a_ring_of_routers_finds_another_way(self) -> None:
-        """With nothing of the kit's routes deleted: by the one link, and when that is cut by the others."""
+        """The test deletes none of the kit's routes. Packets take the single link, and after its cut the other links."""
         done = hinge("net", EXAMPLE, "--transcripts", self.folder / "out", "--quiet", seconds=120)
         assert done.returncode == 0, done.stderr
         assert done.stdout.splitlines() == ["r1 is reached by r1", "r1 is reached by r3", "converged"], done.stderr

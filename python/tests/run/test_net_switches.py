@@ -1,4 +1,4 @@
-"""`hinge net`: a switch hands packets to groups and broadcasts on to each other link, as they are."""
+"""`hinge net`: a switch forwards packets to groups and broadcasts unchanged, to each other link."""
 
 from __future__ import annotations
 
@@ -104,7 +104,7 @@ while True:
 @needs("ping", "ip")
 class OfSwitches(InAFolder):
     def groups(self) -> dict[str, int]:
-        """How many packets of UDP to groups and broadcasts each way had."""
+        """Returns the number of UDP packets to groups and broadcasts by way."""
         ways = found(r"^#,pipe,\d+,(.*),(.*)$", self.history())
         pipes = found(r"^c,0,submit,pipe,(\d+),[\d.]+,(?:224|239|255|240)[\d.]+,17,\d+,\d+,", self.history())
         return {" > ".join(ways[int(pipe) - 1]): pipes.count(pipe) for pipe in pipes}
@@ -159,7 +159,7 @@ class OfSwitches(InAFolder):
         self.assert_lawful()
 
     def test_a_member_gets_the_packet_as_it_was_sent(self) -> None:
-        """With its checksum, and its time to live."""
+        """The checksum and the time to live are unchanged."""
         receiver, log = self.script("receiver.py", RECEIVER), self.logs / "a.log"
         sender = self.script("sender.py", SENDER.replace("bytes(place)", "b'question'").replace(", 9))", ", 5353))"))
         done = self.logged(
@@ -200,7 +200,7 @@ class OfDhcp(InAFolder):
 @needs("keepalived", "ping")
 class OfVrrp(InAFolder):
     def test_one_of_two_is_the_master(self) -> None:
-        """And has the address that both share. The other is so once the first is cut."""
+        """The master has the shared address. After a cut of the first, the other one is the master."""
         for name, priority in (("k1", 150), ("k2", 100)):
             (self.folder / f"{name}.conf").write_text(KEEPALIVED.format(priority=priority))
         at = f"{self.folder}/$HINGE_HOST"

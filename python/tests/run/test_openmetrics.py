@@ -27,7 +27,7 @@ class Sample(NamedTuple):
 
 
 def parsed(text: str) -> list[Sample]:
-    """By the rules of the format as far as these texts go; a ValueError names what is against them."""
+    """Parses these texts by the format's rules. ValueError: a rule is broken."""
     lines, samples, families = text.split("\n"), list[Sample](), dict[str, str]()
     if lines[-2:] != ["# EOF", ""] or lines.count("# EOF") != 1:
         raise ValueError("no end")
@@ -55,7 +55,7 @@ def parsed(text: str) -> list[Sample]:
 
 
 def parsed_by_prometheus(text: str) -> list[Sample]:
-    """The same by the client of Prometheus, where Debian's package is there."""
+    """Parses by Prometheus' client, if Debian's package is installed."""
     try:
         from prometheus_client.openmetrics.parser import text_string_to_metric_families
     except ImportError:

@@ -1,4 +1,4 @@
-"""The host with a recorded trace and with outages: each packet leaves when it should, whatever its length."""
+"""The host with a recorded trace and with outages: each packet leaves at its moment, whatever its length."""
 
 from __future__ import annotations
 
@@ -17,7 +17,7 @@ Passage = tuple[int, int, int, int]  # moment, bytes, start, due
 
 
 def passages(history: str) -> list[Passage]:
-    """The packets of pipe 1 that were delivered, in the order in which they came, without those that nobody sent."""
+    """Returns pipe 1's delivered packets in the order of their arrival, without packets that nobody sent."""
     came = {
         int(number): (int(moment), int(length))
         for length, moment, number in found_all(
@@ -33,13 +33,13 @@ def found_all(pattern: str, text: str) -> list[tuple[str, ...]]:
 
 
 def passed(link: Linked) -> int:
-    """The packets that left, also those that nobody took at the far end, whose buffer is small."""
+    """Returns the packets that left, including those that the far end's small buffer discarded."""
     up = link.page.read().ways[0]
     return up["sent"] + up["refused"]
 
 
 def opportunities(moments: list[int]) -> Iterator[int]:
-    """The moments of a trace, in ns, again and again."""
+    """Yields the moments of a repeated trace, in ns."""
     base = 0
     while True:
         yield from (base + moment * MS for moment in moments)
@@ -47,8 +47,9 @@ def opportunities(moments: list[int]) -> Iterator[int]:
 
 
 def by_opportunities(packets: list[Passage], moments: list[int]) -> list[int]:
-    """When each packet leaves: at each opportunity so many bytes of those that are there, and what nobody uses is
-    lost."""
+    """Returns each packet's moment of leaving: each opportunity carries this many bytes of the waiting packets, and what nobody
+    uses is lost.
+    """
     left, waiting, coming = [], deque[list[int]](), deque(packets)
     for moment in opportunities(moments):
         while coming and coming[0][0] <= moment:
@@ -76,8 +77,9 @@ class OfTraces(unittest.TestCase):
         return passages(ended.history)
 
     def close(self, told: list[Passage], moments: list[int]) -> None:
-        """A rate is in whole bit/s, so that a packet ends some ns later than it should, and never sooner; and one that
-        shares a moment takes 1 ns or more."""
+        """Asserts that moments agree: a rate is in whole bit/s, so that a packet ends some ns late and never early, and one
+        that shares a moment takes 1 ns or more.
+        """
         wanted = by_opportunities(told, moments)
         self.assertEqual(len(wanted), len(told))
         for (_, length, start, due), moment in zip(told, wanted):
@@ -96,7 +98,7 @@ class OfTraces(unittest.TestCase):
             self.close(self.dues(moments, sizes, [rng.choice((0, 0, 0, 0.005)) for _ in sizes]), moments)
 
     def test_a_constant_trace_takes_no_lines(self) -> None:
-        """At 12 Mbit/s, packets that wait for each other keep a single rate."""
+        """At 12 Mbit/s, packets behind each other need only one rate."""
         link = Linked(f"{SEEDS}slots 1 1\nline pipe 1 config queue 1000\n")
         link.near.setsockopt(socket.SOL_SOCKET, socket.SO_SNDBUF, 2**20)
         with stopped(link.process.pid):  # so that it takes them at once
@@ -119,8 +121,9 @@ class OfTraces(unittest.TestCase):
 @needs_host
 class OfOutages(unittest.TestCase):
     def test_nothing_leaves_in_an_outage_whatever_the_length_of_packets(self) -> None:
-        """Packets that begin in an outage leave at its end, as exactly as a rate in whole bit/s allows. It begins with or without
-        waiting packets."""
+        """Packets that start in an outage leave at its end, as exactly as a rate in whole bit/s allows. The outage begins with
+        or without waiting packets.
+        """
         begin, end = 100 * MS, 350 * MS
         for size in (40, 100, 800, 1200, 1500):
             for greedy in (True, False):
@@ -144,7 +147,7 @@ class OfOutages(unittest.TestCase):
                 self.assertEqual({due - start for _, _, start, due in told if not begin <= start < end}, {transmission})
 
     def test_a_moment_of_a_trace_at_which_it_ends_is_used(self) -> None:
-        """The trace has moments at 5 and 10 ms, again and again, and the outage ends at one of the first."""
+        """The repeated trace has moments at 5 and 10 ms, and the outage ends at one of the first kind."""
         end = 405 * MS
         link = Linked(f"{SEEDS}slots 1 5 10\nhold 1 0 {end}\nline pipe 1 config\n")
         for _ in range(2):

@@ -1,4 +1,4 @@
-"""Jitter and duplicates: a second pass through a pipe of a drawn delay, and a second submit."""
+"""Jitter and duplicates: a second pass through a pipe with a drawn delay, and a second submission."""
 
 from __future__ import annotations
 
@@ -30,7 +30,7 @@ PIPES = "".join(f"line pipe {FIRST + place} config delay {STEP * place}\n" for p
 
 
 def plan_words(*words: str) -> list[str]:
-    """The lines of the plan that options make."""
+    """Returns the lines of the plan for these options."""
     parser = Parser()
     add_link(parser), add_run(parser)
     options = LiveOptions(**vars(parser.parse_args(words)), more_files=())
@@ -44,7 +44,7 @@ def udp(number: int) -> bytes:
 @needs_host
 class OfPasses(unittest.TestCase):
     def sent(self, plan: str, wanted: Sequence[int]) -> tuple[Ended, Way]:
-        """How a host ends that was sent COUNT packets, and what it counted up, where these came, in this order."""
+        """Returns a host's result and its upward counts for COUNT packets, if these packets arrive in this order."""
         link = Linked(SEEDS + plan)
         for number in range(COUNT):
             link.near.send(udp(number))
@@ -62,7 +62,7 @@ class OfPasses(unittest.TestCase):
         assert (way["came"], way["sent"], way["held"], way.underway) == (COUNT, COUNT, 0, 0)
 
     def test_faults_are_of_packets_by_their_numbers(self) -> None:
-        """The first comes twice, which counts once, the second is lost, and the fourth and the fifth are late."""
+        """The first packet arrives twice and counts once, the second is lost, and the fourth and the fifth are late."""
         faults = f"list 0 2 7\nfault 0 1 1 1\nfault 0 1 7 1\nfault 0 2 4 {FIRST + 2}\nfault 0 2 5 {FIRST + 1}\n"
         plan = f"line pipe 1 config delay 3 plr 0.5\n{PIPES}jitter 0 {FIRST} 1 7\n{faults}"
         _, way = self.sent(plan, [0, 0, 2, 5, 6, *range(7, COUNT), 4, 3])
@@ -89,7 +89,7 @@ class OfPasses(unittest.TestCase):
         assert words == [str(word(1, number)) for number in range(1, 2 * COUNT + 1)]
 
     def test_a_bit_is_flipped_behind_the_last_pass(self) -> None:
-        """By the place among those that left, and not in a packet without a byte behind its header."""
+        """The fault counts packets that leave, and skips a packet without a byte behind its header."""
         link = Linked(f"{SEEDS}line pipe 1 config\nline pipe {FIRST} config\njitter 0 {FIRST} 1 7\ncorruption 0 {CERTAIN // 4} 7\n")
         wanted, got = [udp(0)[:20]], list[bytes]()
         for number in range(1, COUNT):

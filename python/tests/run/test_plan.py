@@ -1,4 +1,4 @@
-"""Words and files as a plan: no privilege, no host."""
+"""Words and files become a plan, without privileges or a host."""
 
 from __future__ import annotations
 
@@ -74,7 +74,7 @@ class Words(unittest.TestCase):
 
 class OfOptions(OfFiles):
     def test_each_option_has_a_field(self) -> None:
-        """Those without one print something and end."""
+        """The options without a field print something and end."""
         for parser, kind, more in ((run.options(), RunOptions, {"more_files"}), (net.options(), NetOptions, {"command"})):
             named = {action.dest for action in parser._actions if action.default != argparse.SUPPRESS}
             self.assertEqual(named | more, {name for one in kind.__mro__ for name in vars(one).get("__annotations__", ())})
@@ -88,8 +88,9 @@ class OfOptions(OfFiles):
         return plan_of(LiveOptions(**vars(parser.parse_args(words)), more_files=()), 1500)
 
     def test_the_order_of_lines(self) -> None:
-        """Queues can be of the pipes of --up and --down, which go before lines that configure the same pipe; what isn't
-        named is open."""
+        """Queues can use the pipes of --up and --down, which precede lines that configure the same pipe; unnamed pipes are
+        open.
+        """
         queue, up = "queue 1 config pipe 1 weight 3", "pipe 1 config bw 10Mbit/s"
         self.assertEqual(self.configured("--line", queue, "--up", "10Mbit/s"), [up, queue, "pipe 2 config"])
         file = self.file(f"pipe 1 config delay 3\n{queue}  # of it\n")
@@ -107,7 +108,7 @@ class OfOptions(OfFiles):
             self.configured(*words, *rule, "queue 7 config pipe 2 plr 0")
 
     def test_a_queue_without_a_loss_later_by_a_timeline_and_by_hinge_change(self) -> None:
-        """Each line of it says one, where words of its way do, whichever comes first."""
+        """If the words of its direction state a loss, each line for the queue must state one, whichever comes first."""
         queue, wrong = "queue 7 config pipe 1", "the link's loss .* write `plr 0.02`"
         begin = ["--map", "up udp => queue 7", "--line", f"{queue} plr 0", "--timeline"]
         for text in (f"2s up loss 2%\n1s {queue}\n", f"1s {queue}\n2s up loss 2%\n"):
@@ -135,7 +136,7 @@ class OfOptions(OfFiles):
 
 class Cautions(unittest.TestCase):
     def counts(self, us: int) -> Counts:
-        """A hundred packets up, each late by so many us, which are less than 32."""
+        """Returns the counts for a hundred packets up, each late by this many us, less than 32."""
         values = [0] * len(COUNTS)
         values[COUNTS.index("came")], values[COUNTS.index("late_most")] = 100, us * 1000
         bins = [0] * (WAY - len(COUNTS))
@@ -166,7 +167,7 @@ class Cautions(unittest.TestCase):
         self.assertEqual(cautions(slow, [0, 0], "line pipe 1 config\n"), [])
 
     def test_a_stall_isnt_lost_among_many_packets(self) -> None:
-        """One packet of a hundred thousand in 300 ms, of a run of ten seconds or of a hundred."""
+        """One packet of a hundred thousand is 300 ms late, in a run of ten seconds or of a hundred."""
         for seconds, wanted in (
             (10, ["up: `unread` was above the limit of 5 ms in more than 1 % of the time (max 300.000 ms)"]),
             (100, []),
@@ -187,8 +188,7 @@ class Cautions(unittest.TestCase):
 
 class OfTranscripts(OfFiles):
     def test_what_is_told_of_long_ones(self) -> None:
-        """A file that is longer than an audit reads by itself has the command that reads it; the file is as short as
-        that allows."""
+        """If a file is too long for an immediate audit, the summary contains the command for one, and otherwise nothing."""
         path = self.file("dummynet-live,1\n#" + "x" * 100 + "\nend,0\n")
         with open(path, "r+b") as file:
             self.assertEqual(list(told(path, 1)), [])

@@ -1,4 +1,4 @@
-"""The plan of a link from its files: traces and timelines."""
+"""A link's plan from its files: traces and timelines."""
 
 from __future__ import annotations
 
@@ -48,7 +48,7 @@ class Traces(OfFiles):
         self.assertRaisesRegex(Wrong, "no rows of a trace", self.rates, "# nothing\n")
 
     def plan(self, data: str, bin_ns: "int | None" = None, lasting: int = 10**9, more: str = "") -> list[str]:
-        """The lines of a pipe's trace, but for the seeds."""
+        """Returns the lines of a pipe's trace, without seeds."""
         plan = Plan()
         plan.link(f"pipe 1 config delay 5{more}")
         plan.trace(0, self.file(data), bin_ns, lasting)
@@ -65,7 +65,9 @@ class Traces(OfFiles):
         self.assertRaisesRegex(Wrong, why, self.plan, text, more=" mask src-port 0xffff")
 
     def test_mahimahi(self) -> None:
-        """Each moment as it is; counted over bins where that is asked, of which the last ends with the period."""
+        """The plan contains each moment of the trace, or, if requested, counts over bins, of which the last ends with the
+        period.
+        """
         self.assertEqual(self.plan("1\n1\n2\n350\n"), ["slots 1 1 1 2 350"])
         rates = ((0, 360_000), (100, 60_000), (300, 240_000))
         begins = [
@@ -80,7 +82,7 @@ class Traces(OfFiles):
         )
 
     def test_a_trace_of_one_rate_is_one_line(self) -> None:
-        """12 Mbit/s, and 1.2: mahimahi's traces of a slot each, however often they begin anew."""
+        """12 Mbit/s and 1.2 Mbit/s: mahimahi's traces with one moment per slot, however often they repeat."""
         for text, rate in (("1\n", 12), ("10\n", 1.2), ("0\n", 12)):
             self.assertEqual(
                 self.plan(text, None, 3600 * 10**9, " mask src-port 0xffff"),
@@ -106,7 +108,7 @@ class Timelines(OfFiles):
         return [change.line for change in plan.changes.all()]
 
     def test_an_outage_that_holds(self) -> None:
-        """Outages that meet are one, and each begins with a packet that nobody sent."""
+        """Adjacent outages become one, and each begins with a packet that nobody sent."""
         plan = Plan()
         plan.link("pipe 1 config bw 1Mbit/s"), plan.link("pipe 2 config"), plan.link("queue 1 config pipe 2")
         plan.timeline(self.file("1s up outage 2s\n3s up outage 1s\n2s up outage 1s\n9s outage 1s\n"))

@@ -1,4 +1,4 @@
-"""`--to`: a port of this system behind the link, at the command's own address and at `server`."""
+"""`--to` places a port of this system behind the link, at the command's own address and at `server`."""
 
 from __future__ import annotations
 
@@ -27,7 +27,7 @@ class Ports(WithFolder):
             self.assertEqual((far, other), ("far", [one, "far"]))
 
     def test_it_is_by_the_link(self) -> None:
-        """The answer is a round trip behind the connection, which is made behind the link, at once for localhost."""
+        """The answer arrives a round trip after the connection, which is made behind the link, and immediately for localhost."""
         told = self.run_to(
             "127.0.0.1", "curl -s -o /dev/null -w '%{time_connect} %{time_total}\\n' http://server:PORT/far", "--link", "60ms"
         )

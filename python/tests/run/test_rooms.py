@@ -1,4 +1,4 @@
-"""`hinge run` in namespaces, where this machine and this user may have them."""
+"""`hinge run` in namespaces, on machines and for users that can create them."""
 
 from __future__ import annotations
 
@@ -55,7 +55,7 @@ class OfCommands(WithFolder):
         assert run("--", "sh", "-c", "kill -9 $$").returncode == 137
 
     def test_what_a_command_may_do(self) -> None:
-        """It reaches programs outside by sockets with a name alone, and sees none of their processes."""
+        """The command reaches programs outside only through sockets with a name, and sees none of their processes."""
         inside = (
             "import os, socket, sys\n"
             "for place in (sys.argv[1], ('127.0.0.1', int(sys.argv[2]))):\n"
@@ -173,7 +173,7 @@ class OfChroots(WithFolder):
 @needs("ping")
 class OfContainers(WithFolder):
     def test_nothing_but_the_command_speaks(self) -> None:
-        """Six entries: two lines, a packet there and back, and the two moments at which they leave."""
+        """The history has six entries: two lines, a packet in each direction, and the two moments at which they leave."""
         words = [*AS_IN_A_CONTAINER, *HINGE, "run", "--quiet", "--up", "10ms", "--transcript", self.folder / "h", "--"]
         got = subprocess.run([*words, "sh", "-c", "sleep 2; ping -c 1 server6"], capture_output=True, text=True, timeout=60)
         assert (got.returncode, got.stderr, audited(self.folder / "h")) == (0, "", "lawful 6")
@@ -227,7 +227,7 @@ class OfTheEnd(unittest.TestCase):
 @needs_rooms
 @needs("ping")
 class OfNetworks(unittest.TestCase):
-    """--net"""
+    """`hinge run --net` chooses the addresses of a run's network."""
 
     def test_addresses_of_ones_choice(self) -> None:
         ask = "grep -E 'server6?$' /etc/hosts; ping -c 1 -q 10.20.4.10 && ping -c 1 -q server"
@@ -249,7 +249,7 @@ class OfNetworks(unittest.TestCase):
 
 class OfSteps(unittest.TestCase):
     def test_steps_are_a_threads_own(self) -> None:
-        """A search plans several machines at a time. What one thread keeps must not be done here because another one has ended."""
+        """A search plans several machines at a time, so another thread's plan doesn't end this thread's plan."""
 
         def plan_another() -> None:
             with Steps(""):

@@ -1,5 +1,4 @@
-"""TCP in a single large packet is cut like by a card, and packets are joined: the host between two sockets, each packet after its
-note."""
+"""The host between two sockets cuts large TCP packets like a network card, and joins packets. A header precedes each packet."""
 
 from __future__ import annotations
 
@@ -33,7 +32,9 @@ def summed(data: bytes) -> int:
 
 
 def tcp(ends: bytes, sequence: int, flags: int, data: bytes) -> bytes:
-    """With the sum of what a card adds the packet's own to: both addresses, the protocol and the length."""
+    """Returns a TCP segment, with the sum to which a card adds the packet's own: of both addresses, the protocol and the
+    length.
+    """
     length = 20 + len(TIMES) + len(data)
     begun = summed(ends + struct.pack("!HH", 6, length))
     return (
@@ -44,7 +45,7 @@ def tcp(ends: bytes, sequence: int, flags: int, data: bytes) -> bytes:
 
 
 def ip(ends: bytes, protocol: int, inside: bytes, number: int, options: bytes = b"") -> bytes:
-    """A packet with the correct checksum of IPv4's header."""
+    """Returns a packet with the correct checksum of IPv4's header."""
     if len(ends) > 8:
         return struct.pack("!IHBB", 0x6 << 28, len(inside), protocol, 64) + ends + inside
     length = 20 + len(options) + len(inside)
@@ -68,7 +69,7 @@ def noted(packet: bytes, kind: int = 0, size: int = 0) -> bytes:
 @needs_host
 class OfSegments(unittest.TestCase):
     def through(self, sent: "list[bytes]", expected: int) -> "tuple[list[bytes], str]":
-        """What comes of packets, and the link's history, which is lawful."""
+        """Sends packets through the host; returns the output and asserts a lawful history."""
         link = Linked(SEEDS + "line pipe 1 config delay 1\n", carrier="tun")
         for packet in sent:
             link.near.send(packet)
@@ -79,8 +80,9 @@ class OfSegments(unittest.TestCase):
         return got, ended.history
 
     def test_each_packet_is_as_a_card_makes_it(self) -> None:
-        """The place in the stream and the number of the packet go on, beyond their ends too; FIN and PUSH are the last
-        one's, and CWR the first's."""
+        """The sequence number and the packet's identification continue, also past their greatest values. Only the last packet
+        has FIN and PUSH, and only the first CWR.
+        """
         size, sequence, number = 1448, 2**32 - 2000, 2**16 - 2
         for build, kind, headers in ((in_ipv4, TCP4, 56), (in_ipv6, TCP6, 72)):
             for length in (size + 1, 3 * size, 40 * size + 7):
@@ -111,7 +113,7 @@ class OfSegments(unittest.TestCase):
         self.assertEqual(got, [noted(in_ipv4(5 + at, ACK, data[at : at + 8], 1 + at // 8)) for at in range(0, 1000, 8)])
 
     def test_what_is_not_to_be_cut_comes_as_it_is(self) -> None:
-        """Packets with and without a note, a whole one among them, and one whose note doesn't fit it."""
+        """Packets with and without a header pass unchanged, among them a complete packet and one whose header doesn't fit."""
         data = os.urandom(3000)
         plain = NOTE.pack(0, 0, 0, 0, 0, 0) + ip4("10.8.0.1", "10.8.0.2", 17, 7, 8, 60000)
         small, odd = noted(in_ipv4(1, ACK, b"x", 9)), NOTE.pack(CHECKSUM, TCP4, 0, 1448, 65000, TCP_CHECKSUM) + in_ipv4(
@@ -123,7 +125,9 @@ class OfSegments(unittest.TestCase):
         self.assertEqual(got, [plain, small, *cut, small, odd, plain])
 
     def test_a_flipped_bit_is_behind_a_whole_checksum(self) -> None:
-        """The card's part is done first, or a receiver would believe the checksum. An odd packet has a byte of 0 behind it."""
+        """The host first completes the card's checksum, or a receiver would believe it. A packet of odd length counts as padded
+        with 0.
+        """
         sent = [build(at, ACK, os.urandom(999 + at % 2), at) for at in range(20) for build in (in_ipv4, in_ipv6)]
         link = Linked(f"{SEEDS}line pipe 1 config\ncorruption 0 {2**31} 9\n", carrier="tun")
         for number, packet in enumerate(sent, 1):
@@ -145,7 +149,7 @@ bare_ipv4 = partial(in_ipv4, options=b"")
 
 
 def datagram(number: int, data: bytes, ends: bytes, kind: int = 0, size: int = 0) -> bytes:
-    """Of UDP, behind its note."""
+    """Returns a UDP datagram behind its header."""
     length = 8 + len(data)
     inside = struct.pack("!HHHH", 5, 7, length, summed(ends + struct.pack("!HH", 17, length))) + data
     start = 20 if len(ends) == 8 else 40
@@ -159,7 +163,7 @@ def of_card(packet: bytes) -> bytes:
 
 @needs_host
 class OfJoins(unittest.TestCase):
-    """Packets of a link that was late leave at once: those of TCP that follow one another in one write."""
+    """Packets of a late link leave at once: consecutive TCP packets of one connection leave in one write."""
 
     def writes(self, sent: "list[bytes]", length: int, packets: int, headers: int = 32) -> "list[bytes]":
         """Returns the far end's bytes until the given number of data bytes has arrived, in this many packets with such headers
@@ -181,8 +185,7 @@ class OfJoins(unittest.TestCase):
         return got
 
     def test_they_are_cut_again_as_they_were(self) -> None:
-        """However many are in a write, which a busy machine decides, it is what a card had handed on whole; and so it
-        is behind another link."""
+        """A busy machine decides how many packets share a write. Another link forwards the card's original packets."""
         for build, kind in ((bare_ipv4, TCP4), (in_ipv6, TCP6)):
             data, first, start = os.urandom(3 * 1448 + 7), 2**32 - 3000, 20 if kind == TCP4 else 40
 

@@ -69,7 +69,7 @@ class OfServers(WithFolder):
                     self.assertEqual(left, [])
 
     def test_of_runs_that_find_one_dead_socket_one_has_it(self) -> None:
-        """Also where a socket that isn't a run's takes the name once it was seen to be dead."""
+        """The test also lets a socket that isn't a run's take the name after the old one was found dead."""
         usual, finds, other = serving.reached, iter((True,)), str(self.folder / "other")
 
         def reached(path: str) -> int:
@@ -107,7 +107,7 @@ class OfServers(WithFolder):
         self.assertEqual(os.listdir(self.folder), ["socket"])
 
     def leave_dead(self) -> None:
-        """The socket of a run that was killed."""
+        """Leaves the socket of a killed run."""
         self.dead = str(self.folder / "dead")
         with socket.socket(socket.AF_UNIX) as line:
             line.bind(self.dead)

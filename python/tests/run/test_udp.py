@@ -1,4 +1,4 @@
-"""`hinge udp`: real clients and servers over loopback, without any privilege."""
+"""`hinge udp`: real clients and servers over loopback, without privileges."""
 
 from __future__ import annotations
 
@@ -45,8 +45,9 @@ class OfDatagrams(InAFolder):
         assert len(found(rf"submit,pipe,1,240.0.0.1,240.0.0.1,17,\d+,\d+,{SIZE + 48},", kept.read_text())) == 3
 
     def test_no_datagram_of_ipv6_is_cut(self) -> None:
-        """A link's packet has at most 65,535 bytes with its headers: what is longer is dropped whole, and counted,
-        there and back."""
+        """A link's packet has at most 65,535 bytes with its headers. Longer datagrams are dropped whole and counted, in both
+        directions.
+        """
         with sockets(2, socket.AF_INET6) as (client, server):
             path = Path("[::1]:0", f"[::1]:{port_of(server)}")
             client.setsockopt(socket.SOL_SOCKET, socket.SO_SNDBUF, 1 << 20)
@@ -84,7 +85,7 @@ class OfDatagrams(InAFolder):
         assert (counts(said, "up")["lost"], "; seed 7\n" in said) == (10, True)
 
     def test_a_trace(self) -> None:
-        """From 8 Mbit/s to 80 kbit/s: by the link's own clock a packet takes 1 ms before, and 100 ms behind."""
+        """The trace falls from 8 Mbit/s to 80 kbit/s: by the link's clock a packet takes 1 ms before, and 100 ms afterwards."""
         trace, kept = self.written("trace", "seconds,bit/s\n0,8000000\n1,80000\n"), self.folder / "history"
         with sockets(2) as [server, client]:
             path = Path(0, port_of(server), "--up-trace", trace, "--transcript", kept)

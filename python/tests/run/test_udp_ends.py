@@ -1,4 +1,4 @@
-"""`hinge udp` with many clients, and with ends that are hostile."""
+"""`hinge udp` with many clients, and with hostile ends."""
 
 from __future__ import annotations
 
@@ -87,7 +87,7 @@ class OfHostileEnds(InAFolder):
 
     @needs("pgrep")
     def test_a_flood_does_not_put_off_the_end(self) -> None:
-        """Beside a signal the host reads no more waiting datagrams than in a single turn."""
+        """After a signal, the host reads at most as many waiting datagrams as in a single turn."""
         with sockets(2) as [server, client]:
             path = Path(0, port_of(server))
             self.assertLess(0, min(rounds(client, server, path, 1)))

@@ -70,7 +70,7 @@ class OfUsers(unittest.TestCase):
             self.assertEqual(self.run_of(given, OPENS, "id", "-u").split(), [wanted, "65534"])
 
     def test_ids_that_the_system_does_not_give(self) -> None:
-        """newuidmap refuses them, and the user is alone there."""
+        """newuidmap refuses the ids, and the room contains only the user's own."""
         with tempfile.NamedTemporaryFile("w") as file:
             file.write("65534:0:5\n")
             file.flush()

@@ -1,4 +1,4 @@
-"""What makes a run of a net void beyond its links: late acts, waits for a processor, and a machine that slept."""
+"""Causes beside the links that make a net's run void: late acts, waits for a processor, and a machine that slept."""
 
 from __future__ import annotations
 
@@ -25,12 +25,12 @@ MS = 10**6
 
 
 def done(word: str, asked: int, late: float, of_main: bool = True) -> Done:
-    """An act that was asked for so many ms behind the main command, which began at 1 s."""
+    """Returns an act that was due this many ms after the main command's start at 1 s."""
     return Done(round((asked + late + 1000 * of_main) * MS), Act(Moment(asked * MS, of_main, ""), word, "a"))
 
 
 def ran(*came: int) -> Counts:
-    """A run of a second, in which so many packets came on each way."""
+    """Returns a run of a second with this number of packets each way."""
     ways = [number for count in came for number in (count, *[0] * (WAY - 1))]
     return Counts((*({"state": ENDED_WELL, "moment": 1000 * MS}.get(name, 0) for name in HEAD), *ways))
 
@@ -66,7 +66,7 @@ class OfIdleEvents(InAFolder):
     NET = "host a sleep 9\nhost b sleep 9\nmain c sleep 1\nlink a c 5ms\nlink b c 5ms\nlink b c 5ms\n"
 
     def idle(self, *lines: str, is_open: bool = False) -> "list[str]":
-        """The events that change nothing of these lines, each with the one that goes on."""
+        """Returns the events in these lines without an effect, each with the event that covers it."""
         file = self.folder / "idle.net"
         file.write_text(self.NET + "".join(f"at {line}\n" for line in lines))
         events = NetPlan(read_description(str(file)), 1500, 1).events
@@ -101,7 +101,7 @@ class OfIdleEvents(InAFolder):
             self.assertEqual(self.idle(one, other), [f"{second} / {first}"] * is_idle, (one, other))
 
     def test_faults_within_several_others(self) -> None:
-        """Each pair of the others leaves a gap, and of equal ones the first counts."""
+        """Each pair of other faults leaves a gap, and of equal faults the first counts."""
         for first, second, third, wanted in (
             ("1s cut a 2s", "2500ms cut a 2s", "2s cut a 2s", "cut a 2s / cut a 2s"),
             ("1s kill a 2s", "2500ms kill a 2s", "2s kill a 1s", "kill a 1s / kill a 2s"),
@@ -114,7 +114,9 @@ class OfIdleEvents(InAFolder):
             self.assertEqual(self.idle(first, second, third), [wanted] * bool(wanted), (first, second, third))
 
     def test_no_word_is_silently_without_effect(self) -> None:
-        """Each names a host or a link that isn't there, comes twice at a moment, or ends what another word began: it is refused or told."""
+        """Each word names a host or link that doesn't exist, repeats another at its moment, or ends nothing: the kit refuses or
+        reports it.
+        """
         self.NET = f"{self.NET}disk a data\n"
         begun = {"heal": "cut", "restart": "kill", "cont": "stop"}
         of_hosts = [f"{word} a{' +2s' * (word == 'skew')}" for word in WORDS]

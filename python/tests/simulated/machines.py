@@ -1,4 +1,4 @@
-"""What the tests share: commands in simulated time, and probes that are compiled once."""
+"""Commands in simulated time for all tests of this folder, and programs in C that are compiled once."""
 
 from __future__ import annotations
 
@@ -39,7 +39,7 @@ class Ran(NamedTuple):
 
 
 def needs(*programs: str) -> Callable[[Test], Test]:
-    """Skips a test where a program isn't there."""
+    """Skips a test if this machine lacks a program."""
     lacking = [name for name in programs if shutil.which(name) is None]
     return unittest.skipIf(bool(lacking), f"there is no {', '.join(lacking)}")
 
@@ -51,7 +51,7 @@ def scratch() -> "tempfile.TemporaryDirectory[str]":
 
 @lru_cache(maxsize=None)
 def probe() -> str:
-    """The path of probe.c, compiled."""
+    """Returns the path of the compiled probe.c."""
     made = f"{scratch().name}/probe"
     subprocess.run([*COMPILED, made, HERE / "probe.c"], check=True)
     return made
@@ -59,24 +59,24 @@ def probe() -> str:
 
 class Simulated(WithFolder):
     def compiled(self, text: str, *options: str) -> str:
-        """The path of a program in C, in the test's folder."""
+        """Compiles a program in C into the test's folder; returns its path."""
         (self.folder / "it.c").write_text(text)
         subprocess.run([*COMPILED, self.folder / "it", *options, self.folder / "it.c"], check=True)
         return "./it"
 
     def hinge(self, *words: Word, **more: Any) -> "subprocess.CompletedProcess[str]":
-        """A command of `hinge` in the test's folder."""
+        """Runs a command of `hinge` in the test's folder."""
         streams = {"stdin": subprocess.DEVNULL, "stdout": subprocess.PIPE, "stderr": subprocess.PIPE}
         how: dict[str, Any] = {**streams, "text": True, "cwd": self.folder, **more}
         return subprocess.run([*HINGE, *map(str, words)], **how)
 
     def started(self, *words: Word, **more: Any) -> "subprocess.CompletedProcess[str]":
-        """`hinge run --simulated` in the test's folder."""
+        """Runs `hinge run --simulated` in the test's folder."""
         limit = [] if "--real-limit" in words else ["--real-limit", LIMIT]
         return self.hinge("run", "--simulated", *limit, *words, **more)
 
     def begun(self, line: str, *words: str, **more: str) -> "subprocess.Popen[str]":
-        """A run in the test's folder, with these variables more, that has printed this line and goes on."""
+        """Starts a run in the test's folder with additional variables; returns after the run printed this line."""
         streams = {"stdin": subprocess.DEVNULL, "stdout": subprocess.PIPE, "stderr": subprocess.DEVNULL}
         process = subprocess.Popen([*SIMULATED, "--", *words], cwd=self.folder, env=environment(**more), text=True, **streams)
         assert process.stdout
@@ -84,7 +84,7 @@ class Simulated(WithFolder):
         return process
 
     def net(self, text: str, seed: int, *words: Word) -> "subprocess.CompletedProcess[str]":
-        """`hinge net --simulated` of a net that ends well, with its history and its summary in `session`."""
+        """Runs `hinge net --simulated` on a net that must end well; `session` then contains the history and the summary."""
         (self.folder / "x.net").write_text(text)
         how = ["--simulated", "--seed", str(seed), "--real-limit", LIMIT, "--transcripts", "session"]
         done = self.hinge("net", "x.net", *how, *words)
@@ -92,7 +92,7 @@ class Simulated(WithFolder):
         return done
 
     def run_by(self, seed: int, *words: Word) -> Ran:
-        """A run with a transcript and a summary, in a folder that is new each time and has the same name."""
+        """Runs a command in a new folder of a fixed name, with a transcript and a summary."""
         place = self.folder / "run"
         shutil.rmtree(place, ignore_errors=True)
         place.mkdir()
@@ -110,7 +110,7 @@ class Simulated(WithFolder):
 
 class Repeated(Simulated):
     def promised(self, *words: str) -> Ran:
-        """A run that promises that a second one is the same, which a busy machine may keep one from."""
+        """Returns a run that promises an equal second run. A busy machine may prevent the promise, so it tries again."""
         for _ in range(4):
             ran = self.run_by(7, *LINK, *words)
             self.assertEqual(ran.status, 0, ran.out + ran.err)
@@ -119,7 +119,7 @@ class Repeated(Simulated):
         self.fail(ran.err)
 
     def twice(self, *words: str) -> Ran:
-        """Two runs by a seed; the files that the second finds aren't there for the first."""
+        """Runs a command twice by one seed. The second run doesn't see the files of the first."""
         one, other = self.promised(*words), self.promised(*words)
         self.assertEqual((one.out, one.summary["simulated"]), (other.out, other.summary["simulated"]), one.err + other.err)
         self.assertTrue(one.history == other.history, "the transcripts differ")
@@ -128,20 +128,20 @@ class Repeated(Simulated):
 
 
 def left(temporary: Path) -> "list[Path]":
-    """What machines whose TMPDIR this is have there and in memory, where each has a link to its folder there."""
+    """Returns what machines with this TMPDIR left there, and in the memory to which a link in that folder leads."""
     links = Path("/dev/shm").glob(".hinge-*/kept")
     return [*temporary.iterdir(), *(link for link in links if temporary in link.readlink().parents)]
 
 
 def below_of(process: int) -> "list[int]":
-    """The processes that it and its threads have started, and theirs."""
+    """Returns the processes that a process and its threads started, and all processes below these."""
     texts = [path.read_text() for path in Path(f"/proc/{process}/task").glob("*/children")]
     children = [int(word) for text in texts for word in text.split()]
     return children + [below for child in children for below in below_of(child)]
 
 
 def running(processes: "list[int]") -> "list[int]":
-    """Those that still run after a minute: one that was killed ends when it has a processor."""
+    """Returns the processes that still run after a minute. A killed process ends once it gets a processor."""
     until = time.monotonic() + 60
     while (found := [one for one in processes if Path(f"/proc/{one}").exists()]) and time.monotonic() < until:
         time.sleep(0.05)
@@ -149,7 +149,7 @@ def running(processes: "list[int]") -> "list[int]":
 
 
 def probed(text: str) -> "list[int]":
-    """The numbers that a probe printed."""
+    """Returns the numbers that a probe printed."""
     return [int(word) for word in re.findall(r"\d+", text)]
 
 

@@ -8,7 +8,7 @@ from typing import Iterator
 
 @dataclass
 class Packet:
-    """Moments are in ns. One that was lost or met a full queue has neither start nor due moment: both are 0."""
+    """A packet, with moments in ns. For a packet that was lost or met a full queue, start and due moment are 0."""
 
     target: "tuple[str, int]"
     size: int
@@ -19,7 +19,7 @@ class Packet:
 
 
 def packets_of(history: str) -> "list[Packet]":
-    """In the order in which they came."""
+    """Returns a transcript's packets in the order of their arrival."""
     packets: list[Packet] = []
     queued: dict[str, Packet] = {}
     call = [""]
@@ -37,19 +37,19 @@ def packets_of(history: str) -> "list[Packet]":
 
 
 def served(packets: "list[Packet]", pipe: int) -> "list[Packet]":
-    """Those that a pipe served, in the order in which they began."""
+    """Returns the packets that a pipe served, in the order of their starts."""
     found = [packet for packet in packets if packet.target == ("pipe", pipe) and packet.due]
     return sorted(found, key=lambda packet: packet.start)
 
 
 def idle(packets: "list[Packet]", rate: int) -> "Iterator[int]":
-    """How long a link of so many bit/s was idle before each of the packets that it served, but the first."""
+    """Returns how long a link of this bandwidth, in bit/s, was idle before each packet that it served, except before the first."""
     for before, after in zip(packets, packets[1:]):
         yield after.start - before.start - -(-before.size * 8 * 10**9 // rate)
 
 
 def shares_of(history: str, begin: int, end: int) -> "list[float]":
-    """Of each hundred packets of 1,500 bytes that began between two moments: the share of queue 1."""
+    """Returns queue 1's share in each hundred packets of 1,500 bytes that start between two moments."""
     found = [packet for packet in packets_of(history) if packet.size == 1500 and begin < packet.start < end]
     order = [packet.target for packet in sorted(found, key=lambda packet: packet.start)]
     return [order[at : at + 100].count(("queue", 1)) / 100 for at in range(0, len(order) - 99, 100)]

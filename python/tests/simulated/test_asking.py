@@ -1,4 +1,4 @@
-"""A process that keeps asking lets time pass, whatever the question."""
+"""A process that polls in a loop lets simulated time pass, whichever call it uses."""
 
 from __future__ import annotations
 
@@ -39,7 +39,7 @@ for one in range(4): os.wait()
 
 class OfAsking(Simulated):
     def test_each_takes_a_second(self) -> None:
-        """They ask of a child, a process, or shared memory, and by programs that they start."""
+        """The loops wait for a child, another process, or a change in shared memory, some by starting programs."""
         scripts = [(sys.executable, "-c", text) for text in (POLLS, KILLS, YIELDS)]
         for words in (*scripts, ("sh", "-c", STARTS)):
             with self.subTest(words[2]):
@@ -50,7 +50,7 @@ class OfAsking(Simulated):
 
     @needs("cc")
     def test_by_any_call(self) -> None:
-        """Twenty ways to ask again and again, each of them for a second."""
+        """Each of twenty calls, repeated in a loop, waits for a second."""
         made = self.compiled((HERE / "spins.c").read_text())
         count = int(subprocess.check_output([made], cwd=self.folder))
         loop = f"for way in $(seq 0 {count - 1}); do ../{made} $way || exit; done"
@@ -59,7 +59,7 @@ class OfAsking(Simulated):
         self.assertAlmostEqual(ran.summary["simulated"] / count, 1, delta=0.1)
 
     def test_a_process_that_stays_behind(self) -> None:
-        """It ends with the run, which doesn't wait for it."""
+        """The background process ends with the run, which doesn't wait for it."""
         ran = self.run_by(1, "--", "sh", "-c", "setsid sleep 1000 & sleep 1; echo end")
         self.assertEqual((ran.status, ran.out), (0, "end\n"), ran.err)
         self.assertLess(ran.summary["simulated"], 2)

@@ -1,4 +1,4 @@
-"""The command: input and output are as in real time, and impossible requests are reported."""
+"""The command `hinge run --simulated`: input and output work as in real time, and impossible requests are reported."""
 
 from __future__ import annotations
 
@@ -37,14 +37,14 @@ PIPE, NONE = subprocess.PIPE, subprocess.DEVNULL
 
 class OfStreams(Simulated):
     def test_an_hour_takes_a_moment(self) -> None:
-        """An hour on the simulated clock needs less than a second, for a few processes' requests to the kernel."""
+        """A simulated hour with a few processes needs less than a second of real time."""
         ran = self.run_by(1, "--", "sleep", "3600")
         self.assertEqual(int(ran.summary["simulated"]), 3600, ran.err)
         self.assertIs(ran.summary["repeatable"], True)
         self.assertEqual((ran.summary["spun"], ran.summary["interrupts"]), (0, 0))
 
     def test_a_32_bit_program(self) -> None:
-        """The head of one is enough: the kernel looks no further."""
+        """The file contains only the header of a program, since the kernel reads no further."""
         (self.folder / "old").write_bytes(b"\x7fELF\x01\x01\x01".ljust(16, b"\0") + struct.pack("<HHI", 2, 3, 1).ljust(200, b"\0"))
         (self.folder / "old").chmod(0o755)
         done = self.started("--quiet", "--", "./old")
@@ -61,7 +61,7 @@ class OfStreams(Simulated):
         self.assertEqual(done.stdout, "".join(f"out {i}\nerr {i}\n" for i in range(1, 5)))
 
     def test_output_comes_as_it_is_written(self) -> None:
-        """The first line comes while the command still waits for a file that the test makes after it."""
+        """The first line arrives while the command still waits for a file, which the test creates after reading the line."""
         asked = "echo first; until [ -e go ]; do head -c 100000 /dev/zero >/dev/null; done; echo last"
         with self.begun("first", "sh", "-c", asked) as process:
             (self.folder / "go").touch()
@@ -77,7 +77,7 @@ class OfStreams(Simulated):
             self.assertEqual(self.started("--quiet", "--", "cksum", stdin=file).stdout, told)
 
     def test_much_output(self) -> None:
-        """More than a machine may be ahead of who reads."""
+        """The output is longer than the part that a machine may write ahead of its reader."""
         done = self.started("--quiet", "--", "head", "-c", str(200 << 20), "/dev/zero", text=False)
         self.assertEqual(len(done.stdout), 200 << 20)
 
@@ -142,7 +142,7 @@ class OfEnds(Simulated):
         self.assertEqual(running(below), [])
 
     def test_a_machine_is_on_one_processor(self) -> None:
-        """So are its kernel and the kernel's processes, which are children of it."""
+        """The machine's kernel and that kernel's processes, which are its children, all use one processor."""
         with self.begun("begun", *GOES_ON) as process:
             found = [one for one in below_of(process.pid) if os.path.exists(f"/proc/{one}")]
             places = {frozenset(os.sched_getaffinity(one)) for one in found}
@@ -150,7 +150,7 @@ class OfEnds(Simulated):
         self.assertEqual([len(place) for place in places], [1])
 
     def test_it_leaves_a_processor_for_which_it_waits(self) -> None:
-        """A fifth of half a second is what it may wait."""
+        """Of half a second, the machine may wait for a processor a fifth."""
         place = OneProcessor()
         place.allowed, place.present, place.seen = [0, 1, 2], 0, 0.0
         self.assertEqual([place.is_left(0.4, 0.4), place.is_left(1.0, 0.19), place.present], [False, False, 0])
@@ -194,7 +194,7 @@ class OfRefusals(Simulated):
         self.refused(2, told, "--", "bash", stdin=second)
 
     def test_a_machine_that_cannot_begin_tells_the_cause(self) -> None:
-        """The limits of this process, and a container that keeps a process from tracing another one."""
+        """The causes are limits on this process, and a container that forbids a process to trace another."""
         rules = ctypes.create_string_buffer(UNTRACED)
 
         def keep_from_tracing() -> None:
@@ -220,7 +220,7 @@ class OfRefusals(Simulated):
         self.assertRegex(done.stderr, r"^hinge kernel: needs cc, make, .*, libc\.a.*: apt-get install gcc make .* libc6-dev.*\n$")
 
     def test_a_build_that_is_ended_leaves_no_folder(self) -> None:
-        """The tar that the build started keeps writing into the build's folder until killed, too."""
+        """The tar that the build started writes into the build's folder until the test kills it, too."""
         for name in NEEDED:
             (self.folder / name).write_text(TAR if name == "tar" else "#!/bin/sh\necho /libc.a\n")
             (self.folder / name).chmod(0o755)

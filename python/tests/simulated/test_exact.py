@@ -1,4 +1,4 @@
-"""Programs over links, as theory says: equalities, and by the simulated clock alone."""
+"""Programs over links meet the theory exactly: only readings of the simulated clock add time."""
 
 from __future__ import annotations
 
@@ -34,7 +34,7 @@ TWO_CLIENTS = "sleep 0.3; for port in 5201 5202; do iperf3 -c server -p $port -t
 
 class Exact(Simulated):
     def exact(self, *words: str) -> Ran:
-        """A run that ends well, whose link was lawful and late by clock readings alone."""
+        """Returns a run that ends well, on a lawful link whose only lateness comes from clock readings."""
         ran = self.run_by(1, *words)
         self.assertEqual(ran.status, 0, ran.out + ran.err)
         self.assert_lawful(ran.history)
@@ -46,8 +46,9 @@ class Exact(Simulated):
 @needs("ping")
 class OfPings(Exact):
     def test_an_hour_of_pings(self) -> None:
-        """84 bytes take 336,000 ns at 2 Mbit/s, 67,200 at 10, and 20 ms each way: 40.4032 ms, and clock readings of the programs. The
-        link knows the moment of a packet that leaves without one."""
+        """84 bytes take 336,000 ns at 2 Mbit/s and 67,200 ns at 10 Mbit/s. With 20 ms each way that is 40.4032 ms, plus the
+        programs' clock readings. The link also knows the moment of a packet that leaves without a reading.
+        """
         ran = self.exact("--up", "2Mbit/s 20ms", "--down", "10Mbit/s 20ms", "--", "ping", "-q", "-c", "3600", "server")
         self.assertEqual([ran.summary[way]["late_max_ms"] for way in ("up", "down")], [0, 0])
         self.assertRegex(ran.out, r"= 40\.403/[\d.]+/40\.404/")
@@ -55,7 +56,7 @@ class OfPings(Exact):
 
 class OfDatagrams(Exact):
     def sent_at_once(self, size: int, *links: str) -> Ran:
-        """50 datagrams in packets of so many bytes; the server prints the moments at which they came."""
+        """Sends 50 datagrams at once, in packets of this size; returns the moments of arrival that the server prints."""
         listens, sends = self.folder / "listens", self.folder / "sends"
         listens.write_text(LISTENS)
         sends.write_text(SENDS)
@@ -63,14 +64,14 @@ class OfDatagrams(Exact):
         return self.exact(*links, "--down", "20ms", "--server", f"python3 {listens}", "--", *sent)
 
     def test_the_spacing_is_the_transmission_time(self) -> None:
-        """1,000 bytes take 1 ms at 8 Mbit/s. 50 that are sent at once come 1 ms apart, to the microsecond."""
+        """1,000 bytes take 1 ms at 8 Mbit/s, so 50 packets sent at once arrive 1 ms apart, to the microsecond."""
         ran = self.sent_at_once(1000, "--up", "8Mbit/s 20ms queue 100")
         moments = [int(word) for word in ran.out.split()]
         gaps = {round((after - before) / MICROSECOND) for before, after in zip(moments, moments[1:])}
         self.assertEqual((len(moments), gaps), (50, {1000}), ran.err)
 
     def test_a_trace(self) -> None:
-        """mahimahi's moments at 1, 2, 4 and 8 ms, and so on each 8: at each 1,500 bytes leave, to the microsecond."""
+        """The trace's moments are 1, 2, 4 and 8 ms, repeated every 8 ms. At each moment 1,500 bytes leave, to the microsecond."""
         trace = self.folder / "trace"
         trace.write_text("1\n2\n4\n8\n")
         ran = self.sent_at_once(1500, "--up", "20ms queue 100", "--up-trace", str(trace))
@@ -86,7 +87,9 @@ class OfDatagrams(Exact):
         self.assertEqual(gaps, [after - before for before, after in zip(ends, ends[1:])])
 
     def test_faults_do_the_same_as_in_a_test(self) -> None:
-        """A run's datagrams and asyncio's in simulated time arrive at the same moments for the same file, to the microsecond."""
+        """With the same file of faults, a run's datagrams and asyncio's datagrams in simulated time arrive at the same moments,
+        to the microsecond.
+        """
         link, path = "8Mbit/s 20ms queue 100", self.folder / "faults"
         path.write_text("".join(f"client > server packet {it}\n" for it in ("1 twice", "2 lost", "4 late 15ms")))
         ran = self.sent_at_once(1000, "--up", link, "--faults", str(path))
@@ -108,7 +111,9 @@ class OfDatagrams(Exact):
 
     @needs("ping")
     def test_an_outage(self) -> None:
-        """Pings of 84 us, each 100 ms: those before 2 s take 20.084 ms, and none begins in the 3 s of the outage."""
+        """A ping leaves each 100 ms, and its transmission takes 84 us. Pings before 2 s need 20.084 ms, and none starts during
+        the outage of 3 s.
+        """
         (self.folder / "changes").write_text("2s up outage 3s\n")
         changes = ["--timeline", str(self.folder / "changes")]
         ran = self.exact(
@@ -141,14 +146,16 @@ class OfTcp(Exact):
                 self.assertEqual(set(idle(steady, TEN)), {0})
 
     def test_bbr_loses_nothing_and_fills_the_link(self) -> None:
-        """No packet meets a full queue. From 1 s on the link is idle for less than a hundredth of the time."""
+        """No packet meets a full queue, and after the first second the link is idle for less than a hundredth of the time."""
         packets = packets_of(self.carried("bbr", 8).history)
         self.assertEqual({packet.fate for packet in packets}, {"queued"})
         steady = [packet for packet in served(packets, 1) if SECOND < packet.start < 8 * SECOND]
         self.assertLess(sum(idle(steady, TEN)), 7 * SECOND / 100)
 
     def test_two_flows_have_their_weights(self) -> None:
-        """Weights 3 and 1: while packets wait in both queues, three of four are of the first, in any hundred to one."""
+        """With weights 3 and 1, while packets wait in both queues, the first queue sends three of four packets, to within one
+        of any hundred.
+        """
         lines = [
             "pipe 1 config bw 20Mbit/s delay 1",
             *(f"queue {number} config pipe 1 weight {weight} queue 300" for number, weight in ((1, 3), (2, 1))),

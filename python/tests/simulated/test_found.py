@@ -1,4 +1,4 @@
-"""Systems of examples/found: the smallest failures that break a claim, and a seed in which a claim holds."""
+"""The systems of examples/found: each smallest failure breaks a claim, and for one seed the claim holds."""
 
 from __future__ import annotations
 
@@ -22,8 +22,9 @@ class OfSystems(Simulated):
         return subprocess.run([RUN, *words], capture_output=True, text=True, timeout=LIMIT)
 
     def test_the_smallest_failure_loses_what_was_acknowledged_shortly_before_the_crash_or_within_the_cut(self) -> None:
-        """Redis makes another node the master some seconds after the cut at 14.263 s; SQLite with synchronous=full loses the last commit
-        before the crash at 3.338 s. What loses none, or an older one, is another fault."""
+        """Redis promotes another node some seconds after the cut at 14.263 s, and SQLite with synchronous=full loses the last
+        commit before the crash at 3.338 s. A run that loses nothing, or an older write, shows another fault.
+        """
         for name, earliest, latest in ("redis", 14.2, 14.3 + 5.5), ("sqlite", 3.2, 3.338):
             with self.subTest(name):
                 if name == "redis" and not shutil.which("redis-server"):

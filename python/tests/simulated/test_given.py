@@ -1,4 +1,4 @@
-"""What a run was given is told by checksums, so that a replay on another desk can be told from another run."""
+"""Checksums describe a run's inputs, so that a replay on another machine is distinguishable from a different run."""
 
 from __future__ import annotations
 
@@ -28,14 +28,14 @@ ASKS = DRAWS.replace(
 
 class OfWhatWasGiven(Simulated):
     def run_of(self, summary: str, *options: str, **more: str) -> str:
-        """The messages of the run whose summary is in this file."""
+        """Returns the messages of the run with this summary."""
         words = ["--seed", "1", *options, "--json", summary, "--", "sh", "-c", "env"]
         done = self.started(*words, env=environment(**more))
         self.assertEqual(done.returncode, 0, done.stderr)
         return done.stderr
 
     def test_another_environment_and_folder(self) -> None:
-        """The program's own file is the same in both folders, and so is one at home."""
+        """The checksum of the program's file is the same in both folders, and so is the checksum of a file at home."""
         copy = self.folder / "copy" / "it"
         copy.parent.mkdir()
         copy.write_text("#!/bin/sh\ncat ~/it")
@@ -49,7 +49,7 @@ class OfWhatWasGiven(Simulated):
         self.assertRegex(told, "other environment, folder; the same .* files; the simulated time is the same\n")
 
     def test_few_variables(self) -> None:
-        """With them nothing else matters."""
+        """With --clean-env no other variable influences the run."""
         self.run_of("one", "--clean-env", ASKED="a", PATH="/usr/bin:/bin")
         other = ("--clean-env", "--like", "one", "--real-limit", "200s")
         told = self.run_of("other", *other, ASKED="b", PATH="/usr/bin:/usr/bin:/bin")
@@ -60,7 +60,7 @@ class OfWhatWasGiven(Simulated):
         self.assertEqual(given[0], given[1])
 
     def test_another_root(self) -> None:
-        """The program and what it reads are below it, and nothing of it is written, nor anything of the present folder."""
+        """The program and its input are inside the root. The run writes nothing there, and nothing in the current folder."""
         own = self.folder / "root"
         place = own / str(self.folder)[1:]
         place.mkdir(parents=True)
@@ -86,7 +86,7 @@ class OfWhatWasGiven(Simulated):
         self.assertEqual([taken("/bin/sh"), taken(__file__)], ["", ""])
 
     def test_the_number_of_the_processor(self) -> None:
-        """Which no call of the system tells, so that the kernel doesn't see that it is asked for."""
+        """The program reads this number without a system call, so the kernel can't see the reading."""
         done = self.started("--seed", "1", "--", self.compiled(NUMBERED))
         self.assertIn(f"may differ: {self.folder}/it takes the number of its processor (lsl)", done.stderr)
 

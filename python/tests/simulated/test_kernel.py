@@ -1,4 +1,6 @@
-"""The kernel: what spins gets time, and what a process learns by itself repeats. Each test fails without the patch."""
+"""The kernel gives time to spinning programs, and what a process learns without a call is repeatable. Each test fails without
+the patch.
+"""
 
 from __future__ import annotations
 
@@ -9,39 +11,41 @@ SECOND, MILLISECOND = 10**9, 10**6
 
 @needs("cc")
 class OfSpins(Simulated):
-    """Without time for what spins these never end, and are ended by the limit of real time."""
+    """Without time for spinning programs, these tests would only end by the limit of real time."""
 
     def spun(self, kind: str) -> "tuple[str, int]":
-        """What a probe that spins prints, and the ns that its run took."""
+        """Returns what a spinning probe prints, and the ns that its run took."""
         ran = self.run_by(1, "--", probe(), kind)
         self.assertEqual(ran.status, 0, ran.err)
         self.assertTrue(ran.out.startswith(kind), ran.out)
         return ran.out, round(ran.summary["spun"] * SECOND)
 
     def test_one_that_gives_its_turn_away(self) -> None:
-        """It waits for a second of another thread's sleep, which is given to it, and at most a step more."""
+        """The probe waits for a second of another thread's sleep. The kernel gives that time, and at most a step more."""
         _, spun = self.spun("yields")
         self.assertTrue(SECOND - MILLISECOND < spun < SECOND + MILLISECOND, spun)
 
     def test_one_that_polls(self) -> None:
-        """The program waits for a separate timer of a second, and finds the timer on time, with clock readings of 50 ns."""
+        """The program waits for a timer of a second, and finds the timer on time, to within clock readings of 50 ns."""
         out, _ = self.spun("polls")
         took = probed(out)[1]
         self.assertTrue(SECOND <= took < SECOND + 1000, out)
 
     def test_one_that_selects_and_looks_at_the_clock(self) -> None:
-        """iperf3's loop: 40 ms pass in few rounds, each of which is given a 64th of the wait, after 100 free ones."""
+        """iperf3's loop: 40 ms pass in few rounds. After 100 free rounds, each gets a 64th of the wait."""
         out, spun = self.spun("selects")
         self.assertTrue(100 < probed(out)[0] < 1000, out)
         self.assertTrue(39 * MILLISECOND < spun < 41 * MILLISECOND, spun)
 
     def test_one_that_looks_at_the_clock(self) -> None:
-        """100 ms pass in 5,000 readings of at most 20 us, and those that lead up to it."""
+        """100 ms pass in 5,000 readings of at most 20 us, and the readings that lead up to them."""
         out, _ = self.spun("clocks")
         self.assertTrue(5000 <= probed(out)[0] < 6000, out)
 
     def test_one_that_waits_for_a_flag(self) -> None:
-        """The program never asks the kernel, so it is interrupted from outside, and a message says so."""
+        """The program never calls the kernel, so the machine interrupts it from outside, and a message reports the
+        interruption.
+        """
         ran = self.run_by(1, "--", probe(), "flag")
         self.assertEqual((ran.status, ran.out), (0, "flag\n"), ran.err)
         self.assertGreater(ran.summary["interrupts"], 0)
@@ -49,7 +53,7 @@ class OfSpins(Simulated):
         self.assertIn("a second run by seed 1 may differ: a process computed for 2 s", ran.err)
 
     def test_a_spinner_makes_no_packet_late(self) -> None:
-        """What spins beside a ping gets time at most until the ping's next event."""
+        """A program that spins beside a ping gets at most the time until the ping's next event."""
         both = f"{probe()} yields & ping -q -c 2 server; wait"
         ran = self.run_by(1, "--up", "600ms", "--down", "600ms", "--", "sh", "-c", both)
         self.assertEqual(ran.status, 0, ran.err)
@@ -57,13 +61,13 @@ class OfSpins(Simulated):
         self.assertLess(max(ran.summary["up"]["late_max_ms"], ran.summary["down"]["late_max_ms"]), 0.01)
 
     def test_one_that_waits_by_polls_gets_nothing(self) -> None:
-        """400 waits of 10 ms, and a 1,000th, by which a poll may be late: time that passes by itself isn't spent."""
+        """400 waits of 10 ms, and a thousandth, by which a poll may be late. The kernel gives no time to a program that sleeps."""
         ran = self.run_by(1, "--", probe(), "waits")
         self.assertEqual(probed(ran.out)[0] // MILLISECOND, 4004, ran.out)
         self.assertEqual(ran.summary["spun"], 0)
 
     def test_one_that_computes_gets_next_to_nothing(self) -> None:
-        """1,000 readings of the clock are 50 us, and at most 20 us are given to each."""
+        """1,000 clock readings are 50 us, and the kernel gives at most 20 us for each."""
         ran = self.run_by(1, "--", probe(), "computes")
         self.assertLess(probed(ran.out)[0], 20 * 10**6)
 
@@ -71,7 +75,7 @@ class OfSpins(Simulated):
 @needs("cc")
 class OfTheProcessor(Simulated):
     def test_the_counter_is_the_simulated_clock(self) -> None:
-        """It counts ns since the machine's beginning, 1,000 s before the command's, and a reading takes 50."""
+        """The counter counts ns since the machine's start, 1,000 s before the command's, and a reading takes 50 ns."""
         ran = self.run_by(1, "--", probe(), "counter")
         first, step, core = probed(ran.out)
         self.assertEqual((first // SECOND, step, core), (1000, 50, 0))
@@ -84,7 +88,7 @@ class OfTheProcessor(Simulated):
         self.assertEqual(ran.out, "processor rdrand 0 rdseed 0 number 0\n")
 
     def test_vector_registers_are_a_threads_own(self) -> None:
-        """After calls, turns in other threads, signals with handlers and forks, each of four threads finds its registers again."""
+        """Each of four threads keeps its registers through calls, other threads' turns, signal handlers and forks."""
         self.assertEqual(self.run_by(1, "--", probe(), "registers").out, "registers lost 0\n")
 
     def test_a_host_that_hides_nothing_is_told(self) -> None:
@@ -93,7 +97,7 @@ class OfTheProcessor(Simulated):
         self.assertIn("may differ: by --cpu host programs ask the processor itself", ran.err)
 
     def test_a_fixed_processor(self) -> None:
-        """Its name is the same on all machines, and it has AVX2 from level 3 on."""
+        """The processor has the same name on all machines, and AVX2 from level 3 on."""
         for level, name in (("v2", "Simulated level2"), ("v3", "Simulated level3")):
             ran = self.run_by(1, "--cpu", level, "--", "python3", "-c", CPUID_NAME)
             self.assertEqual((ran.out, ran.summary["cpu"]), (f"{name}\n", level), ran.err)
@@ -112,7 +116,7 @@ print(room.raw.rstrip(b'\\0').decode())
 
 
 class OfTheSystem(Simulated):
-    """A process's requests to the kernel's surroundings: random numbers, memory, new files, the clock."""
+    """A process's requests for random numbers, memory, new files and the time."""
 
     ASKS = """
         head -c 32 /dev/urandom | od -An -tx1
@@ -142,6 +146,8 @@ class OfTheSystem(Simulated):
             self.assertEqual(self.run_by(1, "--at", asked, "--", "date", "-u", "+%F %T").out, f"{told}\n")
 
     def test_it_has_run_for_a_while(self) -> None:
-        """iputils' ping takes a clock below a second for one that it hasn't read, and sends all at once. 3 take 2 s."""
+        """iputils' ping takes a clock below a second for an unread one, and would send everything at once. Here 3 pings take 2
+        s.
+        """
         ran = self.run_by(1, "--", "ping", "-q", "-c", "3", "server")
         self.assertEqual(round(ran.summary["simulated"]), 2, ran.err)

@@ -1,4 +1,4 @@
-"""TCP libraries of Python, unchanged: clients and servers over a lossy link, of which two runs by one seed are equal."""
+"""Python's TCP libraries, unchanged: clients and servers over a lossy link do the same in two runs by one seed."""
 
 from __future__ import annotations
 

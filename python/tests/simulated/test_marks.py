@@ -1,4 +1,4 @@
-"""pytest's mark `simulated`: a test in a machine of its own, whose report comes back."""
+"""pytest's mark `simulated` runs a test in a machine of its own and brings back the test's report."""
 
 from __future__ import annotations
 
@@ -115,7 +115,7 @@ class OfMarks(Simulated):
         self.assertEqual([path.name for path in place.iterdir() if path.name.startswith("hinge-test-")], [])
 
     def test_nets(self) -> None:
-        """One seed gives one run of a test's hosts, in folders of one name. A report has the net of one that fails."""
+        """One seed determines the run of a test's hosts, in folders of equal names. The report of a failed test names its net."""
         done = self.run_pytest(NETS)
         self.assertRegex(done.stdout, r"1 failed, 3 passed in ", done.stdout + done.stderr)
         told = [line.split(maxsplit=2)[2] for line in done.stdout.splitlines() if line.startswith("told ")]

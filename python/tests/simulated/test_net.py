@@ -168,12 +168,12 @@ nemesis partition-one every 1s..2s for 500ms until 6s of a b
 @needs("ping")
 class OfFaults(Simulated):
     def test_a_job_of_any_length(self) -> None:
-        """What this machine is to do takes more than 4 MiB, as that of hundreds of hosts with different routes does."""
+        """The machine's job has more than 4 MiB, like the jobs of several hundred hosts with different routes."""
         hosts = (f"host h{number} : {'x' * 60_000}\nlink h{number} r\n" for number in range(72))
         self.net("router r\nmain m true\nlink m r\n" + "".join(hosts), 1)
 
     def test_faults_of_links_and_hosts_are_the_same_twice(self) -> None:
-        """Those of links to the nanosecond. Of the two cuts between c and a the second ends within the first."""
+        """Faults of links repeat to the nanosecond. Of the two cuts between c and a, the second ends during the first."""
         self.assertIn("hinge net: two runs by seed 3 are the same: ", self.net(FAULTS, 3, "--twice").stderr)
         summary = json.loads((self.folder / "session" / "net.json").read_text())
         acts = [(one["words"].split()[0], one["moment"] - summary["main"], one["at"]) for one in summary["acts"]]
@@ -188,7 +188,7 @@ class OfFaults(Simulated):
         self.assertEqual(len(pings), 60)
 
     def test_a_fault_of_a_host_on_which_nothing_runs(self) -> None:
-        """Its command had ended by itself, also where another one is killed and a stop lasts longer."""
+        """The host's command had ended, while a kill on another host and a longer stop have an effect."""
         done = self.net(
             "host a true\nhost b exec sleep 99\nmain c sleep 2\nlink a c 5ms\nlink b c 5ms\nat 1s kill a\nat 1s kill b\n"
             "at 1200ms stop b 300ms\n",
@@ -203,7 +203,9 @@ class OfFaults(Simulated):
 @needs("iperf3", "ping")
 class OfTheLinks(Simulated):
     def test_flipped_bits_are_the_same_twice(self) -> None:
-        """Checksums discard what has one: a stream arrives whole, and some datagrams nowhere, through a switch and a router."""
+        """Receivers discard packets with wrong checksums: a stream arrives whole and some datagrams not at all, through a
+        switch and a router.
+        """
         (self.folder / "ends.py").write_text(ENDS)
         done = self.net(CORRUPTED, 3, "--twice")
         self.assertIn("two runs by seed 3 are the same: ", done.stderr)
@@ -218,8 +220,8 @@ class OfTheLinks(Simulated):
         self.assertEqual((looked.returncode, looked.stdout.splitlines()[-1]), (0, "lawful between links"), looked.stdout)
 
     def test_no_program_runs_before_them(self) -> None:
-        """b answers each of two connections, and what c sends to that is on the link at once. Linux has a server that
-        lets others run before one with priority, for 50 ms of a second: iperf3 would spin for 5 ms before the link.
+        """b answers each of two connections, and what c then sends is on the link at once. A Linux feature lets other programs
+        run before one with priority, for 50 ms of each second, and iperf3 would spin for 5 ms before the link.
         """
         self.net(THREE, 1)
         packets = packets_of((self.folder / "session" / "net.history").read_text())
@@ -232,8 +234,9 @@ class OfTheLinks(Simulated):
 
 class OfClocks(Simulated):
     def test_one_that_is_ahead_and_gains(self) -> None:
-        """With this clock the program reads the time of day and packets' stamps, and waits for a moment in each way that a kernel
-        offers; the other host's clock is unchanged."""
+        """With this clock the program reads the time of day and packets' time stamps, and waits for a moment in every way that
+        the kernel offers. The other host's clock is unchanged.
+        """
         (self.folder / "looks.py").write_text(LOOKS)
         done = self.net(CLOCKS, 1, "--logs", "logs")
         for name, first, length in (("m", "5.001 0.0", "1.998"), ("o", "0.0 0.0", "2.0")):

@@ -1,4 +1,4 @@
-"""Pauses of processes: they find what one order of calls hides, they repeat, and the link doesn't pause."""
+"""Pauses of processes find what a single order of calls hides. They repeat, and the link doesn't pause."""
 
 from __future__ import annotations
 
@@ -37,7 +37,7 @@ class OfWords(unittest.TestCase):
         self.assertEqual(len({tuple(drawn_pauses(seed)) for seed in SEEDS}), len(SEEDS))
 
     def test_drawn_pauses_are_for_programs_of_any_size(self) -> None:
-        """Some are among few calls, some seeds reach a million, and all can be given one by one."""
+        """Some seeds pause among the first few calls, some reach a million calls, and each pause can be requested separately."""
         for pauses in map(tuple, map(drawn_pauses, SEEDS)):
             self.assertEqual(given(",".join(one.word() for one in pauses)), pauses)
             self.assertTrue(4 <= sum(one.call <= 100 for one in pauses) <= 45)  # many where they are between calls
@@ -66,7 +66,7 @@ for _ in range(2): threading.Thread(target=work).start()
 
 
 def first_two(outcomes: "Iterable[object]") -> "set[object]":
-    """The different outcomes, up to the second one."""
+    """Returns the outcomes up to the second different one."""
     found: set[object] = set()
     for outcome in outcomes:
         found.add(outcome)
@@ -78,18 +78,20 @@ def first_two(outcomes: "Iterable[object]") -> "set[object]":
 class OfPauses(Simulated):
     @needs("bash", "cc")
     def test_drawn_pauses_find_faults(self) -> None:
-        """A file that two make, jobs without a lock, and a signal whose handler runs before the call that waits for it."""
+        """The faults: two processes create one file, jobs without a lock, and a signal whose handler runs before the call that
+        waits for the signal.
+        """
         wakes = str(self.folder / self.compiled((HERE / "wakes.c").read_text()))
         for words in (["bash", "-c", ONCE], [sys.executable, "-c", JOBS], [wakes]):
             self.assertEqual(self.run_by(1, "--", *words).status, 0, words)
             self.assertEqual(first_two(self.run_by(seed, "--pauses", "drawn", "--", *words).status for seed in MANY), {0, 1}, words)
 
     def calls_of(self, program: str) -> int:
-        """How many calls of a program of Python may pause."""
+        """Returns how many calls of a Python program may pause."""
         return int(self.run_by(1, "--pauses", "1000000-1ns", "--", sys.executable, "-c", program).summary["pauses"]["calls"])
 
     def test_calls_whose_order_nobody_can_tell(self) -> None:
-        """Calls at the start, and calls on a process that shares its memory with no other process."""
+        """Calls at the start, and calls of a process that shares its memory with no other process, aren't paused."""
         none, some, threads = (self.calls_of(program) for program in ("pass", START, THREADS))
         self.assertLess(none, 100)
         self.assertTrue(20 <= some - none < 60, (none, some))
@@ -97,7 +99,7 @@ class OfPauses(Simulated):
 
     @needs("bash")
     def test_pauses_that_are_named_again(self) -> None:
-        """A run by the pauses of another one, one by one, is that run."""
+        """A run with another run's pauses, listed one by one, equals that run."""
         one = self.run_by(1, "--pauses", "drawn", *LINK, "--", "bash", "-c", ONCE)
         word = ",".join(Paused(**pause).given().word() for pause in one.summary["pauses"]["first"])
         other = self.run_by(1, "--pauses", word, *LINK, "--", "bash", "-c", ONCE)
@@ -107,7 +109,7 @@ class OfPauses(Simulated):
 
     @needs("ping")
     def test_the_link_does_not_pause(self) -> None:
-        """So each packet is on its way for the same time as without pauses, whenever its program sends the packet."""
+        """Each packet is under way for the same time as without pauses, whenever its program sends it."""
         links = ["--up", "10Mbit/s 20ms", "--down", "10Mbit/s 20ms"]
         ran = self.run_by(1, "--pauses", "drawn", *links, "--", "ping", "-c", "20", "server")
         self.assertEqual(ran.status, 0, ran.err)

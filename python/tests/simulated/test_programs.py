@@ -1,4 +1,4 @@
-"""Programs that many use: two runs by one seed are equal byte for byte. docs/SIMULATED.md lists them."""
+"""Widely used programs: two runs by one seed are equal byte for byte. docs/SIMULATED.md lists the programs."""
 
 from __future__ import annotations
 
@@ -49,7 +49,7 @@ PUTS = """export ETCDCTL_API=3 ETCDCTL_ENDPOINTS=http://server:2379
 
 class OfServers(Repeated):
     def script(self, name: str, text: str) -> str:
-        """A file in the test's folder, which is there before each run."""
+        """Returns a file in the test's folder that is there before each run."""
         path = self.folder / name
         path.write_text(text)
         return str(path)
@@ -76,15 +76,16 @@ class OfServers(Repeated):
 
     @needs("java", "javac")
     def test_java(self) -> None:
-        """Java looks below /tmp for files of ended programs, which the first run would change for the second."""
+        """Java searches /tmp for files of ended programs, so the first run's files would change the second run."""
         subprocess.run(["javac", "-d", self.folder, PROGRAMS / "Web.java"], check=True)
         java = f"java -XX:-UsePerfData -cp {self.folder} Web"
         self.twice("--server-wait", "60s", "--server", f"exec {java} serve", "--", "sh", "-c", java)
 
     @needs("chromium")
     def test_chromium(self) -> None:
-        """A browser loads a page, runs its script and ends, though one of its processes waits in the kernel for another process,
-        which no tick wakes."""
+        """A browser loads a page, runs its script and ends, although one of its processes waits in the kernel for another
+        process without a tick to wake it.
+        """
         self.script("index.html", PAGE)
         browses = ["chromium", "--headless", "--no-sandbox", "--disable-gpu", "--dump-dom", "http://server:8000/"]
         serves = f"exec {sys.executable} -m http.server 8000 -d {self.folder} >/dev/null 2>&1"
@@ -100,5 +101,5 @@ class OfServers(Repeated):
 
     @needs("etcd", "etcdctl")
     def test_etcd(self) -> None:
-        """A program in Go: the order of its maps, its scheduler, the processor's counter."""
+        """A program in Go, whose map order, scheduler and processor counter repeat."""
         self.twice("--server", ETCD, "--", "sh", "-c", PUTS)

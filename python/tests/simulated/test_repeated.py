@@ -58,7 +58,7 @@ class OfPrograms(Repeated):
         self.twice("--server", REDIS, "--", "sh", "-c", ASKS_REDIS)
 
     def test_a_transcript_that_is_there_already(self) -> None:
-        """It is written over, and changes nothing before."""
+        """The run overwrites an existing transcript, which doesn't influence the run."""
         words = ["--seed", "7", "--transcript", "h", *LINK, "--", "sh", "-c", LOOKS]
         one = self.started(*words)
         (self.folder / "h").write_text("another\n")
@@ -77,9 +77,10 @@ class OfTwice(Repeated):
 
     @needs("cc", "ping")
     def test_two_that_part(self) -> None:
-        """A program that draws from the processor itself, which nothing hides with --cpu host, prints one word and makes three packets
-        of drawn lengths, all equal in both runs once in 2^30: the transcripts part where one is submitted. A word keeps 60 bits, since
-        a shell's numbers have a sign: those above 2^63 would all be read as the greatest."""
+        """With --cpu host nothing hides the processor's random numbers. The program draws one, prints a word, and sends three
+        packets of drawn lengths, all equal in two runs once in 2^30; so the transcripts part at a packet's submission. A
+        word keeps 60 bits, since a shell reads all numbers above 2^63 as the greatest one.
+        """
         self.compiled(DRAWS)
         done = self.two_of(PINGS_OF_DRAWN_LENGTHS, "--cpu", "host")
         self.assertEqual(done.returncode, 76, done.stdout + done.stderr)

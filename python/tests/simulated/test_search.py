@@ -1,4 +1,4 @@
-"""A search finds a fault that a seed draws, and leaves out all that the failure doesn't need."""
+"""A search finds a fault that a seed draws, and removes everything that the failure doesn't need."""
 
 from __future__ import annotations
 
@@ -76,7 +76,7 @@ Runs(pathlib.Path(sys.argv[1]), Runner()).make(1)
 
 class OfCases(unittest.TestCase):
     def test_a_run_that_another_user_made_meanwhile_stays(self) -> None:
-        """In a folder such as /tmp nobody writes over another user's file."""
+        """In a folder such as /tmp, nobody overwrites another user's file."""
         for who, status in (("another", 0), ("nobody", 1)):
             with TemporaryDirectory() as folder:
                 done = subprocess.run([sys.executable, "-c", TAKEN, folder, who], capture_output=True, text=True, timeout=60)
@@ -88,7 +88,9 @@ class OfCases(unittest.TestCase):
         self.assertEqual(done.returncode, 128 + signal.SIGHUP, done.stderr)
 
     def test_a_net_beside_another_file(self) -> None:
-        """One that a run left goes with the next run of the text, two runs at a time share it, and a file of the user's stays."""
+        """The next run of a text removes the file that a killed run left, two simultaneous runs share a file, and a user's own
+        file stays.
+        """
         with TemporaryDirectory() as folder:
             with file_beside(Path(folder, "x"), NET) as net:
                 with file_beside(Path(folder, "y"), NET) as other:
@@ -102,7 +104,7 @@ class OfCases(unittest.TestCase):
                 self.assertEqual([path.name for path in Path(folder).iterdir()], left_over)
 
     def test_a_fault_is_left_out_with_its_end(self) -> None:
-        """Each with all that end it, and with those that these end as well."""
+        """The search removes a fault with all events that end it, and with all faults that these events end as well."""
         for lines, parts in (
             (["1s kill a", "2s cut b 3s", "3s kill b", "4s restart a", "5s restart b", "6s a b 5ms"], "03 1 24 5"),
             (["1s kill a 2s", "5s kill a", "9s restart a"], "0 12"),
@@ -131,7 +133,7 @@ class OfCases(unittest.TestCase):
             self.assertEqual(lossless(line), other)
 
     def test_lost_packets(self) -> None:
-        """Each lost packet gets its number on its way; a second pass and packets after a queue get other numbers."""
+        """Each lost packet has a number on its way. Packets in a second pass, or after a full queue, have other numbers."""
         rows = ["pipe,1", "queued", "pipe,2", "lost", "pipe,1", "lost", "pipe,65535", "lost", "pipe,1", "full", "pipe,1", "lost"]
         text = "".join(f"c,0,submit,{row},10.8.0.1\n" if "pipe" in row else f"r,{row},1\n" for row in rows)
         with TemporaryDirectory() as folder:
@@ -149,7 +151,9 @@ class OfCases(unittest.TestCase):
         )
 
     def test_calls_around_a_pause(self) -> None:
-        """Three earlier calls, three by other threads at the pause's beginning and end, and three later calls."""
+        """The report lists three earlier calls, three calls by other threads at the pause's start and end, and three later
+        calls.
+        """
         rows = [
             CallRow(1000 + n, 1000 + n, 7, 7 + (n == 5 or n == 20), {5: PAUSES, 20: GOES_ON}.get(n, 39), 39, n, "it")
             for n in range(30)
@@ -172,7 +176,7 @@ class OfCases(unittest.TestCase):
         )
 
     def test_the_least(self) -> None:
-        """Of each kind the parts that the failure needs are left, and none else."""
+        """Of each kind of fault, only the parts that the failure needs remain."""
         for needed in ({"f3"}, {"f0", "f6", "p2"}, {"p0", "p6", "l1"}, {"f1", "f2", "f3", "f4"}):
             parts = tuple(Part(kind, (f"{kind[0]}{number}",)) for kind in KINDS for number in range(7))
             found = least(Case(1, (), parts), lambda case: needed <= {part.what[0] for part in case.parts})
@@ -205,7 +209,7 @@ class OfSearches(Simulated):
         self.assertEqual({path: path.stat().st_mtime_ns for path in before}, before)
 
     def test_a_command(self) -> None:
-        """It fails where its first packet is lost, which no pause and no option but the link's loss has to do with."""
+        """The command fails if its first packet is lost. No pause and no option except the link's loss matters."""
         words = "run --seeds 1-6 --pauses drawn --link '1ms loss 50%' --memory 256M -- ping -q -c 1 -W 1 server"
         done = self.searched(*shlex.split(words))
         self.assertEqual(done.returncode, 1, done.stdout + done.stderr)
@@ -225,7 +229,7 @@ class OfSearches(Simulated):
             self.assertIn(told, self.hinge(*words).stderr)
 
     def test_an_interrupt_ends_it_with_a_table_and_nothing_left(self) -> None:
-        """One run is there already. The others compute without end."""
+        """At the interrupt one run has ended, and the others compute without end."""
         temporary, runs = self.folder / "temporary", self.folder / "runs"
         temporary.mkdir(), runs.mkdir()
         (runs / "run-1.json").write_text('{"status": 1, "output": "it fails\\n", "record": {"ended": {"name": "status 1"}}}')

@@ -1,4 +1,4 @@
-"""How a program ended is told for itself, and a run that can't go on ends at the moment at which that was decided."""
+"""The summary states how a program ended, and a run that can't continue ends at the moment of that verdict."""
 
 from __future__ import annotations
 
@@ -41,7 +41,7 @@ ASKER = "import socket; s = socket.create_connection(('server', 80)); s.recv(1)"
 
 class OfVerdicts(Simulated):
     def ended(self, *words: str) -> "tuple[int, dict[str, Any]]":
-        """The status of a run, and what its summary says of the program's end, beside which no server is told to have ended."""
+        """Returns a run's status and the summary's words on the program's end. No server may count as ended."""
         done = self.started("--seed", "1", "--json", "summary", *words)
         self.assertNotIn("the server ended", done.stderr)
         return done.returncode, json.loads((self.folder / "summary").read_text())["ended"]
@@ -64,7 +64,7 @@ class OfVerdicts(Simulated):
             self.assertEqual((ran.status, "ended" in ran.summary), (status, False), command)
 
     def test_a_deadlock_of_threads(self) -> None:
-        """It is at the same moment in each run, and each thread is told."""
+        """The deadlock is at the same moment in each run, and the summary lists each thread."""
         words = ("--", self.compiled(LOCKS))
         status, ended = self.ended(*words)
         self.assertEqual((status, ended["by"], len(ended["waiting"])), (DEADLOCKED, "deadlock", 3))
@@ -117,7 +117,9 @@ class OfVerdicts(Simulated):
         self.assertEqual(done.stderr, "hinge search: the server ended with 3 by itself in 2 of 2 runs, first by seed 1\n")
 
     def test_pauses_between_calls(self) -> None:
-        """A sum without a lock and without a call is wrong by a pause in the loop alone, and by the same one again."""
+        """A sum without a lock and without a call becomes wrong only by a pause in the loop, and the same pause makes it wrong
+        again.
+        """
         words = ("--", self.compiled(ADDS))
         self.assertEqual(self.ended(*words)[0], 0)
         calls = range(1, 40)
@@ -137,13 +139,15 @@ class OfVerdicts(Simulated):
         self.assertEqual([place.split(" ")[0] for place in places], ["main", "work", "work"])
 
     def test_a_core(self) -> None:
-        """It is where a program's folder is, as the user's limit asks for."""
+        """The core file is in the program's folder, as the user's limit requests."""
         done = self.started("--", "sh", "-c", "ulimit -c unlimited; sh -c 'kill -SEGV $$'; true")
         self.assertEqual(done.returncode, 0, done.stderr)
         self.assertEqual([path.read_bytes()[:4] for path in self.folder.glob("core*")], [b"\x7fELF"])
 
     def test_a_file_that_differs_is_named(self) -> None:
-        """One that was read, one that was looked for in vain, a folder whose names were, and one that the run changed behind that."""
+        """The files: one that the run read, one that it looked for in vain, a folder whose names it read, and one that it then
+        changed.
+        """
         words = ("--", "sh", "-c", "cat data; cat more; ls other; cat log; echo >> log")
         (self.folder / "log").touch()
         (self.folder / "other").mkdir()
