@@ -4,11 +4,15 @@
 #[cfg(test)]
 mod audit;
 #[cfg(test)]
+mod audit_limits;
+#[cfg(test)]
 mod audit_parts;
 #[cfg(test)]
 mod devices;
 #[cfg(test)]
 mod file_audits;
+#[cfg(test)]
+mod file_texts;
 #[cfg(test)]
 mod files;
 #[cfg(test)]

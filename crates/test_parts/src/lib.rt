@@ -2,13 +2,19 @@
 #![tactic(auto)]
 
 #[cfg(test)]
+mod active;
+#[cfg(test)]
 mod beside;
+#[cfg(test)]
+mod config;
 #[cfg(test)]
 mod flows;
 #[cfg(test)]
 mod given;
 #[cfg(test)]
 mod heap;
+#[cfg(test)]
+mod homes;
 #[cfg(test)]
 mod keys;
 #[cfg(test)]
@@ -29,3 +35,7 @@ mod readme;
 mod replies;
 #[cfg(test)]
 mod scheduler;
+#[cfg(test)]
+mod text;
+#[cfg(test)]
+mod types;
