@@ -2,7 +2,7 @@
 
     python3 tools/gate/laws.py [--anew] SEED
 
-Of seven or eight rows that the seed chooses, refuted_laws.py asks that the prover refutes the law. With the seeds 0 to 29 each row is tried.
+Of eight or nine rows that the seed chooses, refuted_laws.py asks that the prover refutes the law. With the seeds 0 to 29 each row is tried.
 
 A row that passed is kept beside the verdicts on edits, under a checksum of everything that its trial reads: the crates, the scripts, the row's
 refutation and the toolchain. A later run on this machine names such a row and doesn't try it again, unless it runs with --anew.

@@ -4,9 +4,12 @@ pub mod Ahead
 pub mod AloneReplies
 pub mod AskedHold
 pub mod AtHome
+pub mod AuditLawsHold
+mod AuditWitnesses
 pub mod Begun
 pub mod BoundedCounts
 pub mod ByWeight
+pub mod CallerLawsHold
 pub mod Comes
 pub mod ConfiguredRate
 pub mod DelayBound

@@ -1,11 +1,12 @@
 -- The laws of closed services hold.
-use Rattle.dn_laws.proofs.Words.{All, All-cons, All-head, All-nil, All-tail, AnswersSuffice, Bool, Call, CallerView, CallersAreLeft, Collect, Delivered, Delivery, Entry, Event, Has}
+use Rattle.dn_laws.proofs.Words.{All, All-cons, All-head, All-nil, All-tail, AnswersSuffice, Call, CallerView, CallersAreLeft, Collect, Delivered, Delivery, Entry, Event, Has}
 use Rattle.dn_laws.proofs.Words.{HistoriesSuffice, IsAccounted, IsAccountedFor, IsDelivered, IsDeliveryOf, IsFaced, IsLawfulAfter, IsProper, Link, List, NoneIsForeign, NoneIsOvertaken, Ordered}
-use Rattle.dn_laws.proofs.Words.{Reply, ServiceView, Some, Start, WasTold, [], ap, append_assoc, arith, call_limit, cond, count_by, due-is-last, due-moments-never-fall, effective_moment, eq-eqb}
-use Rattle.dn_laws.proofs.Words.{eqb-true, false, has_number, inl, inr, keys, last_due, leb_tells, length, lost_to, map, nat_eq, refl, reply, reverse, reverse_onto, slice_get, started, subst, suc}
-use Rattle.dn_laws.proofs.Words.{suffix-proper, sum, sum_by-cons, sym, trace-proper, trace_of, true, zero, ℕ, ⊎_elim, ◌++◌, ◌+◌, ◌<◌, ◌==◌, ◌||◌, ◌∙◌, ◌∷◌, ◌≡◌, ◌≤◌, ◌⊎◌}
+use Rattle.dn_laws.proofs.Words.{Reply, ServiceView, Some, Start, WasTold, [], ap, append_assoc, arith, call_limit, cond, count_by, due-is-last, due-moments-never-fall, effective_moment}
+use Rattle.dn_laws.proofs.Words.{inl, inr, keys, last_due, leb_tells, length, lost_to, map, nat_eq, refl, reply, reverse, reverse_onto, slice_get, started, subst, suc}
+use Rattle.dn_laws.proofs.Words.{suffix-proper, sum, sum_by-cons, sym, trace-proper, trace_of, zero, ℕ, ⊎_elim, ◌++◌, ◌+◌, ◌<◌, ◌∙◌, ◌∷◌, ◌≡◌, ◌≤◌, ◌⊎◌}
 use Rattle.dn_service.specs.Accounts.{times}
 use Rattle.dn_laws.proofs.AtHome.{IsHomeOf, HaveHomes, have-homes, start-home, home-is}
+use Rattle.dn_laws.proofs.CallerLawsHold.{any-caller, has-its-number}
 use Rattle.dn_laws.proofs.QueuesRate.{suffix-homes}
 use Rattle.dn_laws.proofs.Rates.{starts-apart, shape}
 use Rattle.dn_laws.proofs.Timely.{events-stay, split}
@@ -53,15 +54,6 @@ callers-are-left service callers history c closes there =
       seen = λ i entry e. ap (λ (h : List Entry). slice_get h i) accounted.front.1 ∙ front-get c.front accounted.front.0 i entry e;
       faced = all-has (IsFaced callers) callers c closes.faced there ∙ lost-sum c.number callers;
     }
-
-this-or-later : (k : ℕ) (c : CallerView) (cs : List CallerView) (b : Bool) → c.number == k ≡ b → b || has_number k cs ≡ true
-    → (has_number k cs ≡ true → (o : CallerView) × Has cs o × (o.number ≡ k)) → (o : CallerView) × Has (c ∷ cs) o × (o.number ≡ k)
-this-or-later k c cs true is e later = (c, inl refl, eqb-true c.number k is)
-this-or-later k c cs false is e later = let rest = later e in (rest.0, inr rest.1, rest.2)
-
-any-caller : (k : ℕ) (cs : List CallerView) → has_number k cs ≡ true → (c : CallerView) × Has cs c × (c.number ≡ k)
-any-caller k [] e = absurd cc
-any-caller k (c ∷ cs) e = this-or-later k c cs (c.number == k) refl e (any-caller k cs)
 
 pub none-is-foreign : NoneIsForeign
 none-is-foreign service callers history entry closes there =
@@ -161,16 +153,6 @@ faced-hold : (history : List Entry) (all callers : List CallerView) → All (IsA
 faced-hold history all [] h = All-nil (IsFaced all)
 faced-hold history all (c ∷ callers) h =
     All-cons (IsFaced all) c callers ((All-head (IsAccounted history all) c callers h).2 ∙ sym (lost-sum c.number all)) (faced-hold history all callers (All-tail (IsAccounted history all) c callers h))
-
-or-true : (b : Bool) → b || true ≡ true
-or-true true = refl
-or-true false = refl
-
-has-its-number : (k : ℕ) (callers : List CallerView) (c : CallerView) → Has callers c → c.number ≡ k → has_number k callers ≡ true
-has-its-number k [] c there is = absurd there
-has-its-number k (o ∷ callers) c there is = ⊎_elim
-    (λ e. ap (λ b. b || has_number k callers) (eq-eqb o.number k (ap (λ (x : CallerView). x.number) e ∙ is)))
-    (λ rest. ap (λ b. o.number == k || b) (has-its-number k callers c rest is) ∙ or-true (o.number == k)) there
 
 pub histories-suffice : HistoriesSuffice
 histories-suffice service callers history lawful below accounted whole = record {

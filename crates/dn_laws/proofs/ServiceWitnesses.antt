@@ -1,10 +1,14 @@
 -- The laws of closed services at a service of one caller, who sent two packets at 0 and collected both at 2 ms.
--- Whatever obeys the laws tells this Collect both.
-use Rattle.dn_laws.proofs.Words.{All, All-cons, All-nil, Answered, Call, CallerView, Closes, Collect, Configured, Delivered, Delivery, Emulator, Entry, IsAccountedFor, IsFaced, List, ObeysTheLaws}
-use Rattle.dn_laws.proofs.Words.{Ordered, Queued, Reply, ServiceView, Some, [], arith, delivery, drop, has_number, inl, inr, pipe, refl, slice_get, suc, take, to_pipe, true, zero, ℕ, ◌<◌, ◌∷◌}
-use Rattle.dn_laws.proofs.Words.{◌≡◌, ◌≤◌}
+-- Whatever obeys the laws tells this Collect both. The first three entries may be taken before, and the Collect's caller may learn of them.
+use Rattle.dn_laws.proofs.Words.{All, All-cons, All-nil, All-take, Answered, Call, CallerView, Closes, Collect, Configured, Delivered, Delivery, Emulator, Entry, IsAccountedFor, IsFaced, List, ObeysTheLaws}
+use Rattle.dn_laws.proofs.Words.{Ordered, Queued, Reply, ServiceView, Some, [], arith, delivery, drop, has_number, having_lost, inl, inr, length, new_callers, pipe, refl, slice_get, suc, take, to_pipe, true, zero, ℕ, ◌<◌, ◌∷◌}
+use Rattle.dn_laws.proofs.Words.{◌++◌, ◌≡◌, ◌≤◌}
+use Rattle.dn_laws.proofs.CallerLawsHold.{absent-callers-are-missing, callers-begin, refusals-are-noted, segments-are-the-history, tokens-are-told}
 use Rattle.dn_laws.proofs.ServiceHeadline.{services-by-the-laws, calls-by-the-laws}
 use Rattle.dn_laws.proofs.ServiceLawsHold.{callers-are-left, none-is-foreign, none-is-overtaken}
+use Rattle.dn_laws.specs.CallerLaws.{ComesAfter, joined}
+use Rattle.dn_service.specs.Lasting.{LastingView, Learns, Takes}
+use Rattle.dn_service.specs.declared.try_fault.TryFault.TheVariants.{Busy}
 
 abbrev entry : Call → Reply → Entry
 entry c r = record { caller = 0; call = c; reply = r }
@@ -55,6 +59,33 @@ module _ (any : ServiceView) where
 
   answered : Answered before (Collect 2000000) (Delivered 2000000 list) caller
   answered = record { lawful = closes.lawful; below = all-first; between = []; front = refl; own = refl; all_own = refl }
+
+  one-caller : length (new_callers service 0 1) ≡ 1
+  one-caller = (callers-begin service).many
+
+  noted : (having_lost 0 before).lost ≡ [] ++ 0 ∷ []
+  noted = (refusals-are-noted.tries before (having_lost 0 before) (Busy 0) refl).lost
+
+  abbrev unaware : CallerView
+  unaware = record before { front = [] }
+
+  learns : Learns unaware (record { service = service; front = take 3 history }) before
+  learns = record { had = (take 3 history, refl); told = ([], refl); one = inr ((take 3 history, refl), refl); own = refl; lost = refl; faced = refl }
+
+  comes-after : ComesAfter (take 3 history) before (Collect 2000000) (Delivered 2000000 list) caller
+  comes-after = ((tokens-are-told unaware before (record { service = service; front = take 3 history }) learns).comes (Collect 2000000) (Delivered 2000000 list) caller answered).1
+
+  abbrev lasting : List Entry → LastingView
+  lasting taken = record { service = service; taken = taken }
+
+  takes : Takes (lasting []) unaware 0 (take 3 history) (lasting (take 3 history)) before
+  takes = record { service = refl; taken = refl; start = λ few. refl; lawful = (refl, (refl, (refl, tt))); below = All-take (λ (e : Entry). e.caller < 1) 3 history all-first; front = refl; seen = (take 3 history, refl); own = refl; all_own = refl }
+
+  closes-after : Closes service (caller ∷ []) (joined (take 3 history ∷ []) ++ drop 3 history)
+  closes-after = segments-are-the-history.closes service (take 3 history ∷ []) (lasting (take 3 history)) (caller ∷ []) (drop 3 history) (lasting [], unaware, before, 0, refl, takes) closes
+
+  never-closes : (left : List Entry) → Closes service [] left → ⊥
+  never-closes = (absent-callers-are-missing service [] 0 (record { below = omega arith; missing = refl; least = λ j l. absurd (omega (arith, l)) })).unclosed
 
   module _ (e : Emulator) (obeys : ObeysTheLaws Ordered e) where
     tells-both : Delivered 2000000 list ≡ e.told (to_pipe 1 0 ∷ to_pipe 1 0 ∷ pipe 1 8000000 0 ∷ []) (Collect 2000000)

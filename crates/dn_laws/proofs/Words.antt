@@ -104,7 +104,7 @@ pub use Rattle.dn_laws.specs.ReadingLaws.{ClockFollows, ObeysAsTold, StartsAreCo
 pub use Rattle.dn_records.proofs.ReadBack.{read-back}
 pub use Rattle.dn_records.specs.Records.{AllFilled, HasNoMark, line_of, records_of}
 unfoldable pub use Rattle.dn_records.specs.Records.{text_of}
-pub use Rattle.dn_service.specs.Callers.{Answered, CallerView, Closes, IsAccountedFor, IsFaced, ServiceView, has_number, lost_to}
+pub use Rattle.dn_service.specs.Callers.{Answered, CallerView, Closes, IsAccountedFor, IsFaced, ServiceView, has_number, having_faced, having_lost, lost_to, new_caller, new_callers}
 pub use Rattle.dn_shaper.specs.Refinement.Settings.{InForce, settings_of}
 pub use Rattle.dn_shaper.specs.Room.{HasRoomBy, HasRoomFor, HasRoomOf, IsOther, LeavesRoom}
 pub use Rattle.dn_shaper.specs.Shaper.{CanNeedMemory, StandsAfter}

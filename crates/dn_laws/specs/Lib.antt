@@ -1,3 +1,5 @@
+pub mod AuditLaws
+pub mod CallerLaws
 pub mod ConfiguredLaws
 pub mod Determined
 pub mod Divided
