@@ -18,7 +18,7 @@ from tempfile import TemporaryDirectory
 
 from hostile import counted, inputs
 from scenes import made_scenes
-from tally import Tally, judge
+from tally import Tally, judge, stated
 
 # Each byte is KEY, or there are none where KEY isn't set.
 GIVEN = r"""
@@ -70,6 +70,11 @@ def count_known_key(tally: Tally, program: str, place: str) -> None:
         print("the cost of a known key: skipped, since there is no valgrind on the path")
         return
     inputs.write("known", FLOWS, Path(place))
+    stated(
+        tally,
+        "docs/TRUST.md",
+        f"flows chosen for a known key cost at least {LEAST} times as much with it (`tools/gate/hash_key.py`)",
+    )
     for name, (words, stdin) in forms_of_flows(program, place).items():
         known, other = (counted([program, *words], stdin, LD_PRELOAD=f"{place}/given.so", KEY=key) for key in ("0", "1"))
         print(f"{name}: {FLOWS} flows chosen for the key 0 take {known} instructions with it, and {other} with another", flush=True)

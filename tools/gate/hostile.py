@@ -18,7 +18,7 @@ from functools import cache
 from pathlib import Path
 from tempfile import TemporaryDirectory
 
-from tally import TOP, Tally, judge
+from tally import TOP, Tally, judge, stated
 
 import inputs
 import sessions
@@ -205,6 +205,11 @@ def compare_memory(program: str, tally: Tally) -> None:
 
 
 def main(tally: Tally, program: str) -> None:
+    of_keys, of_audits = (
+        f"take at most {MOST} times the instructions",
+        f"an audit takes at most {AUDITED} bytes a byte of a history",
+    )
+    stated(tally, "docs/TRUST.md", f"{of_keys} (`tools/gate/hostile.py`)", f"{of_audits} (`tools/gate/hostile.py`)")
     for name, cost in CASES.items():
         fewer, more = (cost(program, count) for count in (FEWER, 2 * FEWER))
         print(f"{FEWER} {name} take {fewer} instructions, and {2 * FEWER} take {more}: {more / fewer:.2f} times as many")

@@ -50,6 +50,12 @@ def ran(*words: object, is_apart: bool = False, **how: Any) -> Ran:
     return subprocess.run(list(map(str, words)), **{**streams, "text": True, **how})
 
 
+def stated(tally: Tally, page: str, *words: str) -> None:
+    """Checks that a page says what a part counts, however its lines break."""
+    text = " ".join((TOP / page).read_text(encoding="utf-8").split())
+    tally.note(f"{page}: what is counted", *(f"doesn't say: {one}" for one in words if one not in text))
+
+
 def judge(main: Callable[..., None]) -> None:
     """Runs a part with the words of its command line, and ends with the status of its tally."""
     tally = Tally()
