@@ -15,7 +15,6 @@ import subprocess
 from collections import Counter
 from pathlib import Path
 from random import Random
-from tempfile import TemporaryDirectory
 
 from c_library import REFUSING, program
 from random_histories import random_history
@@ -71,23 +70,22 @@ def main(tally: Tally, dummynet: str, seed: str, count: str) -> None:
     ends, number = Counter[str](), 0
     os.environ["ASAN_OPTIONS"] = "detect_leaks=1"
     print(f"seed {seed}", flush=True)
-    with TemporaryDirectory() as folder:
-        audit, file = program(Path(folder), "audit", *REFUSING), Path(folder) / "history"
-        for name, (text, wanted) in CASES.items():
-            for step in range(1, len(text) + 2):
-                tally.equal(f"{name}, parts of {step}", wanted, from_c(audit, text, step, LIMIT, "growths"))
-        while number < int(count) or KINDS - {*ends} and number < MOST:
-            text = random_history(rng, STYLES[number % len(STYLES)])
-            file.write_bytes(text)
-            wanted = by_program(dummynet, file)
-            audited(tally, f"history {number}", audit, rng, text, wanted)
-            tally.equal(f"history {number}, growths refused", wanted, from_c(audit, text, 512, LIMIT, "growths"))
-            ends[wanted[0].split(" ")[0]] += 1
-            number += 1
-        for config in sorted(made_scenes(folder).glob("*.config")):
-            history = Path(folder) / config.stem  # a replay replaces no file that isn't a history, as the random ones may be
-            text = replay(dummynet, config, history)
-            audited(tally, config.stem, audit, rng, text, by_program(dummynet, history))
+    audit, file = program(tally.place, "audit", *REFUSING), tally.place / "history"
+    for name, (text, wanted) in CASES.items():
+        for step in range(1, len(text) + 2):
+            tally.equal(f"{name}, parts of {step}", wanted, from_c(audit, text, step, LIMIT, "growths"))
+    while number < int(count) or KINDS - {*ends} and number < MOST:
+        text = random_history(rng, STYLES[number % len(STYLES)])
+        file.write_bytes(text)
+        wanted = by_program(dummynet, file)
+        audited(tally, f"history {number}", audit, rng, text, wanted)
+        tally.equal(f"history {number}, growths refused", wanted, from_c(audit, text, 512, LIMIT, "growths"))
+        ends[wanted[0].split(" ")[0]] += 1
+        number += 1
+    for config in sorted(made_scenes(tally.place).glob("*.config")):
+        history = tally.place / config.stem  # a replay replaces no file that isn't a history, as the random ones may be
+        text = replay(dummynet, config, history)
+        audited(tally, config.stem, audit, rng, text, by_program(dummynet, history))
     tally.note("each kind of end", "" if {*ends} == KINDS else str(ends))
     print(", ".join(f"{many} of {kind}" for kind, many in ends.items()))
 

@@ -11,7 +11,6 @@ import os
 import shlex
 import subprocess
 from pathlib import Path
-from tempfile import TemporaryDirectory
 from typing import Iterator, NamedTuple
 
 from tally import Tally, judge
@@ -60,13 +59,13 @@ def too_long(source: str) -> Outcome:
     return b"", f"{source} too long\n".encode(), 6
 
 
-def outcome(program: list[str], words: list[str], stdin: str, folder: str) -> Outcome:
+def outcome(program: list[str], words: list[str], stdin: str, folder: Path) -> Outcome:
     with open(stdin, "rb") as file:
         done = subprocess.run(program + words, stdin=file, capture_output=True, cwd=folder)
     return done.stdout, done.stderr, done.returncode
 
 
-def checks(program: list[str], folder: str) -> Iterator[tuple[str, Outcome, Outcome]]:
+def checks(program: list[str], folder: Path) -> Iterator[tuple[str, Outcome, Outcome]]:
     """Yields each input's name, its expected outcome, and its actual one."""
     path = os.path.join(folder, "file")
     Path(folder, "empty").touch()
@@ -82,9 +81,8 @@ def checks(program: list[str], folder: str) -> Iterator[tuple[str, Outcome, Outc
 
 def main(tally: Tally, program_text: str) -> None:
     program = [os.path.abspath(w) if os.path.isfile(w) else w for w in shlex.split(program_text)]
-    with TemporaryDirectory() as folder:
-        for name, want, got in checks(program, folder):
-            tally.note(name, "" if want == got else f"want {want}, got {[got[0][:200], got[1][:200], got[2]]}")
+    for name, want, got in checks(program, tally.place):
+        tally.note(name, "" if want == got else f"want {want}, got {[got[0][:200], got[1][:200], got[2]]}")
 
 
 if __name__ == "__main__":

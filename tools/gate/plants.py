@@ -16,7 +16,6 @@ import stat
 import subprocess
 import sys
 from pathlib import Path
-from tempfile import TemporaryDirectory
 from typing import NamedTuple
 
 from tally import TOP, Tally, judge
@@ -137,15 +136,14 @@ def chosen(words: list[str]) -> list[Plant]:
 
 
 def main(tally: Tally, program: str, *words: str) -> None:
-    with TemporaryDirectory() as folder:
-        clone = Path(folder) / "clone"
-        subprocess.run(["git", "clone", "-q", "--shared", str(TOP), str(clone)], check=True)
-        lacking = [one.part for one in PLANTS if one.file and one.old.encode() not in file_of(clone, one).read_bytes()]
-        tally.equal("plants whose texts are gone", [], lacking)
-        for plant in chosen(list(words)):
-            line = last_line(clone, plant, str(Path(program).resolve()))
-            tally.note(f"{plant.part}: {plant.wrong}", "" if line else "the part doesn't turn red")
-            print(f"| {plant.part} | {plant.wrong} | {line or 'not red'} |", flush=True)
+    clone = tally.place / "clone"
+    subprocess.run(["git", "clone", "-q", "--shared", str(TOP), str(clone)], check=True)
+    lacking = [one.part for one in PLANTS if one.file and one.old.encode() not in file_of(clone, one).read_bytes()]
+    tally.equal("plants whose texts are gone", [], lacking)
+    for plant in chosen(list(words)):
+        line = last_line(clone, plant, str(Path(program).resolve()))
+        tally.note(f"{plant.part}: {plant.wrong}", "" if line else "the part doesn't turn red")
+        print(f"| {plant.part} | {plant.wrong} | {line or 'not red'} |", flush=True)
 
 
 if __name__ == "__main__":

@@ -12,7 +12,6 @@ from __future__ import annotations
 import os
 import shutil
 import subprocess
-from tempfile import TemporaryDirectory
 
 import pytests
 from tally import TOP, Tally, judge
@@ -58,10 +57,9 @@ def build(tally: Tally) -> None:
 def main(tally: Tally, program: str) -> None:
     keep_beside()
     build(tally)
-    with TemporaryDirectory() as place:
-        subprocess.run([TOP / "tools" / "release" / "hosts", place], check=True, stdout=subprocess.DEVNULL)
-        env = {**os.environ, "DUMMYNET": program, "HINGE_LINK": f"{place}/hinge-link"}
-        pytests.count(tally, ["tests/simulated"], env, is_alone=True)
+    subprocess.run([TOP / "tools" / "release" / "hosts", tally.place], check=True, stdout=subprocess.DEVNULL)
+    env = {**os.environ, "DUMMYNET": program, "HINGE_LINK": f"{tally.place}/hinge-link"}
+    pytests.count(tally, ["tests/simulated"], env, is_alone=True)
 
 
 if __name__ == "__main__":

@@ -6,6 +6,7 @@ import subprocess
 import sys
 from collections.abc import Callable
 from pathlib import Path
+from tempfile import TemporaryDirectory
 from typing import Any
 
 TOP = Path(__file__).resolve().parents[2]
@@ -20,6 +21,8 @@ Ran = subprocess.CompletedProcess[str]
 
 
 class Tally:
+    place: Path  # a folder that is removed with the part's end
+
     def __init__(self) -> None:
         self.passed = self.failed = 0
         self.faults: list[str] = []
@@ -57,7 +60,9 @@ def stated(tally: Tally, page: str, *words: str) -> None:
 
 
 def judge(main: Callable[..., None]) -> None:
-    """Runs a part with the words of its command line, and ends with the status of its tally."""
+    """Runs a part with the words of its command line and a folder, and ends with the status of its tally."""
     tally = Tally()
-    main(tally, *sys.argv[1:])
+    with TemporaryDirectory() as place:
+        tally.place = Path(place)
+        main(tally, *sys.argv[1:])
     sys.exit(tally.end())

@@ -13,7 +13,6 @@ import re
 import shutil
 import subprocess
 from pathlib import Path
-from tempfile import TemporaryDirectory
 from typing import Union
 
 from pytests import has, interpreter
@@ -124,10 +123,9 @@ def main(tally: Tally) -> None:
     if python is None:
         print("tests in simulated time: skipped, since no Python has pytest: apt-get install python3-pytest")
         return
-    with TemporaryDirectory() as folder:
-        pytest = Pytest(python, Path(folder))
-        examples(tally, pytest)
-        of_page(tally, pytest)
+    pytest = Pytest(python, tally.place)
+    examples(tally, pytest)
+    of_page(tally, pytest)
 
 
 if __name__ == "__main__":

@@ -17,7 +17,6 @@ from dataclasses import replace
 from itertools import accumulate
 from pathlib import Path
 from random import Random
-from tempfile import TemporaryDirectory
 
 sys.path.insert(0, str(Path(__file__).resolve().parents[1] / "gate"))
 
@@ -30,7 +29,7 @@ from tally import Tally, judge  # noqa: E402
 Report = list[dict[str, str]]
 
 
-def report_of(program: str, folder: str, lines: list[str], rows: list[Submit]) -> Report:
+def report_of(program: str, folder: Path, lines: list[str], rows: list[Submit]) -> Report:
     Path(folder, "config").write_text("".join(f"{line}\n" for line in lines))
     Path(folder, "packets").write_bytes(packet_text(Random(0), rows, True))
     words = [program, "replay", f"{folder}/config", f"{folder}/packets"]
@@ -45,7 +44,7 @@ def ranked(report: Report, field: str) -> Report:
     return [{**event, field: ranks.get(event[field], "")} for event in report]
 
 
-def try_seed(tally: Tally, program: str, folder: str, seed: int) -> None:
+def try_seed(tally: Tally, program: str, folder: Path, seed: int) -> None:
     """Checks that each pipe's part reports its part of the whole."""
     draw = Random(seed)
     style = replace(STYLES[seed % len(STYLES)], pipes=draw.randint(2, 4))
@@ -67,9 +66,8 @@ def try_seed(tally: Tally, program: str, folder: str, seed: int) -> None:
 
 
 def main(tally: Tally, program: str, first: str, last: str) -> None:
-    with TemporaryDirectory() as folder:
-        for seed in range(int(first), int(last)):
-            try_seed(tally, os.path.abspath(program), folder, seed)
+    for seed in range(int(first), int(last)):
+        try_seed(tally, os.path.abspath(program), tally.place, seed)
 
 
 if __name__ == "__main__":
