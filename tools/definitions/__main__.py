@@ -33,7 +33,7 @@ from tally import Tally  # noqa: E402
 
 # A definition calls itself once for each thing that happened.
 DEPTH, STACK = 10**6, 2**29
-SESSIONS_IN_C = 30
+SESSIONS_IN_C, MOST_MORE = 30, 20_000  # sessions, and calls until the rules differ often enough
 LAWFUL, DIFFERS, BAD, USAGE = 0, 1, 4, 2
 
 
@@ -61,7 +61,7 @@ def gate(program: str, seed: str, calls: str) -> int:
     made, difference = first_difference(Emulator(texts()), given)
     tally.note(f"{made} calls of {len(given.sessions)} sessions", difference.what if difference else "")
     print(f"{made} calls of {len(given.sessions)} sessions")
-    free.compare(tally, Emulator(texts()), program, given.sessions)
+    free.compare(tally, Emulator(texts()), program, given.sessions, sessions(program, int(seed) + 1, MOST_MORE))
     others = wrong.what_is_given(program)
     wrong.try_share(tally, others, int(seed))
     given = changes.with_edges(program, others)

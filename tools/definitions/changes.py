@@ -238,8 +238,10 @@ def what_differs(change: Change, given: Given) -> Optional[str]:
     return difference.what if difference else ""
 
 
-def try_changes(tally: Tally, changes: list[Change], differs: Callable[[Change], Optional[str]], unseen: dict[str, str]) -> None:
-    """Checks that each change is seen, or listed as unseen."""
+def try_changes(
+    tally: Tally, changes: list[Change], differs: Callable[[Change], Optional[str]], unseen: dict[str, str]
+) -> tuple[int, int]:
+    """Checks that each change is seen, or listed as unseen; returns how many are."""
     counts = Counter[str]()
     for change in changes:
         found = differs(change)
@@ -256,6 +258,7 @@ def try_changes(tally: Tally, changes: list[Change], differs: Callable[[Change],
     print(
         f"{counts['seen'] + counts['unseen']} changes, {counts['unseen']} of them unseen; {counts['no definition']} texts that define nothing"
     )
+    return counts["seen"], counts["unseen"]
 
 
 def of_replies() -> list[Change]:

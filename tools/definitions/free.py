@@ -8,7 +8,8 @@ says Free.
 from __future__ import annotations
 
 import subprocess
-from collections.abc import Sequence
+from collections.abc import Iterator, Sequence
+from itertools import chain
 from pathlib import Path
 from tempfile import TemporaryDirectory
 
@@ -41,10 +42,13 @@ def audited(program: str, folder: Path, first: str, entries: Sequence[Entry]) ->
     return subprocess.run([program, "audit", folder / "history"], stdout=subprocess.PIPE, text=True, timeout=120).stdout.strip()
 
 
-def compare(tally: Tally, emulator: Emulator, program: str, sessions: Sequence[Sequence[Entry]]) -> None:
-    different = 0
+def compare(tally: Tally, emulator: Emulator, program: str, sessions: Sequence[list[Entry]], more: Iterator[list[Entry]]) -> None:
+    """Answers these sessions, and more until enough of them are answered otherwise."""
+    different = tried = 0
     with TemporaryDirectory() as folder:
-        for number, entries in enumerate(sessions[:SESSIONS]):
+        for entries in chain(sessions[:SESSIONS], more):
+            if tried >= len(sessions[:SESSIONS]) and different >= LEAST_DIFFERENT:
+                break
             free = answered(emulator, [entry.call for entry in entries], "Free")
             said = audited(program, Path(folder), FREE, free)
             place = next((place for place, (one, other) in enumerate(zip(free, entries)) if one.reply != other.reply), None)
@@ -53,8 +57,8 @@ def compare(tally: Tally, emulator: Emulator, program: str, sessions: Sequence[S
                 if place is not None
                 else []
             )
-            different += place is not None
+            different, tried = different + (place is not None), tried + 1
             if (said, told) != (f"lawful {len(free)}", [f"differs {place}"] * len(told)):
-                tally.note(f"session {number} by rule Free", f"{said}; by the other rule {told}, and they differ at {place}")
-    print(f"rule Free: {len(sessions[:SESSIONS])} sessions, {different} of them answered otherwise than by rule Ordered")
+                tally.note(f"session {tried - 1} by rule Free", f"{said}; by the other rule {told}, and they differ at {place}")
+    print(f"rule Free: {tried} sessions, {different} of them answered otherwise than by rule Ordered")
     tally.note("sessions in which the rules differ", "" if different >= LEAST_DIFFERENT else f"{different}, so little is shown")

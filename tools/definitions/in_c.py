@@ -25,7 +25,7 @@ TOP = Path(__file__).resolve().parents[2]
 sys.path[:0] = [str(TOP / "tools" / "gate"), str(TOP / "tools" / "laws")]
 
 import wrong_definitions  # noqa: E402
-from tally import Tally  # noqa: E402
+from tally import Tally, stated  # noqa: E402
 
 SPECS = TOP / "crates" / "hingetulip_c" / "specs"
 PACKET, FATE, HANDLE = Struct("=QIIIHHHHBBH"), Struct("=QQQII"), 16
@@ -202,6 +202,7 @@ def compare(tally: Tally, sessions: Sequence[Sequence[Entry]]) -> None:
     """The right definitions say what the library does, and each wrong one something else."""
     all_done = list(of_sessions([EACH, *sessions]))
     print(f"C: {len(sessions)} sessions, {len(all_done)} calls, {len(ROWS)} wrong definitions")
+    stated(tally, "docs/TRUST.md", f"tested: {len(sessions)} sessions and", f"{len(ROWS)} wrong definitions tell something else")
     tally.note("the definitions of C", first_difference(definitions_of({}), all_done))
     for wrong, file, right_text, wrong_text in ROWS:
         changed = wrong_definitions.changed((SPECS / f"{file}.antt").read_text(), right_text, wrong_text)

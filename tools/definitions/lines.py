@@ -14,7 +14,7 @@ from emulator import CRATE
 from evaluator import Definitions
 from in_c import library
 from source import declared, read
-from tally import Tally
+from tally import Tally, stated
 from values import NONE, Value, apply, data, some, to_list
 
 CONFIG = CRATE.parent / "dn_config"
@@ -124,4 +124,6 @@ def compare(tally: Tally) -> None:
         except NO_DEFINITION:
             return None
 
-    try_changes(tally, all_of(), differs, UNSEEN)
+    seen, unseen = try_changes(tally, all_of(), differs, UNSEEN)
+    of_changes = f"Of {seen + unseen} mechanical changes of the text {seen} read a line otherwise, and the other {unseen} "
+    stated(tally, "docs/TRUST.md", f"tested: {len(read_by)} lines, as the library reads them. {of_changes}")

@@ -9,7 +9,6 @@ import os
 import re
 import tarfile
 from pathlib import Path
-from tempfile import TemporaryDirectory
 
 from tally import TOP, Ran, Tally, judge, ran
 
@@ -29,25 +28,24 @@ def run(*words: object, **variables: str) -> Ran:
 
 
 def main(tally: Tally) -> None:
-    with TemporaryDirectory() as folder:
-        first, again = Path(folder) / "first", Path(folder) / "again"
-        settings: dict[Path, dict[str, str]] = {first: {}, again: OF_A_USER}
-        for place, variables in settings.items():
-            done = run(SCRIPT, "HEAD", place, **variables)
-            tally.equal(f"the archive in {place.name}", 0, done.returncode)
-        [archive] = first.glob("*.tar.gz")
-        is_same = archive.read_bytes() == (again / archive.name).read_bytes()
-        tally.note("the archive made again", "" if is_same else "other bytes")
-        checked = run("sh", "-c", f"cd '{first}' && sha256sum -c SHA256SUMS").stdout
-        tally.equal("its checksum", f"{archive.name}: OK\n", checked)
-        with tarfile.open(archive) as tar:
-            names = sorted(it.name.partition("/")[2] for it in tar if not it.isdir())
-        listed = run("git", "-c", "core.quotePath=false", "ls-tree", "-r", "--name-only", "HEAD").stdout.splitlines()
-        tally.equal("its files", sorted(listed), names)
-        tally.equal("leftovers among them", [], [name for name in listed if LEFTOVER.fullmatch(name)])
-        refused = run(SCRIPT, "9.9.9", first)
-        advice = "9.9.9: no such version or revision: CHANGELOG.md lists the versions\n"
-        tally.equal("a version that isn't", (1, advice), (refused.returncode, refused.stdout))
+    first, again = tally.place / "first", tally.place / "again"
+    settings: dict[Path, dict[str, str]] = {first: {}, again: OF_A_USER}
+    for place, variables in settings.items():
+        done = run(SCRIPT, "HEAD", place, **variables)
+        tally.equal(f"the archive in {place.name}", 0, done.returncode)
+    [archive] = first.glob("*.tar.gz")
+    is_same = archive.read_bytes() == (again / archive.name).read_bytes()
+    tally.note("the archive made again", "" if is_same else "other bytes")
+    checked = run("sh", "-c", f"cd '{first}' && sha256sum -c SHA256SUMS").stdout
+    tally.equal("its checksum", f"{archive.name}: OK\n", checked)
+    with tarfile.open(archive) as tar:
+        names = sorted(it.name.partition("/")[2] for it in tar if not it.isdir())
+    listed = run("git", "-c", "core.quotePath=false", "ls-tree", "-r", "--name-only", "HEAD").stdout.splitlines()
+    tally.equal("its files", sorted(listed), names)
+    tally.equal("leftovers among them", [], [name for name in listed if LEFTOVER.fullmatch(name)])
+    refused = run(SCRIPT, "9.9.9", first)
+    advice = "9.9.9: no such version or revision: CHANGELOG.md lists the versions\n"
+    tally.equal("a version that isn't", (1, advice), (refused.returncode, refused.stdout))
 
 
 if __name__ == "__main__":

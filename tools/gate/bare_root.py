@@ -16,7 +16,6 @@ import resource
 import shutil
 import subprocess
 from pathlib import Path
-from tempfile import TemporaryDirectory
 
 from installs import copied
 from tally import Tally, judge, ran
@@ -96,15 +95,14 @@ def main(tally: Tally, program: str) -> None:
     if os.geteuid() != 0 or shutil.which("debootstrap") is None:
         print("a bare root: skipped, since debootstrap isn't there, or this user isn't root")
         return
-    with TemporaryDirectory() as folder:
-        Path(folder).chmod(0o755)
-        root = Path(folder) / "root"
-        if why := made(root):
-            print(f"a bare root: skipped, since debootstrap can't make it: {why}")
-            return
-        made_ready(root, str(Path(program).resolve()))
-        ping(tally, root)
-        quick(tally, root)
+    tally.place.chmod(0o755)
+    root = tally.place / "root"
+    if why := made(root):
+        print(f"a bare root: skipped, since debootstrap can't make it: {why}")
+        return
+    made_ready(root, str(Path(program).resolve()))
+    ping(tally, root)
+    quick(tally, root)
 
 
 if __name__ == "__main__":

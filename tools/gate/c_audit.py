@@ -3,8 +3,8 @@
     python3 tools/gate/c_audit.py PROGRAM SEED COUNT
 
 It takes the library of the present sources, as tools/release/library finds it. The histories are COUNT random ones of
-the reference, of all versions, lawful, changed and broken, and those of the examples' replays. c_library/audit.c audits
-each in parts of some length, with a limit of its length and of a byte less, and with each growth of memory refused in
+the reference, of all versions, lawful, changed and broken, then more until each kind of end has come, and those of the
+examples' replays. c_library/audit.c audits each in parts of some length, with a limit of its length and of a byte less, and with each growth of memory refused in
 turn. It is compiled with the sanitizers for addresses and undefined behaviour.
 """
 
@@ -12,9 +12,9 @@ from __future__ import annotations
 
 import os
 import subprocess
+from collections import Counter
 from pathlib import Path
 from random import Random
-from tempfile import TemporaryDirectory
 
 from c_library import REFUSING, program
 from random_histories import random_history
@@ -25,6 +25,7 @@ from tally import Tally, judge
 STEPS = (1, 2, 7, 64, 1000, 65_536)
 LIMIT = 268_435_456
 TOO_LONG = ("history too long", 6)
+KINDS, MOST = {"lawful", "differs", "history"}, 300  # of an end, and histories in which each has to come
 # Histories by hand, and their ends.
 FRONT, ADVANCED = b"dummynet-history,3\n", b"c,0,advance,5\nr,advanced,%d\n"
 CASES = {
@@ -66,27 +67,26 @@ def audited(tally: Tally, name: str, audit: Path, rng: Random, text: bytes, want
 
 def main(tally: Tally, dummynet: str, seed: str, count: str) -> None:
     rng = Random(int(seed))
-    ends: dict[str, int] = {}
+    ends, number = Counter[str](), 0
     os.environ["ASAN_OPTIONS"] = "detect_leaks=1"
     print(f"seed {seed}", flush=True)
-    with TemporaryDirectory() as folder:
-        audit, file = program(Path(folder), "audit", *REFUSING), Path(folder) / "history"
-        for name, (text, wanted) in CASES.items():
-            for step in range(1, len(text) + 2):
-                tally.equal(f"{name}, parts of {step}", wanted, from_c(audit, text, step, LIMIT, "growths"))
-        for number in range(int(count)):
-            text = random_history(rng, STYLES[number % len(STYLES)])
-            file.write_bytes(text)
-            wanted = by_program(dummynet, file)
-            audited(tally, f"history {number}", audit, rng, text, wanted)
-            tally.equal(f"history {number}, growths refused", wanted, from_c(audit, text, 512, LIMIT, "growths"))
-            kind = wanted[0].split(" ")[0]
-            ends[kind] = ends.get(kind, 0) + 1
-        for config in sorted(made_scenes(folder).glob("*.config")):
-            history = Path(folder) / config.stem  # a replay replaces no file that isn't a history, as the random ones may be
-            text = replay(dummynet, config, history)
-            audited(tally, config.stem, audit, rng, text, by_program(dummynet, history))
-    tally.note("each kind of end", "" if {*ends} == {"lawful", "differs", "history"} else str(ends))
+    audit, file = program(tally.place, "audit", *REFUSING), tally.place / "history"
+    for name, (text, wanted) in CASES.items():
+        for step in range(1, len(text) + 2):
+            tally.equal(f"{name}, parts of {step}", wanted, from_c(audit, text, step, LIMIT, "growths"))
+    while number < int(count) or KINDS - {*ends} and number < MOST:
+        text = random_history(rng, STYLES[number % len(STYLES)])
+        file.write_bytes(text)
+        wanted = by_program(dummynet, file)
+        audited(tally, f"history {number}", audit, rng, text, wanted)
+        tally.equal(f"history {number}, growths refused", wanted, from_c(audit, text, 512, LIMIT, "growths"))
+        ends[wanted[0].split(" ")[0]] += 1
+        number += 1
+    for config in sorted(made_scenes(tally.place).glob("*.config")):
+        history = tally.place / config.stem  # a replay replaces no file that isn't a history, as the random ones may be
+        text = replay(dummynet, config, history)
+        audited(tally, config.stem, audit, rng, text, by_program(dummynet, history))
+    tally.note("each kind of end", "" if {*ends} == KINDS else str(ends))
     print(", ".join(f"{many} of {kind}" for kind, many in ends.items()))
 
 

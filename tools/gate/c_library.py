@@ -12,7 +12,6 @@ from __future__ import annotations
 import os
 import subprocess
 from pathlib import Path
-from tempfile import TemporaryDirectory
 
 from tally import TOOLS, Tally, judge
 
@@ -46,11 +45,10 @@ def ends_well(tally: Tally, place: Path, name: str, *more: str | Path) -> None:
 
 def main(tally: Tally) -> None:
     os.environ["ASAN_OPTIONS"] = "detect_leaks=1"
-    with TemporaryDirectory() as folder:
-        for name in ("arguments", "service_arguments"):
-            ends_well(tally, Path(folder), name)
-        for name in ("growths", "reserved", "service_growths"):
-            ends_well(tally, Path(folder), name, *REFUSING)
+    for name in ("arguments", "service_arguments"):
+        ends_well(tally, tally.place, name)
+    for name in ("growths", "reserved", "service_growths"):
+        ends_well(tally, tally.place, name, *REFUSING)
 
 
 if __name__ == "__main__":

@@ -18,7 +18,6 @@ import subprocess
 from collections import Counter
 from pathlib import Path
 from random import Random
-from tempfile import TemporaryDirectory
 from typing import Iterator
 
 from c_library import HEADER, SOURCES, library
@@ -137,21 +136,20 @@ def main(tally: Tally, audit: str, seed: str, count: str) -> None:
     shared = static.parent / SHARED
     os.environ.update(ASAN_OPTIONS="detect_leaks=1", TSAN_OPTIONS="ignore_noninstrumented_modules=1")
     print(f"seed {seed}", flush=True)
-    with TemporaryDirectory() as folder:
-        place = Path(folder)
-        programs = {
-            "addresses": built(place / "addresses", "service.c", [*COMMON, "-fsanitize=address,undefined"], static),
-            "threads": built(place / "threads", "service.c", [*COMMON, "-fsanitize=thread"], shared, f"-Wl,-rpath,{shared.parent}"),
-        }
-        for number in range(int(count)):
-            calls = [place / f"calls{thread}" for thread in range(rng.randint(1, MOST_CALLERS))]
-            for one in calls:
-                one.write_text("".join(lines(rng)))
-            for name, made in programs.items():
-                entries += tried(tally, f"run {number}, {name}", made, place, audit, calls)
-        for compiler in filter(shutil.which, ("gcc", "clang")):
-            races(tally, place, compiler, [static])
-            races(tally, place, compiler, [shared, f"-Wl,-rpath,{shared.parent}"])
+    place = tally.place
+    programs = {
+        "addresses": built(place / "addresses", "service.c", [*COMMON, "-fsanitize=address,undefined"], static),
+        "threads": built(place / "threads", "service.c", [*COMMON, "-fsanitize=thread"], shared, f"-Wl,-rpath,{shared.parent}"),
+    }
+    for number in range(int(count)):
+        calls = [place / f"calls{thread}" for thread in range(rng.randint(1, MOST_CALLERS))]
+        for one in calls:
+            one.write_text("".join(lines(rng)))
+        for name, made in programs.items():
+            entries += tried(tally, f"run {number}, {name}", made, place, audit, calls)
+    for compiler in filter(shutil.which, ("gcc", "clang")):
+        races(tally, place, compiler, [static])
+        races(tally, place, compiler, [shared, f"-Wl,-rpath,{shared.parent}"])
     print(f"{entries} entries of histories")
 
 

@@ -15,7 +15,6 @@ import shutil
 import sys
 import tarfile
 from pathlib import Path
-from tempfile import TemporaryDirectory
 
 from tally import TOP, Ran, Tally, judge, ran
 
@@ -181,19 +180,17 @@ def as_packed(tally: Tally, cargo: Cargo, place: Path) -> None:
 
 
 def main(tally: Tally) -> None:
-    library = ran(TOP / "tools" / "release" / "library", is_apart=True, check=True).stdout.strip()
-    with TemporaryDirectory() as folder:
-        place = Path(folder)
-        cargo, rust = Cargo(place), copied(place)
-        crate = rust / "hingetulip"
-        of_the_sources(tally, cargo, crate, library)
-        done = cargo.run(crate, "build", HINGETULIP_LIB=str(crate / "src"))
-        is_named = "libhingetulip.a isn't there: HINGETULIP_LIB names" in done.stdout
-        tally.note("no library", "" if done.returncode and is_named else done.stdout)
-        over_debians(tally, cargo, rust, library)
-        as_packed(tally, cargo, place)
     shown(tally)
     words_of_python(tally)
+    library = ran(TOP / "tools" / "release" / "library", is_apart=True, check=True).stdout.strip()
+    cargo, rust = Cargo(tally.place), copied(tally.place)
+    crate = rust / "hingetulip"
+    of_the_sources(tally, cargo, crate, library)
+    done = cargo.run(crate, "build", HINGETULIP_LIB=str(crate / "src"))
+    is_named = "libhingetulip.a isn't there: HINGETULIP_LIB names" in done.stdout
+    tally.note("no library", "" if done.returncode and is_named else done.stdout)
+    over_debians(tally, cargo, rust, library)
+    as_packed(tally, cargo, tally.place)
 
 
 if __name__ == "__main__":

@@ -13,7 +13,6 @@ import itertools
 import subprocess
 import sys
 from pathlib import Path
-from tempfile import TemporaryDirectory
 from typing import NamedTuple
 
 from tally import TOP, Tally, judge
@@ -130,10 +129,9 @@ class Kills:
 
 
 def main(tally: Tally, program: str) -> None:
-    with TemporaryDirectory() as folder:
-        kills = Kills(str(Path(program).resolve()), Path(folder))
-        for case in cases(kills.program):
-            kills.try_each(case, tally)
+    kills = Kills(str(Path(program).resolve()), tally.place)
+    for case in cases(kills.program):
+        kills.try_each(case, tally)
 
 
 if __name__ == "__main__":

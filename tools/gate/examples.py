@@ -6,21 +6,19 @@
 from __future__ import annotations
 
 import subprocess
-from tempfile import TemporaryDirectory
 
 from scenes import EXAMPLES, made_scenes
 from tally import Tally, judge
 
 
 def main(tally: Tally, program: str) -> None:
-    with TemporaryDirectory() as folder:
-        scenes = made_scenes(folder)
-        for report in sorted(scenes.glob("*.report")):
-            name = report.stem
-            done = subprocess.run([program, "replay", f"{name}.config", f"{name}.csv"], cwd=scenes, capture_output=True)
-            same = (done.returncode, done.stdout, done.stderr) == (0, report.read_bytes(), b"")
-            tally.note(name, "" if same else f"another report: status {done.returncode} {done.stderr!r}")
-        tally.note("the count of scenes", "" if len(list(scenes.glob("*.report"))) >= 10 else "fewer than ten have a report")
+    scenes = made_scenes(tally.place)
+    for report in sorted(scenes.glob("*.report")):
+        name = report.stem
+        done = subprocess.run([program, "replay", f"{name}.config", f"{name}.csv"], cwd=scenes, capture_output=True)
+        same = (done.returncode, done.stdout, done.stderr) == (0, report.read_bytes(), b"")
+        tally.note(name, "" if same else f"another report: status {done.returncode} {done.stderr!r}")
+    tally.note("the count of scenes", "" if len(list(scenes.glob("*.report"))) >= 10 else "fewer than ten have a report")
     with open(EXAMPLES / "first.txt", "rb") as first:
         done = subprocess.run([program], stdin=first, capture_output=True, text=True)
     tally.note(

@@ -11,7 +11,6 @@ from __future__ import annotations
 import re
 import subprocess
 from pathlib import Path
-from tempfile import TemporaryDirectory
 
 from tally import TOP, Tally, judge, ran
 
@@ -39,19 +38,18 @@ def lacking(file: Path, guarded: bool) -> list[str]:
 
 
 def main(tally: Tally) -> None:
-    with TemporaryDirectory() as place:
-        folder = Path(place)
-        subprocess.run([TOP / "tools" / "release" / "hosts", folder], stdout=subprocess.DEVNULL, check=True)
-        for file, guarded in (
-            (folder / "hinge-link", True),
-            (folder / "hinge-packets", True),
-            (folder / "hinge-clock.so", False),
-            (TOP / "release" / "dummynet", False),
-            (TOP / "release" / "libhingetulip.so.1", False),
-        ):
-            tally.equal(f"{file.name} lacks", [], lacking(file, guarded))
-        library = said("readelf", "-lW", TOP / "release" / "libhingetulip.so.1")
-        tally.note("data of a thread", "the library has some" if re.search(r"^ +TLS ", library, re.M) else "")
+    folder = tally.place
+    subprocess.run([TOP / "tools" / "release" / "hosts", folder], stdout=subprocess.DEVNULL, check=True)
+    for file, guarded in (
+        (folder / "hinge-link", True),
+        (folder / "hinge-packets", True),
+        (folder / "hinge-clock.so", False),
+        (TOP / "release" / "dummynet", False),
+        (TOP / "release" / "libhingetulip.so.1", False),
+    ):
+        tally.equal(f"{file.name} lacks", [], lacking(file, guarded))
+    library = said("readelf", "-lW", TOP / "release" / "libhingetulip.so.1")
+    tally.note("data of a thread", "the library has some" if re.search(r"^ +TLS ", library, re.M) else "")
 
 
 if __name__ == "__main__":

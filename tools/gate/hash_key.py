@@ -14,11 +14,10 @@ import os
 import shutil
 import subprocess
 from pathlib import Path
-from tempfile import TemporaryDirectory
 
 from hostile import counted, inputs
 from scenes import made_scenes
-from tally import Tally, judge
+from tally import Tally, judge, stated
 
 # Each byte is KEY, or there are none where KEY isn't set.
 GIVEN = r"""
@@ -38,14 +37,14 @@ FLOWS = 2_000
 LEAST = 3  # of a live session it is about 6, of the others 10 and more
 
 
-def run(program: str, words: list[str], place: str, key: dict[str, str]) -> tuple[int, bytes, bytes]:
+def run(program: str, words: list[str], place: Path, key: dict[str, str]) -> tuple[int, bytes, bytes]:
     """The status and both streams, where getentropy is answered by the key."""
     env = {**{name: value for name, value in os.environ.items() if name != "KEY"}, "LD_PRELOAD": f"{place}/given.so", **key}
     done = subprocess.run([program, *words], capture_output=True, env=env, timeout=120)
     return done.returncode, done.stdout, done.stderr
 
 
-def forms_of_flows(program: str, place: str) -> dict[str, tuple[list[str], str]]:
+def forms_of_flows(program: str, place: Path) -> dict[str, tuple[list[str], str]]:
     """Returns each form of the program that uses the key, over the chosen flows: its words and its input."""
     config, packets = f"{place}/config", f"{place}/packets"
     replay = ["replay", config, packets]
@@ -65,11 +64,16 @@ def forms_of_flows(program: str, place: str) -> dict[str, tuple[list[str], str]]
     }
 
 
-def count_known_key(tally: Tally, program: str, place: str) -> None:
+def count_known_key(tally: Tally, program: str, place: Path) -> None:
     if shutil.which("valgrind") is None:
         print("the cost of a known key: skipped, since there is no valgrind on the path")
         return
-    inputs.write("known", FLOWS, Path(place))
+    inputs.write("known", FLOWS, place)
+    stated(
+        tally,
+        "docs/TRUST.md",
+        f"flows chosen for a known key cost at least {LEAST} times as much with it (`tools/gate/hash_key.py`)",
+    )
     for name, (words, stdin) in forms_of_flows(program, place).items():
         known, other = (counted([program, *words], stdin, LD_PRELOAD=f"{place}/given.so", KEY=key) for key in ("0", "1"))
         print(f"{name}: {FLOWS} flows chosen for the key 0 take {known} instructions with it, and {other} with another", flush=True)
@@ -80,27 +84,26 @@ def count_known_key(tally: Tally, program: str, place: str) -> None:
 
 
 def main(tally: Tally, program: str) -> None:
-    with TemporaryDirectory() as place:
-        scenes = made_scenes(place)
-        config, packets = (str(scenes / f"weights.{end}") for end in ("config", "csv"))
-        report = (scenes / "weights.report").read_bytes()
-        history = f"{place}/history"
-        words = ["replay", config, packets, "--history", history]
-        subprocess.run(
-            ["cc", "-O2", "-shared", "-fPIC", "-x", "c", "-o", f"{place}/given.so", "-"], input=GIVEN.encode(), check=True
-        )
-        histories = set()
-        for key in KEYS:
-            tally.equal(f"the report with the key of bytes {key}", (0, report, b""), run(program, words, place, {"KEY": key}))
-            histories.add(Path(history).read_bytes())
-        tally.equal("histories", 1, len(histories))
-        Path(history).unlink()
-        none = (6, b"", b"cannot read random numbers\n")
-        for name, asked in ("a replay", words), ("an audit", ["audit", packets]), ("a joined input", []):
-            tally.equal(f"{name} without random numbers", none, run(program, asked, place, {}))
-        tally.equal("a history without random numbers", False, Path(history).exists())
-        tally.equal("help without random numbers", 0, run(program, ["--help"], place, {})[0])
-        count_known_key(tally, program, place)
+    scenes = made_scenes(tally.place)
+    config, packets = (str(scenes / f"weights.{end}") for end in ("config", "csv"))
+    report = (scenes / "weights.report").read_bytes()
+    history = f"{tally.place}/history"
+    words = ["replay", config, packets, "--history", history]
+    subprocess.run(
+        ["cc", "-O2", "-shared", "-fPIC", "-x", "c", "-o", f"{tally.place}/given.so", "-"], input=GIVEN.encode(), check=True
+    )
+    histories = set()
+    for key in KEYS:
+        tally.equal(f"the report with the key of bytes {key}", (0, report, b""), run(program, words, tally.place, {"KEY": key}))
+        histories.add(Path(history).read_bytes())
+    tally.equal("histories", 1, len(histories))
+    Path(history).unlink()
+    none = (6, b"", b"cannot read random numbers\n")
+    for name, asked in ("a replay", words), ("an audit", ["audit", packets]), ("a joined input", []):
+        tally.equal(f"{name} without random numbers", none, run(program, asked, tally.place, {}))
+    tally.equal("a history without random numbers", False, Path(history).exists())
+    tally.equal("help without random numbers", 0, run(program, ["--help"], tally.place, {})[0])
+    count_known_key(tally, program, tally.place)
 
 
 if __name__ == "__main__":

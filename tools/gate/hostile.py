@@ -18,12 +18,13 @@ from functools import cache
 from pathlib import Path
 from tempfile import TemporaryDirectory
 
-from tally import TOP, Tally, judge
+from tally import TOP, Tally, judge, stated
 
 import inputs
 import sessions
 
 COUNTED = ["valgrind", "--tool=cachegrind", "--cache-sim=no", "--cachegrind-out-file=/dev/null"]
+LIVE, REPLAY, AUDIT = ["live"], ["replay", "config", "packets"], ["audit", "history"]
 FEWER, MOST = 2_000, 2.3
 KIB, WIDE = 1024, 8_000
 VERSION = b"dummynet-history,3\n"
@@ -62,57 +63,45 @@ def counted(words: list[str], stdin: str = os.devnull, status: int = 0, **more: 
     return int(found[1].replace(b",", b""))
 
 
-@cache
-def session(kind: str) -> Cost:
-    """Returns the cost of a live session with chosen calls."""
+def cost_of(words: list[str], write: Callable[[int, Path], object], status: int = 0) -> Cost:
+    """Returns the cost of a run over the files that `write` makes, of which a live session reads `calls`."""
 
     @cache
     def cost(program: str, count: int) -> int:
         with TemporaryDirectory() as folder:
-            sessions.write(kind, count, Path(folder, "calls"))
-            return counted([program, "live"], f"{folder}/calls")
+            write(count, Path(folder))
+            stdin = f"{folder}/calls" if words == LIVE else os.devnull
+            return counted([program, words[0], *(f"{folder}/{name}" for name in words[1:])], stdin, status)
 
     return cost
+
+
+@cache
+def session(kind: str) -> Cost:
+    return cost_of(LIVE, lambda count, folder: sessions.write(kind, count, folder / "calls"))
 
 
 @cache
 def replay(kind: str, times: int = 1, status: int = 0) -> Cost:
-    @cache
-    def cost(program: str, count: int) -> int:
-        with TemporaryDirectory() as folder:
-            inputs.write(kind, count * times, Path(folder))
-            return counted([program, "replay", f"{folder}/config", f"{folder}/packets"], status=status)
-
-    return cost
+    return cost_of(REPLAY, lambda count, folder: inputs.write(kind, count * times, folder), status)
 
 
 @cache
 def lines(end: bytes) -> Cost:
-    """Returns the cost of a live session with short calls whose lines have this end."""
-
-    @cache
-    def cost(program: str, count: int) -> int:
-        with TemporaryDirectory() as folder:
-            Path(folder, "calls").write_bytes((b"c,0,advance,1" + end) * count)
-            return counted([program, "live"], f"{folder}/calls")
-
-    return cost
+    return cost_of(LIVE, lambda count, folder: (folder / "calls").write_bytes((b"c,0,advance,1" + end) * count))
 
 
 @cache
 def entries(end: bytes, quote: bytes = b"") -> Cost:
     """Returns the cost of an audit of the shortest entries, with these line ends and quotes."""
 
-    @cache
-    def cost(program: str, count: int) -> int:
-        with TemporaryDirectory() as folder:
-            inputs.write("entries", KIB * count // 40, Path(folder))
-            history = Path(folder, "history")
-            records = history.read_bytes().splitlines()
-            history.write_bytes(b"".join(quote + record.replace(b",", quote + b"," + quote) + quote + end for record in records))
-            return counted([program, "audit", str(history)])
+    def write(count: int, folder: Path) -> None:
+        inputs.write("entries", KIB * count // 40, folder)
+        records = (folder / "history").read_bytes().splitlines()
+        quoted = (quote + record.replace(b",", quote + b"," + quote) + quote + end for record in records)
+        (folder / "history").write_bytes(b"".join(quoted))
 
-    return cost
+    return cost_of(AUDIT, write)
 
 
 def digits(field: str) -> Cost:
@@ -205,6 +194,11 @@ def compare_memory(program: str, tally: Tally) -> None:
 
 
 def main(tally: Tally, program: str) -> None:
+    of_keys, of_audits = (
+        f"take at most {MOST} times the instructions",
+        f"an audit takes at most {AUDITED} bytes a byte of a history",
+    )
+    stated(tally, "docs/TRUST.md", f"{of_keys} (`tools/gate/hostile.py`)", f"{of_audits} (`tools/gate/hostile.py`)")
     for name, cost in CASES.items():
         fewer, more = (cost(program, count) for count in (FEWER, 2 * FEWER))
         print(f"{FEWER} {name} take {fewer} instructions, and {2 * FEWER} take {more}: {more / fewer:.2f} times as many")

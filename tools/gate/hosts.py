@@ -17,7 +17,6 @@ import sys
 import time
 from pathlib import Path
 from socket import AF_INET, SOCK_DGRAM, socket
-from tempfile import TemporaryDirectory
 
 import pytests
 from tally import TOP, Tally, judge, ran
@@ -245,9 +244,8 @@ def lines_in_python(tally: Tally, program: str, folder: Path) -> None:
 def main(tally: Tally, program: str) -> None:
     program = str(Path(program).resolve())
     signal.signal(signal.SIGINT, signal.default_int_handler)  # which a shell ignores for what it starts in the background
-    with TemporaryDirectory() as folder:
-        for part in (page, cut, example, in_c, lines_in_c, lines_in_python, tests, nets):
-            part(tally, program, Path(folder))
+    for part in (page, cut, example, in_c, lines_in_c, lines_in_python, tests, nets):
+        part(tally, program, tally.place)
 
 
 if __name__ == "__main__":

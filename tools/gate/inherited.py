@@ -21,7 +21,6 @@ import subprocess
 from contextlib import ExitStack
 from functools import partial
 from pathlib import Path
-from tempfile import TemporaryDirectory
 from typing import Callable, Iterator, NamedTuple, Optional
 
 from tally import TOP, Tally, judge
@@ -92,7 +91,7 @@ class Ended(NamedTuple):
     stderr: str
 
 
-def shadow(folder: str) -> None:
+def shadow(folder: Path) -> None:
     """Modules that fail, of the names of the standard library's that Python doesn't load before a program begins."""
     os.mkdir(f"{folder}/shadow")
     for name in SHADOWED:
@@ -108,7 +107,7 @@ def begin_hostile() -> None:
 
 
 def ended(
-    words: list[str], folder: str, program: str, begin: Optional[Callable[[], None]] = None, given: str = os.devnull
+    words: list[str], folder: Path, program: str, begin: Optional[Callable[[], None]] = None, given: str = os.devnull
 ) -> Ended:
     """Returns how a command ends, which inherits every descriptor that may be inherited."""
     is_hostile = begin is begin_hostile
@@ -149,7 +148,7 @@ def crowded_fault(words: list[str], usual: Ended, alone: Ended) -> str:
     return "" if is_told and alone.status == NO_ANSWER.get(os.path.basename(words[0]), 2) else f"{alone}, and usually {usual}"
 
 
-def check_crowded(tally: Tally, folder: str, program: str) -> None:
+def check_crowded(tally: Tally, folder: Path, program: str) -> None:
     begin = partial(resource.setrlimit, resource.RLIMIT_NPROC, (1, 1))
     another = AS_ANOTHER if os.geteuid() == 0 else []
     for words in [*COMMANDS, INSTALL, *FORKING]:
@@ -158,7 +157,7 @@ def check_crowded(tally: Tally, folder: str, program: str) -> None:
         tally.note(f"{' '.join(words)}, no second process", fault)
 
 
-def hosts(stack: ExitStack, folder: str) -> Iterator[tuple[list[str], str]]:
+def hosts(stack: ExitStack, folder: Path) -> Iterator[tuple[list[str], str]]:
     """Yields the hosts in C, each with its input. What hinge-link connects is closed at the other ends, so it ends by itself."""
     pairs = [socket.socketpair(socket.AF_UNIX, socket.SOCK_SEQPACKET) for _ in range(2)]
     Path(folder, "page").write_bytes(bytes(PAGE))
@@ -173,7 +172,7 @@ def hosts(stack: ExitStack, folder: str) -> Iterator[tuple[list[str], str]]:
     yield ["env", f"LD_PRELOAD={place / 'hinge-clock.so'}", "sleep", "0"], os.devnull
 
 
-def check_hosts(tally: Tally, folder: str, program: str) -> None:
+def check_hosts(tally: Tally, folder: Path, program: str) -> None:
     with ExitStack() as stack:
         for words, given in hosts(stack, folder):
             name, usual = os.path.basename(words[-3] if words[0] != "env" else "hinge-clock.so"), ended(
@@ -194,18 +193,17 @@ def check_scripts(tally: Tally) -> None:
 
 def main(tally: Tally, program: str) -> None:
     check_scripts(tally)
-    with TemporaryDirectory() as folder:
-        shadow(folder)
-        for name, text in FILES.items():
-            Path(folder, name).write_text(text)
-        for words in [*COMMANDS, INSTALL]:
-            name, usual = " ".join(words), ended(words, folder, program)
-            if words != INSTALL:
-                tally.equal(name, usual[:2], ended(words, folder, program, begin_hostile)[:2])
-            for scarcity, begin in SCARCE.items():
-                tally.note(f"{name}, {scarcity}", fault_of(scarcity, usual, ended(words, folder, program, begin)))
-        check_crowded(tally, folder, program)
-        check_hosts(tally, folder, program)
+    shadow(tally.place)
+    for name, text in FILES.items():
+        Path(tally.place, name).write_text(text)
+    for words in [*COMMANDS, INSTALL]:
+        name, usual = " ".join(words), ended(words, tally.place, program)
+        if words != INSTALL:
+            tally.equal(name, usual[:2], ended(words, tally.place, program, begin_hostile)[:2])
+        for scarcity, begin in SCARCE.items():
+            tally.note(f"{name}, {scarcity}", fault_of(scarcity, usual, ended(words, tally.place, program, begin)))
+    check_crowded(tally, tally.place, program)
+    check_hosts(tally, tally.place, program)
 
 
 if __name__ == "__main__":

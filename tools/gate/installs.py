@@ -18,7 +18,6 @@ import shutil
 import sys
 from hashlib import sha256
 from pathlib import Path
-from tempfile import TemporaryDirectory
 from typing import Iterator, Optional
 
 from tally import TOP, Ran, Tally, judge, ran
@@ -375,12 +374,11 @@ def symbols(tally: Tally, copy: Path, place: Path) -> None:
 
 def main(tally: Tally, program: str) -> None:
     before = status()
-    with TemporaryDirectory() as folder:
-        place = Path(folder)
-        copy = copied(place, str(Path(program).resolve()))
-        with_hosts(tally, copy)
-        for part in (glibc, wheel, by_pip, by_each_python, in_prefix, as_packages):
-            part(tally, copy, place)
+    place = tally.place
+    copy = copied(place, str(Path(program).resolve()))
+    with_hosts(tally, copy)
+    for part in (glibc, wheel, by_pip, by_each_python, in_prefix, as_packages):
+        part(tally, copy, place)
     tally.equal("git status of the clone", before, status())
 
 

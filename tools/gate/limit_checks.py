@@ -11,7 +11,6 @@ import os
 import shlex
 import subprocess
 from pathlib import Path
-from tempfile import TemporaryDirectory
 from typing import Iterator, NamedTuple
 
 from hostile import inputs, peak
@@ -64,13 +63,13 @@ def too_long(source: str) -> Outcome:
     return b"", f"{source} too long\n".encode(), 6
 
 
-def outcome(program: list[str], words: list[str], stdin: str, folder: str) -> Outcome:
+def outcome(program: list[str], words: list[str], stdin: str, folder: Path) -> Outcome:
     with open(stdin, "rb") as file:
         done = subprocess.run(program + words, stdin=file, capture_output=True, cwd=folder)
     return done.stdout, done.stderr, done.returncode
 
 
-def checks(program: list[str], folder: str) -> Iterator[tuple[str, Outcome, Outcome]]:
+def checks(program: list[str], folder: Path) -> Iterator[tuple[str, Outcome, Outcome]]:
     """Yields each input's name, its expected outcome, and its actual one."""
     path = os.path.join(folder, "file")
     Path(folder, "empty").touch()
@@ -87,18 +86,17 @@ def checks(program: list[str], folder: str) -> Iterator[tuple[str, Outcome, Outc
 def kept(tally: Tally, program: list[str]) -> None:
     """Checks the most memory of inputs that hold the most for their bytes (tools/hostile/inputs.py)."""
     for kind, size, words, most in KEPT:
-        with TemporaryDirectory() as folder:
-            inputs.write(kind, size * MIB, Path(folder))
-            taken = peak([*program, words[0], *(f"{folder}/{word}" for word in words[1:])]) // 1024
+        (folder := tally.place / kind).mkdir()
+        inputs.write(kind, size * MIB, folder)
+        taken = peak([*program, words[0], *(f"{folder}/{word}" for word in words[1:])]) // 1024
         tally.note(f"{words[0]} of {size} MiB", "" if taken <= most else f"takes {taken} MiB, more than {most}")
 
 
 def main(tally: Tally, program_text: str) -> None:
     program = [os.path.abspath(w) if os.path.isfile(w) else w for w in shlex.split(program_text)]
     kept(tally, program)  # first, since a process begins with the memory of its parent
-    with TemporaryDirectory() as folder:
-        for name, want, got in checks(program, folder):
-            tally.note(name, "" if want == got else f"want {want}, got {[got[0][:200], got[1][:200], got[2]]}")
+    for name, want, got in checks(program, tally.place):
+        tally.note(name, "" if want == got else f"want {want}, got {[got[0][:200], got[1][:200], got[2]]}")
 
 
 if __name__ == "__main__":

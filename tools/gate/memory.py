@@ -11,7 +11,6 @@ from __future__ import annotations
 import os
 import subprocess
 from pathlib import Path
-from tempfile import TemporaryDirectory
 
 from command_line import CONFIG, FILES, HISTORY, OLDER, PACKETS, SESSION, laid
 from tally import Tally, judge
@@ -37,14 +36,14 @@ FORMS = {
 }
 
 
-def outcome(program: str, words: list[str], place: str, refusing: str, growth: int, in_a_row: int) -> tuple[bool, Outcome]:
+def outcome(program: str, words: list[str], place: Path, refusing: str, growth: int, in_a_row: int) -> tuple[bool, Outcome]:
     """Whether a growth was refused, and then the status, both streams, and the older history."""
     files = {**FILES, "changed": HISTORY.replace("r,queued,0,0,0", "r,queued,0,0,1"), "old": OLDER}
-    laid(Path(place), files)
+    laid(place, files)
     env = {**os.environ, "LD_PRELOAD": refusing, "REFUSE": str(growth), "REFUSE_IN_A_ROW": str(in_a_row)}
     stdin = SESSION if words == LIVE else f"{CONFIG}--\n{PACKETS}"
     done = subprocess.run([program, *words], cwd=place, input=stdin.encode(), capture_output=True, env=env, timeout=120)
-    told = done.returncode, done.stdout, done.stderr.replace(REFUSED, b""), (Path(place) / "old").read_text()
+    told = done.returncode, done.stdout, done.stderr.replace(REFUSED, b""), (place / "old").read_text()
     return REFUSED in done.stderr, told
 
 
@@ -61,7 +60,7 @@ def fault_of(words: list[str], ample: Outcome, got: Outcome) -> str:
     return "" if old == OLDER else "the older history is gone"
 
 
-def faults_of_form(program: str, words: list[str], place: str, refusing: str, in_a_row: int) -> tuple[list[str], int, int]:
+def faults_of_form(program: str, words: list[str], place: Path, refusing: str, in_a_row: int) -> tuple[list[str], int, int]:
     """Returns the faults in one form's runs, its number of growths, and the number of runs with status 5."""
     _, ample = outcome(program, words, place, refusing, 1_000_000_000, 1)
     growth, was_refused, faults, wants = 0, True, [], 0
@@ -75,17 +74,16 @@ def faults_of_form(program: str, words: list[str], place: str, refusing: str, in
 
 
 def main(tally: Tally, program: str) -> None:
-    with TemporaryDirectory() as place:
-        refusing = f"{place}/refusing.so"
-        subprocess.run(["cc", "-O2", "-shared", "-fPIC", "-DPRELOADED", "-o", refusing, SOURCE], check=True)
-        for name, words in FORMS.items():
-            for in_a_row in (1, 2):
-                faults, growths, wants = faults_of_form(program, words, place, refusing, in_a_row)
-                tally.note(name, *faults, "" if wants else "no run ended with status 5")
-                print(
-                    f"{name}: each of {growths} growths refused in turn, {in_a_row} in a row; {wants} runs ended with status 5",
-                    flush=True,
-                )
+    refusing = f"{tally.place}/refusing.so"
+    subprocess.run(["cc", "-O2", "-shared", "-fPIC", "-DPRELOADED", "-o", refusing, SOURCE], check=True)
+    for name, words in FORMS.items():
+        for in_a_row in (1, 2):
+            faults, growths, wants = faults_of_form(program, words, tally.place, refusing, in_a_row)
+            tally.note(name, *faults, "" if wants else "no run ended with status 5")
+            print(
+                f"{name}: each of {growths} growths refused in turn, {in_a_row} in a row; {wants} runs ended with status 5",
+                flush=True,
+            )
 
 
 if __name__ == "__main__":

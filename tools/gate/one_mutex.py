@@ -12,7 +12,6 @@ import os
 import re
 import shlex
 from pathlib import Path
-from tempfile import TemporaryDirectory
 
 from tally import TOP, Tally, judge, ran
 
@@ -42,8 +41,7 @@ def main(tally: Tally) -> None:
     section = page.partition("## Why not one mutex\n")[2].partition("\n## ")[0]
     block = re.search(r"^```rust\n(.*?)^```$", section, re.M | re.S)
     goal = re.search(r"stays open: `(.*)`\.", section)
-    with TemporaryDirectory() as place:
-        told = checked(block[1] if block else "", Path(place))
+    told = checked(block[1] if block else "", tally.place)
     tally.equal("two calls under one mutex", ["two_calls"], REFUSED.findall(told))
     tally.equal("two calls under one guard", True, "two_calls_at_once" in PROVED.findall(told))
     tally.equal("the goal that stays open", [goal[1] if goal else "a goal on the page"], OPEN.findall(told))

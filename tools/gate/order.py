@@ -14,7 +14,6 @@ from __future__ import annotations
 import subprocess
 from collections.abc import Sequence
 from pathlib import Path
-from tempfile import TemporaryDirectory
 from typing import NamedTuple
 
 from c_library import HEADER, library
@@ -61,13 +60,12 @@ def look(tally: Tally, made: Path, threads: int) -> int:
 
 
 def main(tally: Tally) -> None:
-    with TemporaryDirectory() as folder:
-        made = Path(folder) / "rt_order"
-        flags = ["-std=c99", "-O2", "-Wall", "-Wextra", "-Werror", "-pthread", f"-I{HEADER}"]
-        subprocess.run(["gcc", *flags, "-o", made, SOURCE, library()], check=True)
-        changes = rounds = 0
-        while rounds < MOST_ROUNDS and changes < LEAST_CHANGES:
-            changes, rounds = changes + sum(look(tally, made, threads) for threads in THREADS), rounds + 1
+    made = tally.place / "rt_order"
+    flags = ["-std=c99", "-O2", "-Wall", "-Wextra", "-Werror", "-pthread", f"-I{HEADER}"]
+    subprocess.run(["gcc", *flags, "-o", made, SOURCE, library()], check=True)
+    changes = rounds = 0
+    while rounds < MOST_ROUNDS and changes < LEAST_CHANGES:
+        changes, rounds = changes + sum(look(tally, made, threads) for threads in THREADS), rounds + 1
     tally.note("all threads", "" if changes >= LEAST_CHANGES else f"the caller changes {changes} times, so little is shown")
 
 

@@ -110,6 +110,7 @@ def parts(fresh: Optional[int], program: str) -> list[Part]:
     return [
         Part("hosts of a live session", [python, "tools/gate/hosts.py", program], is_long=True, least=200),
         Part("the kit", [python, "tools/gate/pytests.py", "tests/kit_tests"], "pytest", least=250),
+        Part("parts that turn red", [python, "tools/gate/plants.py", program, of_gate], "git", True, 8),
         Part("plans of links", [python, "tools/gate/pytests.py", *PLANS], "pytest", least=49),
         Part("writers that are killed", [python, "tools/gate/cut_off.py", program], "cc", least=150, by_clock=True),
         Part("programs in simulated time", [python, "tools/gate/simulated.py", program], "cc", True, least=130),
@@ -162,7 +163,6 @@ def parts(fresh: Optional[int], program: str) -> list[Part]:
         Part("callers that wait", [python, "tools/gate/waiting.py"], least=13),
         Part("stores that are fences", [python, "tools/gate/fences.py"], "objdump", least=12),
         Part("plain calls in real time", [python, "tools/gate/order.py"], "gcc", least=13),
-        Part("parts that turn red", [python, "tools/gate/plants.py", program, of_gate], "git", True, 4),
         Part("README as a script", [kit, "tools/gate/readme.py", program], "ping", True, 25, by_clock=True),
         Part("the tables of CONTRIBUTING", [python, "tools/gate/contributing.py"], "git", least=170),
         Part("the border of the kit", [python, "tools/gate/border.py"], least=400),

@@ -7,7 +7,6 @@ from __future__ import annotations
 
 import re
 from pathlib import Path
-from tempfile import TemporaryDirectory
 
 from tally import Tally, judge, ran
 
@@ -17,8 +16,7 @@ ERROR = re.compile(r"(?P<file>[^:]+):\d+: error: ")
 
 
 def main(tally: Tally) -> None:
-    with TemporaryDirectory() as cache:
-        done = ran("mypy", "--config-file", "pyproject.toml", "--cache-dir", cache, *PACKAGES, cwd=PYTHON)
+    done = ran("mypy", "--config-file", "pyproject.toml", "--cache-dir", tally.place, *PACKAGES, cwd=PYTHON)
     told = done.stdout.splitlines()
     files = sorted(path for package in PACKAGES for path in (PYTHON / package).rglob("*.py"))
     for path in files:

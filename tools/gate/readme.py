@@ -17,7 +17,6 @@ import shutil
 import subprocess
 import sys
 from pathlib import Path
-from tempfile import TemporaryDirectory
 from typing import Iterator, NamedTuple
 
 from installs import copied
@@ -189,19 +188,18 @@ def others(typed: Typed) -> None:
 
 
 def main(tally: Tally, program: str) -> None:
-    with TemporaryDirectory() as folder:
-        clone = copied(Path(folder), program).rename(Path(folder) / "hingetulip")
-        typed = Typed(tally, clone)
-        for name, text in FILES.items():
-            (clone / name).write_text(text)
-        [test] = [text for language, text in BLOCK.findall(PAGE) if language == "python"]
-        (clone / "test_readings.py").write_text(test)
-        each = list(samples())
-        tally.note("the first line", "" if each[0].command.startswith(FIRST) else "isn't the clone")
-        for sample in each[1:]:
-            typed.sample(sample)
-        table(typed)
-        others(typed)
+    clone = copied(tally.place, program).rename(tally.place / "hingetulip")
+    typed = Typed(tally, clone)
+    for name, text in FILES.items():
+        (clone / name).write_text(text)
+    [test] = [text for language, text in BLOCK.findall(PAGE) if language == "python"]
+    (clone / "test_readings.py").write_text(test)
+    each = list(samples())
+    tally.note("the first line", "" if each[0].command.startswith(FIRST) else "isn't the clone")
+    for sample in each[1:]:
+        typed.sample(sample)
+    table(typed)
+    others(typed)
     tally.note("README has at most 130 lines", "" if len(PAGE.splitlines()) <= 130 else f"{len(PAGE.splitlines())}")
 
 

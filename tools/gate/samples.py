@@ -15,7 +15,8 @@ import sys
 from pathlib import Path
 from typing import NamedTuple
 
-from tally import TOP, Tally, judge, ran
+from parts import CALLS_BY_DEFINITIONS
+from tally import TOP, Tally, judge, ran, stated
 
 import refuted_laws
 import wrong_definitions
@@ -93,6 +94,7 @@ def counted(tally: Tally) -> None:
             f"{laws} lines of [laws",
             f"replace the {emulation}.",
             f"({in_c[0]} lines to believe, or {in_c[1]} by a caller",
+            f"tested: {CALLS_BY_DEFINITIONS:,} calls in new sessions",
         ],
         "crates/dn_laws/README.md": [
             f"the laws ({either[0]} lines) or what defines `reply` ({either[1]})",
@@ -101,8 +103,7 @@ def counted(tally: Tally) -> None:
         ],
     }
     for name, wanted in told.items():
-        text = " ".join((TOP / name).read_text().split())
-        tally.note(f"{name}: the counts", *(f"doesn't say: {words}" for words in wanted if words not in text))
+        stated(tally, name, *wanted)
 
 
 def anchors(page: Path) -> set[str]:

@@ -11,8 +11,8 @@ TOP = Path(__file__).resolve().parent.parent.parent
 EXAMPLES = TOP / "examples"
 
 
-def made_scenes(folder: str) -> Path:
-    place = Path(folder) / "scenes"
+def made_scenes(folder: Path) -> Path:
+    place = folder / "scenes"
     place.mkdir()
     subprocess.run([sys.executable, TOP / "tools" / "release" / "examples.py", place], check=True)
     for kept in EXAMPLES.glob("shared.*"):

@@ -18,7 +18,7 @@ TOP = Path(__file__).resolve().parents[2]
 PROGRAMS = ("dummynet", "hingetulip_c")
 KIT = tuple(f"python/{package}/**/*.py" for package in ("hinge", "hingetulip", "hingetulip_words"))
 HOSTS, LAWS = ("hosts/*/*.[ch]",), ("crates/*/specs/*", "tools/laws/*.py")
-GATE = ("tools/gate/*",)
+GATE = ("tools/gate/*", *KIT, *HOSTS, "docs/*.md")
 FRESH = "fresh"
 BITS = 32
 

@@ -16,7 +16,6 @@ import sys
 import time
 from collections import Counter
 from pathlib import Path
-from tempfile import TemporaryDirectory
 
 from tally import TOP, Tally, judge
 
@@ -44,7 +43,7 @@ def verdict(program: str, history: Path) -> tuple[int, str]:
     return done.returncode, done.stdout
 
 
-def peak(words: list[str], folder: str) -> float:
+def peak(words: list[str], folder: Path) -> float:
     """Returns the command's maximum memory in MiB, read from the system until it ends."""
     with subprocess.Popen(words, cwd=folder, stdout=subprocess.DEVNULL) as child:
         most, status = 0, Path(f"/proc/{child.pid}/status")
@@ -57,9 +56,9 @@ def peak(words: list[str], folder: str) -> float:
     return most / 1024
 
 
-def run(tally: Tally, program: str, calls: int, folder: str) -> float:
+def run(tally: Tally, program: str, calls: int, folder: Path) -> float:
     """Makes so many calls, looks at the history, and gives the most MiB that were in memory."""
-    history = Path(folder) / "history"
+    history = folder / "history"
     taken = peak([str(SENDERS), str(calls), str(history)], folder)
     rounds = calls // THREADS
     # The last caller also configures the pipe.
@@ -84,9 +83,8 @@ def main(tally: Tally, program: str) -> None:
     if not SENDERS.exists():
         tally.note("the program", f"{SENDERS} isn't built")
         return
-    with TemporaryDirectory() as folder:
-        fewer, many = [run(tally, os.path.abspath(program), calls, folder) for calls in (FEWER, MANY)]
-        more = MORE * (Path(folder) / "history").stat().st_size / 2**20
+    fewer, many = [run(tally, os.path.abspath(program), calls, tally.place) for calls in (FEWER, MANY)]
+    more = MORE * (tally.place / "history").stat().st_size / 2**20
     tally.note("flat memory", "" if many <= fewer + more else f"{fewer:.1f} MiB for {FEWER} calls, and {many:.1f} MiB for {MANY}")
 
 

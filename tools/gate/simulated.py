@@ -1,10 +1,10 @@
 """Programs in simulated time: the released kernel, built anew, and the tests of `hinge run --simulated`.
 
-    python3 tools/gate/simulated.py PROGRAM
+    python3 tools/gate/simulated.py PROGRAM [TEST ..]
 
-Where the source package of Linux is, the kernel is built from it, in some 9 minutes of processor time, once for its recipe: it is kept in what
-`rt ci` keeps between runs, or else in this user's cache. It is compared with the released one where both are of the same source and compilers.
-The host in C is built anew from the present sources.
+With tests below python/ no kernel is built. Otherwise, where the source package of Linux is, the kernel is built from it, in some 9 minutes of
+processor time, once for its recipe: it is kept in what `rt ci` keeps between runs, or else in this user's cache. It is compared with the released one
+where both are of the same source and compilers. The host in C is built anew from the present sources.
 """
 
 from __future__ import annotations
@@ -12,7 +12,6 @@ from __future__ import annotations
 import os
 import shutil
 import subprocess
-from tempfile import TemporaryDirectory
 
 import pytests
 from tally import TOP, Tally, judge
@@ -55,13 +54,13 @@ def build(tally: Tally) -> None:
         compare(tally, *(kernel for kernel in kernels if kernel))
 
 
-def main(tally: Tally, program: str) -> None:
-    keep_beside()
-    build(tally)
-    with TemporaryDirectory() as place:
-        subprocess.run([TOP / "tools" / "release" / "hosts", place], check=True, stdout=subprocess.DEVNULL)
-        env = {**os.environ, "DUMMYNET": program, "HINGE_LINK": f"{place}/hinge-link"}
-        pytests.count(tally, ["tests/simulated"], env, is_alone=True)
+def main(tally: Tally, program: str, *tests: str) -> None:
+    if not tests:
+        keep_beside()
+        build(tally)
+    subprocess.run([TOP / "tools" / "release" / "hosts", tally.place], check=True, stdout=subprocess.DEVNULL)
+    env = {**os.environ, "DUMMYNET": program, "HINGE_LINK": f"{tally.place}/hinge-link"}
+    pytests.count(tally, [*tests] or ["tests/simulated"], env, is_alone=True)
 
 
 if __name__ == "__main__":

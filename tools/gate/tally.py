@@ -2,10 +2,13 @@
 
 from __future__ import annotations
 
+import os
 import subprocess
 import sys
 from collections.abc import Callable
+from contextlib import suppress
 from pathlib import Path
+from tempfile import TemporaryDirectory
 from typing import Any
 
 TOP = Path(__file__).resolve().parents[2]
@@ -14,14 +17,22 @@ sys.path[:0] = [str(TOP / "python"), str(TOOLS), *(str(TOOLS / name) for name in
 FAULT = "failed: "  # how the lines begin that name what failed once more, before the last line
 AGAIN = "at the second try: "  # and those that name what failed first, and passed alone
 LAST_LINES = 8  # of what is wrong, in such a line
+AT_ONCE = "ENDS_AT_A_FAULT"  # a variable: where it is set, a part ends at its first fault
 
 
 Ran = subprocess.CompletedProcess[str]
 
 
+class Enough(BaseException):
+    """Raised behind the first fault, where that is enough."""
+
+
 class Tally:
-    def __init__(self) -> None:
-        self.passed = self.failed = 0
+    place: Path  # a folder that is removed with the part's end
+
+    def __init__(self, is_short: bool = False) -> None:
+        """`is_short`: the first fault ends the part."""
+        self.passed, self.failed, self.is_short = 0, 0, is_short
         self.faults: list[str] = []
 
     def note(self, name: str, *faults: str) -> None:
@@ -31,6 +42,8 @@ class Tally:
         for fault in found:
             print(f"{name}: {fault}", flush=True)
             self.faults.append(f"{FAULT}{name}: {' / '.join(fault.strip().splitlines()[-LAST_LINES:])}")
+        if found and self.is_short:
+            raise Enough
 
     def equal(self, name: str, wanted: object, got: object) -> None:
         self.note(name, "" if wanted == got else f"want {wanted!r}, got {got!r}")
@@ -50,8 +63,16 @@ def ran(*words: object, is_apart: bool = False, **how: Any) -> Ran:
     return subprocess.run(list(map(str, words)), **{**streams, "text": True, **how})
 
 
+def stated(tally: Tally, page: str, *words: str) -> None:
+    """Checks that a page says what a part counts, however its lines break."""
+    text = " ".join((TOP / page).read_text(encoding="utf-8").split())
+    tally.note(f"{page}: what is counted", *(f"doesn't say: {one}" for one in words if one not in text))
+
+
 def judge(main: Callable[..., None]) -> None:
-    """Runs a part with the words of its command line, and ends with the status of its tally."""
-    tally = Tally()
-    main(tally, *sys.argv[1:])
+    """Runs a part with the words of its command line and a folder, and ends with the status of its tally."""
+    tally = Tally(AT_ONCE in os.environ)
+    with suppress(Enough), TemporaryDirectory() as place:
+        tally.place = Path(place)
+        main(tally, *sys.argv[1:])
     sys.exit(tally.end())

@@ -13,9 +13,9 @@ import re
 import shutil
 import subprocess
 from pathlib import Path
-from tempfile import TemporaryDirectory
 from typing import Union
 
+from c_library import library
 from pytests import has, interpreter
 from tally import TOP, Tally, judge, ran
 
@@ -33,9 +33,8 @@ IN_ROOMS = "test_store"  # which needs namespaces
 
 def environment(place: Path) -> dict[str, str]:
     """Returns the environment that names the present sources' library, and what is built from C, if there is a compiler."""
-    library = subprocess.run([TOP / "tools" / "release" / "library"], stdout=subprocess.PIPE, text=True, check=True).stdout.strip()
     named = {
-        "HINGETULIP_LIBRARY": f"{TOP / library}/libhingetulip.so.1",
+        "HINGETULIP_LIBRARY": f"{library().parent}/libhingetulip.so.1",
         "PYTHONPATH": str(TOP / "python"),
         "PYTHONDONTWRITEBYTECODE": "1",
         "PYTEST_DISABLE_PLUGIN_AUTOLOAD": "1",
@@ -124,10 +123,9 @@ def main(tally: Tally) -> None:
     if python is None:
         print("tests in simulated time: skipped, since no Python has pytest: apt-get install python3-pytest")
         return
-    with TemporaryDirectory() as folder:
-        pytest = Pytest(python, Path(folder))
-        examples(tally, pytest)
-        of_page(tally, pytest)
+    pytest = Pytest(python, tally.place)
+    examples(tally, pytest)
+    of_page(tally, pytest)
 
 
 if __name__ == "__main__":

@@ -23,6 +23,7 @@ from typing import NamedTuple
 HERE = Path(__file__).resolve().parent
 sys.path.insert(0, str(HERE.parent / "gate"))
 
+from c_library import library  # noqa: E402
 from calls import ROWS, fault_of  # noqa: E402
 from pytests import interpreter as python  # noqa: E402
 from tally import TOP, Tally, judge  # noqa: E402
@@ -47,7 +48,7 @@ class Ran(NamedTuple):
     @property
     def simulated(self) -> float:
         """Returns the simulated seconds of all its tests."""
-        return sum(int(MOMENT.findall(text.decode())[-1]) for text in self.histories.values()) / NS
+        return sum(int((MOMENT.findall(text.decode()) or ["0"])[-1]) for text in self.histories.values()) / NS
 
 
 @lru_cache(maxsize=None)
@@ -59,10 +60,7 @@ def environment() -> dict[str, str]:
         "PYTEST_DISABLE_PLUGIN_AUTOLOAD": "1",
     }
     if "HINGETULIP_LIBRARY" not in os.environ:
-        library = subprocess.run(
-            [TOP / "tools" / "release" / "library"], stdout=subprocess.PIPE, text=True, check=True
-        ).stdout.strip()
-        more["HINGETULIP_LIBRARY"] = f"{TOP / library}/libhingetulip.so.1"
+        more["HINGETULIP_LIBRARY"] = f"{library().parent}/libhingetulip.so.1"
     return {**os.environ, **more}
 
 
