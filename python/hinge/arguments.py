@@ -8,6 +8,8 @@ import shlex
 from types import SimpleNamespace
 from typing import TYPE_CHECKING, Callable, Optional
 
+from hinge.command_line import add
+
 if TYPE_CHECKING:
     from hinge.outputs import Format
 
@@ -77,15 +79,14 @@ def add_source(
 
 def add_flows(line: argparse.ArgumentParser, most: int, default: Optional[int], text: str) -> None:
     """Adds the options that group flows and set the number of groups."""
-    line.add_argument(
+    add(
+        line,
         "--by",
+        "what a flow is: packets of a five-tuple (the default), a flow of dummynet, or all packets to a pipe or queue",
         choices=WAYS,
         default="tuple",
-        help="what a flow is: packets of a five-tuple (the default), a flow of " "dummynet, or all packets to a pipe or queue",
     )
-    line.add_argument(
-        "--top", metavar="N", type=bounded(1, most), default=default, help=f"the N largest flows, the rest as one (default: {text})"
-    )
+    add(line, "--top N", f"the N largest flows, the rest as one (default: {text})", type=bounded(1, most), default=default)
 
 
 class LookOptions(SimpleNamespace):

@@ -10,6 +10,13 @@ from typing import Any, Callable, NoReturn
 NEAR, OUTPUT = 0.82, ("--out", "--output")  # of what was typed, and of what is meant
 
 
+def add(line: argparse._ActionsContainer, words: str, text: str, **more: Any) -> None:
+    """Adds an option, with the name of its value behind it, as `--late TIME`."""
+    option, _, value = words.partition(" ")
+    named: dict[str, Any] = {"metavar": value} if value else {}
+    line.add_argument(option, help=text, **named, **more)
+
+
 class Joined(argparse.Action):
     """An option whose repetition continues its value, as in `--link 10Mbit/s --link 20ms`."""
 

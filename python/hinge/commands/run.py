@@ -11,7 +11,7 @@ from typing import NoReturn, Optional, Sequence
 from hinge.arguments import bounded
 from hinge.border.programs import CANNOT_EXECUTE
 from hinge.command import NOT_FOUND, Fault, parser, say
-from hinge.command_line import Parser
+from hinge.command_line import add, Parser
 from hinge.run.options import add_link, add_run, mtu
 from hinge.run.settings import RunOptions
 from hinge.simulated.failures import repeated
@@ -39,31 +39,25 @@ def options() -> Parser:
     add_link(line)
     more = line.add_argument_group("the run")
     more.add_argument("--mtu", metavar="BYTES", type=mtu, default=1500, help="of both interfaces (1500)")
-    more.add_argument(
-        "--net", metavar="NETWORK", help="of both hosts, for a run inside another one or beside a network of your own (10.8.0.0/24)"
-    )
-    more.add_argument(
-        "--netns",
-        metavar="PID",
-        help=(
-            "puts the link on the way out of a container or network that is there, in IPv4, as root; without COMMAND" " until ^C"
-        ),
+    add(more, "--net NETWORK", "of both hosts, for a run inside another one or beside a network of your own (10.8.0.0/24)")
+    add(
+        more,
+        "--netns PID",
+        "puts the link on the way out of a container or network that is there, in IPv4, as root; without COMMAND until ^C",
     )
     more.add_argument("--container", metavar="NAME", help="the same for a container of docker or podman, by its name, id or image")
     more.add_argument("--server", metavar="COMMAND", help="what runs at the other end, by sh; COMMAND waits until it listens")
     more.add_argument("--server-wait", metavar="TIME", default="5s", help="how long (5s)")
     more.add_argument("--server-end", metavar="TIME", default="2s", help="how long the server has to end after SIGTERM (2s)")
     more.add_argument("--outside", action="store_true", help="the rest of the network behind the link, by slirp4netns or pasta")
-    more.add_argument(
-        "--outside-loopback", action="store_true", help="the same, with this system's own loopback at 10.9.0.2 and fd00::2"
-    )
-    more.add_argument(
-        "--to",
-        metavar="PORT",
+    add(more, "--outside-loopback", "the same, with this system's own loopback at 10.9.0.2 and fd00::2", action="store_true")
+    add(
+        more,
+        "--to PORT",
+        "this system's port behind the link: the command finds it at localhost, and at server",
         type=bounded(1, 65535),
         action="append",
         default=[],
-        help="this system's port behind the link: the command finds it at localhost, and at server",
     )
     add_run(more)
     line.needs("--server-wait --server-end", "--server")
