@@ -4,6 +4,7 @@ modules are here."""
 from __future__ import annotations
 
 import argparse
+import re
 import shlex
 from types import SimpleNamespace
 from typing import TYPE_CHECKING, Callable, Optional
@@ -44,14 +45,11 @@ def bounded(low: int, high: int) -> Callable[[str], int]:
 
 def seeds(text: str) -> list[int]:
     """Returns the seeds in `7`, `1-5` or a list of them. ArgumentTypeError: there are none."""
-    numbers: list[int] = []
-    for part in text.split(","):
-        low, _, high = part.partition("-")
-        number = bounded(0, 10**6)
-        numbers.extend(range(number(low), number(high or low) + 1))
-    if not numbers:
-        raise argparse.ArgumentTypeError(f"{text!r} has no seed")
-    return numbers
+    pairs = [part.partition("-")[::2] for part in text.split(",")]
+    if not all(is_number(low) and is_number(high or low) and int(low) <= int(high or low) <= 10**6 for low, high in pairs):
+        figures = "-".join(re.findall("[0-9]+", text)[:2])
+        raise argparse.ArgumentTypeError(f"{text!r}: no seeds up to 1000000; write {figures if '-' in figures else '1-100'}")
+    return [seed for low, high in pairs for seed in range(int(low), int(high or low) + 1)]
 
 
 def file_of(*formats: Format) -> Callable[[str], str]:

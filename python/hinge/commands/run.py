@@ -68,10 +68,10 @@ def options() -> Parser:
     return line
 
 
-def command_line(words: Optional[Sequence[str]] = None) -> RunOptions:
-    line = options()
-    arguments = line.parse_args(repeated(sys.argv[1:] if words is None else [*words], "run"))
-    from hinge.run.hints import lacking, link_as_command  # as all below, behind the command line, since a help has to come at once
+def options_and_command(line: Parser, words: Sequence[str]) -> argparse.Namespace:
+    """Returns the options, and the command without its `--`."""
+    arguments = line.parse_args(words)
+    from hinge.run.hints import link_as_command  # as all below, behind the command line, since a help has to come at once
 
     if arguments.command[:1] == ["--"]:
         del arguments.command[0]
@@ -80,6 +80,13 @@ def command_line(words: Optional[Sequence[str]] = None) -> RunOptions:
     link = link_as_command(arguments.command)
     if link is not None:
         line.error(link)
+    return arguments
+
+
+def command_line(words: Optional[Sequence[str]] = None) -> RunOptions:
+    arguments = options_and_command(options(), repeated(sys.argv[1:] if words is None else [*words], "run"))
+    from hinge.run.hints import lacking
+
     missing = lacking(arguments.command) if arguments.root is None else None
     if missing is not None:
         raise Fault(missing, CANNOT_EXECUTE if os.path.isfile(arguments.command[0]) else NOT_FOUND)
