@@ -53,14 +53,22 @@ def refuse(words: list[str], program: str = "hinge") -> None:
 
     from hinge.border import terminal
     from hinge.foreign import answer_of
-    from hinge.misplaced import filled, kind_of, line_for
+    from hinge.misplaced import advised, filled, kind_of, line_for
+    from hinge.program import dummynet
 
+    if program == "dummynet" and words[0] in ("audit", "replay"):
+        wrong = advised(words[0], words[1:], "")
+        if not wrong:
+            os.execv(dummynet(), [program, *words])
+        terminal.tell(f"{program}{wrong.replace(';', ':', 1)}")
+        sys.exit(USAGE)
     answer, near = answer_of(words), difflib.get_close_matches(words[0], COMMANDS, 1)
     files = [word for word in words if os.path.exists(word) and kind_of(word)]
+    place = next((place for place, word in enumerate(words) if word.lower() in COMMANDS), -1)
     if program == "dummynet" and len(files) == 2 and files == words[-2:]:
-        text = f"write dummynet replay {' '.join(files)}"
-    elif words[0].lower() in COMMANDS:
-        text = f"write hinge {shlex.join([words[0].lower(), *words[1:]])}"
+        text = advised("replay", files, "").lstrip("; ") or f"write dummynet replay {shlex.join(files)}"
+    elif place == 0 or place > 0 and words[0].startswith("-"):
+        text = f"write hinge {shlex.join([words[place].lower(), *words[place + 1 :]])}"
     elif answer is not None and all(file in filled(answer.write, words) for file in files):
         text = answer._replace(write=filled(answer.write, words)).text()
     elif files:

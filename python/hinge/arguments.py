@@ -4,9 +4,12 @@ modules are here."""
 from __future__ import annotations
 
 import argparse
+import re
 import shlex
 from types import SimpleNamespace
 from typing import TYPE_CHECKING, Callable, Optional
+
+from hinge.command_line import add
 
 if TYPE_CHECKING:
     from hinge.outputs import Format
@@ -42,14 +45,11 @@ def bounded(low: int, high: int) -> Callable[[str], int]:
 
 def seeds(text: str) -> list[int]:
     """Returns the seeds in `7`, `1-5` or a list of them. ArgumentTypeError: there are none."""
-    numbers: list[int] = []
-    for part in text.split(","):
-        low, _, high = part.partition("-")
-        number = bounded(0, 10**6)
-        numbers.extend(range(number(low), number(high or low) + 1))
-    if not numbers:
-        raise argparse.ArgumentTypeError(f"{text!r} has no seed")
-    return numbers
+    pairs = [part.partition("-")[::2] for part in text.split(",")]
+    if not all(is_number(low) and is_number(high or low) and int(low) <= int(high or low) <= 10**6 for low, high in pairs):
+        figures = "-".join(re.findall("[0-9]+", text)[:2])
+        raise argparse.ArgumentTypeError(f"{text!r}: no seeds up to 1000000; write {figures if '-' in figures else '1-100'}")
+    return [seed for low, high in pairs for seed in range(int(low), int(high or low) + 1)]
 
 
 def file_of(*formats: Format) -> Callable[[str], str]:
@@ -77,15 +77,14 @@ def add_source(
 
 def add_flows(line: argparse.ArgumentParser, most: int, default: Optional[int], text: str) -> None:
     """Adds the options that group flows and set the number of groups."""
-    line.add_argument(
+    add(
+        line,
         "--by",
+        "what a flow is: packets of a five-tuple (the default), a flow of dummynet, or all packets to a pipe or queue",
         choices=WAYS,
         default="tuple",
-        help="what a flow is: packets of a five-tuple (the default), a flow of " "dummynet, or all packets to a pipe or queue",
     )
-    line.add_argument(
-        "--top", metavar="N", type=bounded(1, most), default=default, help=f"the N largest flows, the rest as one (default: {text})"
-    )
+    add(line, "--top N", f"the N largest flows, the rest as one (default: {text})", type=bounded(1, most), default=default)
 
 
 class LookOptions(SimpleNamespace):

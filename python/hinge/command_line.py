@@ -5,9 +5,17 @@ from __future__ import annotations
 import argparse
 import re
 import sys
+from itertools import takewhile
 from typing import Any, Callable, NoReturn
 
 NEAR, OUTPUT = 0.82, ("--out", "--output")  # of what was typed, and of what is meant
+
+
+def add(line: argparse._ActionsContainer, words: str, text: str, **more: Any) -> None:
+    """Adds an option, with the name of its value behind it, as `--late TIME`."""
+    option, _, value = words.partition(" ")
+    settings_of_value: dict[str, Any] = {"metavar": value} if value else {}
+    line.add_argument(option, help=text, **settings_of_value, **more)
 
 
 class Joined(argparse.Action):
@@ -53,6 +61,13 @@ class Parser(argparse.ArgumentParser):
                 self.error(f"{option} does nothing {where}")
         return result
 
+    def parse_intermixed_args(self, args: Any = None, namespace: Any = None) -> Any:
+        """Reads files and options in any order; behind `--` there are files alone, which may begin with a hyphen."""
+        words = sys.argv[1:] if args is None else args
+        at = words.index("--") if "--" in words else len(words)
+        files = [f"./{word}" if word.startswith("-") else word for word in words[at + 1 :]]
+        return super().parse_intermixed_args([*words[:at], *files], namespace)
+
     def options(self) -> list[str]:
         """Returns the names of the options that a help lists."""
         return [name for name, action in self._option_string_actions.items() if action.help is not argparse.SUPPRESS]
@@ -85,6 +100,10 @@ class Parser(argparse.ArgumentParser):
     def error(self, message: str) -> NoReturn:
         import difflib  # which takes longer to load than a help may
 
+        options = [word for word in takewhile(lambda word: word != "--", sys.argv[1:]) if re.match("-.", word)]
+        others = [word for word in options if word.partition("=")[0] not in self._option_string_actions]
+        if others and "arguments are required" in message:
+            message = f"unrecognized arguments: {others[0]}"  # which may be why
         words = message.partition("unrecognized arguments: ")[2]
         option, command = words.partition(" ")[0].partition("=")[0], self.prog.removeprefix("hinge ")
         names = self.options()
@@ -107,7 +126,8 @@ class Parser(argparse.ArgumentParser):
         elif option and refusal == message and not option.startswith("-") and "[-- COMMAND" in (self.usage or ""):
             import shutil
 
-            refusal += f"; a command comes after --: write -- {words if shutil.which(option) else 'COMMAND'}"
+            behind = f"-- {words if shutil.which(option) else 'COMMAND'}"
+            refusal += f"; a command comes after --, on the host of a line `main NAME` in FILE: write {behind}"
         elif option and refusal == message:
             is_near = near and option.startswith("--")
             refusal += f"; did you mean {' or '.join(near[:3])}?" if is_near else f"; `hinge help {command}` lists the options"

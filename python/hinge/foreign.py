@@ -2,10 +2,16 @@
 
 from __future__ import annotations
 
+import errno
+import io
+import os
 import re
 import shlex
+from contextlib import redirect_stderr
+from functools import lru_cache
 from typing import Callable, Collection, Mapping, NamedTuple, Optional, Sequence
 
+from hinge.command import Fault
 from hinge.foreign_options import OF_LINK, OPTIONS
 from hingetulip_words.foreign import STRICT, Meant, number
 from hingetulip_words.link import LEFT_OUT, Place, corrected, in_full, link_before, read_link
@@ -144,7 +150,9 @@ def of_pumba(words: Sequence[str]) -> Optional[Answer]:
     if kind is not None:
         default = ["--time", "100"] * (kind == "delay" and "--time" not in words)
         first, *others = Meant("pumba", options).rest or ["NAME"]
-        answer = of_link("pumba", [*options, *default], before=CONTAINER % ("NAME" if ":" in first else first), behind="")
+        answer = of_link(
+            "pumba", [*options, *default], before=CONTAINER % ("NAME" if ":" in first else shlex.quote(first)), behind=""
+        )
         more = (f"the same for {', '.join(others)}, as a run has one container",) * bool(others)
         return answer and answer._replace(notes=answer.notes + more)
     act = next((act for word, act in (("kill", "kill"), ("stop", "kill"), ("pause", "stop")) if word in words), None)
@@ -214,7 +222,34 @@ OF_TOOLS: dict[str, Callable[[Sequence[str]], Optional[Answer]]] = {
 TOOLS = {tool: answer for tools, answer in OF_TOOLS.items() for tool in tools.split()}
 
 
+@lru_cache
+def refusal(line: str) -> str:
+    """Returns why `hinge run` refuses an advised line; an empty text if it doesn't, or only for lack of a file."""
+    from hinge.commands.run import options, options_and_command  # which a wrong word alone needs, as the next
+    from hinge.run.plan_of_options import plan_of
+    from hinge.run.settings import RunOptions
+
+    messages, words = io.StringIO(), shlex.split(line.removeprefix("sudo "))
+    try:
+        with redirect_stderr(messages):
+            run = options_and_command(options(), words[2:]) if words[:2] == ["hinge", "run"] else None
+            if run is not None:
+                plan_of(RunOptions(**vars(run), more_files=()), run.mtu)
+    except SystemExit:
+        return messages.getvalue().partition("error: ")[2].strip()
+    except Fault as fault:
+        return "" if str(fault).endswith(os.strerror(errno.ENOENT)) else str(fault)
+    return ""
+
+
 def answer_of(words: Sequence[str]) -> Optional[Answer]:
+    """Returns the replacement for these words after `hinge`, if known, or why it would be refused."""
+    answer = replacement(words)
+    wrong = refusal(answer.write) if answer else ""
+    return Answer("", answer.page, (wrong,)) if answer and wrong else answer
+
+
+def replacement(words: Sequence[str]) -> Optional[Answer]:
     """Returns the replacement for these words after `hinge`, if known."""
     words = list(words)[words[0] == "sudo" and len(words) > 1 :]
     link, first = words[0], (words[0].rpartition("/")[2] or words[0]).lower()

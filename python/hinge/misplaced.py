@@ -32,7 +32,7 @@ TABLE = (
     ("failed-run", rb'\{\s*"words":\s*\[\s*"run"', "a failure of hinge search", "hinge run --like {0}"),
     ("failure", rb'\{\s*"words"', "a failure of hinge search", "hinge net --like {0}"),
     ("summary", rb'\{\s*"format"', "a summary", "hinge look HISTORY, which a run keeps with --transcript HISTORY"),
-    ("operations", rb"\{", "a list of operations", "hinge check {0} --model register"),
+    ("operations", rb'\{[^\n]*"(client|op)"', "a list of operations", "hinge check {0} --model register"),
     ("faults", rb"[^\s>]+ > [^\s>]+ packet ", "a list of faults", "hinge run --link 20ms --faults {0} -- COMMAND"),
     ("net", rb"(host|main|router|link|switch)\s", "a network", "hinge net {0}"),
     ("config", rb"(pipe|queue|ipfw)\s", "a configuration", "hinge run --config {0} -- COMMAND"),
@@ -45,9 +45,10 @@ TABLE = (
 )
 FRONTS = [(kind, front) for kind, front, _, _ in TABLE if front]
 KINDS = {kind: words for kind, _, *words in TABLE}
-RUNNING = dict.fromkeys(("change net", "status net", "exec net", "down net"), "hinge up {0}, and {command} {1}")
+OF_NETS = ("net", "up", "search")
+RUNNING = {"change": " WORDS", "status": "", "exec": " HOST -- COMMAND", "down": ""}  # behind a name
 OF_COMMAND = {  # in place of the line above
-    **RUNNING,
+    **{f"{command} net": f"hinge up {{0}}, and hinge {command} {{1}}{words}" for command, words in RUNNING.items()},
     "look config": "hinge look PACKETS REPORT --config {0}",
     "look net": "hinge net {0} --transcripts FOLDER, and hinge look FOLDER",
     "why net": "hinge net {0} --transcripts FOLDER, and hinge why ROW FOLDER",
@@ -57,8 +58,8 @@ OF_COMMAND = {  # in place of the line above
     "why packets": "hinge why ROW CONFIG {0} REPORT",
     "why report": "hinge why ROW CONFIG PACKETS {0}",
     "ipfw config": "hinge run --config {0} -- COMMAND",
-    "dummynet config": "dummynet replay {0} PACKETS",
-    "dummynet history": "dummynet audit {0}",
+    **dict.fromkeys(("dummynet config", "audit config"), "dummynet replay {0} PACKETS"),
+    **dict.fromkeys(("dummynet history", "replay history"), "dummynet audit {0}"),
 }
 # The kinds that a command takes, for its first file, its second, and those behind.
 TAKES = {
@@ -67,38 +68,56 @@ TAKES = {
     "look --model": "operations,net failure failed-run",
     "why": "history session packets config,report packets,report",
     "packets": "capture",
-    "net": "net",
-    "up": "net",
-    "search": "net",
+    **dict.fromkeys(OF_NETS, "net"),
     "check": "",
+    "audit": "history",
+    "replay": "config,packets",
     "ipfw": "config program",
-    **dict.fromkeys(("down", "status", "change", "exec"), "socket"),
+    **dict.fromkeys(RUNNING, "socket"),
 }
-ONE_FILE = ("packets", "net", "up", "search", "down", "status", "change", "exec")
-OF_OPTIONS = {
-    "--config": "config",
-    "--timeline": "timeline",
-    "--faults": "faults",
-    "--like": "summary failure failed-run",
-    "--up-trace": "trace",
-    "--down-trace": "trace",
-    "--capture": "capture",
-}
+A_NET = "printf '%s\\n' 'host a ping -c 3 b' 'host b' 'link a b 20ms' > a.net, and hinge net a.net"
+ONE_FILE = ("packets", *OF_NETS, *RUNNING)
+OF_OPTIONS = {"--like": "summary failure failed-run", **{f"--{kind}": kind for kind in ("config", "timeline", "faults", "capture")}}
+OF_OPTIONS |= {"--up-trace": "trace", "--down-trace": "trace"}
 OUTPUTS = {"look": (".png", ".svg", ".pdf", ".html"), "packets": (".csv",)}
 WRITTEN = ("-o", "--json", "--transcript", "--transcripts", "--logs", "--runs", "--index", "--name", "--control")
-# Options and words of older versions, and those that people try, by the command.
-MEANT = {
-    **dict.fromkeys(("look --why", "why --row", "why --packet"), "hinge why ROW HISTORY"),
-    "look --audit": "dummynet audit HISTORY",
-    "look --ladder": "hinge look SOURCE -o FILE.html, or for Wireshark's flow graph --capture CAPTURE --index INDEX -o FILE.pcapng",
-    **{f"look --{ending}": f"-o FILE.{ending}" for ending in ("html", "png", "svg", "pdf")},
-    "try --link": "hinge run --link 20ms -- COMMAND, as hinge try takes presets alone",
-    "net exec": "hinge exec NAME HOST -- COMMAND",
-    **dict.fromkeys(("search -j", "search --jobs", "search --parallel"), "-P N"),
-    "packets --filter": "--map 'tcp port 80 => pipe 1'",
-    "packets -i": "tcpdump -i INTERFACE -w FILE.pcap, and hinge packets FILE.pcap",
-    "change --link": "hinge change NAME 10Mbit/s 20ms",
-}
+# Options and words of older versions, and those that people try: the commands, and words with the line, in which {0} is the word without
+# its dashes, and {1} its value. `*` is any first word.
+MEANT_TABLE = """
+why look: --why --row --packet --packets = hinge why ROW HISTORY
+look: --audit = dummynet audit HISTORY; --compare = --diff HISTORY HISTORY; --html --png --svg --pdf = -o FILE.{0};
+ --bin --window --interval = --step MS; --flow --flows = --by flow;
+ --ladder = hinge look SOURCE -o FILE.html, or for Wireshark's flow graph --capture CAPTURE --index INDEX -o FILE.pcapng;
+ --save --plot --graph --draw --show --interactive --web --from --to = -o FILE.html, in which one zooms;
+ --summary --stats --throughput --rtt --delay --latency --loss --jitter --percentile --cdf = hinge look HISTORY, whose tables have it
+try: * = hinge run --link '10Mbit/s 20ms' -- COMMAND, as hinge try takes presets alone
+net up: --host --hosts --node --nodes = a line `host NAME COMMAND` for each host in FILE; --check --validate --lint = --dry-run;
+ --cut --partition --heal = a line `at 5s {0} A from B` in FILE; --kill --stop --restart --crash = a line `at 5s {0} HOST` in FILE;
+ --draw --picture --diagram = --transcripts FOLDER, and hinge look FOLDER -o FILE.png; --tcpdump --capture = --transcript HISTORY;
+ -d --detach --daemon --background = hinge up NET, which is in the background; exec = hinge exec NAME HOST -- COMMAND
+net up search: -f --file = hinge {command} NET
+search: -n --count --iterations --repeat --times = hinge search NET --seeds 1-{1}; -j --jobs --parallel --workers = -P N;
+ --timeout --duration --time = --limit {1} of simulated time, or --real-limit {1};
+ --link --up --down --preset --rate --delay --loss = hinge search run --link '10Mbit/s 20ms loss 1%' -- COMMAND
+packets: --filter --match = --map 'tcp port 80 => pipe 1'; -r --read --pcap = hinge packets CAPTURE -o packets.csv; -w --write = -o {1};
+ -i --interface --iface = tcpdump -i INTERFACE -w FILE.pcap, and hinge packets FILE.pcap; --client --source --src --host = --from {1};
+ --link --delay --bandwidth --up --down = hinge packets CAPTURE -o packets.csv, and dummynet replay CONFIG packets.csv > REPORT;
+ -c -n --count --limit = hinge packets CAPTURE | head -n {1}
+change: --link --up --down --delay --rate --loss = hinge change NAME 10Mbit/s 20ms
+status: -w --watch --follow -f -n = watch hinge status NAME; --json --prometheus --metrics = --openmetrics
+exec: -it -i -t --host = hinge exec NAME HOST -- COMMAND
+udp: -l --listen --listen-port -r --remote -p --server = hinge udp 5000 localhost:6000 --link 20ms
+down: -a --all = hinge down NAME
+doctor: * = hinge doctor, which tries all that hinge needs
+kernel: * = hinge kernel, which builds one where there is none
+docs: --list -l --all = hinge docs
+"""
+MEANT = dict[str, str]()
+for row in MEANT_TABLE.replace("\n ", " ").strip().splitlines():
+    commands, _, entries = row.partition(": ")
+    for entry in entries.split("; "):
+        names, _, line = entry.partition(" = ")
+        MEANT.update({f"{command} {word}": line for command in commands.split() for word in names.split()})
 
 
 def kind_of(path: str) -> str:
@@ -124,7 +143,7 @@ def line_for(command: str, kind: str, path: str) -> str:
     what, form = KINDS[kind]
     form = OF_COMMAND.get(f"{command} {kind}", form)
     name = shlex.quote(path if kind != "program" or "/" in path else f"./{path}")
-    line = form.format(name, shlex.quote(os.path.splitext(os.path.basename(path))[0]), command=f"hinge {command}")
+    line = form.format(name, shlex.quote(os.path.splitext(os.path.basename(path))[0]))
     return what + f"; write {line}" * bool(line)
 
 
@@ -133,7 +152,9 @@ def filled(line: str, words: Sequence[str]) -> str:
     for word in words:
         with suppress(ArgumentTypeError, OSError, Fault):
             name = kind_of(word).upper() if os.path.exists(word) else "ROW"
-            text = shlex.quote(word) if name != "ROW" else " ".join(map(str, seeds(word.lstrip("#"))[:MOST_ROWS]))
+            text = (
+                shlex.quote(word) if name != "ROW" else " ".join(map(str, seeds(word.lstrip("#").replace("..", "-"))[:MOST_ROWS]))
+            )
             line = re.sub(rf"\b{name}\b", lambda _: text, line, count=1) if name else line
     return line
 
@@ -162,20 +183,40 @@ def in_place(command: str, before: str, word: str) -> str:
         lines["--faults"] = "--faults FILE, with a line `client > server packet 3 lost` in FILE" * (" " in word)
         lines |= {f"--{way}-trace": f"--{way} {shlex.quote(link or '')}" * bool(link) for way in ("up", "down")}
         return lines.get(before, "")
+    if command in OF_NETS and before == "" and not word.startswith("-"):
+        beside = f"{word}.net"
+        is_no_file = " " in word or "." not in word
+        return f"hinge {command} {shlex.quote(beside)}" if os.path.exists(beside) else A_NET * is_no_file
+    if command == "search" and re.fullmatch(r"\d+[-,]\d+", word) and not before.startswith("-"):
+        return f"--seeds {word}"
+    if command == "packets" and " " in word and not before.startswith("-"):
+        return MEANT["packets --filter"]
     if command == "look" and word.isdecimal() and not before.startswith("-"):
         return "hinge why ROW HISTORY"
     is_output = before != "" and not before.startswith("-") and word.lower().endswith(OUTPUTS.get(command, ("\0",)))
     return f"-o {shlex.quote(word)}" if is_output else ""
 
 
+def line_for_word(command: str, own: Sequence[str]) -> str:
+    """Returns the line for a first word or an option that people try with a command; an empty text if unknown."""
+    for word, following in zip(own, [*own[1:], "-"]):
+        name, _, value = word.partition("=")
+        name = name if f"{command} {name}" in MEANT else "" if name.startswith("--") else name[:2]
+        form = MEANT.get(f"{command} {name}")
+        if form and (word == own[0] or word.startswith("-")):
+            value = value or word[len(name) :] or following.removeprefix("-") or "N"
+            return filled(form.format(name.strip("-"), shlex.quote(value), command=command), own)
+    return ""
+
+
 def advised(command: str, words: Sequence[str], refusal: str) -> str:
     """Returns a refusal for a command line, with the line to type if a word belongs elsewhere."""
     own = words[: words.index("--")] if "--" in words else words
+    own = [] if re.search("[:;] write ", refusal) else own  # which says it already
     if command == "try" and own and (name := near(own[0])):
         return f"{refusal}; write --preset {name}"
-    for word in (*own[:1], *(word.partition("=")[0] for word in own if word.startswith("-"))):
-        if f"{command} {word}" in MEANT:
-            return f"{refusal}; write {filled(MEANT[f'{command} {word}'], own)}"
+    if line := line_for_word(command, own) or MEANT.get(f"{command} *", "") * ("unrecognized" in refusal):
+        return f"{refusal}; write {line}"
     server = [*takewhile(lambda word: not word.startswith("--"), own[own.index("--server") + 1 :] if "--server" in own else ())]
     if server[1:] and "unrecognized" in refusal:
         return f"{refusal}; write --server {shlex.quote(' '.join(server))}"
@@ -189,7 +230,7 @@ def advised(command: str, words: Sequence[str], refusal: str) -> str:
     for path, kind, wanted in kinds:
         is_alone = len(kinds) < 3 and (command, kind) == ("why", "config") or "number of a row" in refusal
         if kind and wanted and (kind not in wanted or is_alone):
-            line = filled(line_for(command, kind, path), own)
+            line = filled(line_for(command, kind, path), words)
             is_known = line.partition(";")[0] in refusal or kind == "folder" and "--transcripts" in refusal
             return refusal if is_known else f"{refusal}; {path} is {line}"
     return refusal

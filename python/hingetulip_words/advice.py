@@ -48,7 +48,7 @@ NET_LINES = (  # what people write of a net, and the line that says it
     (rf"at (\S+) (?:set|change|delay|rate|bandwidth|link) {HOST} {HOST} (\d.*)", r"at \1 \2 \3 \4"),
     (rf"(at \S+ (?:{ALONE})) {HOST}(?: and |, ?| ){HOST}( \d\S*)?", r"\1 \2\4, and \1 \3\4 in a line of its own"),
     (rf"at (\S+) loss {HOST} {HOST} (\d.*)", r"at \1 \2 \3 loss \4"),
-    (r"\w+:.*", "host NAME, and `link A B 20ms`, each in a line of its own, as a net isn't YAML"),
+    (r"(?:\w+:|[-{[<]).*", "host NAME, and `link A B 20ms`, each in a line of its own, as a net is neither YAML nor JSON"),
 )
 CHANGES = (  # the same of a timeline
     (r"(?:at|after) (.*)", r"\1"),
@@ -68,6 +68,7 @@ FAULTS = (  # the same of a list of faults
     (r"(.* packet \d+) (?:duplicated?|double)", r"\1 twice"),
     (r"(.* packet \d+) (?:late|delay(?:ed)?)(?: by)? (\d+)(?:ms)?", r"\1 late \2ms"),
 )
+OPEN = ("none", "off", "no", "nothing", "unlimited", "infinite", "perfect", "open", "unshaped")
 NEAR = 0.65  # of a word that may be meant
 SHOWS_NOTHING = Advice("it shows nothing here", "leave this line out")
 
@@ -169,6 +170,8 @@ def option_word(kind: str, before: str, text: str, more: Sequence[str] = ()) -> 
         return Advice("keywords are lower case", f"write {text.lower()}", text.lower())
     if text in (*EXTRAS, "reorder"):
         return Advice("dummynet has no such option", "leave it and its value out")
+    if text.lower() in OPEN:
+        return Advice("no word of a link", "write bw 0, which slows nothing", "bw 0")
     names = [*options, *more]
     import difflib  # which a wrong word alone needs
 

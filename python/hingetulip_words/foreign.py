@@ -129,12 +129,20 @@ class Meant:
         elif unit == "file":
             while self.words and self.words[0].startswith("--"):
                 self.read()
-            self.more += [f"--{name}", self.words.pop(0)] if self.is_value() else []
+            self.take_file(name, self.words.pop(0) if self.is_value() else "")
         else:
             while self.is_value() and (value := number(self.words[0], unit)) is not None:
                 self.put(name, value, self.words.pop(0))
                 if name != "model":
                     break
+
+    def take_file(self, option: str, text: str) -> None:
+        """Reads a trace of a way, in whose place people write a bandwidth."""
+        rate = None if text.isdigit() else number(text, "bits")
+        if rate is not None:
+            self.ways[option.removesuffix("-trace")]["bw"] = rate
+        elif text:
+            self.more += [f"--{option}", text]
 
     def put(self, name: str, value: Fraction, text: str) -> None:
         of = self.ways[self.way]

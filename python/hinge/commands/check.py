@@ -19,6 +19,7 @@ from hinge.checks.lines import LineCheck
 from hinge.checks.rows import RowCheck
 from hinge.checks.waits import told_wait
 from hinge.command import CONFIGURATION, ROWS, parser
+from hinge.command_line import add
 from hinge.misplaced import FRONT, kind_of_text, line_for
 from hinge.plans.sessions import judged
 from hinge.run.words import duration
@@ -132,9 +133,7 @@ def main() -> None:
         "hinge check link.config packets.csv\n  python3 client.py > ops.jsonl && hinge check ops.jsonl --model register",
         "0 no fault, 1 a history that isn't lawful, or operations without an order, 3 a configuration, 4 rows or operations",
     )
-    line.add_argument(
-        "files", metavar="FILE", nargs="+", help="configurations, packet files, joined inputs, histories; a net and its session"
-    )
+    add(line, "files FILE", "configurations, packet files, joined inputs, histories; a net and its session", nargs="+")
     line.add_argument("--late", metavar="TIME", help="how late acts on a net's hosts may be (as the run's, or 50ms)")
     line.add_argument("--model", choices=MODEL_NAMES, help="judge operations on such a thing")
     line.yields("--late", "--model")

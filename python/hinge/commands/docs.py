@@ -46,10 +46,11 @@ def page_named(folder: Path, name: str) -> str:
     key = name.rpartition("/")[2].upper().removesuffix(".MD")
     key = MOVED.get(key, key)
     if key not in pages:
-        near = difflib.get_close_matches(key, pages, 1)
-        text = f"did you mean `hinge docs {near[0]}`?" if near else "`hinge docs` names them."
-        from hinge.__main__ import COMMANDS  # which a wrong name alone needs
+        from hinge.__main__ import COMMANDS  # which a wrong name alone needs, as the next
+        from hinge.foreign import WORDS
 
+        near = [WORDS[word].page for word in [name.lower()] if word in WORDS] or difflib.get_close_matches(key, pages, 1)
+        text = f"write hinge docs {near[0]}".rstrip() if near else "`hinge docs` names them."
         text = f"`hinge help {name}` describes it." if name in COMMANDS else text
         raise Fault(f"no page {name!r}; {text}", USAGE)
     return pages[key].read_text(encoding="utf-8")

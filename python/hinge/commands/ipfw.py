@@ -8,8 +8,9 @@ from typing import Iterator
 
 from hinge.border.files import lines_in, told_name, untrusted
 from hinge.command import CONFIGURATION, Fault, parser, say
+from hinge.command_line import add
 from hinge.configurations.ipfw_lines import Conversion
-from hinge.foreign import of_ipfw
+from hinge.foreign import answer_of
 from hinge.outputs import refuse_inputs, writing
 
 WHAT = """\
@@ -31,11 +32,9 @@ def main() -> None:
     line = parser(
         WHAT, "(ipfw() { echo ipfw $*; }; . ./shape.sh) | hinge ipfw > link.config\n  hinge ipfw rc.firewall > link.config"
     )
-    line.add_argument(
-        "files", nargs="*", default=["-"], metavar="file", help="files in the order in which they are run (default: standard input)"
-    )
+    add(line, "files file", "files in the order in which they are run (default: standard input)", nargs="*", default=["-"])
     line.add_argument("-o", metavar="FILE", help="the configuration (default: standard output)")
-    answer = of_ipfw(sys.argv[1:]) if not any(map(os.path.exists, sys.argv[1:])) else None
+    answer = answer_of(["ipfw", *sys.argv[1:]]) if not any(map(os.path.exists, sys.argv[1:])) else None
     if answer is not None:
         line.error(f"it reads files, and this is a line of ipfw; {answer.text()}")
     arguments = line.parse_args()

@@ -11,6 +11,7 @@ from typing import Optional
 from hinge.arguments import bounded
 from hinge.border.terminal import show
 from hinge.command import parser, say
+from hinge.command_line import add
 from hinge.program import clock
 from hinge.simulated import build, trial
 from hinge.simulated.kernel import cache, current_kernels, found
@@ -36,18 +37,10 @@ hinge kernel --path
 def command_line() -> argparse.Namespace:
     line = parser(WHAT, EXAMPLE, "0 done, 2 command line, 6 there is none, or it can't be built, 7 the clock isn't there")
     line.add_argument("--source", metavar="FILE", type=Path, help="a packed source of Linux (the newest of /usr/src)")
-    line.add_argument(
-        "-j",
-        metavar="N",
-        type=bounded(1, 1024),
-        default=len(os.sched_getaffinity(0)),
-        help="compilers at a time (default: processors)",
-    )
+    add(line, "-j N", "compilers at a time (default: processors)", type=bounded(1, 1024), default=len(os.sched_getaffinity(0)))
     line.add_argument("--again", action="store_true", help="also where it is built already")
     line.add_argument("--path", action="store_true", help="print where the kernel is, and build nothing")
-    line.add_argument(
-        "--clock", action="store_true", help="print where the library is that gives C code the simulated clock, to be preloaded"
-    )
+    add(line, "--clock", "print where the library is that gives C code the simulated clock, to be preloaded", action="store_true")
     for option in ("--path", "--clock"):
         line.yields("--source -j --again", option)
     line.yields("--path", "--clock")

@@ -9,7 +9,7 @@ import sys
 from hinge.arguments import MODEL_NAMES, PICTURE_FLOWS, SOURCE, TABLE_FLOWS, LookOptions, add_flows, add_source, bounded, file_of
 from hinge.border.terminal import lines
 from hinge.command import MISSING, STATUSES, Fault, numpy, parser
-from hinge.command_line import Parser
+from hinge.command_line import add, Parser
 from hinge.outputs import CAPTURES, PICTURES, Format
 
 WHAT = """\
@@ -52,26 +52,22 @@ def command_line() -> LookOptions:
         "(HISTORY | PACKETS REPORT .. | FOLDER | OPS ..)",
         told=f"{SOURCE}; the folder of hinge net --transcripts, or its history with its summary; or operations, and the file of their faults",
     )
-    line.add_argument(
-        "-o", metavar="FILE", type=file_of(*Format), action="append", default=[], help="the file to write, by its ending"
-    )
+    add(line, "-o FILE", "the file to write, by its ending", type=file_of(*Format), action="append", default=[])
     line.add_argument("--csv", action="store_true", help="print the table as CSV, with times in whole ns")
     line.add_argument("--json", metavar="FILE", help="the table or the difference for a program, with all figures in whole ns")
     line.add_argument("--diff", action="store_true", help="tell the first call at which two histories part, in place of the table")
     add_flows(line, 10**6, None, f"{TABLE_FLOWS}, and {PICTURE_FLOWS} in a picture")
-    line.add_argument(
-        "--step", metavar="MS", type=bounded(1, 10**9), help="ms of a step of throughput and drops (default: by the length)"
-    )
+    add(line, "--step MS", "ms of a step of throughput and drops (default: by the length)", type=bounded(1, 10**9))
     line.add_argument("--title", type=lines, default="", help="what stands above a picture")
     line.add_argument("--capture", metavar="FILE", help="the capture of the packet file, for .pcap and .pcapng")
     line.add_argument("--index", metavar="FILE", help="the frame of each row, which hinge packets --index wrote")
     line.add_argument("--model", choices=MODEL_NAMES, help="the source lists operations on such a thing, as of hinge check")
-    line.add_argument(
-        "--end",
-        metavar="MS",
+    add(
+        line,
+        "--end MS",
+        "of a net: what a host got so shortly before the end may still be there (100)",
         type=bounded(0, 10**6),
         default=100,
-        help="of a net: what a host got so shortly before the end may still be there (100)",
     )
     line.needs("--title --step --model", "-o")
     line.yields("--by --top", "--diff")

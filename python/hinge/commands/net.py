@@ -8,7 +8,7 @@ import sys
 from typing import Sequence
 
 from hinge.command import parser
-from hinge.command_line import Parser
+from hinge.command_line import add, Parser
 from hinge.events.forms import help_lines
 from hinge.foreign_options import OF_LINK
 from hinge.run.options import add_foreign, mtu, seed
@@ -67,21 +67,22 @@ def options() -> Parser:
     line.add_argument("--transcripts", metavar="FOLDER", help="a folder for the history, net.history, and the summary, net.json")
     line.add_argument("--json", metavar="FILE", help="the summary for a program")
     line.add_argument("--logs", metavar="FOLDER", help="what each host prints, in NAME.log")
-    line.add_argument(
-        "--late",
-        metavar="TIME",
-        help="status 75 where more than 1 of 100 packets of a way was late or unread by more, or the system dropped any",
+    add(
+        line,
+        "--late TIME",
+        "status 75 where more than 1 of 100 packets of a way was late or unread by more, or the system dropped any",
     )
     line.add_argument("--seed", metavar="N", type=seed, help="of what is drawn, for each way by itself (drawn, and told)")
     line.add_argument("--mtu", metavar="BYTES", type=mtu, default=1500, help="of all interfaces (1500)")
     line.add_argument("--end-wait", metavar="TIME", default="2s", help="how long commands have to end after SIGTERM (2s)")
     add_staying(line)
     line.add_argument("--quiet", action="store_true", help="no summary of the links")
-    line.add_argument(
+    add(
+        line,
         "--realtime",
+        "the links before all other programs, where the system allows",
         action=argparse.BooleanOptionalAction,
         default=True,
-        help="the links before all other programs, where the system allows",
     )
     line.add_argument("--dry-run", action="store_true", help="prints hosts, addresses and links, and starts nothing")
     line.yields("--outside", "--outside-loopback")
@@ -94,19 +95,15 @@ def options() -> Parser:
 def add_staying(parser: argparse.ArgumentParser) -> None:
     """Adds the options for ways into and out of a net, and for its duration."""
     parser.add_argument("--control", metavar="SOCKET", help="where `hinge change`, `status` and `exec` find it")
-    parser.add_argument(
-        "--outside", metavar="HOST", help="a host leads to the rest of the network, by slirp4netns or pasta: a router for all hosts"
-    )
-    parser.add_argument(
-        "--outside-loopback", metavar="HOST", help="the same, with this system's own loopback at 10.9.0.2 and fd00::2"
-    )
+    add(parser, "--outside HOST", "a host leads to the rest of the network, by slirp4netns or pasta: a router for all hosts")
+    add(parser, "--outside-loopback HOST", "the same, with this system's own loopback at 10.9.0.2 and fd00::2")
     parser.add_argument("--shell", metavar="HOST", help="a shell on a host is the main command")
     parser.add_argument("--stay", action="store_true", help="until ^C or SIGTERM, also after all commands")
-    parser.add_argument(
-        "--while-open",
-        metavar="N",
+    add(
+        parser,
+        "--while-open N",
+        "the same, and until the other end of descriptor N, a pipe, is closed without a byte",
         type=descriptor,
-        help="the same, and until the other end of descriptor N, a pipe, is closed without a byte",
     )
 
 

@@ -17,6 +17,7 @@ from hinge.captures.packet_rows import write_rows
 from hinge.captures.rule_words import HELP, TARGET, BadRule
 from hinge.captures.targets import MapRule, Targets, directions, read_rule
 from hinge.command import USAGE, Fault, parser, say
+from hinge.command_line import add
 from hinge.loss import Maker, read_model
 from hinge.outputs import refuse_inputs, writing
 from hingetulip_words.values import fault_of, number_of
@@ -92,59 +93,47 @@ def command_line() -> PacketsOptions:
     line = parser(WHAT, EXAMPLE)
     line.add_argument("capture", help="the capture; `-` is standard input")
     line.add_argument("-o", metavar="FILE", help="the packet file (default: standard output)")
-    line.add_argument(
-        "--from",
-        metavar="WHO",
+    add(
+        line,
+        "--from WHO",
+        "send one direction to pipe 1 and the other to pipe 2. WHO sends the first: an address or a network, or `first` for the one of two hosts that sends first",
         type=two_directions,
         dest="sender",
         default=[],
-        help="send one direction to pipe 1 and the other to pipe 2. WHO sends the first: an address or a network, or `first` for "
-        "the one of two hosts that sends first",
     )
-    line.add_argument(
-        "--map",
-        metavar="RULE",
+    add(
+        line,
+        "--map RULE",
+        "'WORDS => pipe N' or 'WORDS => queue N'; the first rule that matches counts. A frame that none matches goes by --from, "
+        f"and is left out without it. WORDS are those of `hinge run`, which must all hold: {HELP}; up and down are by --from. No words "
+        "match every frame. Default: => pipe 1",
         type=map_rule,
         action="append",
         default=[],
-        help="'WORDS => pipe N' or 'WORDS => queue N'; the first rule that matches counts. A frame that none matches goes by --from, "
-        f"and is left out without it. WORDS are those of `hinge run`, which must all hold: {HELP}; up and down are by --from. No words "
-        "match every frame. Default: => pipe 1",
     )
-    line.add_argument(
-        "--mtu",
-        metavar="N",
+    add(
+        line,
+        "--mtu N",
+        "split larger segments, which the card was still to cut, into packets of at most N bytes",
         type=bounded(256, 65535),
         default=0,
-        help="split larger segments, which the card was still to cut, into packets of at most N bytes",
     )
-    line.add_argument(
-        "--rate",
-        metavar="RATE",
+    add(
+        line,
+        "--rate RATE",
+        "with --mtu, the rate at which the card sends the packets of a segment, as 1Gbit/s (default: all at once)",
         type=bit_rate,
         default=0,
-        help="with --mtu, the rate at which the card sends the packets of a segment, as 1Gbit/s " "(default: all at once)",
     )
-    line.add_argument(
-        "--l2",
-        metavar="N",
-        type=bounded(0, 1000),
-        default=0,
-        help="bytes that the link adds to each packet; PPPoE over Ethernet has 22",
-    )
+    add(line, "--l2 N", "bytes that the link adds to each packet; PPPoE over Ethernet has 22", type=bounded(0, 1000), default=0)
     line.add_argument("--seed", metavar="S", type=bounded(0, 2**64 - 1), default=1, help="of the random words (default: 1)")
-    line.add_argument(
-        "--loss",
-        metavar="MODEL",
+    add(
+        line,
+        "--loss MODEL",
+        "which packets are lost where the pipe or queue has `plr 0.5`, of each by itself: gilbert:TO_BAD,TO_GOOD[,IN_BAD[,IN_GOOD]], a link with a good and a bad state, the rates at which they change, and those of losses in the bad one (1) and the good one (0); or list:3,17-20, by the packets' numbers. 'pipe 1=MODEL' is for one pipe or queue. Default: random words, which its own plr judges",
         type=loss_model,
         action="append",
         default=[],
-        help="which packets are lost where the pipe or queue has `plr 0.5`, of each by itself: "
-        "gilbert:TO_BAD,TO_GOOD[,IN_BAD[,IN_GOOD]], a link "
-        "with a good and a bad state, the rates at which they change, and those of losses in the bad one (1) and the "
-        "good one (0); or "
-        "list:3,17-20, by the packets' numbers. 'pipe 1=MODEL' is for one pipe or queue. Default: random words, which "
-        "its own plr judges",
     )
     line.add_argument("--index", metavar="FILE", help="write the frame number of each row, for `hinge look --capture`")
     line.needs("--rate", "--mtu")

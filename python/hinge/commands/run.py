@@ -11,7 +11,7 @@ from typing import NoReturn, Optional, Sequence
 from hinge.arguments import bounded
 from hinge.border.programs import CANNOT_EXECUTE
 from hinge.command import NOT_FOUND, Fault, parser, say
-from hinge.command_line import Parser
+from hinge.command_line import add, Parser
 from hinge.run.options import add_link, add_run, mtu
 from hinge.run.settings import RunOptions
 from hinge.simulated.failures import failure_command
@@ -39,31 +39,25 @@ def options() -> Parser:
     add_link(line)
     more = line.add_argument_group("the run")
     more.add_argument("--mtu", metavar="BYTES", type=mtu, default=1500, help="of both interfaces (1500)")
-    more.add_argument(
-        "--net", metavar="NETWORK", help="of both hosts, for a run inside another one or beside a network of your own (10.8.0.0/24)"
-    )
-    more.add_argument(
-        "--netns",
-        metavar="PID",
-        help=(
-            "puts the link on the way out of a container or network that is there, in IPv4, as root; without COMMAND" " until ^C"
-        ),
+    add(more, "--net NETWORK", "of both hosts, for a run inside another one or beside a network of your own (10.8.0.0/24)")
+    add(
+        more,
+        "--netns PID",
+        "puts the link on the way out of a container or network that is there, in IPv4, as root; without COMMAND until ^C",
     )
     more.add_argument("--container", metavar="NAME", help="the same for a container of docker or podman, by its name, id or image")
     more.add_argument("--server", metavar="COMMAND", help="what runs at the other end, by sh; COMMAND waits until it listens")
     more.add_argument("--server-wait", metavar="TIME", default="5s", help="how long (5s)")
     more.add_argument("--server-end", metavar="TIME", default="2s", help="how long the server has to end after SIGTERM (2s)")
     more.add_argument("--outside", action="store_true", help="the rest of the network behind the link, by slirp4netns or pasta")
-    more.add_argument(
-        "--outside-loopback", action="store_true", help="the same, with this system's own loopback at 10.9.0.2 and fd00::2"
-    )
-    more.add_argument(
-        "--to",
-        metavar="PORT",
+    add(more, "--outside-loopback", "the same, with this system's own loopback at 10.9.0.2 and fd00::2", action="store_true")
+    add(
+        more,
+        "--to PORT",
+        "this system's port behind the link: the command finds it at localhost, and at server",
         type=bounded(1, 65535),
         action="append",
         default=[],
-        help="this system's port behind the link: the command finds it at localhost, and at server",
     )
     add_run(more)
     line.needs("--server-wait --server-end", "--server")
@@ -74,10 +68,10 @@ def options() -> Parser:
     return line
 
 
-def command_line(words: Optional[Sequence[str]] = None) -> RunOptions:
-    line = options()
-    arguments = line.parse_args(failure_command(sys.argv[1:] if words is None else [*words], "run"))
-    from hinge.run.hints import lacking, link_as_command  # as all below, behind the command line, since a help has to come at once
+def options_and_command(line: Parser, words: Sequence[str]) -> argparse.Namespace:
+    """Returns the options, and the command without its `--`."""
+    arguments = line.parse_args(words)
+    from hinge.run.hints import link_as_command  # as all below, behind the command line, since a help has to come at once
 
     if arguments.command[:1] == ["--"]:
         del arguments.command[0]
@@ -86,6 +80,13 @@ def command_line(words: Optional[Sequence[str]] = None) -> RunOptions:
     link = link_as_command(arguments.command)
     if link is not None:
         line.error(link)
+    return arguments
+
+
+def command_line(words: Optional[Sequence[str]] = None) -> RunOptions:
+    arguments = options_and_command(options(), failure_command(sys.argv[1:] if words is None else [*words], "run"))
+    from hinge.run.hints import lacking
+
     missing = lacking(arguments.command) if arguments.root is None else None
     if missing is not None:
         raise Fault(missing, CANNOT_EXECUTE if os.path.isfile(arguments.command[0]) else NOT_FOUND)

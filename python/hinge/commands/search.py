@@ -9,6 +9,7 @@ from pathlib import Path
 
 from hinge.arguments import bounded, seeds
 from hinge.command import FILES, Fault, parser, say
+from hinge.command_line import add
 from hinge.outputs import refuse_inputs
 from hinge.simulated.time_options import pauses_word
 
@@ -41,9 +42,7 @@ def command_line() -> argparse.Namespace:
     line.add_argument("--real-limit", metavar="TIME", help="the same by real time, which depends on how busy the system is")
     line.add_argument("--runs", metavar="FOLDER", type=Path, help="keeps the runs; one that is there isn't made again")
     line.add_argument("-o", metavar="FILE", type=Path, help="the least case that fails, for --like (failure.hinge, beside the net)")
-    line.add_argument(
-        "-P", metavar="N", type=bounded(1, 1024), default=len(os.sched_getaffinity(0)), help="runs at a time (default: processors)"
-    )
+    add(line, "-P N", "runs at a time (default: processors)", type=bounded(1, 1024), default=len(os.sched_getaffinity(0)))
     arguments, options = line.parse_known_args(words[:at])
     if options and str(arguments.file) != "run":
         line.error(f"unrecognized arguments: {' '.join(options)}")

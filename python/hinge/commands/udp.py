@@ -14,7 +14,7 @@ from typing import NamedTuple
 from hinge.arguments import is_number
 from hinge.border.terminal import show
 from hinge.command import FILES, parser
-from hinge.command_line import Parser
+from hinge.command_line import add, Parser
 from hinge.checks.lines import refuse_wrong
 from hinge.run.host import Link, program
 from hinge.run.options import add_link, add_run
@@ -90,18 +90,9 @@ def links_in_order(words: list[str]) -> list[str]:
 
 def options() -> Parser:
     line = parser(WHAT, EXAMPLE, STATUSES, "hinge udp [OPTION ..] LISTEN SERVER [LINK ..]")
-    line.add_argument(
-        "listen",
-        type=SocketAddress.read,
-        metavar="LISTEN",
-        help="PORT or HOST:PORT to which the client sends; port 0 takes a free one",
-    )
-    line.add_argument(
-        "server", type=SocketAddress.read, metavar="SERVER", help="PORT or HOST:PORT of the server, of the same family"
-    )
-    line.add_argument(
-        "links", nargs="*", default=[], metavar="LINK", help="a configuration line, or a file of such lines, as --line and --config"
-    )
+    add(line, "listen LISTEN", "PORT or HOST:PORT to which the client sends; port 0 takes a free one", type=SocketAddress.read)
+    add(line, "server SERVER", "PORT or HOST:PORT of the server, of the same family", type=SocketAddress.read)
+    add(line, "links LINK", "a configuration line, or a file of such lines, as --line and --config", nargs="*", default=[])
     add_link(line, OF_RUN)
     add_run(line.add_argument_group("the run"))
     return line

@@ -34,7 +34,7 @@ def main() -> None:
         right = "; write hinge why ROW SOURCE, with a number from 1 on for ROW" * (not any(map(os.path.exists, files)))
         line.error(f"{files[0]!r} isn't the number of a row{right}")
     if not files:
-        line.error(f"behind the rows comes {SOURCE}")
+        line.error(f"behind the rows comes {SOURCE}; write hinge why {numbers[0]} HISTORY")
     if len(files) == 3 and config is None:
         config, *files = files
     try:

@@ -119,7 +119,8 @@ def with_command(net: Description, command: list[str], path: str, shell: Optiona
         net.main, net.has_shell = None, True
     elif command:
         if net.main is None or net.hosts[net.main].command:
-            raise Wrong(f"{path}: a command behind -- takes a line `main NAME` that has none")
+            host = net.main or next(iter(net.hosts), "NAME")
+            raise Wrong(f"{path}: a command behind -- takes a line `main NAME` without a command; write main {host} in {path}")
         net.hosts[net.main].command = 'exec "$0" "$@"'
     elif net.main is not None and not net.hosts[net.main].command:
         raise Wrong(f"{path}: main {net.main} has no command, and none is behind --")

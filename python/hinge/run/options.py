@@ -7,7 +7,7 @@ from typing import Any, Mapping, NoReturn, Optional
 
 from hinge.arguments import RULE, is_number
 from hinge.border.terminal import show
-from hinge.command_line import Joined, Parser
+from hinge.command_line import add, Joined, Parser
 from hinge.foreign_options import OF_LINK, OPTIONS
 from hingetulip_words.values import EXAMPLES
 
@@ -100,28 +100,19 @@ def add_foreign(parser: Parser, table: Mapping[str, str]) -> None:
 def add_link(parser: Parser, table: Optional[Mapping[str, str]] = None) -> None:
     add_foreign(parser, table or {})
     link = parser.add_argument_group("the link")
-    link.add_argument(
-        "--up", metavar="LINK", action=Joined, help=f"towards the server, as '{' '.join(EXAMPLES)}': pipe 1".replace("%", "%%")
-    )
+    add(link, "--up LINK", f"towards the server, as '{' '.join(EXAMPLES)}': pipe 1".replace("%", "%%"), action=Joined)
     link.add_argument("--down", metavar="LINK", action=Joined, help="from the server: pipe 2")
     link.add_argument("--link", metavar="LINK", action=BothWays, default=argparse.SUPPRESS, help="both ways")
-    link.add_argument(
-        "--preset",
-        metavar="NAME",
-        type=preset_name,
-        help="the link of a name, as lte, in each direction of which nothing else is said",
-    )
-    link.add_argument(
-        "--list-presets", action=ListPresets, nargs=0, default=argparse.SUPPRESS, help="print the presets and their figures"
-    )
+    add(link, "--preset NAME", "the link of a name, as lte, in each direction of which nothing else is said", type=preset_name)
+    add(link, "--list-presets", "print the presets and their figures", action=ListPresets, nargs=0, default=argparse.SUPPRESS)
     link.add_argument("--config", metavar="FILE", help="configuration lines, of any pipes and queues (hinge docs LINKS)")
     link.add_argument("--line", metavar="LINE", action="append", default=[], help="one more configuration line; may be repeated")
-    link.add_argument(
-        "--map",
-        metavar="RULE",
+    add(
+        link,
+        "--map RULE",
+        f"'{RULE} => queue N' or '=> pipe N': where a packet goes, by the first rule that fits; else pipe 1 up, pipe 2 down",
         action="append",
         default=[],
-        help=f"'{RULE} => queue N' or '=> pipe N': where a packet goes, by the first rule that fits; else pipe 1 up, pipe 2 down",
     )
     add_changes(parser.add_argument_group("changes"))
     parser.needs("--bin --trace-for", "--up-trace", "--down-trace")
@@ -132,40 +123,30 @@ def add_link(parser: Parser, table: Optional[Mapping[str, str]] = None) -> None:
 
 def add_changes(changes: argparse._ArgumentGroup) -> None:
     """Adds the options for changes during a run, and for losses."""
-    changes.add_argument(
-        "--timeline", metavar="FILE", help="lines as '5s pipe 1 config bw 1Mbit/s' and '8s [up|down] outage 600ms [lossy]'"
-    )
+    add(changes, "--timeline FILE", "lines as '5s pipe 1 config bw 1Mbit/s' and '8s [up|down] outage 600ms [lossy]'")
     changes.add_argument("--up-trace", metavar="FILE", help="bandwidth by time: seconds,bit/s or mahimahi's milliseconds")
     changes.add_argument("--down-trace", metavar="FILE")
-    changes.add_argument(
-        "--bin",
-        metavar="TIME",
-        help="count mahimahi's milliseconds over this, and don't obey each (100ms for a pipe with queues or masks)",
+    add(
+        changes,
+        "--bin TIME",
+        "count mahimahi's milliseconds over this, and don't obey each (100ms for a pipe with queues or masks)",
     )
     changes.add_argument("--trace-for", metavar="TIME", help="how long counted traces are begun anew (1h)")
-    changes.add_argument(
-        "--loss",
-        metavar="MODEL",
+    add(
+        changes,
+        "--loss MODEL",
+        "[up:|down:]gilbert:P,R[,B[,G]] (to bad, to good, lost in bad 1, in good 0) or list:3,10-20 (packets, from 1)",
         action=Model,
         default=[],
-        help="[up:|down:]gilbert:P,R[,B[,G]] (to bad, to good, lost in bad 1, in good 0) or list:3,10-20 (packets, from 1)",
     )
-    changes.add_argument(
-        "--faults", metavar="FILE", help="`client > server packet 3 lost`, `twice` or `late 80ms`, in the place of --loss"
-    )
+    add(changes, "--faults FILE", "`client > server packet 3 lost`, `twice` or `late 80ms`, in the place of --loss")
     changes.add_argument("--seed", metavar="N", type=seed, help="of what is drawn, for each direction by itself (drawn, and told)")
 
 
 def add_run(group: argparse._ArgumentGroup) -> None:
-    group.add_argument(
-        "--transcript", metavar="FILE", help="the link's history, for `dummynet audit`; FILE.1 and so on where it is long"
-    )
+    add(group, "--transcript FILE", "the link's history, for `dummynet audit`; FILE.1 and so on where it is long")
     group.add_argument("--most", metavar="BYTES", type=seed, default=MOST, help=argparse.SUPPRESS)
-    group.add_argument(
-        "--late",
-        metavar="TIME",
-        help="status 75 where more than 1 of 100 packets was late or unread by more, or the system dropped any",
-    )
+    add(group, "--late TIME", "status 75 where more than 1 of 100 packets was late or unread by more, or the system dropped any")
     group.add_argument("--json", metavar="FILE", help="the summary for a program")
     group.add_argument("--control", metavar="SOCKET", help="where `hinge change`, `status` and `exec` find it")
     group.add_argument("--watch", action="store_true", help="rates, queues and losses each second, on standard error")

@@ -6,7 +6,7 @@ import argparse
 import re
 import time
 
-from hinge.command_line import Parser
+from hinge.command_line import add, Parser
 
 BEGINNING = "2026-01-01"  # what the clock says where nothing else is asked for: the same in each run
 LAST_YEAR = 2200
@@ -55,10 +55,11 @@ def pauses_word(text: str) -> str:
 
 def add_simulated(parser: Parser) -> None:
     group = parser.add_argument_group("simulated time (hinge docs SIMULATED)")
-    group.add_argument(
+    add(
+        group,
         "--simulated",
+        "in a machine whose time passes when all wait: an hour takes a moment, nothing is late, and a seed gives one run",
         action="store_true",
-        help="in a machine whose time passes when all wait: an hour takes a moment, nothing is late, and a seed gives one run",
     )
     group.add_argument("--twice", action="store_true", help="two such runs at once, compared; what they write is lost")
     group.add_argument("--scratch", action="store_true", help="what is written is lost, but for transcript and summary")
@@ -66,11 +67,11 @@ def add_simulated(parser: Parser) -> None:
     group.add_argument("--at", metavar="DATE", type=date, help=f"what the clock says first, or `now` ({BEGINNING})")
     group.add_argument("--memory", metavar="SIZE", type=size, help="of the machine, taken as it is used (1G)")
     group.add_argument("--cpu", choices=CPUS, help="what programs learn of the processor (stable); v3: one for all")
-    group.add_argument(
-        "--pauses",
-        metavar="PAUSES",
+    add(
+        group,
+        "--pauses PAUSES",
+        "`drawn`: processes pause at calls that the seed draws, so that seeds try other schedules; or pauses one by one",
         type=pauses_word,
-        help="`drawn`: processes pause at calls that the seed draws, so that seeds try other schedules; or pauses one by one",
     )
     group.add_argument("--clean-env", action="store_true", help="no variables but HOME, LANG, PATH and USER")
     group.add_argument("--like", metavar="SUMMARY", help="says what of this run isn't as in an earlier one's --json")

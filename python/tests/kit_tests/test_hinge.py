@@ -81,7 +81,7 @@ class Help(unittest.TestCase):
         for older, now in (("formats", "FILES"), ("CONFIG.md", "LINKS"), ("FAULTS", "NET")):
             self.assertEqual(run("docs", older).stdout, pages[now])
         wrong = run("docs", "LIVES")
-        self.assertEqual((wrong.returncode, wrong.stderr), (2, "hinge docs: no page 'LIVES'; did you mean `hinge docs LIVE`?\n"))
+        self.assertEqual((wrong.returncode, wrong.stderr), (2, "hinge docs: no page 'LIVES'; write hinge docs LIVE\n"))
 
     def test_each_page_that_a_help_names_is_there(self) -> None:
         """The check uses `hinge docs`, since an installation contains no folder docs/."""

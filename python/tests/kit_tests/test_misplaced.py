@@ -10,7 +10,7 @@ import unittest
 
 from kit import MIXED, folder, run
 
-from hinge.misplaced import FRONTS, TAKES, advised, kind_of
+from hinge.misplaced import FRONTS, MEANT, TAKES, advised, kind_of
 
 
 FRONT = {  # of a file of each kind, which comments and blank lines may precede
@@ -75,7 +75,21 @@ packets FILE.capture --map 'tcp 80 => pipe 3'  =>  '80': not a word of a rule; w
 packets FILE.capture --filter tcp  =>  write --map 'tcp port 80 => pipe 1'
 net ./LOSS.net  =>  none of gilbert:P,R[,B[,G]] and list:N,N-M (examples: gilbert:0.01,0.3 and list:3,17-20); write a rate in the link: 20ms loss 5%
 net ./KILL.net  =>  write at 1s kill a, and at 1s kill b in a line of its own
-net FILE.net ping b  =>  a command comes after --: write -- ping b
+net FILE.net ping b  =>  a command comes after --, on the host of a line `main NAME` in FILE: write -- ping b
+net MAIN.net -- ping b  =>  MAIN.net: a command behind -- takes a line `main NAME` without a command; write main a in MAIN.net
+net a b 20ms  =>  write printf '%s\n' 'host a ping -c 3 b' 'host b' 'link a b 20ms' > a.net, and hinge net a.net
+search FILE.net --seeds 1..10  =>  '1..10': no seeds up to 1000000; write 1-10
+search FILE.net -n 100  =>  unrecognized arguments: -n 100; write hinge search FILE.net --seeds 1-100
+search FILE.net -j4  =>  unrecognized arguments: -j4; write -P N
+look --quiet  =>  unrecognized arguments: --quiet; `hinge help look` lists the options
+look -- --quiet  =>  ./--quiet: No such file or directory
+try 10Mbit/s  =>  write hinge run --link '10Mbit/s 20ms' -- COMMAND, as hinge try takes presets alone
+run --link none -- true  =>  'none': no word of a link; write bw 0, which slows nothing
+docs tc  =>  no page 'tc'; write hinge docs LINKS
+change FILE.net 20ms  =>  Connection refused; FILE.net is a network; write hinge up FILE.net, and hinge change FILE WORDS
+--debug run --link 20ms -- true  =>  no command '--debug'; write hinge run --link 20ms -- true
+--not-of-dummynet audit FILE.report  =>  dummynet: FILE.report is a replay's report; write hinge look PACKETS FILE.report
+--not-of-dummynet FILE.packets FILE.config  =>  FILE.packets is a packet file; write dummynet replay FILE.config FILE.packets > REPORT
 run --link 20ms --timeline FILE.act -- true  =>  'at 1s up 5ms': not a change; write 1s up 5ms
 why 5 FILE.config FILE.packets  =>  FILE.config is a configuration; write hinge why 5 FILE.config FILE.packets REPORT
 run FILE.config FILE.packets  =>  FILE.config is a configuration; write hinge run --config FILE.config -- COMMAND
@@ -83,7 +97,7 @@ run --link bw=10 -- true  =>  which has a unit; write bw 10Mbit/s
 net ./CUT.net  =>  'cut': not a word of a net; write at 5s cut a
 net ./HOSTS.net  =>  'hosts': not a word of a net; write host c, and the others each in a line of its own
 net ./ALL.net  =>  'all': no host of this net; it has a, b
-net FILE.net FILE.config  =>  a command comes after --: write -- COMMAND
+net FILE.net FILE.config  =>  a command comes after --, on the host of a line `main NAME` in FILE: write -- COMMAND
 run --link 5ms --timeline FILE.late -- true  =>  '1s: 5ms': not a change; write 1s 5ms
 run --link 5ms --faults FILE.lost -- true  =>  'client -> server packet 3 dropped': not a fault; write client > server packet 3 lost
 run --up-trace 10Mbps -- true  =>  10Mbps: No such file or directory; write --up 10Mbit/s
@@ -155,6 +169,7 @@ class Misplaced(unittest.TestCase):
             "CUT": "cut a at 5s",
             "HOSTS": "hosts c d",
             "ALL": "at 1s cut all",
+            "MAIN": "",
         }
         lists = {"act": "at 1s up 5ms", "late": "1s: 5ms", "lost": "client -> server packet 3 dropped", "script": "#!/bin/sh"}
         nets = {f"{name}.net": line for name, line in nets.items()}
@@ -173,6 +188,17 @@ class Misplaced(unittest.TestCase):
                 belongs = kind in taken.partition(",")[0].split() and (command, kind) != ("why", "config")
                 text = advised(command, [*options, str(folder() / f"FILE.{kind}")], "refused")
                 self.assertEqual(text == "refused", belongs, text)
+
+    def test_no_word_that_people_try_is_an_option_and_each_line_for_it_is_taken(self) -> None:
+        fills = {"SOURCE": "history", "NET": "net"} | {kind.upper(): kind for kind in FRONT}
+        for tried, line in MEANT.items():
+            command, word = tried.split()
+            with self.subTest(tried):
+                if word[0] == "-":
+                    self.assertNotRegex(run(command, "--help").stdout, rf"(?m)^  (?:-.*, )?{re.escape(word)}[ ,\n]")
+                for text in re.findall(r"hinge ((?:look|why|packets|docs|status|exec|down|change) [^,|]*)", line):
+                    filled = re.sub("[A-Z]{3,}", lambda name: f"FILE.{fills[name[0]]}" if name[0] in fills else name[0], text)
+                    self.assertNotIn("error:", run(*shlex.split(filled.replace("ROW", "1"))).stderr)
 
     def test_each_line_is_answered_by_the_line_to_type(self) -> None:
         for line, _, wanted in (row.partition("  =>  ") for row in LINES.strip().splitlines()):

@@ -13,6 +13,7 @@ import sys
 import unittest
 from concurrent.futures import ThreadPoolExecutor
 from functools import partial
+from itertools import product
 from pathlib import Path
 from typing import Any, Optional
 from unittest import mock
@@ -76,6 +77,23 @@ class Lines(unittest.TestCase):
                 words = shlex.split(re.sub(r"\$\(.*?\)", "PID", answer.write if answer else "").replace("sudo ", ""))
                 if words[:2] == ["hinge", "run"] and "--up-trace" not in words:
                     plan_of(run_options(words[2:]), 1500)
+
+    def test_a_line_with_another_word_in_it_gets_a_line_that_is_taken_or_none(self) -> None:
+        """A rate stands for a file, a share is above all packets, a variable is empty, an option stands behind `--`, a word lacks."""
+        lines = set[str]()
+        for words in (shlex.split(line) for line, _ in FOREIGN):
+            for place, other in product(range(len(words)), (["10Mbps"], ["200%"], [""], ["--"], ["--", "10ms"], [])):
+                variant = [*words[:place], *other, *words[place + 1 :]]
+                answer = answer_of(variant) if variant and variant[0] else None
+                lines.add(answer.write if answer else "")
+        for line in sorted(lines):
+            own = shlex.split(line.replace("sudo ", ""))
+            if own[:2] == ["hinge", "run"] and "-trace" not in line:
+                with self.subTest(line):
+                    run = run_options(own[2:])
+                    plan_of(run, 1500)
+                    assert link_as_command(run.command) is None
+        assert len(lines) > 300
 
     def test_no_line_gets_a_link_that_nobody_asked_for(self) -> None:
         for line, told in FOREIGN:
