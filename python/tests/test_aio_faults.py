@@ -4,6 +4,7 @@ from __future__ import annotations
 
 import asyncio
 import errno
+import socket
 import threading
 import unittest
 
@@ -88,6 +89,8 @@ class Faults(unittest.TestCase):
             for name in ("sock_accept", "create_unix_connection", "subprocess_exec", "add_signal_handler"):
                 with self.assertRaisesRegex(NotImplementedError, "hinge run --simulated"):
                     getattr(net.loop, name)(1)
+            with self.assertRaisesRegex(NotImplementedError, "Unix sockets"):
+                net.run(net.loop.create_datagram_endpoint(Ends, "/nowhere", family=socket.AF_UNIX))
             with self.assertRaises(OSError):
                 net.run(one.net.loop.getaddrinfo("nobody", 1))
 

@@ -31,15 +31,17 @@ LEFT_OUT = (
     "create_connection",
     "create_server",
     "connect_accepted_socket",
-    "create_unix_connection",
-    "create_unix_server",
     "sock_accept",
     "sock_sendfile",
     "sendfile",
     "start_tls",
 )
-NO_SYSTEM = "a simulated host has no processes, pipes and signals: `hinge run --simulated` takes programs into simulated time"
+NO_SYSTEM = (
+    "a simulated host has no processes, pipes, Unix sockets and signals: `hinge run --simulated` takes programs into simulated time"
+)
 OF_THE_SYSTEM = (
+    "create_unix_connection",
+    "create_unix_server",
     "subprocess_exec",
     "subprocess_shell",
     "connect_read_pipe",
@@ -200,7 +202,9 @@ class Loop(asyncio.BaseEventLoop):
         return transport, protocol
 
     def _bound(self, local: Optional[Address], remote: Optional[Address], family: int, shares: bool) -> Endpoint:
-        """Returns an endpoint at a local address, connected to the remote address if any."""
+        """Returns an endpoint at a local address, connected to the remote address if any. NotImplementedError: it is Unix's."""
+        if family == socket.AF_UNIX or isinstance(local or remote, str):
+            raise NotImplementedError(NO_SYSTEM)
         names = [plain(it[0] or "localhost") for it in (local, remote) if it]
         version = version_of(family) if family else 6 if any(map(is_of_6, names)) and names[0] != "::1" else 4
         name, port = (names[0], int(local[1])) if local else (any_of(version), 0)
