@@ -25,8 +25,7 @@ class Faults(unittest.TestCase):
                     await asyncio.sleep(0)
 
             with self.assertRaisesRegex(
-                aio.Stuck,
-                r"(?s)at 0\.000000000 s nothing can happen any more.*waits in waits, .*test_aio_faults.py:\d+: await",
+                aio.Stuck, r"(?s)at 0\.000000000 s nothing can happen any more.*waits in waits, .*test_aio_faults.py:\d+: await"
             ):
                 net.run(waits())
             with self.assertRaisesRegex(asyncio.TimeoutError, "after 5 s of simulated time.*\n.*waits in waits"):

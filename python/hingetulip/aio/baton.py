@@ -2,7 +2,6 @@
 
 from __future__ import annotations
 
-import _multiprocessing  # type: ignore[import]
 import _thread
 import contextvars
 import math
@@ -11,16 +10,14 @@ import sys
 import threading
 import time
 import traceback
-from contextlib import contextmanager
-from queue import SimpleQueue
-from typing import TYPE_CHECKING, Any, Callable, Iterator, Optional
+from typing import TYPE_CHECKING, Any, Callable, Optional
 from unittest import mock
 
 from hingetulip.aio.border import joining, leave
 from hingetulip.aio.datagram import NS
 from hingetulip.aio.member import IDLE, LONGEST, PATIENCE, Ended, Member, Ready, bounded_pipe, own_read, own_time, pause, quiet
 from hingetulip.aio.refusals import ALLOWED, BLOCKS, HANGS, SLEEP, RealTimeError
-from hingetulip.aio.switched import Either, Function, of_run, own_of, switched
+from hingetulip.aio.switched import Function, of_run, own_of
 from hingetulip.library import NEVER
 
 if TYPE_CHECKING:
@@ -30,10 +27,6 @@ Really = Callable[[], Optional[bool]]
 
 MOST_TURNS = 100_000  # while the loop's own thread waits for the others
 MOST_LOOKS = 10_000  # of the loop's own thread in one step, for what only another step can change
-Lock: Any = _thread.LockType
-LockAgain: Any = type(threading.RLock())
-HANDLES = [getattr(_thread, name) for name in dir(_thread) if name == "_ThreadHandle"]  # of Python 3.13's threads
-LOCKS_OF_PROCESSES = [kind for kind in [getattr(_multiprocessing, "SemLock", None)] if kind]  # which systems may lack
 own_process_time = own_of(time, "process_time")
 
 
@@ -258,22 +251,14 @@ class Baton:
 
         return really
 
-    def acquire(self, own: Function) -> Function:
-        """Returns a lock's `acquire` that waits for another thread's release."""
+    def acquire(self, own: Function, is_of_process: bool = False) -> Function:
+        """Returns a lock's `acquire` that waits for another thread's or process's release."""
 
-        def acquire(lock: Any, blocking: bool = True, timeout: float = -1) -> bool:
+        def acquire(lock: Any, blocking: bool = True, timeout: Optional[float] = None, *, block: bool = True) -> bool:
             seconds = None if timeout == -1 else timeout
-            really = self.really(lambda most: bool(own(lock, True, most)), seconds)
-            return bool(own(lock, False) or blocking and self.wait(lambda: bool(own(lock, False)), seconds, really))
-
-        return acquire
-
-    def acquire_of_processes(self, own: Function) -> Function:
-        """Returns the `acquire` of multiprocessing's locks, which wait in C."""
-
-        def acquire(lock: Any, block: bool = True, timeout: Optional[float] = None) -> bool:
-            really = self.really(lambda most: bool(own(lock, True, most)), timeout, True)
-            return bool(own(lock, False) or block and self.wait(lambda: bool(own(lock, False)), timeout, really, True))
+            really = self.really(lambda most: bool(own(lock, True, most)), seconds, is_of_process)
+            waits = blocking and block
+            return bool(own(lock, False) or waits and self.wait(lambda: bool(own(lock, False)), seconds, really, is_of_process))
 
         return acquire
 
@@ -302,28 +287,3 @@ class Baton:
             return own(queue, False)
 
         return get
-
-    @contextmanager
-    def held(self) -> Iterator[None]:
-        """Makes threads of the run yield within the context."""
-        acquired: Either = lambda own: lambda *words, **named: getattr(own, "__objclass__").acquire(*words, **named)
-        functions: dict[Any, Either] = {
-            (Lock, "acquire"): self.acquire,
-            (LockAgain, "acquire"): self.acquire_again,
-            **dict.fromkeys(((Lock, "acquire_lock"), (Lock, "__enter__"), (LockAgain, "__enter__")), acquired),
-            (LockAgain, "_acquire_restore"): lambda own: lambda lock, state: [lock.acquire() for _ in range(state[0])] and None,
-            (SimpleQueue, "get"): self.get,
-            **{(kind, "acquire"): self.acquire_of_processes for kind in LOCKS_OF_PROCESSES},
-            **{(kind, "__enter__"): acquired for kind in LOCKS_OF_PROCESSES},
-            **{(kind, "join"): self.join for kind in HANDLES},
-            (_thread, "start_new_thread"): self.start_new_thread,
-            (_thread, "start_new"): self.start_new_thread,
-            (_thread, "start_joinable_thread"): self.start_joinable_thread,
-            (_thread, "_set_sentinel"): self.set_sentinel,
-        }
-        of_run.update({threading.get_ident(), *self.members})
-        try:
-            with switched(functions):
-                yield
-        finally:
-            of_run.clear()

@@ -144,18 +144,6 @@ class Loop(asyncio.BaseEventLoop):
                 finally:
                     self.remove_reader(sock)
 
-    async def sock_recv(self, sock: socket.socket, n: int) -> bytes:
-        return await self._when_readable(sock, sock.recv, n)
-
-    async def sock_recv_into(self, sock: socket.socket, buf: Any) -> int:
-        return await self._when_readable(sock, sock.recv_into, buf)
-
-    async def sock_recvfrom(self, sock: socket.socket, bufsize: int) -> Any:
-        return await self._when_readable(sock, sock.recvfrom, bufsize)
-
-    async def sock_recvfrom_into(self, sock: socket.socket, buf: Any, nbytes: int = 0) -> Any:
-        return await self._when_readable(sock, sock.recvfrom_into, buf, nbytes)
-
     async def sock_sendto(self, sock: socket.socket, data: Any, address: Any) -> Any:
         return simulated(sock).sendto(data, address)
 
@@ -233,6 +221,13 @@ def refusing(text: str) -> Callable[..., NoReturn]:
     return refuse
 
 
+def receiving(name: str) -> Callable[..., Any]:
+    """Returns the loop's method for a method of sockets that waits for data."""
+    return lambda loop, sock, *words: loop._when_readable(sock, getattr(sock, name), *words)
+
+
+for name in ("recv", "recv_into", "recvfrom", "recvfrom_into"):
+    setattr(Loop, f"sock_{name}", receiving(name))
 for name in LEFT_OUT:
     setattr(Loop, name, refusing(NO_TCP))
 for name in OF_THE_SYSTEM:
