@@ -4,6 +4,7 @@ from __future__ import annotations
 
 import asyncio
 import errno
+import socket
 import threading
 import unittest
 
@@ -24,8 +25,7 @@ class Faults(unittest.TestCase):
                     await asyncio.sleep(0)
 
             with self.assertRaisesRegex(
-                aio.Stuck,
-                r"(?s)at 0\.000000000 s nothing can happen any more.*waits in waits, .*test_aio_faults.py:\d+: await",
+                aio.Stuck, r"(?s)at 0\.000000000 s nothing can happen any more.*waits in waits, .*test_aio_faults.py:\d+: await"
             ):
                 net.run(waits())
             with self.assertRaisesRegex(asyncio.TimeoutError, "after 5 s of simulated time.*\n.*waits in waits"):
@@ -88,6 +88,8 @@ class Faults(unittest.TestCase):
             for name in ("sock_accept", "create_unix_connection", "subprocess_exec", "add_signal_handler"):
                 with self.assertRaisesRegex(NotImplementedError, "hinge run --simulated"):
                     getattr(net.loop, name)(1)
+            with self.assertRaisesRegex(NotImplementedError, "Unix sockets"):
+                net.run(net.loop.create_datagram_endpoint(Ends, "/nowhere", family=socket.AF_UNIX))
             with self.assertRaises(OSError):
                 net.run(one.net.loop.getaddrinfo("nobody", 1))
 

@@ -3,6 +3,7 @@
 from __future__ import annotations
 
 import asyncio
+import faulthandler
 import importlib
 import os
 import select
@@ -21,6 +22,7 @@ import pytest
 
 from hingetulip import aio
 from hingetulip.aio import simulated
+from hingetulip.aio.refusals import OF_C
 
 TOP = Path(__file__).resolve().parents[2]
 
@@ -53,6 +55,42 @@ class Real(unittest.TestCase):
             """
         )
         assert ("refused in the run\nempty behind the run\n", "") == (done.stdout, done.stderr)
+
+    def test_pools_of_processes_work_in_threads_and_end_with_the_interpreter(self) -> None:
+        done = run_alone(
+            """
+            import asyncio, multiprocessing
+            from concurrent.futures import ProcessPoolExecutor
+            from hingetulip import aio
+            def pooled():
+                with multiprocessing.Pool(2) as pool:
+                    return pool.map(abs, [-1, -2])
+            def left_over():
+                global executor
+                executor = ProcessPoolExecutor(1)
+                return executor.submit(abs, -3).result()
+            async def main():
+                both = await asyncio.to_thread(pooled), await asyncio.to_thread(left_over)
+                try:
+                    pooled()
+                except aio.RealTimeError as error:
+                    print(error)
+                return both
+            with aio.Network() as net:
+                print(net.run(main()), dict(net.real_uses.all()))
+            """
+        )
+        refusal, result = done.stdout.splitlines()
+        assert (refusal.startswith("a call that waits stops"), result) == (True, "([1, 2], 3) {'os.fork': 5}"), done
+
+    def test_threads_that_c_code_began_are_told(self) -> None:
+        async def main() -> None:
+            faulthandler.dump_traceback_later(99)
+
+        with aio.Network() as net:
+            net.run(main())
+            faulthandler.cancel_dump_traceback_later()
+            assert [OF_C] == net.real_uses.lines()
 
     def refused(self, call: Callable[[], object], text: str, fault: type[Exception] = aio.RealTimeError) -> None:
         async def main() -> None:

@@ -208,18 +208,6 @@ class Repeats(unittest.TestCase):
             self.assertEqual([0, 1, 4, 5], net.run(main(net)))
             self.assertEqual({"10.0.0.2:7": 2}, net.unheard)
 
-    def test_a_clock_that_is_ahead(self) -> None:
-        async def now() -> tuple[float, float]:
-            return time.time(), time.monotonic()
-
-        with network("20ms") as net:
-            net.hosts["10.0.0.2"].offset = 2.5
-            (first, one), (second, other) = (net.run(self.on(host, now)) for host in net.hosts.values())
-        self.assertEqual((2.5, 0), (second - first, other - one))
-
-    async def on(self, host: aio.Host, what: object) -> object:
-        return await host.create_task(what())
-
     def test_an_mtu(self) -> None:
         """1,473 bytes of data are 1,501 with their headers. The second link's is smaller, and nobody is told."""
 

@@ -113,7 +113,3 @@ class Sources(unittest.TestCase):
     def test_the_page_names_the_limits(self) -> None:
         page = " ".join((TOP / "docs" / "TESTING.md").read_text(encoding="utf-8").split())
         self.assertEqual([], [name for name in LIMITS.values() if name not in page])
-
-
-if __name__ == "__main__":
-    unittest.main()

@@ -11,18 +11,7 @@ import unittest
 from pathlib import Path
 
 import hingetulip
-from hingetulip import (
-    HISTORY_LIMIT,
-    Audit,
-    ClosedError,
-    HistoryError,
-    InUseError,
-    RangeError,
-    Service,
-    Verdict,
-    audit,
-    audits,
-)
+from hingetulip import HISTORY_LIMIT, Audit, ClosedError, HistoryError, InUseError, RangeError, Service, Verdict, audit, audits
 from hingetulip.recorded import RecordedShaper
 
 TOP = Path(__file__).resolve().parents[2]

@@ -129,7 +129,8 @@ class OfTests(Runs):
 
             @pytest.mark.real("libpq")
             async def test_of_no_call(sim_net):
-                pass
+                with pytest.raises(aio.RealTimeError), socket.socket() as own:
+                    own.connect(("127.0.0.1", 9))
 
             @pytest.mark.real()
             async def test_of_no_name(sim_net):
@@ -140,7 +141,7 @@ class OfTests(Runs):
         )
         self.assertEqual({"passed": 3, "failed": 2, "error": 1, "warning": 1}, done.counts, done.text)
         self.assertRegex(done.text, r"- real -+\n0 calls were real\n")
-        self.assertRegex(done.text, r"\n5 in simulated time: 3 calls were real: subprocess.Popen 3")
+        self.assertRegex(done.text, r"\n5 in simulated time: 3 calls were real: subprocess.Popen 3; 1 was refused\n")
         self.assertEqual(
             done.text.count("1 call was real: subprocess.Popen 1; if that may be, write @pytest.mark.real('subprocess."), 2
         )

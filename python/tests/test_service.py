@@ -18,16 +18,7 @@ from time import sleep
 from unittest import mock
 
 import hingetulip
-from hingetulip import (
-    ClosedError,
-    InUseError,
-    LineError,
-    Outcome,
-    RangeError,
-    RefusedError,
-    Service,
-    Shaper,
-)
+from hingetulip import ClosedError, InUseError, LineError, Outcome, RangeError, RefusedError, Service, Shaper
 from hingetulip import history_file, service
 
 TOP = Path(__file__).resolve().parents[2]

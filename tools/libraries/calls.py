@@ -78,26 +78,14 @@ ROWS = (
     Row("icmplib", REFUSED, "import icmplib", "icmplib.ping('127.0.0.1', count=1)", "real"),
     Row("pyftpdlib", REFUSED, "from pyftpdlib.servers import FTPServer", "FTPServer(AT, None)", TCP),
     Row("libtorrent", REAL, "import libtorrent", "TORRENT", "libtorrent"),
-    Row(
-        "logging",
-        EXACT,
-        "import logging, logging.handlers as h",
-        "h.SysLogHandler(AWAY).emit(logging.makeLogRecord({}))",
-        "None at 0",
-    ),
+    Row("logging", EXACT, "import logging.handlers as h", "h.SysLogHandler(AWAY).emit(h.logging.makeLogRecord({}))", "None at 0"),
     Row("logging", REFUSED, "import logging.handlers as h", "h.SysLogHandler(AT, 1, 1)", TCP),
-    Row(
-        "aiohttp",
-        REFUSED,
-        "from aiohttp import test_utils, web",
-        "await test_utils.TestServer(web.Application()).start_server()",
-        TCP,
-    ),
+    Row("aiohttp", REFUSED, "from aiohttp import test_utils as t", "await t.TestServer(t.web.Application()).start_server()", TCP),
     Row(
         "zmq",
         REAL,
         "import zmq.asyncio as z",
-        "await (s := z.Context().socket(7), s.connect('tcp://' + PLACE), s.poll(99))[2]",
+        "await (s := z.Context().socket(7), s.connect('tcp://'+PLACE), s.poll(9))[2]",
         "desc",
     ),
     Row("grpcio", REAL, "import grpc", "await grpc.aio.insecure_channel(PLACE).unary_unary('/a/b')(b'x')", "grpc"),
@@ -106,23 +94,16 @@ ROWS = (
     Row("eventlet", EXACT, "import eventlet", "eventlet.sleep(3)", "None at 3.0"),
     Row("can", EXACT, "import can", "CAN", "1, 2.0) at 3.0"),
     Row("trio", EXACT, "import trio", "await guest(trio, trio.sleep, 1.5)", "Value(None) at 1.5"),
-    Row(
-        "trio", REFUSED, "import socket, trio", "trio.socket.from_stdlib_socket(socket.socket(2, 2))", "trio.lowlevel.wait_readable"
-    ),
+    Row("trio", REFUSED, "import socket, trio", "trio.socket.from_stdlib_socket(socket.socket(2, 2))", "lowlevel.wait_readable"),
     Row("pysnmp4", EXACT, OLDER + "from pysnmp.hlapi.asyncio import *", f"await getCmd({OF_SNMP})", "No SNMP response"),
     Row("smtplib", REFUSED, "import smtplib", "smtplib.SMTP(*AT)", TCP),
     Row("xmlrpc", REFUSED, "import xmlrpc.client as x", "x.ServerProxy(URL).y()", TCP),
     Row("xmlrpc", REFUSED, "from xmlrpc.server import SimpleXMLRPCServer as Server", "Server(AT)", TCP),
     Row("socketserver", EXACT, "import socket, socketserver, threading", "SERVER", "(b'x', None) at 0.0"),
     Row("socketserver", REFUSED, "import socketserver", "socketserver.TCPServer(AT, None)", TCP),
-    Row(
-        "multiprocessing",
-        EXACT,
-        "import multiprocessing, queue, time; from multiprocessing import dummy",
-        "QUEUE",
-        "([1.0, 2.0, 4.0], 1) at 4.3",
-    ),
+    Row("multiprocessing", EXACT, "import queue, time, multiprocessing.dummy", "QUEUE", "([1.0, 2.0, 4.0], 1) at 4.3"),
     Row("multiprocessing", REAL, "import multiprocessing as m", "SPAWN", "fork_exec"),
+    Row("multiprocessing", REAL, "import multiprocessing as m", "m.Pool(2).map(abs, [-1])", "os.fork"),
     Row("concurrent", REAL, "import concurrent.futures as c", "c.ProcessPoolExecutor(1).submit(abs, -1).result(9)", "os.fork"),
     Row("signal", REAL, "import signal", "signal.alarm(0)", "_signal.alarm"),
     Row("os", EXACT, "import os, socket, threading", "DESCRIPTORS", "(b'xyz', b'p') at 1.5"),
@@ -173,7 +154,7 @@ LONGER = {  # calls of several statements, as functions
     return asker.recv(9), server.shutdown()""",
     "QUEUE": """
     made = multiprocessing.Queue()
-    with dummy.Pool(2) as pool:
+    with multiprocessing.dummy.Pool(2) as pool:
         moments = pool.map(lambda length: (time.sleep(length), time.monotonic())[1], [1, 2, 3], 1)
     try:
         made.get(timeout=0.3)

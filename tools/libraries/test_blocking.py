@@ -34,10 +34,7 @@ async def test_ntplib(pair, link_seed):
     assert now() == 5
     await server.endpoint(Clock, 123)
     answer = await on(client, lambda: ntplib.NTPClient().request("server.test"))
-    assert (now(), round(answer.dest_timestamp - STAMP - 1_700_000_000, 3)) == (
-        5.04,
-        5.04,
-    )
+    assert (now(), round(answer.dest_timestamp - STAMP - 1_700_000_000, 3)) == (5.04, 5.04)
 
 
 @LINK
@@ -53,10 +50,7 @@ async def test_dnslib(pair, link_seed):
 
     client, server = pair
     await on(server, DNSServer(Resolver(), address="10.0.0.2", port=53).start_thread)
-    data = await on(
-        client,
-        lambda: dnslib.DNSRecord.question("a.test").send("10.0.0.2", 53, timeout=2),
-    )
+    data = await on(client, lambda: dnslib.DNSRecord.question("a.test").send("10.0.0.2", 53, timeout=2))
     assert (dnslib.DNSRecord.parse(data).short(), now()) == ("192.0.2.1", 0.04)
 
 

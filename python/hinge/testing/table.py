@@ -29,7 +29,7 @@ def reals() -> list[tuple[str, Any]]:
     module = sys.modules.get("hingetulip.aio.real")  # which a suite without links needn't import
     if module is None or not (whole := module.OF_PROCESS.taken()).runs:
         return []
-    return [(REAL, {"calls": dict(whole.calls), "unwatched": module.UNWATCHED})]
+    return [(REAL, {"calls": dict(whole.calls), "refused": whole.refused, "unwatched": module.UNWATCHED})]
 
 
 def refused_reals(item: pytest.Item, calls: Mapping[str, int]) -> str:
@@ -84,7 +84,7 @@ class Table:
     def __init__(self) -> None:
         self.sweeps: dict[str, Sweep] = {}
         self.is_disturbed: Optional[bool] = None
-        self.tests, self.calls, self.unwatched = 0, Counter[str](), list[str]()
+        self.tests, self.calls, self.refused, self.unwatched = 0, Counter[str](), 0, list[str]()
         self.searched: dict[str, str] = {}  # what a search found of each test
         self.shared = dict[
             tuple[str, str], list[str]
@@ -95,6 +95,7 @@ class Table:
         if real := properties.get(REAL):
             self.tests += report.when == "call"
             self.calls.update(real["calls"])
+            self.refused += real["refused"]
             self.unwatched = self.unwatched or real["unwatched"]
         if search := properties.get("hingetulip searched"):
             self.searched[report.nodeid] = search
@@ -121,7 +122,8 @@ class Table:
         ]
         lines += [UNDISTURBED] * (self.is_disturbed is False)
         if self.tests:
-            lines.append(f"{self.tests} in simulated time: {'; '.join([told(self.calls), *self.unwatched])}")
+            refused = [f"{self.refused} {'was' if self.refused == 1 else 'were'} refused"] * bool(self.refused)
+            lines.append(f"{self.tests} in simulated time: {'; '.join([told(self.calls), *refused, *self.unwatched])}")
         lines += [f"{name}: {text}" for name, text in self.searched.items()]
         if lines:
             terminalreporter.section("emulated links")

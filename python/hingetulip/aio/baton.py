@@ -6,21 +6,18 @@ import _thread
 import contextvars
 import math
 import os
-import posix
 import sys
 import threading
 import time
 import traceback
-from contextlib import contextmanager
-from queue import SimpleQueue
-from typing import TYPE_CHECKING, Any, Callable, Iterator, Optional
+from typing import TYPE_CHECKING, Any, Callable, Optional
 from unittest import mock
 
-from hingetulip.aio.border import joining
+from hingetulip.aio.border import joining, leave
 from hingetulip.aio.datagram import NS
-from hingetulip.aio.member import LONGEST, PATIENCE, Ended, Member, Ready, bounded_pipe, quiet
+from hingetulip.aio.member import IDLE, LONGEST, PATIENCE, Ended, Member, Ready, bounded_pipe, own_read, own_time, pause, quiet
 from hingetulip.aio.refusals import ALLOWED, BLOCKS, HANGS, SLEEP, RealTimeError
-from hingetulip.aio.switched import Either, Function, of_run, own_of, switched
+from hingetulip.aio.switched import Function, of_run, own_of
 from hingetulip.library import NEVER
 
 if TYPE_CHECKING:
@@ -29,18 +26,15 @@ if TYPE_CHECKING:
 Really = Callable[[], Optional[bool]]
 
 MOST_TURNS = 100_000  # while the loop's own thread waits for the others
-IDLE = 0.01  # s of a processor in each of these, below which the process waits, and doesn't work
-Lock: Any = _thread.LockType
-LockAgain: Any = type(threading.RLock())
-HANDLES = [getattr(_thread, name) for name in dir(_thread) if name == "_ThreadHandle"]  # of Python 3.13's threads
-own_process_time, own_sleep, own_read = own_of(time, "process_time"), own_of(time, "sleep"), own_of(posix, "read")
+MOST_LOOKS = 10_000  # of the loop's own thread in one step, for what only another step can change
+own_process_time = own_of(time, "process_time")
 
 
 class Baton:
     """The threads started by a run's code. The loop's thread gives each a turn, and continues when that thread waits or ends."""
 
     def __init__(self, loop: Loop) -> None:
-        self.loop, self.back, self.is_closing = loop, bounded_pipe(), False
+        self.loop, self.back, self.is_closing, self.is_leaving = loop, bounded_pipe(), False, False
         self.lost: Optional[str] = None  # why the run ends, if a thread goes on as one of the system; empty if it has ended
         self.members: dict[int, Member] = {}
 
@@ -50,7 +44,7 @@ class Baton:
 
         def body() -> None:
             of_run.add(threading.get_ident())
-            self.members[threading.get_ident()] = member
+            self.members[threading.get_ident()], member.native_id = member, str(threading.get_native_id())
             for join in joining:
                 join()
             os.write(begun[1], b".")
@@ -69,19 +63,24 @@ class Baton:
             os.close(end)
         return result
 
-    def wait(self, ready: Ready, seconds: Optional[float] = None, really: Optional[Really] = None) -> bool:
-        """Yields until a condition is true, for at most some seconds; returns whether it is true. The loop's thread can't yield:
-        unless another thread of the run can make the condition true, the loop waits with `really`, which is None if no thread
-        could. RealTimeError: it can't wait."""
+    def wait(
+        self, ready: Ready, seconds: Optional[float] = None, really: Optional[Really] = None, is_of_process: bool = False
+    ) -> bool:
+        """Yields until a condition is true, for at most some seconds; returns whether it is true. The clock stands still if a process
+        of the run may make the condition true. The loop's thread can't yield: unless another thread of the run can make the condition
+        true, the loop waits with `really`, which is None if no thread could. RealTimeError: it can't wait."""
         if ready():
             return True
         if seconds is not None and seconds <= 0:
             return False
         member = self.member()
         if member is not None:
+            if is_of_process and self.loop.net.real_uses.has_processes():
+                member.hold(seconds)
             return self._given_way(member, ready, seconds)
+        until = own_time() + (LONGEST if seconds is None else seconds)
         for _ in range(MOST_TURNS):
-            if not self.turns():
+            if not self.turns() and not (own_time() < until and self.holds()):
                 break
             if ready():
                 return True
@@ -97,20 +96,40 @@ class Baton:
         if not self.is_closing:
             os.write(self.back[1], b".")
             own_read(member.turn[0], 1)
+        member.held = 0
+        if self.is_leaving:
+            return self._left(member, ready, seconds)
         if self.is_closing:
             raise Ended
         return member.is_ready
+
+    def _left(self, member: Member, ready: Ready, seconds: Optional[float]) -> bool:
+        """Continues a wait as an ordinary thread: a pool's processes would stay if the threads that end them ended."""
+        of_run.discard(threading.get_ident())
+        leave()
+        until = own_time() + (math.inf if seconds is None else seconds)
+        member.has_ended, member.is_gone, self.lost = True, lambda: True, self.lost or ""
+        os.write(self.back[1], b".")
+        while not (is_ready := ready()) and own_time() < until:
+            pause()
+        return is_ready
 
     def member(self) -> Optional[Member]:
         """Returns the current thread's, and None in the loop's thread."""
         return self.members.get(threading.get_ident())
 
     def holds(self) -> bool:
-        """Lets real time pass if a thread waits for a process; returns whether one does."""
-        is_held = any(member.is_held() for member in self.members.values())
-        if is_held:
-            own_sleep(IDLE)
-        return is_held
+        """Lets real time pass if a thread waits for a process; returns whether one does, and no other thread needs the next ns."""
+        if not any(member.is_held() for member in self.members.values()):
+            return False
+        pause()
+        return self.until() > self.loop.clock.now + 1
+
+    def look(self) -> None:
+        """Counts a look of the loop's thread that met nothing. RealTimeError: that thread looks again and again, as if it waited."""
+        self.loop.clock.looks += 1
+        if self.loop.clock.looks > MOST_LOOKS:
+            raise RealTimeError(BLOCKS + ALLOWED)
 
     def step(self) -> bool:
         """Gives each thread that can go on a turn, if any. RealTimeError: a thread is lost."""
@@ -166,8 +185,8 @@ class Baton:
         return min((member.until for member in self.members.values()), default=NEVER)
 
     def close(self) -> None:
-        """Ends all threads, where they wait."""
-        self.is_closing = True
+        """Ends all threads, where they wait. If the run leaves processes, the threads leave the run instead."""
+        self.is_closing, self.is_leaving = True, self.loop.net.real_uses.has_processes()
         with mock.patch.object(threading, "excepthook", quiet(threading.excepthook)):
             self.turns()
         if self.lost is None:
@@ -178,9 +197,12 @@ class Baton:
 
     def sleep(self, own: Function) -> Function:
         def sleep(seconds: float) -> None:
-            if self.member() is None:
+            if self.member() is not None:
+                self.wait(lambda: False, max(seconds, 1 / NS))
+            elif seconds:
                 raise RealTimeError(SLEEP + ALLOWED)
-            self.wait(lambda: False, max(seconds, 1 / NS))
+            elif not self.turns():
+                self.look()
 
         return sleep
 
@@ -218,24 +240,25 @@ class Baton:
 
         return sentinel
 
-    def really(self, wait: Callable[[float], bool], timeout: Optional[float]) -> Really:
-        """Returns a wait of the loop's thread for a thread of the system, if there is one."""
+    def really(self, wait: Callable[[float], bool], timeout: Optional[float], is_of_process: bool = False) -> Really:
+        """Returns a wait of the loop's thread for a thread of the system or, without threads of the run, for a process."""
 
         def really() -> Optional[bool]:
-            if _thread._count() <= len(self.members):
+            if _thread._count() <= len(self.members) and (self.members or not is_of_process):
                 return None
             is_bounded = timeout is not None and timeout < LONGEST
             return wait(timeout if timeout is not None and is_bounded else LONGEST) or (False if is_bounded else None)
 
         return really
 
-    def acquire(self, own: Function) -> Function:
-        """Returns a lock's `acquire` that waits for another thread's release."""
+    def acquire(self, own: Function, is_of_process: bool = False) -> Function:
+        """Returns a lock's `acquire` that waits for another thread's or process's release."""
 
-        def acquire(lock: Any, blocking: bool = True, timeout: float = -1) -> bool:
+        def acquire(lock: Any, blocking: bool = True, timeout: Optional[float] = None, *, block: bool = True) -> bool:
             seconds = None if timeout == -1 else timeout
-            really = self.really(lambda most: bool(own(lock, True, most)), seconds)
-            return bool(own(lock, False) or blocking and self.wait(lambda: bool(own(lock, False)), seconds, really))
+            really = self.really(lambda most: bool(own(lock, True, most)), seconds, is_of_process)
+            waits = blocking and block
+            return bool(own(lock, False) or waits and self.wait(lambda: bool(own(lock, False)), seconds, really, is_of_process))
 
         return acquire
 
@@ -264,26 +287,3 @@ class Baton:
             return own(queue, False)
 
         return get
-
-    @contextmanager
-    def held(self) -> Iterator[None]:
-        """Makes threads of the run yield within the context."""
-        acquired: Either = lambda own: lambda *words, **named: getattr(own, "__objclass__").acquire(*words, **named)
-        functions: dict[Any, Either] = {
-            (Lock, "acquire"): self.acquire,
-            (LockAgain, "acquire"): self.acquire_again,
-            **dict.fromkeys(((Lock, "acquire_lock"), (Lock, "__enter__"), (LockAgain, "__enter__")), acquired),
-            (LockAgain, "_acquire_restore"): lambda own: lambda lock, state: [lock.acquire() for _ in range(state[0])] and None,
-            (SimpleQueue, "get"): self.get,
-            **{(kind, "join"): self.join for kind in HANDLES},
-            (_thread, "start_new_thread"): self.start_new_thread,
-            (_thread, "start_new"): self.start_new_thread,
-            (_thread, "start_joinable_thread"): self.start_joinable_thread,
-            (_thread, "_set_sentinel"): self.set_sentinel,
-        }
-        of_run.update({threading.get_ident(), *self.members})
-        try:
-            with switched(functions):
-                yield
-        finally:
-            of_run.clear()

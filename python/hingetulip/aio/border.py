@@ -7,7 +7,6 @@ import ctypes
 import os
 from collections import Counter
 from contextlib import contextmanager
-from functools import partial
 from ctypes import POINTER, c_char_p, c_int, c_int64, c_size_t, c_uint, c_uint64, c_void_p
 from pathlib import Path
 from random import Random
@@ -44,9 +43,16 @@ def loaded() -> Optional[Any]:
 
 
 LIBRARY = loaded()
-if LIBRARY is not None:
-    os.register_at_fork(after_in_child=partial(LIBRARY.hinge_run, None, 0, 0))
 joining: list[Callable[[], object]] = []  # what a thread that joins the run calls, if a run is under way
+
+
+def leave() -> None:
+    """Takes the C code of this thread out of the run."""
+    if LIBRARY is not None:
+        LIBRARY.hinge_run(None, 0, 0)
+
+
+os.register_at_fork(after_in_child=leave)
 
 
 def calls() -> Counter[str]:
@@ -95,4 +101,4 @@ def border(clock: Clock, epoch: int, source: Random) -> Iterator[None]:
     finally:
         if LIBRARY is not None:
             joining.pop()
-            run(None, 0, 0)
+            leave()

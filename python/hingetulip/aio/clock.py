@@ -38,12 +38,13 @@ class Clock:
         self.seconds: float = 0.0  # of `now`
         self.steps = 0
         self.asked, self.asked_since = 0, 0.0  # how often code asked for the time in this step of the loop, and since when often
+        self.looks = 0  # of the loop's thread in this step that met nothing, and didn't wait
         self.told = memoryview(bytearray(8)).cast("q")  # `now`, for C code
         self.place = addressof(c_int64.from_buffer(self.told))
 
     def select(self, timeout: Optional[float]) -> Sequence[asyncio.Handle]:
         """Moves the clock by `timeout` seconds or to the next event; returns the handles to run. None: there is no timer."""
-        net, descriptors, self.asked = self.net, self.descriptors, 0
+        net, descriptors, self.asked, self.looks = self.net, self.descriptors, 0, 0
         baton = self.loop.baton
         if (baton.members or baton.lost) and baton.step():
             timeout = 0

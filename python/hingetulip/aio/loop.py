@@ -31,15 +31,17 @@ LEFT_OUT = (
     "create_connection",
     "create_server",
     "connect_accepted_socket",
-    "create_unix_connection",
-    "create_unix_server",
     "sock_accept",
     "sock_sendfile",
     "sendfile",
     "start_tls",
 )
-NO_SYSTEM = "a simulated host has no processes, pipes and signals: `hinge run --simulated` takes programs into simulated time"
+NO_SYSTEM = (
+    "a simulated host has no processes, pipes, Unix sockets and signals: `hinge run --simulated` takes programs into simulated time"
+)
 OF_THE_SYSTEM = (
+    "create_unix_connection",
+    "create_unix_server",
     "subprocess_exec",
     "subprocess_shell",
     "connect_read_pipe",
@@ -142,18 +144,6 @@ class Loop(asyncio.BaseEventLoop):
                 finally:
                     self.remove_reader(sock)
 
-    async def sock_recv(self, sock: socket.socket, n: int) -> bytes:
-        return await self._when_readable(sock, sock.recv, n)
-
-    async def sock_recv_into(self, sock: socket.socket, buf: Any) -> int:
-        return await self._when_readable(sock, sock.recv_into, buf)
-
-    async def sock_recvfrom(self, sock: socket.socket, bufsize: int) -> Any:
-        return await self._when_readable(sock, sock.recvfrom, bufsize)
-
-    async def sock_recvfrom_into(self, sock: socket.socket, buf: Any, nbytes: int = 0) -> Any:
-        return await self._when_readable(sock, sock.recvfrom_into, buf, nbytes)
-
     async def sock_sendto(self, sock: socket.socket, data: Any, address: Any) -> Any:
         return simulated(sock).sendto(data, address)
 
@@ -200,7 +190,9 @@ class Loop(asyncio.BaseEventLoop):
         return transport, protocol
 
     def _bound(self, local: Optional[Address], remote: Optional[Address], family: int, shares: bool) -> Endpoint:
-        """Returns an endpoint at a local address, connected to the remote address if any."""
+        """Returns an endpoint at a local address, connected to the remote address if any. NotImplementedError: it is Unix's."""
+        if family == socket.AF_UNIX or isinstance(local or remote, str):
+            raise NotImplementedError(NO_SYSTEM)
         names = [plain(it[0] or "localhost") for it in (local, remote) if it]
         version = version_of(family) if family else 6 if any(map(is_of_6, names)) and names[0] != "::1" else 4
         name, port = (names[0], int(local[1])) if local else (any_of(version), 0)
@@ -229,6 +221,13 @@ def refusing(text: str) -> Callable[..., NoReturn]:
     return refuse
 
 
+def receiving(name: str) -> Callable[..., Any]:
+    """Returns the loop's method for a method of sockets that waits for data."""
+    return lambda loop, sock, *words: loop._when_readable(sock, getattr(sock, name), *words)
+
+
+for name in ("recv", "recv_into", "recvfrom", "recvfrom_into"):
+    setattr(Loop, f"sock_{name}", receiving(name))
 for name in LEFT_OUT:
     setattr(Loop, name, refusing(NO_TCP))
 for name in OF_THE_SYSTEM:

@@ -2,7 +2,9 @@
 
 from __future__ import annotations
 
+import functools
 import os
+import posix
 import socket
 import struct
 import time
@@ -15,7 +17,8 @@ from hingetulip.library import NEVER
 Ready = Callable[[], bool]
 LONGEST = 20.0  # real s that a run waits for a thread of the system, or a process
 PATIENCE = 1  # real s that a thread has to end when its network is closed
-own_time = own_of(time, "monotonic")
+IDLE = 0.01  # s of a processor in each of these, below which the process waits, and doesn't work
+own_time, own_read = own_of(time, "monotonic"), own_of(posix, "read")
 
 
 class Ended(SystemExit):
@@ -27,12 +30,25 @@ def quiet(hook: Callable[[Any], object]) -> Callable[[Any], object]:
     return lambda words: None if words.exc_type is Ended else hook(words)
 
 
-def bounded_pipe() -> tuple[int, int]:
-    """Returns a pipe whose reads time out after PATIENCE. C code that waits for descriptors counts as real, but C code that reads
-    one doesn't."""
+def bounded_pipe(seconds: float = PATIENCE) -> tuple[int, int]:
+    """Returns a pipe whose reads time out. C code that sleeps or waits for descriptors counts as real, but C code that reads one
+    doesn't."""
     reader, writer = socket.socketpair()
-    reader.setsockopt(socket.SOL_SOCKET, socket.SO_RCVTIMEO, struct.pack("@ll", PATIENCE, 0))
+    reader.setsockopt(socket.SOL_SOCKET, socket.SO_RCVTIMEO, struct.pack("@ll", int(seconds), round(seconds % 1 * 1e6)))
     return reader.detach(), writer.detach()
+
+
+@functools.lru_cache(None)
+def pipe_of_pauses() -> tuple[int, int]:
+    return bounded_pipe(IDLE)
+
+
+def pause() -> None:
+    """Waits for IDLE."""
+    try:
+        own_read(pipe_of_pauses()[0], 1)
+    except BlockingIOError:
+        pass
 
 
 class Member:
@@ -42,6 +58,7 @@ class Member:
         self.ready: Ready = lambda: True
         self.until = NEVER
         self.held = 0.0  # real s until which the clock stands still for it
+        self.native_id = ""  # the system's
         self.polled = -1  # ns since the run began: when it last asked for descriptors without a wait
         self.is_ready = self.has_ended = False
         self.is_gone: Ready = lambda: True  # whether the system has let the thread go

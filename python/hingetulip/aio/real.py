@@ -18,7 +18,7 @@ from typing import TYPE_CHECKING, Any, Callable, Iterator, Optional
 from hingetulip.aio.addresses import FLAGS
 from hingetulip.aio.member import LONGEST
 from hingetulip.aio.border import LIBRARY, calls
-from hingetulip.aio.refusals import ALLOWED, NO_TCP, SOCKET, RealTimeError
+from hingetulip.aio.refusals import ALLOWED, NO_TCP, OF_C, SOCKET, RealTimeError
 from hingetulip.aio.switched import Either, Function, note_all, of_run, switched
 
 if TYPE_CHECKING:
@@ -43,6 +43,7 @@ class RealUses:
         self.threads: dict[str, None] = {}
         self.descriptors: dict[int, None] = {}
         self.calls, self.refused = Counter[str](), Counter[str]()
+        self.has_threads_of_c = False
         installed()
 
     def saw(self, event: str, words: Any) -> None:
@@ -98,18 +99,18 @@ class RealUses:
     def lines(self) -> list[str]:
         """Returns the report's lines; refusals are among them, since libraries may swallow these."""
         lines = [f"real: {name}{f', {count} calls' if count > 1 else ''}" for name, count in self.all().items()]
-        lines += [f"real: {it}" for it in UNWATCHED]
+        lines += [f"real: {it}" for it in UNWATCHED] + [OF_C] * self.has_threads_of_c
         return lines + [f"refused, {count} calls: {why}" for why, count in self.refused.items()]
 
 
 class Sum:
-    """The real calls in all of the process's runs since the last reset, for reports on several runs."""
+    """The real calls and the refusals in all of the process's runs since the last reset, for reports on several runs."""
 
     def __init__(self) -> None:
-        self.runs, self.calls = 0, Counter[str]()
+        self.runs, self.calls, self.refused = 0, Counter[str](), 0
 
-    def add(self, calls: Counter[str]) -> None:
-        self.runs, self.calls = self.runs + 1, self.calls + calls
+    def add(self, calls: Counter[str], refused: int) -> None:
+        self.runs, self.calls, self.refused = self.runs + 1, self.calls + calls, self.refused + refused
 
     def taken(self) -> Sum:
         """The sum, which begins anew."""
@@ -119,6 +120,11 @@ class Sum:
 
 
 OF_PROCESS = Sum()
+
+
+def threads_of_c() -> set[str]:
+    """Returns this process's threads that began in C code."""
+    return set(os.listdir("/proc/self/task")) - {str(thread.native_id) for thread in threading.enumerate()}
 
 
 def is_stream(sock: socket.socket) -> bool:
@@ -181,11 +187,9 @@ class Selecting:
         member, is_own = self.baton.member(), has_own or self.is_simulated(ask, nothing)
         if member is not None and seconds == 0 and not has_own:
             seconds = member.again(self.baton.loop.clock.now)
-        if member is not None and not is_own and self.uses.has_processes():
-            member.hold(seconds)
-        self.baton.wait(ready, seconds, None if member is not None or is_own else really)
-        if member is not None:
-            member.held = 0
+        is_met = self.baton.wait(ready, seconds, None if member is not None or is_own else really, not is_own)
+        if member is None and seconds == 0 and not has_own and not is_met:
+            self.baton.look()
         return answers[0]
 
     def is_simulated(self, ask: Callable[[Any], Any], nothing: Any) -> bool:
@@ -226,7 +230,7 @@ def real_refused(uses: RealUses, descriptors: Descriptors) -> Iterator[None]:
     for name in UNHEARD:
         module, _, function = name.partition(".")
         functions[import_module(module), function] = uses.counted(name)
-    before = uses.all()
+    before, refused, of_c, baton = uses.all(), sum(uses.refused.values()), threads_of_c(), descriptors.loop.baton
     installed().append(uses)
     try:
         with switched(functions):
@@ -234,4 +238,5 @@ def real_refused(uses: RealUses, descriptors: Descriptors) -> Iterator[None]:
     finally:
         uses.gather()
         watches.pop()
-        OF_PROCESS.add(uses.all() - before)
+        OF_PROCESS.add(uses.all() - before, sum(uses.refused.values()) - refused)
+        uses.has_threads_of_c = bool(threads_of_c() - of_c - {member.native_id for member in baton.members.values()})

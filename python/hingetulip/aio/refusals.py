@@ -9,6 +9,7 @@ BLOCKS = "a call that waits stops the loop, and with it the simulated clock: wri
 HANGS = "a thread of the run has waited for something real for 20 s, and the simulated clock stood still: give that wait a timeout"
 NO_TRIO = "trio's sockets are the system's: use `socket.socket` with `trio.lowlevel.wait_readable`, or in `trio.to_thread.run_sync`"
 NO_COPY = "a socket of a simulated host has one descriptor, for select and the like: it isn't copied, and its data isn't scattered"
+OF_C = "C code began threads, whose clock is the system's: `hinge run --simulated` takes programs into simulated time"
 ALLOWED = ", or set `real` of the network"
 
 

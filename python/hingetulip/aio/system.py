@@ -2,9 +2,12 @@
 
 from __future__ import annotations
 
+import _multiprocessing  # type: ignore[import]
+import _thread
 import socket
 import threading
 from contextlib import ExitStack, contextmanager
+from queue import SimpleQueue
 from typing import TYPE_CHECKING, Any, Iterator
 from unittest import mock
 
@@ -13,17 +16,48 @@ from hingetulip.aio.datagram_socket import DatagramSocket
 from hingetulip.aio.kept import given_anew
 from hingetulip.aio.real import real_refused
 from hingetulip.aio.refusals import NO_COPY, RealTimeError
-from hingetulip.aio.switched import of_run, switched
+from hingetulip.aio.switched import Either, of_run, switched
 
 if TYPE_CHECKING:
+    from hingetulip.aio.baton import Baton
     from hingetulip.aio.network import Network
 
+Lock: Any = _thread.LockType
+LockAgain: Any = type(threading.RLock())
+HANDLES = [getattr(_thread, name) for name in dir(_thread) if name == "_ThreadHandle"]  # of Python 3.13's threads
+PROCESS_LOCKS = [kind for kind in [getattr(_multiprocessing, "SemLock", None)] if kind]  # which systems may lack
 VIRTUAL = (-1, socket.AF_INET, socket.AF_INET6)
 
 
 def is_virtual(family: int, type: int, fileno: object) -> bool:
     """Returns whether a new socket belongs to a simulated host."""
     return fileno is None and family in VIRTUAL and type > 0 and type & ~FLAGS == socket.SOCK_DGRAM
+
+
+@contextmanager
+def threads_held(baton: Baton) -> Iterator[None]:
+    """Makes threads of the run yield within the context."""
+    acquired: Either = lambda own: lambda *words, **named: getattr(own, "__objclass__").acquire(*words, **named)
+    functions: dict[Any, Either] = {
+        (Lock, "acquire"): baton.acquire,
+        (LockAgain, "acquire"): baton.acquire_again,
+        **dict.fromkeys(((Lock, "acquire_lock"), (Lock, "__enter__"), (LockAgain, "__enter__")), acquired),
+        (LockAgain, "_acquire_restore"): lambda own: lambda lock, state: [lock.acquire() for _ in range(state[0])] and None,
+        (SimpleQueue, "get"): baton.get,
+        **{(kind, "acquire"): lambda own: baton.acquire(own, True) for kind in PROCESS_LOCKS},
+        **{(kind, "__enter__"): acquired for kind in PROCESS_LOCKS},
+        **{(kind, "join"): baton.join for kind in HANDLES},
+        (_thread, "start_new_thread"): baton.start_new_thread,
+        (_thread, "start_new"): baton.start_new_thread,
+        (_thread, "start_joinable_thread"): baton.start_joinable_thread,
+        (_thread, "_set_sentinel"): baton.set_sentinel,
+    }
+    of_run.update({threading.get_ident(), *baton.members})
+    try:
+        with switched(functions):
+            yield
+    finally:
+        of_run.clear()
 
 
 @contextmanager
@@ -42,7 +76,7 @@ def simulated_system(net: Network) -> Iterator[None]:
 
     type_of_socket = type("DatagramSocket", (DatagramSocket,), {"net": net})
     with ExitStack() as stack:
-        stack.enter_context(net.loop.baton.held())
+        stack.enter_context(threads_held(net.loop.baton))
         stack.enter_context(real_refused(net.real_uses, net.loop.descriptors))
         stack.enter_context(mock.patch.object(socket.socket, "__new__", make))
         stack.enter_context(switched(net.names.functions()))
